@@ -11,20 +11,20 @@ use Rattle.age_cipher.specs.Bytes.{Bytes, Words}
 use Rattle.age_cipher.specs.Numbers.{le_bytes}
 use Rattle.age_cipher.specs.ChaCha20.{start, mixed, block, stream_byte}
 use Rattle.age_cipher.specs.Lanes.{lane, bytes, IsXoredAt}
-use Rattle.age_cipher.proofs.LaneLemmas.{lane-word}
+use Rattle.age_cipher.proofs.LaneLemmas.{lane_word}
 
 -- lane j of sixteen vectors, written out
 pub lane_written : (state : List Words) (j : ℕ) → length state ≡ 16
     → map (λ k. slice_index (slice_index_or state k []) j) (range_with_len 0 16) ≡ lane j state
 lane_written state j long =
     sym (fill_by_all (λ k. slice_index (slice_index_or state k []) j) (lane j state) 16 0
-    (length-map state (λ v. slice_index v j) ∙ long) (λ k h. lane-word state j k (omega arith)))
+    (length-map state (λ v. slice_index v j) ∙ long) (λ k h. lane_word state j k (omega arith)))
 
 -- the bytes of a vector of words
-pub digits-bytes : (words : Words) → Each1 (λ w. w < 2 ^ 32) words
+pub digits_bytes : (words : Words) → Each1 (λ w. w < 2 ^ 32) words
     → digits_l 256 (4 * length words) (number_l (2 ^ 32) words) ≡ bytes words
-digits-bytes [] below = refl
-digits-bytes (w ∷ words) below =
+digits_bytes [] below = refl
+digits_bytes (w ∷ words) below =
     let rest = number_l (2 ^ 32) words in
     let e : 4 * suc (length words) ≡ suc (suc (suc (suc (4 * length words)))) = omega arith in
     let b0 : (w + 2 ^ 32 * rest) % 256 ≡ w % 256 = omega arith in
@@ -33,7 +33,7 @@ digits-bytes (w ∷ words) below =
     let b3 : (w + 2 ^ 32 * rest) / 256 / 256 / 256 % 256 ≡ w / 256 ^ 3 % 256 = omega arith in
     let left : (w + 2 ^ 32 * rest) / 256 / 256 / 256 / 256 ≡ rest = omega (arith, below.0) in
     rw (e, b0, b1, b2, b3, left) (ap (λ bs. w % 256 ∷ w / 256 % 256 ∷ w / 256 ^ 2 % 256 ∷ w / 256 ^ 3 % 256 ∷ bs)
-    (digits-bytes words below.1))
+    (digits_bytes words below.1))
 
 -- a word has four bytes
 pub length-bytes : (words : Words) → length (bytes words) ≡ 4 * length words
@@ -97,10 +97,10 @@ pub record IsStream (key nonce : Bytes) (counter n : ℕ) (stream : Bytes) : Typ
   pub byte : (j : ℕ) → j < n → slice_index stream j ≡ stream_byte key nonce counter j
 
 -- the bytes of a block's words are the stream for one block
-pub block-stream : (key nonce : Bytes) (counter : ℕ) (words : Words) → words ≡ mixed (start key nonce counter)
+pub block_stream : (key nonce : Bytes) (counter : ℕ) (words : Words) → words ≡ mixed (start key nonce counter)
     → IsStream key nonce counter 64 (bytes words)
 unfolding block mixed
-block-stream key nonce counter words e = rw e (record {
+block_stream key nonce counter words e = rw e (record {
   long = refl;
   byte = λ j below.
       let none : j / 64 ≡ 0 = omega arith in
@@ -133,10 +133,10 @@ pub four_stream : (key nonce : Bytes) (counter : ℕ) {a b c d : Bytes}
     → c ≡ mixed (start key nonce (counter + 2)) → d ≡ mixed (start key nonce (counter + 3))
     → IsStream key nonce counter 256 (bytes a ++ (bytes b ++ (bytes c ++ bytes d)))
 four_stream key nonce counter {a} {b} {c} {d} ea eb ec ed =
-    stream_on key nonce counter (counter + 1) 1 192 (omega arith) (block-stream key nonce counter a ea)
-    (stream_on key nonce (counter + 1) (counter + 2) 1 128 (omega arith) (block-stream key nonce (counter + 1) b eb)
-    (stream_on key nonce (counter + 2) (counter + 3) 1 64 (omega arith) (block-stream key nonce (counter + 2) c ec)
-    (block-stream key nonce (counter + 3) d ed)))
+    stream_on key nonce counter (counter + 1) 1 192 (omega arith) (block_stream key nonce counter a ea)
+    (stream_on key nonce (counter + 1) (counter + 2) 1 128 (omega arith) (block_stream key nonce (counter + 1) b eb)
+    (stream_on key nonce (counter + 2) (counter + 3) 1 64 (omega arith) (block_stream key nonce (counter + 2) c ec)
+    (block_stream key nonce (counter + 3) d ed)))
 
 -- xored with a list that is the stream, byte by byte
 pub xored_with_stream : {key nonce : Bytes} {counter : ℕ} (at : ℕ) {n : ℕ} {stream old new : Bytes}

@@ -10,14 +10,14 @@ use Rattle.age_cipher.specs.ChaCha20.{add_words, add_xor_rotate, quarter_round, 
 use Rattle.age_cipher.specs.Lanes.{lane, quarter_round_at, AreApart}
 
 -- a word of a lane is a lane of a word
-pub lane-word : (state : List Words) (j k : ℕ) → k < length state
+pub lane_word : (state : List Words) (j k : ℕ) → k < length state
     → slice_index (lane j state) k ≡ slice_index (slice_index_or state k []) j
-lane-word state j k inside = get_or-map (λ vector. slice_index vector j) state k [] 0 inside
+lane_word state j k inside = get_or-map (λ vector. slice_index vector j) state k [] 0 inside
 
 -- a vector written is a word written in each lane
-pub lane-set : (state : List Words) (j k : ℕ) (vector : Words)
+pub lane_set : (state : List Words) (j k : ℕ) (vector : Words)
     → lane j (set state k vector) ≡ set (lane j state) k (slice_index vector j)
-lane-set state j k vector = map-set (λ v. slice_index v j) state k vector
+lane_set state j k vector = map-set (λ v. slice_index v j) state k vector
 
 -- what holds of 0 to 3
 pub four_cases : (P : ℕ → Type 0) → P 0 → P 1 → P 2 → P 3 → (j : ℕ) → j < 4 → P j
@@ -52,7 +52,7 @@ shifts_rotate n x by j long low high inside =
     ∙ rw (same, rest) refl
 
 -- one line of the quarter round, in lane j
-pub lane-line : (state : List Words) (a b d by j : ℕ) (sum turned : Words)
+pub lane_line : (state : List Words) (a b d by j : ℕ) (sum turned : Words)
     → a < length state → b < length state → d < length state
     → slice_index sum j ≡ add_words (slice_index (slice_index_or state a []) j)
     (slice_index (slice_index_or state b []) j)
@@ -61,7 +61,7 @@ pub lane-line : (state : List Words) (a b d by j : ℕ) (sum turned : Words)
     (slice_index (slice_index_or (set state a sum) a []) j)) by
     → lane j (set (set state a sum) d turned) ≡ add_xor_rotate a b d by (lane j state)
 unfolding add_xor_rotate
-lane-line state a b d by j sum turned a_in b_in d_in es et =
+lane_line state a b d by j sum turned a_in b_in d_in es et =
     let next = set state a sum in
     let a_still : a < length next = omega (arith, length-set state a sum) in
     let d_still : d < length next = omega (arith, length-set state a sum) in
@@ -69,26 +69,26 @@ lane-line state a b d by j sum turned a_in b_in d_in es et =
     (rotate_left w32 (bit_xor (slice_index words d) (slice_index words a)) by) in
     let first : lane j next ≡ set (lane j state) a
     (add_words (slice_index (lane j state) a) (slice_index (lane j state) b)) =
-    lane-set state j a sum ∙ ap (set (lane j state) a)
-    (es ∙ ap₂ add_words (sym (lane-word state j a a_in)) (sym (lane-word state j b b_in))) in
-    lane-set next j d turned
-    ∙ ap (set (lane j next) d) (et ∙ ap₂ (λ x y. rotate_left w32 (bit_xor x y) by) (sym (lane-word next j d d_still))
-    (sym (lane-word next j a a_still)))
+    lane_set state j a sum ∙ ap (set (lane j state) a)
+    (es ∙ ap₂ add_words (sym (lane_word state j a a_in)) (sym (lane_word state j b b_in))) in
+    lane_set next j d turned
+    ∙ ap (set (lane j next) d) (et ∙ ap₂ (λ x y. rotate_left w32 (bit_xor x y) by) (sym (lane_word next j d d_still))
+    (sym (lane_word next j a a_still)))
     ∙ ap f first
 
 -- sixteen words that are those of lane j
-pub lane-is : (state : List Words) (words : Words) (j : ℕ) → length state ≡ 16 → length words ≡ 16
+pub lane_is : (state : List Words) (words : Words) (j : ℕ) → length state ≡ 16 → length words ≡ 16
     → ((k : ℕ) → k < 16 → slice_index words k ≡ slice_index (slice_index_or state k []) j) → words ≡ lane j state
-lane-is state words j state_long words_long each =
+lane_is state words j state_long words_long each =
     let f : ℕ → ℕ = λ k. slice_index (slice_index_or state k []) j in
     fill_by_all f words 16 0 words_long each
     ∙ sym (fill_by_all f (lane j state) 16 0 (length-map state (λ v. slice_index v j) ∙ state_long)
-    (λ k h. lane-word state j k (omega arith)))
+    (λ k h. lane_word state j k (omega arith)))
 
 -- the counter is word 12 of a block's first state
-pub start-set : (key nonce : Words) (a b : ℕ) → set (start key nonce a) 12 b ≡ start key nonce b
+pub start_set : (key nonce : Words) (a b : ℕ) → set (start key nonce a) 12 b ≡ start key nonce b
 unfolding start
-start-set key nonce a b = refl
+start_set key nonce a b = refl
 
 -- lists of two, four and eight, written out
 pub two_long : (x : Words) → length x ≡ 2 → x ≡ slice_index x 0 ∷ slice_index x 1 ∷ []

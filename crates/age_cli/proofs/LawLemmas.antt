@@ -5,7 +5,7 @@ use Rattle.std.specs.Io.KnownBytes.{Appends, Keeps}
 use Rattle.age_header.specs.Device.{Bytes, Known, moved}
 use Rattle.age_header.specs.Header.{HeaderParts, StanzaParts}
 use Rattle.age_header.specs.Verdict.{HeaderVerdict}
-use Rattle.age_header.proofs.DeviceLemmas.{of-known}
+use Rattle.age_header.proofs.DeviceLemmas.{of_known}
 use Rattle.age_header.specs.declared.file_key.FileKey.{FileKey}
 use Rattle.age_recipient.specs.Choice.{choice}
 use Rattle.age_stream.specs.declared.done.Done.{Done}
@@ -64,7 +64,7 @@ decrypted law limits answers b xs taken new (Err fault) work is d (inl (ended, k
 decrypted law limits answers b xs taken new (Err fault) work is d (inr (failed, rest)) = absurd (cc)
 decrypted law limits answers b xs taken new (Ok counts) work is d (inl (ended, keeps)) =
     decrypted_whole law limits answers b xs taken new counts
-    (of-known (λ x. DecryptsText limits answers x (moved (Some xs) taken) (Ok counts)) (unseen (Some b)) b refl d) keeps
+    (of_known (λ x. DecryptsText limits answers x (moved (Some xs) taken) (Ok counts)) (unseen (Some b)) b refl d) keeps
 decrypted law limits answers b xs taken new (Ok counts) work is d (inr (failed, rest)) = absurd (cc)
 
 decrypt_done : OkIsAgeFile → (job : Job) (b xs : Bytes) (new : Known) (task : Task) → IsTaskFor command.Decrypt job task
@@ -103,7 +103,7 @@ encrypted limits fresh gathered plain xs taken new (Err fault) work is e (inl (e
 encrypted limits fresh gathered plain xs taken new (Err fault) work is e (inr (failed, rest)) = absurd (cc)
 encrypted limits fresh gathered plain xs taken new (Ok counts) work is e (inl (ended, keeps)) =
     encrypted_whole limits fresh gathered plain xs taken new counts
-    (of-known (λ x. EncryptsText limits fresh gathered x (moved (Some xs) taken) (Ok counts)) (unseen (Some plain))
+    (of_known (λ x. EncryptsText limits fresh gathered x (moved (Some xs) taken) (Ok counts)) (unseen (Some plain))
     plain
     refl e) keeps
 encrypted limits fresh gathered plain xs taken new (Ok counts) work is e (inr (failed, rest)) = absurd (cc)
@@ -133,7 +133,7 @@ rewrote : (limits : Bounds) (answers : Answering) (gathered : FileKey → Gather
 rewrote limits answers gathered b xs taken new (Err fault) r (inl (ended, keeps)) = absurd (cc)
 rewrote limits answers gathered b xs taken new (Err fault) r (inr (failed, rest)) = absurd (cc)
 rewrote limits answers gathered b xs taken new (Ok u) r (inl (ended, keeps)) =
-    let t = of-known (λ x. RewrapsText limits answers gathered x (moved (Some xs) taken) (Ok u)) (unseen (Some b)) b
+    let t = of_known (λ x. RewrapsText limits answers gathered x (moved (Some xs) taken) (Ok u)) (unseen (Some b)) b
     refl r in (answers, t.0, t.1.0, grown xs t.0 taken new t.2 keeps)
 rewrote limits answers gathered b xs taken new (Ok u) r (inr (failed, rest)) = absurd (cc)
 
@@ -165,7 +165,7 @@ showed : (limits : Bounds) (raw : Bool) (key : Option Bytes) (b xs : Bytes) (tak
 showed limits raw key b xs taken new (Err fault) i (inl (ended, keeps)) = absurd (cc)
 showed limits raw key b xs taken new (Err fault) i (inr (failed, rest)) = absurd (cc)
 showed limits raw key b xs taken new (Ok u) i (inl (ended, keeps)) =
-    let t = of-known (λ x. InspectsText limits raw key x (moved (Some xs) taken) (Ok u)) (unseen (Some b)) b refl i in
+    let t = of_known (λ x. InspectsText limits raw key x (moved (Some xs) taken) (Ok u)) (unseen (Some b)) b refl i in
     (t.0, t.1, t.2, (key, t.3.0, t.3.1, grown xs t.3.0 taken new t.3.2 keeps))
 showed limits raw key b xs taken new (Ok u) i (inr (failed, rest)) = absurd (cc)
 

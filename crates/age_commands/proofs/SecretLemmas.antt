@@ -8,11 +8,11 @@ use Rattle.age_header.specs.Header.{StanzaParts}
 use Rattle.age_header.specs.declared.file_key.FileKey.{FileKey}
 use Rattle.age_recipient.specs.declared.labels.Labels.{Labels}
 use Rattle.age_recipient.specs.declared.unwrapped.Unwrapped.{Unwrapped}
-use Rattle.age_header.proofs.DeviceLemmas.{of-any, some-none}
+use Rattle.age_header.proofs.DeviceLemmas.{of_any, some_none}
 use Rattle.age_stream.specs.declared.done.Done.{Done}
 use Rattle.age_stream.specs.declared.salvaged.Salvaged.{Salvaged}
 use Rattle.age_stream.specs.Salvage.{KnownLosses, told}
-use Rattle.age_stream.proofs.SalvageLemmas.{reports-none}
+use Rattle.age_stream.proofs.SalvageLemmas.{reports_none}
 use Rattle.age_file.specs.declared.fault.Fault.{Fault}
 use Rattle.age_file.specs.declared.limits.Fresh.{Fresh}
 use Rattle.age_file.specs.AgeFile.{Bounds}

@@ -8,7 +8,7 @@ use Rattle.std.specs.Io.KnownBytes.{Appends}
 use Rattle.age_header.specs.Device.{Bytes, CountsFaultIf, Known, Moved, moved}
 use Rattle.age_header.specs.Header.{StanzaParts}
 use Rattle.age_recipient.specs.declared.unwrapped.Unwrapped.{Unwrapped}
-use Rattle.age_stream.proofs.VerifiedLemmas.{byte-stays}
+use Rattle.age_stream.proofs.VerifiedLemmas.{byte_stays}
 use Rattle.age_stream.specs.declared.fault.StreamFault.{StreamFault}
 use Rattle.age_stream.specs.declared.layout.Layout.{Layout}
 use Rattle.age_stream.specs.Offsets.{StaysGiven}
@@ -127,7 +127,7 @@ joined {early} {late} {layout} at k from n m {old} {mid} {new} stays el ef em on
       verified = λ j lt. elim (cases_lt j (length one.part)) [
         | inl before ↦
             subst (IsVerifiedByte late layout (at + j)) (sym (get_or_append_left one.part more.part 0 j before))
-            (byte-stays early late layout (at + j) (slice_index one.part j) stays (one.verified j before))
+            (byte_stays early late layout (at + j) (slice_index one.part j) stays (one.verified j before))
         | inr ge ↦
             let i : ℕ = j - length one.part in
             let sum : j ≡ length one.part + i = omega (arith, ge) in

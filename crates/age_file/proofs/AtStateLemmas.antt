@@ -7,11 +7,11 @@ use Rattle.age_file.specs.Ranges.{AtState, GaveFirst, IsWithin}
 use Rattle.age_stream.specs.Offsets.{GaveAt, GivesAt, HasOffsets, StaysGiven}
 
 -- a read at the current offset returns the next bytes
-pub gives-on : {E : Type 0} (told : Known) (size : Option ℕ) (at at2 n : ℕ) (buf : Bytes) (r : Result ℕ E) → r ≡ Ok n
+pub gives_on : {E : Type 0} (told : Known) (size : Option ℕ) (at at2 n : ℕ) (buf : Bytes) (r : Result ℕ E) → r ≡ Ok n
     → HasOffsets told → IsWithin told at → n ≤ length buf
     → at2 ≡ min (at + n) (2 ^ 64 - 1) → GivesAt told size at r buf
     → Gives (moved (option_map (drop at) told) (option_map (drop at2) told)) r buf
-gives-on {E} told size at at2 n buf r is offsets within le next h =
+gives_on {E} told size at at2 n buf r is offsets within le next h =
     subst (λ (x : Result ℕ E). Gives (moved (option_map (drop at) told) (option_map (drop at2) told)) x buf) (sym is)
     (go told offsets within (subst (λ (x : Result ℕ E). GivesAt told size at x buf) is h))
   where
@@ -32,22 +32,22 @@ gives-on {E} told size at at2 n buf r is offsets within le next h =
         )
 
 -- no byte was given yet
-pub first-none : (gave : ℕ → ℕ → Type 0) → GaveFirst gave 0 []
-first-none gave = (refl, λ k lt. absurd (omega (arith, lt)))
+pub first_none : (gave : ℕ → ℕ → Type 0) → GaveFirst gave 0 []
+first_none gave = (refl, λ k lt. absurd (omega (arith, lt)))
 
 -- what was given stays so
-pub first-stays : (old new : ℕ → ℕ → Type 0) (at : ℕ) (bytes : Bytes) → StaysGiven old new
+pub first_stays : (old new : ℕ → ℕ → Type 0) (at : ℕ) (bytes : Bytes) → StaysGiven old new
     → GaveFirst old at bytes → GaveFirst new at bytes
-first-stays old new at bytes stays first = (
+first_stays old new at bytes stays first = (
   first.0,
   λ k lt. stays (0 + k) (slice_index (take at bytes) k) (first.1 k lt),
 )
 
 -- the bytes of one read more
-pub first-then : (old new : ℕ → ℕ → Type 0) (at at2 : ℕ) (past more : Bytes) → StaysGiven old new
+pub first_then : (old new : ℕ → ℕ → Type 0) (at at2 : ℕ) (past more : Bytes) → StaysGiven old new
     → GaveFirst old at past → GaveAt new at more → at2 ≡ min (at + length more) (2 ^ 64 - 1)
     → GaveFirst new at2 (past ++ more)
-first-then old new at at2 past more stays first gave next =
+first_then old new at at2 past more stays first gave next =
     let whole : length (past ++ more) ≡ length past + length more = length-append past more in
     let taken : at ≡ min (length past) (2 ^ 64 - 1) = first.0 in
     let before : length (take at past) ≡ at = length-take-le at past (omega (arith, taken)) in
@@ -75,14 +75,14 @@ first-then old new at at2 past more stays first gave next =
     )
 
 -- a read at the current offset adds its bytes to those that were given
-pub grows-on : {D E : Type 0} (told : D → Known) (gave : D → ℕ → ℕ → Type 0) (old new : AtState D) (n : ℕ)
+pub grows_on : {D E : Type 0} (told : D → Known) (gave : D → ℕ → ℕ → Type 0) (old new : AtState D) (n : ℕ)
     (buf : Bytes) (r : Result ℕ E) → r ≡ Ok n → n ≤ length buf → new.at ≡ min (old.at + n) (2 ^ 64 - 1)
     → StaysGiven (gave old.dev) (gave new.dev) → IfOk r (λ n. GaveAt (gave new.dev) old.at (take n buf))
     → Grows (flow_by (λ s. option_map (drop s.at) (told s.dev)) (λ s. GaveFirst (gave s.dev) s.at) old new) r buf
-grows-on {D} {E} told gave old new n buf r is le next stays reads =
+grows_on {D} {E} told gave old new n buf r is le next stays reads =
     let more : GaveAt (gave new.dev) old.at (take n buf) =
     subst (λ (x : Result ℕ E). IfOk x (λ k. GaveAt (gave new.dev) old.at (take k buf))) is reads in
     subst (λ (x : Result ℕ E). Grows (flow_by (λ (s : AtState D). option_map (drop s.at) (told s.dev))
     (λ (s : AtState D). GaveFirst (gave s.dev) s.at) old new) x buf) (sym is)
-    (λ past first. first-then (gave old.dev) (gave new.dev) old.at new.at past (take n buf) stays first more
+    (λ past first. first_then (gave old.dev) (gave new.dev) old.at new.at past (take n buf) stays first more
     (next ∙ ap (λ k. min (old.at + k) (2 ^ 64 - 1)) (sym (length-take-le n buf le))))

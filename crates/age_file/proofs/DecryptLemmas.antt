@@ -10,7 +10,7 @@ use Rattle.age_header.specs.Device.{Bytes, CountsFaultIf, Gave, GaveSome, Known,
 use Rattle.age_header.specs.Header.{HeaderParts}
 use Rattle.age_header.specs.Reader.{ReadsHeader, Refuses}
 use Rattle.age_header.specs.Verdict.{HeaderVerdict}
-use Rattle.age_header.proofs.DeviceLemmas.{gave-more, gave-some, gave-then, of-any, of-map, of-more, of-then}
+use Rattle.age_header.proofs.DeviceLemmas.{gave_more, gave_some, gave_then, of_any, of_map, of_more, of_then}
 use Rattle.age_header.proofs.VerdictUniqueLemmas.{found_again}
 use Rattle.age_header.proofs.VerdictTotalLemmas.{some_verdict}
 use Rattle.age_header.specs.declared.file_key.FileKey.{FileKey}
@@ -29,83 +29,83 @@ use Rattle.age_file.specs.AgeFile.{Bounds}
 use Rattle.age_file.specs.Decrypt.{BeginsVerdict, Decrypts, DecryptsText, GivesVerdict, TookUpTo, TookThrough, payload_pieces}
 use Rattle.age_file.specs.Device.{is_read}
 use Rattle.age_file.specs.Inspect.{Inspects}
-use Rattle.age_file.proofs.PayloadLemmas.{WritesPayload, nonce-writes}
+use Rattle.age_file.proofs.PayloadLemmas.{WritesPayload, nonce_writes}
 use Rattle.age_file.specs.Verdict.{Answering, IsVerdict, found_in, header_fault, judged, read_under, stream_fault, unlocked}
 
-pub err-err : {A : Type 0} (f g : Fault) → ◌≡◌ {A = Result A Fault} (Err f) (Err g) → f ≡ g
-err-err f g e = cc
+pub err_err : {A : Type 0} (f g : Fault) → ◌≡◌ {A = Result A Fault} (Err f) (Err g) → f ≡ g
+err_err f g e = cc
 
 -- a key that was returned is the one that was found
-pub found-key : (found : Result FileKey Fault) (k : FileKey)
+pub found_key : (found : Result FileKey Fault) (k : FileKey)
     → (◌≡◌ {A = Result FileKey Fault} (Ok k) (Err OutOfMemory)) ⊎ (Ok k ≡ found) → found ≡ Ok k
-found-key found k (inl is) = absurd (cc)
-found-key found k (inr is) = sym is
+found_key found k (inl is) = absurd (cc)
+found_key found k (inr is) = sym is
 
 -- ---- verdicts
 
 -- every text has one
-pub some-verdict : (limits : Bounds) (answers : Answering) (b : Bytes)
+pub file_has_verdict : (limits : Bounds) (answers : Answering) (b : Bytes)
     → (v : Reading Fault) × IsVerdict limits answers b v
-some-verdict limits answers b =
+file_has_verdict limits answers b =
     let h = some_verdict b limits.max_header in
     (judged limits answers b h.0, record { header = h.0; header_verdict = h.1; is = refl })
 
 -- the whole is a prefix of itself
-begins-whole : (limits : Bounds) (answers : Answering) (b : Bytes) (old new : Known) (r : Result Done Fault)
+begins_whole : (limits : Bounds) (answers : Answering) (b : Bytes) (old new : Known) (r : Result Done Fault)
     → GivesVerdict limits answers b (moved old new) r → BeginsVerdict limits answers b (moved old new)
-begins-whole limits answers b old new r (v, is, tells, h) =
+begins_whole limits answers b old new r (v, is, tells, h) =
     (v, is, (length v.front, subst (Appends old new) (sym (take_all (length v.front) v.front (omega arith))) h))
 
 -- a verdict that was written
-gives-decrypts : (limits : Bounds) (answers : Answering) (b : Bytes) (old new : Known) (fault : Fault)
+gives_decrypts : (limits : Bounds) (answers : Answering) (b : Bytes) (old new : Known) (fault : Fault)
     → GivesVerdict limits answers b (moved old new) (Err fault)
     → DecryptsText limits answers b (moved old new) (Err fault)
-gives-decrypts limits answers b old new Read h = begins-whole limits answers b old new (Err Read) h
-gives-decrypts limits answers b old new Write h = begins-whole limits answers b old new (Err Write) h
-gives-decrypts limits answers b old new OutOfMemory h = tt
-gives-decrypts limits answers b old new _ h = h
+gives_decrypts limits answers b old new Read h = begins_whole limits answers b old new (Err Read) h
+gives_decrypts limits answers b old new Write h = begins_whole limits answers b old new (Err Write) h
+gives_decrypts limits answers b old new OutOfMemory h = tt
+gives_decrypts limits answers b old new _ h = h
 
 -- a fault before any plaintext
-stops-decrypts : (limits : Bounds) (answers : Answering) (b : Bytes) (old : Known) (fault : Fault)
+stops_decrypts : (limits : Bounds) (answers : Answering) (b : Bytes) (old : Known) (fault : Fault)
     → IsVerdict limits answers b (stops fault) → DecryptsText limits answers b (moved old old) (Err fault)
-stops-decrypts limits answers b old fault v =
-    gives-decrypts limits answers b old old fault (stops fault, v, refl, Appends-nil old)
+stops_decrypts limits answers b old fault v =
+    gives_decrypts limits answers b old old fault (stops fault, v, refl, Appends-nil old)
 
 -- nothing was read or written yet
-begins-none : (limits : Bounds) (answers : Answering) (b : Bytes) (old : Known)
+begins_none : (limits : Bounds) (answers : Answering) (b : Bytes) (old : Known)
     → BeginsVerdict limits answers b (moved old old)
-begins-none limits answers b old = let v = some-verdict limits answers b in (v.0, v.1, (0, Appends-nil old))
+begins_none limits answers b old = let v = file_has_verdict limits answers b in (v.0, v.1, (0, Appends-nil old))
 
 -- ---- the header
 
-header-text : (limits : Bounds) (answers : Answering) (b : Bytes) (old : Known) (g : HeaderFault)
+header_text : (limits : Bounds) (answers : Answering) (b : Bytes) (old : Known) (g : HeaderFault)
     → Refuses b limits.max_header g → DecryptsText limits answers b (moved old old) (Err (header_fault g))
-header-text limits answers b old header.Read h = begins-none limits answers b old
-header-text limits answers b old header.Memory h = tt
-header-text limits answers b old header.NotAge h =
-    stops-decrypts limits answers b old NotAge (record { header = Err header.NotAge; header_verdict = h; is = refl })
-header-text limits answers b old (header.BadLine n) h =
-    stops-decrypts limits answers b old (BadLine n)
+header_text limits answers b old header.Read h = begins_none limits answers b old
+header_text limits answers b old header.Memory h = tt
+header_text limits answers b old header.NotAge h =
+    stops_decrypts limits answers b old NotAge (record { header = Err header.NotAge; header_verdict = h; is = refl })
+header_text limits answers b old (header.BadLine n) h =
+    stops_decrypts limits answers b old (BadLine n)
     (record { header = Err (header.BadLine n); header_verdict = h; is = refl })
-header-text limits answers b old header.Truncated h =
-    stops-decrypts limits answers b old HeaderTruncated
+header_text limits answers b old header.Truncated h =
+    stops_decrypts limits answers b old HeaderTruncated
     (record { header = Err header.Truncated; header_verdict = h; is = refl })
-header-text limits answers b old header.TooLarge h =
-    stops-decrypts limits answers b old HeaderTooLarge
+header_text limits answers b old header.TooLarge h =
+    stops_decrypts limits answers b old HeaderTooLarge
     (record { header = Err header.TooLarge; header_verdict = h; is = refl })
 
-header-decrypts : (limits : Bounds) (answers : Answering) (come mid : Seen) (old : Known) (g : HeaderFault)
+header_decrypts : (limits : Bounds) (answers : Answering) (come mid : Seen) (old : Known) (g : HeaderFault)
     → ReadsHeader (flow come mid) limits.max_header (Err g)
     → Decrypts limits answers (flow come mid) (moved old old) (Err (header_fault g))
-header-decrypts limits answers come mid old g h =
-    of-map come mid _ _ h (λ b refuses. header-text limits answers b old g refuses)
+header_decrypts limits answers come mid old g h =
+    of_map come mid _ _ h (λ b refuses. header_text limits answers b old g refuses)
 
-pub inspect-decrypts : (limits : Bounds) (answers : Answering) {come : Seen} (mid : Seen) (old : Known) (fault : Fault)
+pub inspect_decrypts : (limits : Bounds) (answers : Answering) {come : Seen} (mid : Seen) (old : Known) (fault : Fault)
     → Inspects limits (flow come mid) (Err fault) → Decrypts limits answers (flow come mid) (moved old old) (Err fault)
-inspect-decrypts limits answers mid old fault (Ok parts, is, h) = absurd (cc)
-inspect-decrypts limits answers {come} mid old fault (Err g, is, h) =
+inspect_decrypts limits answers mid old fault (Ok parts, is, h) = absurd (cc)
+inspect_decrypts limits answers {come} mid old fault (Err g, is, h) =
     subst (λ f. Decrypts limits answers (flow come mid) (moved old old) (Err f))
-    (sym (err-err {A = HeaderParts} fault (header_fault g) is)) (header-decrypts limits answers come mid old g h)
+    (sym (err_err {A = HeaderParts} fault (header_fault g) is)) (header_decrypts limits answers come mid old g h)
 
 -- the header that was read, whatever follows it
 pub record IsHeaded (limits : Bounds) (come mid : Seen) (h : HeaderParts) : Type 0 where
@@ -113,10 +113,10 @@ pub record IsHeaded (limits : Bounds) (come mid : Seen) (h : HeaderParts) : Type
   pub took : Gave (flow come mid) text
   pub verdict : (rest : Bytes) → HeaderVerdict (text ++ rest) limits.max_header (Ok (found_in text h))
 
-parts-headed : (limits : Bounds) (come mid : Seen) (h : HeaderParts)
+parts_headed : (limits : Bounds) (come mid : Seen) (h : HeaderParts)
     → ReadsHeader (flow come mid) limits.max_header (Ok h)
     → IsHeaded limits come mid h
-parts-headed limits come mid h r = record {
+parts_headed limits come mid h r = record {
   text = r.holds.0;
   took = r.holds.2;
   verdict = λ rest. found_again r.given limits.max_header (found_in r.holds.0 h) r.holds.1 rest;
@@ -126,41 +126,41 @@ pub headed : (limits : Bounds) (come mid : Seen) (h : HeaderParts) → Inspects 
     → IsHeaded limits come mid h
 headed limits come mid h (Err g, is, a) = absurd (cc)
 headed limits come mid h (Ok k, is, a) =
-    subst (IsHeaded limits come mid) (sym (ok-ok h k is)) (parts-headed limits come mid k a)
+    subst (IsHeaded limits come mid) (sym (ok_ok h k is)) (parts_headed limits come mid k a)
   where
-    ok-ok : (x y : HeaderParts) → ◌≡◌ {A = Result HeaderParts Fault} (Ok x) (Ok y) → x ≡ y
-    ok-ok x y e = cc
+    ok_ok : (x y : HeaderParts) → ◌≡◌ {A = Result HeaderParts Fault} (Ok x) (Ok y) → x ≡ y
+    ok_ok x y e = cc
 
 -- the verdict on a header and what follows it
-verdict-of : (limits : Bounds) (answers : Answering) (come mid : Seen) (h : HeaderParts)
+verdict_of : (limits : Bounds) (answers : Answering) (come mid : Seen) (h : HeaderParts)
     (i : IsHeaded limits come mid h) (rest : Bytes)
     → IsVerdict limits answers (i.text ++ rest) (read_under limits rest (unlocked answers h))
-verdict-of limits answers come mid h i rest = record {
+verdict_of limits answers come mid h i rest = record {
   header = Ok (found_in i.text h);
   header_verdict = i.verdict rest;
   is = ap (λ x. read_under limits x (unlocked answers h)) (sym (drop_at i.text rest (length i.text) refl));
 }
 
 -- memory was refused
-pub memory-decrypts : (limits : Bounds) (answers : Answering) (come to : Seen) (old new : Known)
+pub memory_decrypts : (limits : Bounds) (answers : Answering) (come to : Seen) (old new : Known)
     → GaveSome (flow come to) → Decrypts limits answers (flow come to) (moved old new) (Err OutOfMemory)
-memory-decrypts limits answers come to old new some = of-any come to _ some (λ b. tt)
+memory_decrypts limits answers come to old new some = of_any come to _ some (λ b. tt)
 
 -- no key
-pub locked-decrypts : (limits : Bounds) (answers : Answering) {come : Seen} (mid : Seen) (old : Known) {h : HeaderParts}
+pub locked_decrypts : (limits : Bounds) (answers : Answering) {come : Seen} (mid : Seen) (old : Known) {h : HeaderParts}
     (fault : Fault) → Inspects limits (flow come mid) (Ok h)
     → (◌≡◌ {A = Result FileKey Fault} (Err fault) (Err OutOfMemory)) ⊎ (Err fault ≡ unlocked answers h)
     → Decrypts limits answers (flow come mid) (moved old old) (Err fault)
-locked-decrypts limits answers {come} mid old {h} fault i (inl memory) =
+locked_decrypts limits answers {come} mid old {h} fault i (inl memory) =
     let is = headed limits come mid h i in
     subst (λ f. Decrypts limits answers (flow come mid) (moved old old) (Err f))
-    (sym (err-err {A = FileKey} fault OutOfMemory memory))
-    (memory-decrypts limits answers come mid old old (gave-some come mid is.text is.took))
-locked-decrypts limits answers {come} mid old {h} fault i (inr key) =
+    (sym (err_err {A = FileKey} fault OutOfMemory memory))
+    (memory_decrypts limits answers come mid old old (gave_some come mid is.text is.took))
+locked_decrypts limits answers {come} mid old {h} fault i (inr key) =
     let is = headed limits come mid h i in
-    of-more come mid is.text _ is.took (λ d end. stops-decrypts limits answers (is.text ++ d) old fault
+    of_more come mid is.text _ is.took (λ d end. stops_decrypts limits answers (is.text ++ d) old fault
     (subst (λ k. IsVerdict limits answers (is.text ++ d) (read_under limits d k)) (sym key)
-    (verdict-of limits answers come mid h is d)))
+    (verdict_of limits answers come mid h is d)))
 
 -- ---- the payload
 
@@ -169,12 +169,12 @@ abbrev pub file_result : Result Done StreamFault → Result Done Fault
 file_result (Ok done) = Ok done
 file_result (Err fault) = Err (stream_fault fault)
 
-payload-text : (limits : Bounds) (answers : Answering) (come mid : Seen) (h : HeaderParts)
+payload_text : (limits : Bounds) (answers : Answering) (come mid : Seen) (h : HeaderParts)
     (i : IsHeaded limits come mid h) (k : FileKey) (c : Bytes) (old new : Known)
     (r : Result Done StreamFault)
     → Ok k ≡ unlocked answers h → WritesReading (payload_reading k limits.max_chunks c) (length (pieces (drop 16 c)))
     (moved old new) r → DecryptsText limits answers (i.text ++ c) (moved old new) (file_result r)
-payload-text limits answers come mid h i k c old new r key w = go r w
+payload_text limits answers come mid h i k c old new r key w = go r w
   where
     v : Reading Fault
     v = read_under limits c (Ok k)
@@ -207,64 +207,64 @@ payload-text limits answers come mid h i k c old new r key w = go r w
     go (Err (stream.BadChunk n)) x = gives (stream.BadChunk n) x.0 x.1
     go (Err stream.TooManyChunks) x = gives stream.TooManyChunks x.0 x.1
 
-pub payload-decrypts : (limits : Bounds) (answers : Answering) (come mid to : Seen) (old new : Known) (h : HeaderParts)
+pub payload_decrypts : (limits : Bounds) (answers : Answering) (come mid to : Seen) (old new : Known) (h : HeaderParts)
     (k : FileKey) (max : ℕ) (r : Result Done StreamFault) → Inspects limits (flow come mid) (Ok h)
     → (◌≡◌ {A = Result FileKey Fault} (Ok k) (Err OutOfMemory)) ⊎ (Ok k ≡ unlocked answers h) → max ≡ limits.max_chunks
     → WritesPayload k max (flow mid to) old new r
     → Decrypts limits answers (flow come to) (moved old new) (file_result r)
-payload-decrypts limits answers come mid to old new h k max r i (inl memory) same w = absurd (cc)
-payload-decrypts limits answers come mid to old new h k max r i (inr key) same w =
+payload_decrypts limits answers come mid to old new h k max r i (inl memory) same w = absurd (cc)
+payload_decrypts limits answers come mid to old new h k max r i (inr key) same w =
     let is = headed limits come mid h i in
-    of-then come mid to is.text _ _ is.took w (λ c x. payload-text limits answers come mid h is k c old new r key
+    of_then come mid to is.text _ _ is.took w (λ c x. payload_text limits answers come mid h is k c old new r key
     (subst (λ m. WritesReading (payload_reading k m c) (length (pieces (drop 16 c))) (moved old new) r) same x))
 
 -- there is no nonce, or no memory
-pub missed-decrypts : {S : Type 0} (to_come : S → Known) (gave : S → Bytes → Type 0) {limits : Bounds}
+pub missed_decrypts : {S : Type 0} (to_come : S → Known) (gave : S → Bytes → Type 0) {limits : Bounds}
     (answers : Answering) {come : Seen} (mid : S) {to : S} (old : Known) (before after : ℕ) {h : HeaderParts}
     (k : FileKey) (max : ℕ) (fault : StreamFault) → Inspects limits (flow come (seen_by to_come gave mid)) (Ok h)
     → (◌≡◌ {A = Result FileKey Fault} (Ok k) (Err OutOfMemory)) ⊎ (Ok k ≡ unlocked answers h) → max ≡ limits.max_chunks
     → ((fault ≡ stream.Memory) × (to ≡ mid)) ⊎ MissesNonce k max (flow_by to_come gave mid to) before after fault
     → Decrypts limits answers (flow come (seen_by to_come gave to)) (moved old old) (Err (stream_fault fault))
-missed-decrypts to_come gave {limits} answers {come} mid old before after {h} k max fault i key same (inl m) =
+missed_decrypts to_come gave {limits} answers {come} mid old before after {h} k max fault i key same (inl m) =
     let is = headed limits come (seen_by to_come gave mid) h i in
     subst (λ x. Decrypts limits answers (flow come (seen_by to_come gave x)) (moved old old) (Err (stream_fault fault)))
     (sym m.1)
     (subst (λ f. Decrypts limits answers (flow come (seen_by to_come gave mid)) (moved old old)
     (Err (stream_fault f))) (sym m.0)
-    (memory-decrypts limits answers come (seen_by to_come gave mid) old old
-    (gave-some come (seen_by to_come gave mid) is.text is.took)))
-missed-decrypts to_come gave {limits} answers {come} mid {to} old before after {h} k max fault i key same (inr m) =
-    payload-decrypts limits answers come (seen_by to_come gave mid) (seen_by to_come gave to) old old h k max
+    (memory_decrypts limits answers come (seen_by to_come gave mid) old old
+    (gave_some come (seen_by to_come gave mid) is.text is.took)))
+missed_decrypts to_come gave {limits} answers {come} mid {to} old before after {h} k max fault i key same (inr m) =
+    payload_decrypts limits answers come (seen_by to_come gave mid) (seen_by to_come gave to) old old h k max
     (Err fault) i key same
-    (nonce-writes k max (seen_by to_come gave mid) (seen_by to_come gave to) old fault m.0)
+    (nonce_writes k max (seen_by to_come gave mid) (seen_by to_come gave to) old fault m.0)
 
 -- ---- counts, and what was taken
 
-pub reads-file : (old new : ℕ) (fault : StreamFault) → CountsFaultIf counts.is_read old new fault
+pub reads_file : (old new : ℕ) (fault : StreamFault) → CountsFaultIf counts.is_read old new fault
     → CountsFaultIf is_read old new (stream_fault fault)
-reads-file old new stream.Read h = h
-reads-file old new _ h = h
+reads_file old new stream.Read h = h
+reads_file old new _ h = h
 
-took-piece : (limits : Bounds) (come mid to : Seen) (old new : Known) (h : HeaderParts) (i : IsHeaded limits come mid h)
+took_piece : (limits : Bounds) (come mid to : Seen) (old new : Known) (h : HeaderParts) (i : IsHeaded limits come mid h)
     (fault : StreamFault) (n : ℕ) (e : EndsAt limits.max_chunks 16 (flow mid to) (moved old new) fault) → e.piece ≤ n
     → TookThrough limits n (flow come to)
-took-piece limits come mid to old new h i fault n e le =
+took_piece limits come mid to old new h i fault n e le =
     let g : Bytes = e.gave.0 in
     let all =
-    gave-more come mid to (length i.text) (16 + (sealed_chunk_size * (e.piece + 1) + 1)) (i.text, i.took, omega arith)
+    gave_more come mid to (length i.text) (16 + (sealed_chunk_size * (e.piece + 1) + 1)) (i.text, i.took, omega arith)
     e.gave in
     record {
       found = found_in i.text h;
-      header = of-more come to (i.text ++ g) _ (gave-then come mid to i.text g i.took e.gave.1) (λ d end.
+      header = of_more come to (i.text ++ g) _ (gave_then come mid to i.text g i.took e.gave.1) (λ d end.
           subst (λ z. HeaderVerdict z limits.max_header (Ok (found_in i.text h))) (sym (append_assoc i.text g d))
           (i.verdict (g ++ d)));
       gave = (all.0, all.1, omega (arith, all.2));
     }
 
-ends-takes : (limits : Bounds) (come mid to : Seen) (old new : Known) (h : HeaderParts) (i : IsHeaded limits come mid h)
+ends_takes : (limits : Bounds) (come mid to : Seen) (old new : Known) (h : HeaderParts) (i : IsHeaded limits come mid h)
     (fault : StreamFault) → EndsAt limits.max_chunks 16 (flow mid to) (moved old new) fault
     → TookUpTo limits (flow come to) (moved old new) (stream_fault fault)
-ends-takes limits come mid to old new h i stream.Write e = go e.at
+ends_takes limits come mid to old new h i stream.Write e = go e.at
   where
     not-piece : IsAtPiece limits.max_chunks e.piece stream.Write → ⊥
     not-piece x = x
@@ -274,10 +274,10 @@ ends-takes limits come mid to old new h i stream.Write e = go e.at
     go (inl (is, le)) = (
       e.text,
       e.written,
-      took-piece limits come mid to old new h i stream.Write (length e.text / chunk_size) e (omega arith),
+      took_piece limits come mid to old new h i stream.Write (length e.text / chunk_size) e (omega arith),
     )
     go (inr at) = absurd (not-piece at)
-ends-takes limits come mid to old new h i (stream.ChunkShort j) e = go e.at
+ends_takes limits come mid to old new h i (stream.ChunkShort j) e = go e.at
   where
     not-write : ◌≡◌ {A = StreamFault} (stream.ChunkShort j) stream.Write → ⊥
     not-write x = cc
@@ -285,8 +285,8 @@ ends-takes limits come mid to old new h i (stream.ChunkShort j) e = go e.at
     go : ((◌≡◌ {A = StreamFault} (stream.ChunkShort j) stream.Write) × (chunk_size * e.piece ≤ length e.text))
         ⊎ IsAtPiece limits.max_chunks e.piece (stream.ChunkShort j) → TookThrough limits j (flow come to)
     go (inl (is, le)) = absurd (not-write is)
-    go (inr at) = took-piece limits come mid to old new h i (stream.ChunkShort j) j e (omega (arith, at))
-ends-takes limits come mid to old new h i (stream.EmptyFinal j) e = go e.at
+    go (inr at) = took_piece limits come mid to old new h i (stream.ChunkShort j) j e (omega (arith, at))
+ends_takes limits come mid to old new h i (stream.EmptyFinal j) e = go e.at
   where
     not-write : ◌≡◌ {A = StreamFault} (stream.EmptyFinal j) stream.Write → ⊥
     not-write x = cc
@@ -294,8 +294,8 @@ ends-takes limits come mid to old new h i (stream.EmptyFinal j) e = go e.at
     go : ((◌≡◌ {A = StreamFault} (stream.EmptyFinal j) stream.Write) × (chunk_size * e.piece ≤ length e.text))
         ⊎ IsAtPiece limits.max_chunks e.piece (stream.EmptyFinal j) → TookThrough limits j (flow come to)
     go (inl (is, le)) = absurd (not-write is)
-    go (inr at) = took-piece limits come mid to old new h i (stream.EmptyFinal j) j e (omega (arith, at))
-ends-takes limits come mid to old new h i (stream.BadChunk j) e = go e.at
+    go (inr at) = took_piece limits come mid to old new h i (stream.EmptyFinal j) j e (omega (arith, at))
+ends_takes limits come mid to old new h i (stream.BadChunk j) e = go e.at
   where
     not-write : ◌≡◌ {A = StreamFault} (stream.BadChunk j) stream.Write → ⊥
     not-write x = cc
@@ -303,8 +303,8 @@ ends-takes limits come mid to old new h i (stream.BadChunk j) e = go e.at
     go : ((◌≡◌ {A = StreamFault} (stream.BadChunk j) stream.Write) × (chunk_size * e.piece ≤ length e.text))
         ⊎ IsAtPiece limits.max_chunks e.piece (stream.BadChunk j) → TookThrough limits j (flow come to)
     go (inl (is, le)) = absurd (not-write is)
-    go (inr at) = took-piece limits come mid to old new h i (stream.BadChunk j) j e (omega (arith, at))
-ends-takes limits come mid to old new h i stream.TooManyChunks e = go e.at
+    go (inr at) = took_piece limits come mid to old new h i (stream.BadChunk j) j e (omega (arith, at))
+ends_takes limits come mid to old new h i stream.TooManyChunks e = go e.at
   where
     not-write : ◌≡◌ {A = StreamFault} stream.TooManyChunks stream.Write → ⊥
     not-write x = cc
@@ -313,14 +313,14 @@ ends-takes limits come mid to old new h i stream.TooManyChunks e = go e.at
         ⊎ IsAtPiece limits.max_chunks e.piece stream.TooManyChunks
         → TookThrough limits limits.max_chunks (flow come to)
     go (inl (is, le)) = absurd (not-write is)
-    go (inr at) = took-piece limits come mid to old new h i stream.TooManyChunks limits.max_chunks e (omega (arith, at))
-ends-takes limits come mid to old new h i _ e = tt
+    go (inr at) = took_piece limits come mid to old new h i stream.TooManyChunks limits.max_chunks e (omega (arith, at))
+ends_takes limits come mid to old new h i _ e = tt
 
-pub payload-takes : {limits : Bounds} {come : Seen} (mid : Seen) {to : Seen} {old new : Known} {h : HeaderParts}
+pub payload_takes : {limits : Bounds} {come : Seen} (mid : Seen) {to : Seen} {old new : Known} {h : HeaderParts}
     (fault : StreamFault) → Inspects limits (flow come mid) (Ok h)
     → (fault ≡ stream.Read) ⊎ EndsAt limits.max_chunks 16 (flow mid to) (moved old new) fault
     → TookUpTo limits (flow come to) (moved old new) (stream_fault fault)
-payload-takes {limits} {come} mid {to} {old} {new} fault i (inl e) =
+payload_takes {limits} {come} mid {to} {old} {new} fault i (inl e) =
     subst (λ f. TookUpTo limits (flow come to) (moved old new) (stream_fault f)) (sym e) tt
-payload-takes {limits} {come} mid {to} {old} {new} {h} fault i (inr e) =
-    ends-takes limits come mid to old new h (headed limits come mid h i) fault e
+payload_takes {limits} {come} mid {to} {old} {new} {h} fault i (inr e) =
+    ends_takes limits come mid to old new h (headed limits come mid h i) fault e

@@ -7,7 +7,7 @@ use Rattle.std.proofs.KnownBytes.{Appends-nil, Appends-trans}
 use Rattle.age_header.specs.Device.{Bytes, Flow, GaveAtMost, GaveSome, OfGiven, WritesPart, Known, Seen, flow, moved}
 use Rattle.age_header.specs.Header.{StanzaParts, Head}
 use Rattle.age_header.specs.Mac.{header_mac}
-use Rattle.age_header.proofs.DeviceLemmas.{of-any, of-map, of-then, done_part}
+use Rattle.age_header.proofs.DeviceLemmas.{of_any, of_map, of_then, done_part}
 use Rattle.age_header.proofs.HeaderLemmas.{one_text}
 use Rattle.age_header.specs.declared.file_key.FileKey.{FileKey}
 use Rattle.age_stream.specs.declared.done.Done.{Done}
@@ -16,7 +16,7 @@ use Rattle.age_stream.specs.declared.fault.StreamFault.TheVariants as stream
 use Rattle.age_stream.specs.Payload.{chunks, payload, payload_key, sealed_chunks}
 use Rattle.age_stream.specs.Sealing.{Fills, SealerState, SealsAll, Stopped, StopsIn, at_start}
 use Rattle.age_stream.specs.Sizes.{chunk_size}
-use Rattle.age_stream.proofs.SealingLemmas.{filled-finishes, filled-seals}
+use Rattle.age_stream.proofs.SealingLemmas.{filled_finishes, filled_seals}
 use Rattle.age_file.specs.declared.fault.Fault.{Fault}
 use Rattle.age_file.specs.declared.fault.Fault.TheVariants.{TooManyChunks, Read, Write, OutOfMemory}
 use Rattle.age_file.specs.declared.limits.Fresh.{Fresh}
@@ -50,7 +50,7 @@ made limits k gathered stanzas mac written (is, (text, heading)) head =
 -- memory was refused
 pub encrypts_refused : (limits : Bounds) (fresh : Fresh) (gathered : Gathering) (from to : Seen) (old new : Known)
     → GaveSome (flow from to) → EncryptsGiven limits fresh gathered (flow from to) (moved old new) (Err OutOfMemory)
-encrypts_refused limits fresh gathered from to old new some = of-any from to _ some (λ plain. tt)
+encrypts_refused limits fresh gathered from to old new some = of_any from to _ some (λ plain. tt)
 
 -- no header was made
 pub encrypts_unmade : (limits : Bounds) (fresh : Fresh) (gathered : Gathering) (from to : Seen) (old new : Known)
@@ -61,7 +61,7 @@ encrypts_unmade limits fresh gathered from to old new fault some (inl memory) =
     subst (λ f. EncryptsGiven limits fresh gathered (flow from to) (moved old new) (Err f)) (sym memory)
     (encrypts_refused limits fresh gathered from to old new some)
 encrypts_unmade limits fresh gathered from to old new fault some (inr refusal) =
-    of-any from to _ some (λ plain. go plain fault refusal)
+    of_any from to _ some (λ plain. go plain fault refusal)
   where
     go : (plain : Bytes) (f : Fault) → IsRefusal limits fresh.file_key gathered f
         → EncryptsText limits fresh gathered plain (moved old new) (Err f)
@@ -79,7 +79,7 @@ pub encrypts_begun : {limits : Bounds} {fresh : Fresh} {gathered : Gathering} {s
 encrypts_begun {limits} {fresh} {gathered} {stanzas} {mac} {from} {to} {old} {new} some header (text, head, part) =
     let m = made limits fresh.file_key gathered stanzas mac text header head in
     let front : Bytes = text ++ fresh.nonce in
-    of-any from to _ some (λ plain.
+    of_any from to _ some (λ plain.
     let rest : Bytes = concat (sealed_chunks fresh.file_key fresh.nonce plain) in
     let is : text ++ payload fresh.file_key fresh.nonce plain ≡ front ++ rest =
     sym (append_assoc text fresh.nonce rest) in
@@ -97,7 +97,7 @@ pub encrypts_unread : {limits : Bounds} {fresh : Fresh} {gathered : Gathering} {
     → HeaderMade limits fresh.file_key gathered stanzas mac
     → EncryptsGiven limits fresh gathered (flow from to) (moved old old) (Err Read)
 encrypts_unread {stanzas} {from} {to} {old} some (is, (text, heading)) =
-    of-any from to _ some
+    of_any from to _ some
     (λ plain. record { stanzas = stanzas; text = text; heading = heading; part = (0, Appends-nil old) })
 
 -- a prefix of the payload was written after them
@@ -185,9 +185,9 @@ pub sealed_filled : {key : Bytes} {max : ℕ} {t : SealerState} {more : Bool} {f
     → Fills (at_start key max) t (flow from mid) (Ok more) → SealsRest t more (flow mid to) (moved a c) r
     → SealsAll (at_start key max) (flow from to) (moved a c) r
 sealed_filled {key} {max} {t} {more = true} {from} {mid} to a c r some fills seals =
-    filled-seals key max t true from mid to a c r fills seals
+    filled_seals key max t true from mid to a c r fills seals
 sealed_filled {key} {max} {t} {more = false} {from} {mid} to a c r some fills (finishes, same) =
-    filled-finishes key max t from mid to a c r some fills same finishes
+    filled_finishes key max t from mid to a c r some fills same finishes
 
 -- the payload after the header and the nonce
 encrypts_payload : (limits : Bounds) (fresh : Fresh) (gathered : Gathering) (text : Bytes) (from to : Seen)
@@ -197,7 +197,7 @@ encrypts_payload : (limits : Bounds) (fresh : Fresh) (gathered : Gathering) (tex
     → SealsAll (at_start (payload_key fresh.file_key fresh.nonce) limits.max_chunks) (flow from to) (moved b c) r
     → EncryptsGiven limits fresh gathered (flow from to) (moved a c) (file_result r)
 encrypts_payload limits fresh gathered text from to a b c (Ok done) sixteen m front h =
-    of-map from to _ _ h
+    of_map from to _ _ h
     (λ plain q. whole limits fresh gathered text plain a b c done sixteen m front q.0 q.1 q.2 q.3)
 encrypts_payload limits fresh gathered text from to a b c (Err fault) sixteen m front (chunk, s) =
     go fault s.stops
@@ -208,10 +208,10 @@ encrypts_payload limits fresh gathered text from to a b c (Err fault) sixteen m 
     go : (f : StreamFault)
         → OfGiven (flow from to) (λ plain. StopsIn key limits.max_chunks 0 [] plain (moved b c) f)
         → EncryptsGiven limits fresh gathered (flow from to) (moved a c) (Err (stream_fault f))
-    go stream.Read h = of-map from to _ _ h (λ plain q. begun limits fresh gathered text plain a b c m front q)
-    go stream.Write h = of-map from to _ _ h (λ plain q. begun limits fresh gathered text plain a b c m front q)
+    go stream.Read h = of_map from to _ _ h (λ plain q. begun limits fresh gathered text plain a b c m front q)
+    go stream.Write h = of_map from to _ _ h (λ plain q. begun limits fresh gathered text plain a b c m front q)
     go stream.TooManyChunks h =
-        of-map from to _ _ h (λ plain q. up_to_limit limits fresh gathered text plain a b c m front q.0 q.1)
+        of_map from to _ _ h (λ plain q. up_to_limit limits fresh gathered text plain a b c m front q.0 q.1)
     go _ h = absurd h.holds
 
 -- the header, the nonce and the payload
@@ -232,12 +232,12 @@ pub read_late : {key : Bytes} {max : ℕ} {t : SealerState} {more : Bool} {from 
     → stream_fault fault ≡ Read → FillsChunk (flow from to)
 read_late {more = true} {from} {mid} {to} a c fault (x, took, is, fits, full, ended) (chunk, seals) read =
     let l : length x ≡ chunk_size = subst (λ (u : SealerState). length u.held ≡ chunk_size) is (full refl) in
-    of-then from mid to x _ _ took seals.stops (λ text h. omega (arith, length-append x text, l))
+    of_then from mid to x _ _ took seals.stops (λ text h. omega (arith, length-append x text, l))
 read_late {more = false} a c fault fills ((write, part), same) read =
-    absurd (not-read (subst (λ f. stream_fault f ≡ Read) write read))
+    absurd (not_read (subst (λ f. stream_fault f ≡ Read) write read))
   where
-    not-read : stream_fault stream.Write ≡ Read → ⊥
-    not-read e = cc
+    not_read : stream_fault stream.Write ≡ Read → ⊥
+    not_read e = cc
 
 -- ---- what was taken
 
@@ -292,21 +292,21 @@ takes_payload : (limits : Bounds) (fresh : Fresh) (gathered : Gathering) (text :
     → TookWhileEncrypting limits fresh gathered (flow from to) (moved a c) (stream_fault fault)
 takes_payload limits fresh gathered text from to a b c stream.Write sixteen m front (chunk, s) = go s.gave
   where
-    not-read : stream.Write ≡ stream.Read → ⊥
-    not-read e = cc
+    not_read : stream.Write ≡ stream.Read → ⊥
+    not_read e = cc
 
     go : (stream.Write ≡ stream.Read) ⊎ GaveAtMost (chunk_size * (chunk + 1 - 0) + 1 - 0) (flow from to)
         → TookChunks limits fresh gathered (flow from to) (moved a c)
-    go (inl e) = absurd (not-read e)
+    go (inl e) = absurd (not_read e)
     go (inr gave) = took limits fresh gathered text from to a b c chunk stream.Write sixteen m front s gave
 takes_payload limits fresh gathered text from to a b c stream.TooManyChunks sixteen m front (chunk, s) = go s.gave
   where
-    not-read : stream.TooManyChunks ≡ stream.Read → ⊥
-    not-read e = cc
+    not_read : stream.TooManyChunks ≡ stream.Read → ⊥
+    not_read e = cc
 
     go : (stream.TooManyChunks ≡ stream.Read) ⊎ GaveAtMost (chunk_size * (chunk + 1 - 0) + 1 - 0) (flow from to)
         → TookChunks limits fresh gathered (flow from to) (moved a c)
-    go (inl e) = absurd (not-read e)
+    go (inl e) = absurd (not_read e)
     go (inr gave) = took limits fresh gathered text from to a b c chunk stream.TooManyChunks sixteen m front s gave
 takes_payload limits fresh gathered text from to a b c _ sixteen m front s = tt
 

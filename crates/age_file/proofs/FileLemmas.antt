@@ -21,7 +21,7 @@ use Rattle.age_recipient.specs.Choice.{choice}
 use Rattle.age_stream.specs.declared.fault.StreamFault.{StreamFault}
 use Rattle.age_stream.specs.Payload.{payload}
 use Rattle.age_stream.specs.Reading.{Reading, stops, whole, payload_reading}
-use Rattle.age_stream.proofs.PayloadLemmas.{ok-payload, payload-ok}
+use Rattle.age_stream.proofs.PayloadLemmas.{ok_payload, payload_ok}
 use Rattle.age_file.specs.declared.fault.Fault.{Fault}
 use Rattle.age_file.specs.declared.fault.Fault.TheVariants.{MixedPassphrase, BadMac, OutOfMemory}
 use Rattle.age_file.specs.AgeFile.{Bounds, AgeFile, is_mixed}
@@ -36,8 +36,8 @@ no_stream_fault None h = refl
 no_stream_fault (Some f) h = absurd (none-some (stream_fault f) (sym h))
 
 -- what a payload was read from
-pub with_file_fault-whole : (p : Bytes) (r : Reading StreamFault) → whole p ≡ with_file_fault r → r ≡ whole p
-with_file_fault-whole p r h =
+pub with_file_fault_whole : (p : Bytes) (r : Reading StreamFault) → whole p ≡ with_file_fault r → r ≡ whole p
+with_file_fault_whole p r h =
     ap (λ x. record { front = x; fault = r.fault }) (sym (ap (λ (z : Reading Fault). z.front) h))
     ∙ ap (λ x. record { front = p; fault = x }) (no_stream_fault r.fault (sym (ap (λ (z : Reading Fault). z.fault) h)))
 
@@ -48,15 +48,15 @@ pub record IsChosenFile (limits : Bounds) (answers : Answering) (p b : Bytes) : 
   pub file : AgeFile limits key stanzas p b
   pub chosen : choice (answers stanzas) ≡ Ok key
 
-cond-err : {A F : Type 0} (t : Bool) (f : F) (r : Result A F) (x : A) → cond t (Err f) r ≡ Ok x
+cond_err : {A F : Type 0} (t : Bool) (f : F) (r : Result A F) (x : A) → cond t (Err f) r ≡ Ok x
     → (t ≡ false) × (r ≡ Ok x)
-cond-err true f r x h = absurd (cc)
-cond-err false f r x h = (refl, h)
+cond_err true f r x h = absurd (cc)
+cond_err false f r x h = (refl, h)
 
-cond-else_err : {A F : Type 0} (t : Bool) (f : F) (a x : A) → ◌≡◌ {A = Result A F} (cond t (Ok a) (Err f)) (Ok x)
+cond_else_err : {A F : Type 0} (t : Bool) (f : F) (a x : A) → ◌≡◌ {A = Result A F} (cond t (Ok a) (Err f)) (Ok x)
     → (t ≡ true) × (a ≡ x)
-cond-else_err true f a x h = (refl, (cc))
-cond-else_err false f a x h = absurd (cc)
+cond_else_err true f a x h = (refl, (cc))
+cond_else_err false f a x h = absurd (cc)
 
 -- which key a header has
 pub record HasKey (answers : Answering) (h : HeaderParts) (k : FileKey) : Type 0 where
@@ -64,33 +64,33 @@ pub record HasKey (answers : Answering) (h : HeaderParts) (k : FileKey) : Type 0
   pub chosen : choice (answers h.stanzas) ≡ Ok k
   pub mac : h.mac ≡ header_mac k.0 h.stanzas
 
-checked-key : (h : HeaderParts) (c : Result FileKey UnlockFault) (k : FileKey) → checked h c ≡ Ok k
+checked_key : (h : HeaderParts) (c : Result FileKey UnlockFault) (k : FileKey) → checked h c ≡ Ok k
     → (c ≡ Ok k) × (h.mac ≡ header_mac k.0 h.stanzas)
-checked-key h (Err f) k is = absurd (cc)
-checked-key h (Ok j) k is =
-    let both = cond-else_err (bytes_eq h.mac (header_mac j.0 h.stanzas)) BadMac j k is in
+checked_key h (Err f) k is = absurd (cc)
+checked_key h (Ok j) k is =
+    let both = cond_else_err (bytes_eq h.mac (header_mac j.0 h.stanzas)) BadMac j k is in
     (ap Ok both.1, (bytes_eq-Decides _ _).0 both.0 ∙ ap (λ (x : FileKey). header_mac x.0 h.stanzas) both.1)
 
-unlocked-key : (answers : Answering) (h : HeaderParts) (k : FileKey) → unlocked answers h ≡ Ok k → HasKey answers h k
-unlocked-key answers h k is =
-    let alone = cond-err (is_mixed h.stanzas) MixedPassphrase (checked h (choice (answers h.stanzas))) k is in
-    let good = checked-key h (choice (answers h.stanzas)) k alone.1 in
+unlocked_key : (answers : Answering) (h : HeaderParts) (k : FileKey) → unlocked answers h ≡ Ok k → HasKey answers h k
+unlocked_key answers h k is =
+    let alone = cond_err (is_mixed h.stanzas) MixedPassphrase (checked h (choice (answers h.stanzas))) k is in
+    let good = checked_key h (choice (answers h.stanzas)) k alone.1 in
     record { unmixed = alone.0; chosen = good.0; mac = good.1 }
 
-pub key-unlocked : (answers : Answering) (h : HeaderParts) (k : FileKey) → HasKey answers h k
+pub key_unlocked : (answers : Answering) (h : HeaderParts) (k : FileKey) → HasKey answers h k
     → unlocked answers h ≡ Ok k
-key-unlocked answers h k has =
+key_unlocked answers h k has =
     cond-false (is_mixed h.stanzas) _ _ has.unmixed ∙ ap (checked h) has.chosen
     ∙ cond-true (bytes_eq h.mac (header_mac k.0 h.stanzas)) _ _ ((bytes_eq-Decides _ _).1 has.mac)
 
 -- the outcome of a header whose key was chosen and whose MAC was compared, unless an allocation was refused
-pub checked-unlocked : (answers : Answering) (h : HeaderParts) (chosen : Result FileKey UnlockFault)
+pub checked_unlocked : (answers : Answering) (h : HeaderParts) (chosen : Result FileKey UnlockFault)
     (r : Result FileKey Fault) → is_mixed h.stanzas ≡ false
     → (chosen ≡ Err Memory) ⊎ (chosen ≡ choice (answers h.stanzas)) → (r ≡ Err OutOfMemory) ⊎ (r ≡ checked h chosen)
     → (r ≡ Err OutOfMemory) ⊎ (r ≡ unlocked answers h)
-checked-unlocked answers h chosen r alone c (inl memory) = inl memory
-checked-unlocked answers h chosen r alone (inl memory) (inr is) = inl (is ∙ ap (checked h) memory)
-checked-unlocked answers h chosen r alone (inr chose) (inr is) =
+checked_unlocked answers h chosen r alone c (inl memory) = inl memory
+checked_unlocked answers h chosen r alone (inl memory) (inr is) = inl (is ∙ ap (checked h) memory)
+checked_unlocked answers h chosen r alone (inr chose) (inr is) =
     inr (is ∙ ap (checked h) chose ∙ sym (cond-false (is_mixed h.stanzas) _ _ alone))
 
 -- what follows the header that begins a text
@@ -99,16 +99,16 @@ pub behind : (b : Bytes) (max : ℕ) (found : Found) (begins : BeginsWith b max 
 behind b max found begins = ap (drop (length found.text)) begins.prefix
     ∙ drop_at found.text begins.rest (length found.text) refl
 
-under-file : (limits : Bounds) (answers : Answering) (b p : Bytes) (found : Found)
+under_file : (limits : Bounds) (answers : Answering) (b p : Bytes) (found : Found)
     → BeginsWith b limits.max_header found
     → (c : Result FileKey Fault) → unlocked answers (parts_of found) ≡ c
     → whole p ≡ read_under limits (drop (length found.text) b) c → IsChosenFile limits answers p b
-under-file limits answers b p found begins (Err f) is h = absurd (never_stops p f h)
-under-file limits answers b p found begins (Ok k) is h =
+under_file limits answers b p found begins (Err f) is h = absurd (never_stops p f h)
+under_file limits answers b p found begins (Ok k) is h =
     let rest : Bytes = drop (length found.text) b in
-    let has = unlocked-key answers (parts_of found) k is in
-    let body = ok-payload k rest p limits.max_chunks
-    (with_file_fault-whole p (payload_reading k limits.max_chunks rest) h) in
+    let has = unlocked_key answers (parts_of found) k is in
+    let body = ok_payload k rest p limits.max_chunks
+    (with_file_fault_whole p (payload_reading k limits.max_chunks rest) h) in
     record {
       stanzas = found.stanzas;
       key = k;
@@ -126,19 +126,19 @@ under-file limits answers b p found begins (Ok k) is h =
       };
     }
 
-judged-file : (limits : Bounds) (answers : Answering) (b p : Bytes) (r : Result Found HeaderFault)
+judged_file : (limits : Bounds) (answers : Answering) (b p : Bytes) (r : Result Found HeaderFault)
     → HeaderVerdict b limits.max_header r
     → whole p ≡ judged limits answers b r → IsChosenFile limits answers p b
-judged-file limits answers b p (Err f) v h = absurd (never_stops p (header_fault f) h)
-judged-file limits answers b p (Ok found) v h =
-    under-file limits answers b p found (headers.begins_found b limits.max_header found v)
+judged_file limits answers b p (Err f) v h = absurd (never_stops p (header_fault f) h)
+judged_file limits answers b p (Ok found) v h =
+    under_file limits answers b p found (headers.begins_found b limits.max_header found v)
     (unlocked answers (parts_of found)) refl h
 
 -- an age file for the chosen key reads whole
-pub file-whole : (limits : Bounds) (answers : Answering) (b p : Bytes) (stanzas : List StanzaParts) (k : FileKey)
+pub file_whole : (limits : Bounds) (answers : Answering) (b p : Bytes) (stanzas : List StanzaParts) (k : FileKey)
     → AgeFile limits k stanzas p b
     → choice (answers stanzas) ≡ Ok k → IsVerdict limits answers b (whole p)
-file-whole limits answers b p stanzas k file chosen =
+file_whole limits answers b p stanzas k file chosen =
     let mac : Bytes = header_mac k.0 stanzas in
     let found : Found = record { stanzas = stanzas; mac = mac; text = file.header } in
     let body : Bytes = payload k file.nonce p in
@@ -146,21 +146,21 @@ file-whole limits answers b p stanzas k file chosen =
     record { rest = body; head = file.head; prefix = file.spelled; fits = file.header_fits } in
     let reads : payload_reading k limits.max_chunks (drop (length file.header) b) ≡ whole p =
     ap (payload_reading k limits.max_chunks) (behind b limits.max_header found begins)
-    ∙ payload-ok k body p limits.max_chunks
+    ∙ payload_ok k body p limits.max_chunks
     (record { nonce = file.nonce; nonce_len = file.nonce_len; spelled = refl; count = file.chunks_fit }) in
     record {
       header = Ok found;
       header_verdict = headers.found_begins b limits.max_header found begins;
       is = sym (ap (read_under limits (drop (length file.header) b))
-          (key-unlocked answers (parts_of found) k (record { unmixed = file.unmixed; chosen = chosen; mac = refl }))
+          (key_unlocked answers (parts_of found) k (record { unmixed = file.unmixed; chosen = chosen; mac = refl }))
           ∙ ap with_file_fault reads);
     }
 
 pub both_ways : (limits : Bounds) (answers : Answering) (b p : Bytes) → IsVerdict limits answers b (whole p)
     ↔ ((stanzas : List StanzaParts) × (k : FileKey) × AgeFile limits k stanzas p b × (choice (answers stanzas) ≡ Ok k))
 both_ways limits answers b p = (
-  (λ v. let i = judged-file limits answers b p v.header v.header_verdict v.is in (i.stanzas, i.key, i.file, i.chosen)),
-  (λ h. file-whole limits answers b p h.0 h.1 h.2 h.3),
+  (λ v. let i = judged_file limits answers b p v.header v.header_verdict v.is in (i.stanzas, i.key, i.file, i.chosen)),
+  (λ h. file_whole limits answers b p h.0 h.1 h.2 h.3),
 )
 
 pub one_verdict : (limits : Bounds) (answers : Answering) (b : Bytes) (v w : Reading Fault)
@@ -170,8 +170,8 @@ one_verdict limits answers b v w h k =
     (headers.one_verdict b limits.max_header h.header k.header h.header_verdict k.header_verdict) ∙ sym k.is
 
 -- one identity that means the key
-pub opens-whole : (limits : Bounds) (meaning : List StanzaParts → Unwrapped) (k : FileKey) (stanzas : List StanzaParts)
+pub opens_whole : (limits : Bounds) (meaning : List StanzaParts → Unwrapped) (k : FileKey) (stanzas : List StanzaParts)
     (p b : Bytes)
     → meaning stanzas ≡ Key k → AgeFile limits k stanzas p b → IsVerdict limits (λ s. meaning s ∷ []) b (whole p)
-opens-whole limits meaning k stanzas p b means file =
-    file-whole limits (λ s. meaning s ∷ []) b p stanzas k file (ap (λ u. choice (u ∷ [])) means)
+opens_whole limits meaning k stanzas p b means file =
+    file_whole limits (λ s. meaning s ∷ []) b p stanzas k file (ap (λ u. choice (u ∷ [])) means)

@@ -10,7 +10,7 @@ use Rattle.age_header.specs.declared.fault.HeaderFault.{HeaderFault}
 use Rattle.age_header.specs.declared.fault.HeaderFault.TheVariants as header
 use Rattle.age_header.specs.Header.{HeaderParts}
 use Rattle.age_header.specs.Mac.{header_mac}
-use Rattle.age_header.proofs.DeviceLemmas.{of-known}
+use Rattle.age_header.proofs.DeviceLemmas.{of_known}
 use Rattle.age_header.specs.Reader.{Refuses}
 use Rattle.age_header.specs.Verdict.{HeaderVerdict}
 use Rattle.age_header.specs.declared.file_key.FileKey.{FileKey}
@@ -31,15 +31,15 @@ use Rattle.age_file.specs.Inspect.{Inspects}
 use Rattle.age_file.specs.Device.{IsNoDeviceFault, is_read}
 use Rattle.age_file.specs.Ranges.{AtState, BeginsFile, GaveFirst, GaveHeader, HasHeader, IsOpenFault, IsRangesOf, IsWithin, MissesHeader, MissesRanges, RefusesRanges, ranges_under}
 use Rattle.age_file.specs.Verdict.{Answering, checked, found_in, header_fault, stream_fault, unlock_fault, unlocked}
-use Rattle.age_file.proofs.AtStateLemmas.{first-none, first-stays}
-use Rattle.age_file.proofs.DecryptLemmas.{err-err, found-key, headed, reads-file}
+use Rattle.age_file.proofs.AtStateLemmas.{first_none, first_stays}
+use Rattle.age_file.proofs.DecryptLemmas.{err_err, found_key, headed, reads_file}
 
 -- a header that was read from the first byte on
-pub header-found : (limits : Bounds) (told : Known) (at : ℕ) {a b : Seen} (h : HeaderParts)
+pub range_header_found : (limits : Bounds) (told : Known) (at : ℕ) {a b : Seen} (h : HeaderParts)
     → a.to_come ≡ option_map (drop 0) told → b.to_come ≡ option_map (drop at) told → IsWithin told at
     → Inspects limits (flow a b) (Ok h) → HasHeader limits told at h
-header-found limits None at h old new w i = tt
-header-found limits (Some b) at {a = x} {b = y} h old new w i =
+range_header_found limits None at h old new w i = tt
+range_header_found limits (Some b) at {a = x} {b = y} h old new w i =
     let is = headed limits x y h i in
     let all : b ≡ is.text ++ drop at b = subst (λ (t : Known). Consumes (Some b) t is.text) new
     (subst (λ (t : Known). Consumes t y.to_come is.text) old is.took.consumes) in
@@ -52,15 +52,15 @@ header-found limits (Some b) at {a = x} {b = y} h old new w i =
     )
 
 -- the same whether or not the contents are known
-pub header-gave : {D : Type 0} (to_come : AtState D → Known) (gave : D → ℕ → ℕ → Type 0) (limits : Bounds)
+pub header_gave : {D : Type 0} (to_come : AtState D → Known) (gave : D → ℕ → ℕ → Type 0) (limits : Bounds)
     (old new : AtState D) (h : HeaderParts) → old.at ≡ 0
     → Inspects limits (flow_by to_come (λ s. GaveFirst (gave s.dev) s.at) old new) (Ok h)
     → GaveHeader limits (gave new.dev) new.at h
-header-gave to_come gave limits old new h start i =
+header_gave to_come gave limits old new h start i =
     let is = headed limits _ _ h i in
     record {
       text = is.text;
-      gave_text = is.took.grew [] (subst (λ n. GaveFirst (gave old.dev) n []) (sym start) (first-none (gave old.dev)));
+      gave_text = is.took.grew [] (subst (λ n. GaveFirst (gave old.dev) n []) (sym start) (first_none (gave old.dev)));
       verdict = subst (λ t. HeaderVerdict t limits.max_header (Ok (found_in is.text h))) (append-nil is.text)
           (is.verdict []);
     }
@@ -75,44 +75,44 @@ refused limits b header.Truncated h = inr (inr (header.Truncated, h, refl))
 refused limits b header.TooLarge h = inr (inr (header.TooLarge, h, refl))
 
 -- no header
-pub header-missed : (limits : Bounds) (told : Known) {a mid : Seen} (fault : Fault)
+pub header_missed : (limits : Bounds) (told : Known) {a mid : Seen} (fault : Fault)
     → a.to_come ≡ option_map (drop 0) told → Inspects limits (flow a mid) (Err fault)
     → MissesHeader limits told fault
-header-missed limits None fault old i = inr (inr tt)
-header-missed limits (Some b) fault old (Ok parts, is, h) = absurd (cc)
-header-missed limits (Some b) {a} {mid} fault old (Err g, is, h) =
-    subst (MissesHeader limits (Some b)) (sym (err-err {A = HeaderParts} fault (header_fault g) is))
-    (refused limits b g (of-known (λ x. Refuses x limits.max_header g) (flow a mid) b old h))
+header_missed limits None fault old i = inr (inr tt)
+header_missed limits (Some b) fault old (Ok parts, is, h) = absurd (cc)
+header_missed limits (Some b) {a} {mid} fault old (Err g, is, h) =
+    subst (MissesHeader limits (Some b)) (sym (err_err {A = HeaderParts} fault (header_fault g) is))
+    (refused limits b g (of_known (λ x. Refuses x limits.max_header g) (flow a mid) b old h))
 
-pub missed-ranges : (limits : Bounds) (answers : Answering) (told : Known) (fault : Fault)
+pub missed_ranges : (limits : Bounds) (answers : Answering) (told : Known) (fault : Fault)
     → MissesHeader limits told fault → MissesRanges limits answers told fault
-missed-ranges limits answers told fault (inl e) = inl e
-missed-ranges limits answers told fault (inr (inl e)) = inr (inl e)
-missed-ranges limits answers None fault (inr (inr h)) = inr (inr tt)
-missed-ranges limits answers (Some b) fault (inr (inr h)) = inr (inr (Err h.0, h.1, h.2))
+missed_ranges limits answers told fault (inl e) = inl e
+missed_ranges limits answers told fault (inr (inl e)) = inr (inl e)
+missed_ranges limits answers None fault (inr (inr h)) = inr (inr tt)
+missed_ranges limits answers (Some b) fault (inr (inr h)) = inr (inr (Err h.0, h.1, h.2))
 
 -- no key
-pub locked-ranges : (limits : Bounds) (answers : Answering) (told : Known) (at : ℕ) (h : HeaderParts) (fault : Fault)
+pub locked_ranges : (limits : Bounds) (answers : Answering) (told : Known) (at : ℕ) (h : HeaderParts) (fault : Fault)
     → HasHeader limits told at h
     → (◌≡◌ {A = Result FileKey Fault} (Err fault) (Err OutOfMemory)) ⊎ (Err fault ≡ unlocked answers h)
     → MissesRanges limits answers told fault
-locked-ranges limits answers told at h fault found (inl memory) =
-    inr (inl (err-err {A = FileKey} fault OutOfMemory memory))
-locked-ranges limits answers None at h fault found (inr key) = inr (inr tt)
-locked-ranges limits answers (Some b) at h fault found (inr key) =
+locked_ranges limits answers told at h fault found (inl memory) =
+    inr (inl (err_err {A = FileKey} fault OutOfMemory memory))
+locked_ranges limits answers None at h fault found (inr key) = inr (inr tt)
+locked_ranges limits answers (Some b) at h fault found (inr key) =
     inr (inr (Ok (found_in found.0 h), found.2, ap (ranges_under limits (drop (length found.0) b)) (sym key)))
 
 -- a payload that was not opened
-pub payload-missed : (limits : Bounds) (answers : Answering) (told : Known) (at : ℕ) (h : HeaderParts) (k : FileKey)
+pub payload_missed : (limits : Bounds) (answers : Answering) (told : Known) (at : ℕ) (h : HeaderParts) (k : FileKey)
     (fault : StreamFault) → HasHeader limits told at h
     → (◌≡◌ {A = Result FileKey Fault} (Ok k) (Err OutOfMemory)) ⊎ (Ok k ≡ unlocked answers h)
     → OpensRanges k limits.max_chunks at told (Err fault)
     → MissesRanges limits answers told (stream_fault fault)
-payload-missed limits answers told at h k fault found (inl memory) o = absurd (cc)
-payload-missed limits answers told at h k fault found (inr key) (inl e) = inl (ap stream_fault e)
-payload-missed limits answers told at h k fault found (inr key) (inr (inl e)) = inr (inl (ap stream_fault e))
-payload-missed limits answers None at h k fault found (inr key) (inr (inr e)) = inr (inr tt)
-payload-missed limits answers (Some b) at h k fault found (inr key) (inr (inr e)) = inr (inr (
+payload_missed limits answers told at h k fault found (inl memory) o = absurd (cc)
+payload_missed limits answers told at h k fault found (inr key) (inl e) = inl (ap stream_fault e)
+payload_missed limits answers told at h k fault found (inr key) (inr (inl e)) = inr (inl (ap stream_fault e))
+payload_missed limits answers None at h k fault found (inr key) (inr (inr e)) = inr (inr tt)
+payload_missed limits answers (Some b) at h k fault found (inr key) (inr (inr e)) = inr (inr (
   Ok (found_in found.0 h),
   found.2,
   ap (ranges_under limits (drop (length found.0) b)) (sym key)
@@ -122,124 +122,124 @@ payload-missed limits answers (Some b) at h k fault found (inr key) (inr (inr e)
 
 -- ---- the faults' names
 
-inspect-open : (g : HeaderFault) → IsOpenFault (header_fault g)
-inspect-open header.NotAge = tt
-inspect-open (header.BadLine n) = tt
-inspect-open header.Truncated = tt
-inspect-open header.TooLarge = tt
-inspect-open header.Read = tt
-inspect-open header.Memory = tt
+inspect_open : (g : HeaderFault) → IsOpenFault (header_fault g)
+inspect_open header.NotAge = tt
+inspect_open (header.BadLine n) = tt
+inspect_open header.Truncated = tt
+inspect_open header.TooLarge = tt
+inspect_open header.Read = tt
+inspect_open header.Memory = tt
 
-pub header-named : (limits : Bounds) {old mid : Seen} (fault : Fault) → Inspects limits (flow old mid) (Err fault)
+pub header_named : (limits : Bounds) {old mid : Seen} (fault : Fault) → Inspects limits (flow old mid) (Err fault)
     → IsOpenFault fault
-header-named limits fault (Ok parts, is, h) = absurd (cc)
-header-named limits fault (Err g, is, h) =
-    subst IsOpenFault (sym (err-err {A = HeaderParts} fault (header_fault g) is)) (inspect-open g)
+header_named limits fault (Ok parts, is, h) = absurd (cc)
+header_named limits fault (Err g, is, h) =
+    subst IsOpenFault (sym (err_err {A = HeaderParts} fault (header_fault g) is)) (inspect_open g)
 
-either-open : (b : Bool) (x y : Result FileKey Fault) → IfErr x IsOpenFault → IfErr y IsOpenFault
+either_open : (b : Bool) (x y : Result FileKey Fault) → IfErr x IsOpenFault → IfErr y IsOpenFault
     → IfErr (if b then x else y) IsOpenFault
-either-open true x y p q = p
-either-open false x y p q = q
+either_open true x y p q = p
+either_open false x y p q = q
 
-unlock-open : (e : UnlockFault) → IsOpenFault (unlock_fault e)
-unlock-open unlock.NoMatch = tt
-unlock-open unlock.WrongKey = tt
-unlock-open (unlock.Malformed s) = tt
-unlock-open unlock.Memory = tt
+unlock_open : (e : UnlockFault) → IsOpenFault (unlock_fault e)
+unlock_open unlock.NoMatch = tt
+unlock_open unlock.WrongKey = tt
+unlock_open (unlock.Malformed s) = tt
+unlock_open unlock.Memory = tt
 
-checked-open : (h : HeaderParts) (r : Result FileKey UnlockFault) → IfErr (checked h r) IsOpenFault
-checked-open h (Err e) = unlock-open e
-checked-open h (Ok k) = either-open (bytes_eq h.mac (header_mac k.0 h.stanzas)) (Ok k) (Err BadMac) tt tt
+checked_open : (h : HeaderParts) (r : Result FileKey UnlockFault) → IfErr (checked h r) IsOpenFault
+checked_open h (Err e) = unlock_open e
+checked_open h (Ok k) = either_open (bytes_eq h.mac (header_mac k.0 h.stanzas)) (Ok k) (Err BadMac) tt tt
 
-pub locked-named : (answers : Answering) (h : HeaderParts) (fault : Fault)
+pub locked_named : (answers : Answering) (h : HeaderParts) (fault : Fault)
     → (◌≡◌ {A = Result FileKey Fault} (Err fault) (Err OutOfMemory)) ⊎ (Err fault ≡ unlocked answers h)
     → IsOpenFault fault
-locked-named answers h fault (inl memory) = subst IsOpenFault (sym (err-err {A = FileKey} fault OutOfMemory memory)) tt
-locked-named answers h fault (inr key) =
+locked_named answers h fault (inl memory) = subst IsOpenFault (sym (err_err {A = FileKey} fault OutOfMemory memory)) tt
+locked_named answers h fault (inr key) =
     subst (λ (r : Result FileKey Fault). IfErr r IsOpenFault) (sym key)
-    (either-open (is_mixed h.stanzas) (Err MixedPassphrase) (checked h (choice (answers h.stanzas))) tt
-    (checked-open h (choice (answers h.stanzas))))
+    (either_open (is_mixed h.stanzas) (Err MixedPassphrase) (checked h (choice (answers h.stanzas))) tt
+    (checked_open h (choice (answers h.stanzas))))
 
-pub payload-named : (e : StreamFault) → stream.IsOpenFault e → IsOpenFault (stream_fault e)
-payload-named fault.NonceTruncated h = tt
-payload-named (fault.ChunkShort i) h = tt
-payload-named (fault.EmptyFinal i) h = tt
-payload-named (fault.BadChunk i) h = tt
-payload-named fault.TooManyChunks h = tt
-payload-named fault.Read h = tt
-payload-named fault.Write h = absurd h
-payload-named fault.Memory h = tt
+pub payload_named : (e : StreamFault) → stream.IsOpenFault e → IsOpenFault (stream_fault e)
+payload_named fault.NonceTruncated h = tt
+payload_named (fault.ChunkShort i) h = tt
+payload_named (fault.EmptyFinal i) h = tt
+payload_named (fault.BadChunk i) h = tt
+payload_named fault.TooManyChunks h = tt
+payload_named fault.Read h = tt
+payload_named fault.Write h = absurd h
+payload_named fault.Memory h = tt
 
 -- ---- why a file was not opened
 
-pub header-refuses : (limits : Bounds) (answers : Answering) (told : Known) {told2 : Known} (failed : ℕ) {failed2 : ℕ}
+pub header_refuses : (limits : Bounds) (answers : Answering) (told : Known) {told2 : Known} (failed : ℕ) {failed2 : ℕ}
     {fault : Fault} → MissesHeader limits told fault → IsOpenFault fault
     → told2 ≡ told → CountsFaultIf is_read failed failed2 fault
     → RefusesRanges limits answers (moved told told2) failed failed2 fault
-header-refuses limits answers told failed {fault} m early stay count =
-    record { misses = missed-ranges limits answers told fault m; named = early; stay = stay; counted = count }
+header_refuses limits answers told failed {fault} m early stay count =
+    record { misses = missed_ranges limits answers told fault m; named = early; stay = stay; counted = count }
 
-none-counted : (fault : Fault) (old new : ℕ) → IsNoDeviceFault fault → new ≡ old → CountsFaultIf is_read old new fault
-none-counted fault old new none same =
+none_counted : (fault : Fault) (old new : ℕ) → IsNoDeviceFault fault → new ≡ old → CountsFaultIf is_read old new fault
+none_counted fault old new none same =
     subst (λ b. new ≡ (if b then min (old + 1) (2 ^ 64 - 1) else old)) (sym none.0) same
 
-pub locked-refuses : (limits : Bounds) (answers : Answering) (told mid told2 : Known) (failed failed2 at : ℕ)
+pub locked_refuses : (limits : Bounds) (answers : Answering) (told mid told2 : Known) (failed failed2 at : ℕ)
     (h : HeaderParts) (fault : Fault) → mid ≡ told → HasHeader limits told at h
     → (◌≡◌ {A = Result FileKey Fault} (Err fault) (Err OutOfMemory)) ⊎ (Err fault ≡ unlocked answers h)
     → IsNoDeviceFault fault → told2 ≡ mid → failed2 ≡ failed
     → RefusesRanges limits answers (moved told told2) failed failed2 fault
-locked-refuses limits answers told mid told2 failed failed2 at h fault same found key none stay count = record {
-  misses = locked-ranges limits answers told at h fault found key;
-  named = locked-named answers h fault key;
+locked_refuses limits answers told mid told2 failed failed2 at h fault same found key none stay count = record {
+  misses = locked_ranges limits answers told at h fault found key;
+  named = locked_named answers h fault key;
   stay = stay ∙ same;
-  counted = none-counted fault failed failed2 none count;
+  counted = none_counted fault failed failed2 none count;
 }
 
-pub payload-refuses : (limits : Bounds) (answers : Answering) (told mid told2 : Known)
+pub payload_refuses : (limits : Bounds) (answers : Answering) (told mid told2 : Known)
     (failed failed1 failed2 at max : ℕ) (h : HeaderParts) (k : FileKey) (fault : StreamFault) → mid ≡ told
     → failed1 ≡ failed → max ≡ limits.max_chunks → HasHeader limits told at h
     → (◌≡◌ {A = Result FileKey Fault} (Ok k) (Err OutOfMemory)) ⊎ (Ok k ≡ unlocked answers h)
     → OpensRanges k max at mid (Err fault) → stream.IsOpenFault fault → told2 ≡ mid
     → CountsFaultIf counts.is_read failed1 failed2 fault
     → RefusesRanges limits answers (moved told told2) failed failed2 (stream_fault fault)
-payload-refuses limits answers told mid told2 failed failed1 failed2 at max h k fault same before most found key opens
+payload_refuses limits answers told mid told2 failed failed1 failed2 at max h k fault same before most found key opens
     early stay count = record {
-      misses = payload-missed limits answers told at h k fault found key
+      misses = payload_missed limits answers told at h k fault found key
           (subst (λ m. OpensRanges k m at told (Err fault)) most
           (subst (λ t. OpensRanges k max at t (Err fault)) same opens));
-      named = payload-named fault early;
+      named = payload_named fault early;
       stay = stay ∙ same;
       counted = subst (λ n. CountsFaultIf is_read n failed2 (stream_fault fault)) before
-          (reads-file failed1 failed2 fault count);
+          (reads_file failed1 failed2 fault count);
     }
 
 -- ---- a file that was opened
 
-pub file-begins : (limits : Bounds) (answers : Answering) {gave : ℕ → ℕ → Type 0} {size : Option ℕ}
+pub file_begins : (limits : Bounds) (answers : Answering) {gave : ℕ → ℕ → Type 0} {size : Option ℕ}
     {chunks : stream.RangeState} (at : ℕ) (h : HeaderParts) (k : FileKey) → GaveHeader limits gave at h
     → (◌≡◌ {A = Result FileKey Fault} (Ok k) (Err OutOfMemory)) ⊎ (Ok k ≡ unlocked answers h)
     → stream.BeginsAt k at gave size chunks → BeginsFile limits answers gave size chunks
-file-begins limits answers at h k first key b =
-    record { header = h; at = at; first = first; key = k; chosen = found-key (unlocked answers h) k key; begins = b }
+file_begins limits answers at h k first key b =
+    record { header = h; at = at; first = first; key = k; chosen = found_key (unlocked answers h) k key; begins = b }
 
 -- what was given stays so
-pub header-stays : {limits : Bounds} {old new : ℕ → ℕ → Type 0} {at : ℕ} {h : HeaderParts} → StaysGiven old new
+pub header_stays : {limits : Bounds} {old new : ℕ → ℕ → Type 0} {at : ℕ} {h : HeaderParts} → StaysGiven old new
     → GaveHeader limits old at h → GaveHeader limits new at h
-header-stays {old} {new} {at} stays first = record {
+header_stays {old} {new} {at} stays first = record {
   text = first.text;
-  gave_text = first-stays old new at first.text stays first.gave_text;
+  gave_text = first_stays old new at first.text stays first.gave_text;
   verdict = first.verdict;
 }
 
-pub file-ranges : (limits : Bounds) (answers : Answering) (told : Known) {mid told2 : Known} (given : ℕ)
+pub file_ranges : (limits : Bounds) (answers : Answering) (told : Known) {mid told2 : Known} (given : ℕ)
     {given1 given2 : ℕ} (at max : ℕ) (h : HeaderParts) (k : FileKey) (chunks : stream.RangeState)
     → mid ≡ told → given1 ≤ given + at
     → max ≡ limits.max_chunks → HasHeader limits told at h
     → (◌≡◌ {A = Result FileKey Fault} (Ok k) (Err OutOfMemory)) ⊎ (Ok k ≡ unlocked answers h)
     → OpensRanges k max at mid (Ok chunks) → stream.Probes (moved mid told2) at given1 given2
     → IfSome told (λ b. IsRangesOf limits answers b chunks given given2)
-file-ranges limits answers None given at max h k chunks same le most found key opens probes = tt
-file-ranges limits answers (Some b) {told2} given {given1} {given2} at max h k chunks same le most found key opens
+file_ranges limits answers None given at max h k chunks same le most found key opens probes = tt
+file_ranges limits answers (Some b) {told2} given {given1} {given2} at max h k chunks same le most found key opens
     probes =
     let o = subst (λ t. OpensRanges k max at t (Ok chunks)) same opens in
     let p = subst (λ t. stream.Probes (moved t told2) at given1 given2) same probes in
@@ -247,7 +247,7 @@ file-ranges limits answers (Some b) {told2} given {given1} {given2} at max h k c
       found = found_in found.0 h;
       header = found.2;
       key = k;
-      chosen = found-key (unlocked answers h) k key;
+      chosen = found_key (unlocked answers h) k key;
       opened = subst (λ m. stream.IsOpened k m (Some b) (length found.0) chunks) most
           (subst (λ n. stream.IsOpened k max (Some b) n chunks) (sym found.1) o.2);
       gave = subst (λ n. given2 ≤ given + n + (16 + length (last_piece (drop (n + 16) b)))) (sym found.1)

@@ -11,7 +11,7 @@ use Rattle.age_header.specs.Header.{HeaderParts}
 use Rattle.age_header.specs.Mac.{header_mac}
 use Rattle.age_header.specs.Reader.{ReadsHeader, Refuses}
 use Rattle.age_header.specs.Verdict.{BeginsWith, Found}
-use Rattle.age_header.proofs.DeviceLemmas.{of-map, of-more, of-then, done_part}
+use Rattle.age_header.proofs.DeviceLemmas.{of_map, of_more, of_then, done_part}
 use Rattle.age_header.proofs.VerdictUniqueLemmas as headers
 use Rattle.age_recipient.specs.declared.choice.UnlockFault.{UnlockFault}
 use Rattle.age_recipient.specs.declared.choice.UnlockFault.TheVariants as unlock
@@ -27,9 +27,9 @@ use Rattle.age_file.specs.Inspect.{Inspects}
 use Rattle.age_file.specs.NewFile.{FailsHeading, Gathering, IsRefusal}
 use Rattle.age_file.specs.Rewrap.{BeginsRewrapped, IsRewrapped, RefusesRewrap, Rewrapped, Rewraps, RewrapsText}
 use Rattle.age_file.specs.Verdict.{Answering, IsVerdict, checked, found_in, header_fault, judged, parts_of, read_under, unlocked}
-use Rattle.age_file.proofs.DecryptLemmas.{IsHeaded, err-err}
+use Rattle.age_file.proofs.DecryptLemmas.{IsHeaded, err_err}
 use Rattle.age_file.proofs.EncryptLemmas.{Made}
-use Rattle.age_file.proofs.FileLemmas.{behind, key-unlocked}
+use Rattle.age_file.proofs.FileLemmas.{behind, key_unlocked}
 
 keeps_same : (old : Known) → Keeps old old
 keeps_same None = tt
@@ -70,7 +70,7 @@ none_read : (limits : Bounds) (answers : Answering) (gathered : FileKey → Gath
     → ReadsHeader (flow come mid) limits.max_header (Err g)
     → Rewraps limits answers gathered (flow come mid) (moved old old) (Err (header_fault g))
 none_read limits answers gathered come mid old g h =
-    of-map come mid _ _ h (λ b refuses. no_header limits answers gathered b old g refuses)
+    of_map come mid _ _ h (λ b refuses. no_header limits answers gathered b old g refuses)
 
 pub inspect_rewraps : (limits : Bounds) (answers : Answering) (gathered : FileKey → Gathering) {come mid : Seen}
     (old : Known) (fault : Fault) → Inspects limits (flow come mid) (Err fault)
@@ -78,21 +78,21 @@ pub inspect_rewraps : (limits : Bounds) (answers : Answering) (gathered : FileKe
 inspect_rewraps limits answers gathered old fault (Ok parts, is, h) = absurd (cc)
 inspect_rewraps limits answers gathered {come} {mid} old fault (Err g, is, h) =
     subst (λ f. Rewraps limits answers gathered (flow come mid) (moved old old) (Err f))
-    (sym (err-err {A = HeaderParts} fault (header_fault g) is)) (none_read limits answers gathered come mid old g h)
+    (sym (err_err {A = HeaderParts} fault (header_fault g) is)) (none_read limits answers gathered come mid old g h)
 
 -- a fault of unlocking is early
 early_checked : (h : HeaderParts) (c : Result FileKey UnlockFault) (fault : Fault) → checked h c ≡ Err fault
     → IsEarly fault
 unfolding IsEarly
-early_checked h (Err unlock.NoMatch) fault e = subst IsEarly (err-err {A = FileKey} NoMatch fault e) tt
-early_checked h (Err unlock.WrongKey) fault e = subst IsEarly (err-err {A = FileKey} WrongKey fault e) tt
-early_checked h (Err (unlock.Malformed s)) fault e = subst IsEarly (err-err {A = FileKey} (Malformed s) fault e) tt
-early_checked h (Err unlock.Memory) fault e = subst IsEarly (err-err {A = FileKey} OutOfMemory fault e) tt
+early_checked h (Err unlock.NoMatch) fault e = subst IsEarly (err_err {A = FileKey} NoMatch fault e) tt
+early_checked h (Err unlock.WrongKey) fault e = subst IsEarly (err_err {A = FileKey} WrongKey fault e) tt
+early_checked h (Err (unlock.Malformed s)) fault e = subst IsEarly (err_err {A = FileKey} (Malformed s) fault e) tt
+early_checked h (Err unlock.Memory) fault e = subst IsEarly (err_err {A = FileKey} OutOfMemory fault e) tt
 early_checked h (Ok k) fault e = go (bytes_eq h.mac (header_mac k.0 h.stanzas)) e
   where
     go : (t : Bool) → ◌≡◌ {A = Result FileKey Fault} (cond t (Ok k) (Err BadMac)) (Err fault) → IsEarly fault
     go true e = absurd (cc)
-    go false e = subst IsEarly (err-err {A = FileKey} BadMac fault e) tt
+    go false e = subst IsEarly (err_err {A = FileKey} BadMac fault e) tt
 
 early_unlocked : (answers : Answering) (h : HeaderParts) (fault : Fault) → unlocked answers h ≡ Err fault
     → IsEarly fault
@@ -100,14 +100,14 @@ unfolding IsEarly
 early_unlocked answers h fault e = go (is_mixed h.stanzas) e
   where
     go : (t : Bool) → cond t (Err MixedPassphrase) (checked h (choice (answers h.stanzas))) ≡ Err fault → IsEarly fault
-    go true e = subst IsEarly (err-err {A = FileKey} MixedPassphrase fault e) tt
+    go true e = subst IsEarly (err_err {A = FileKey} MixedPassphrase fault e) tt
     go false e = early_checked h (choice (answers h.stanzas)) fault e
 
 -- memory was refused
 pub memory_rewraps : (limits : Bounds) (answers : Answering) (gathered : FileKey → Gathering) (come mid : Seen)
     (old new : Known) (h : HeaderParts) → IsHeaded limits come mid h
     → Rewraps limits answers gathered (flow come mid) (moved old new) (Err OutOfMemory)
-memory_rewraps limits answers gathered come mid old new h i = of-more come mid i.text _ i.took (λ d end. tt)
+memory_rewraps limits answers gathered come mid old new h i = of_more come mid i.text _ i.took (λ d end. tt)
 
 pub locked_rewraps : (limits : Bounds) (answers : Answering) (gathered : FileKey → Gathering) {come mid : Seen}
     (old : Known) {h : HeaderParts} (fault : Fault)
@@ -116,9 +116,9 @@ pub locked_rewraps : (limits : Bounds) (answers : Answering) (gathered : FileKey
     → Rewraps limits answers gathered (flow come mid) (moved old old) (Err fault)
 locked_rewraps limits answers gathered {come} {mid} old {h} fault i (inl is) =
     subst (λ f. Rewraps limits answers gathered (flow come mid) (moved old old) (Err f))
-    (sym (err-err {A = FileKey} fault OutOfMemory is)) (memory_rewraps limits answers gathered come mid old old h i)
+    (sym (err_err {A = FileKey} fault OutOfMemory is)) (memory_rewraps limits answers gathered come mid old old h i)
 locked_rewraps limits answers gathered {come} {mid} old {h} fault i (inr is) =
-    of-more come mid i.text _ i.took (λ d end. refused limits answers gathered (i.text ++ d) old fault
+    of_more come mid i.text _ i.took (λ d end. refused limits answers gathered (i.text ++ d) old fault
     (early_unlocked answers h fault (sym is)) (Ok (found_in i.text h), i.verdict d, inl (sym is)))
 
 -- a reason why there is no new header is early
@@ -141,7 +141,7 @@ heading_rewraps limits answers gathered {come} {mid} old h key fault i chosen (i
     subst (λ g. Rewraps limits answers gathered (flow come mid) (moved old old) (Err g)) (sym is)
     (memory_rewraps limits answers gathered come mid old old h i)
 heading_rewraps limits answers gathered {come} {mid} old h key fault i chosen (inr refusal) =
-    of-more come mid i.text _ i.took (λ d end. refused limits answers gathered (i.text ++ d) old fault
+    of_more come mid i.text _ i.took (λ d end. refused limits answers gathered (i.text ++ d) old fault
     (early_refusal limits key (gathered key) fault refusal)
     (Ok (found_in i.text h), i.verdict d, inr (key, chosen, refusal)))
 
@@ -174,7 +174,7 @@ pub begun_rewraps : (limits : Bounds) (answers : Answering) (gathered : FileKey 
     → IsHeaded limits come mid h → unlocked answers h ≡ Ok key → Made limits key (gathered key) text
     → WritesPart (moved old new) text → Rewraps limits answers gathered (flow come mid) (moved old new) (Err Write)
 begun_rewraps limits answers gathered {come} {mid} old new h key text i chosen made part =
-    of-more come mid i.text _ i.took (λ d end. (
+    of_more come mid i.text _ i.took (λ d end. (
       text ++ d,
       new_file limits answers gathered come mid h key text d i chosen made,
       done_part old old new (text ++ d) (text ++ d) text d
@@ -200,7 +200,7 @@ pub copied_rewraps : (limits : Bounds) (answers : Answering) (gathered : FileKey
     → Made limits key (gathered key) text → Appends old put text → Copies (flow mid to) (moved put new) r
     → Rewraps limits answers gathered (flow come to) (moved old new) r
 copied_rewraps limits answers gathered {come} mid {to} old put new h key text (Ok done) i chosen made front copied =
-    of-then come mid to i.text _ _ i.took copied (λ bytes wrote. (
+    of_then come mid to i.text _ _ i.took copied (λ bytes wrote. (
       text ++ bytes,
       new_file limits answers gathered come mid h key text bytes i chosen made,
       Appends-trans old put new text bytes front wrote,
@@ -215,9 +215,9 @@ copied_rewraps limits answers gathered {come} mid {to} old put new h key text (E
 
     go : (f : Fault) → Copies (flow mid to) (moved put new) (Err f)
         → Rewraps limits answers gathered (flow come to) (moved old new) (Err f)
-    go Read c = of-then come mid to i.text _ _ i.took c (λ bytes wrote. inr (part bytes wrote))
-    go Write c = of-then come mid to i.text _ _ i.took c part
-    go TooManyChunks ((copy, put-copy, much), c) = of-then come mid to i.text _ _ i.took c (λ bytes wrote. (
+    go Read c = of_then come mid to i.text _ _ i.took c (λ bytes wrote. inr (part bytes wrote))
+    go Write c = of_then come mid to i.text _ _ i.took c part
+    go TooManyChunks ((copy, put-copy, much), c) = of_then come mid to i.text _ _ i.took c (λ bytes wrote. (
       part bytes wrote.0,
       omega (arith, length-append i.text bytes, wrote.1),
       (
@@ -271,7 +271,7 @@ keeps limits old new b c is chosen v = (
     same : judged limits new c (Ok found) ≡ judged limits old b (Ok is.found)
     same =
         ap (λ t. read_under limits t (unlocked new (parts_of found))) (behind c limits.max_header found begins)
-        ∙ ap (read_under limits rest) (key-unlocked new (parts_of found) is.key
+        ∙ ap (read_under limits rest) (key_unlocked new (parts_of found) is.key
         (record { unmixed = is.unmixed; chosen = chosen; mac = refl }) ∙ sym is.chosen)
 
     of_old : IsVerdict limits old b v → v ≡ judged limits old b (Ok is.found)

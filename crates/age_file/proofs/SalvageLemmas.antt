@@ -8,13 +8,13 @@ use Rattle.age_header.specs.declared.file_key.FileKey.{FileKey}
 use Rattle.age_header.specs.Device.{Bytes, Known, Seen, flow, moved}
 use Rattle.age_header.specs.Header.{HeaderParts}
 use Rattle.age_header.specs.Reader.{Refuses}
-use Rattle.age_header.proofs.DeviceLemmas.{gave-some, of-any, of-map, of-more, of-then}
+use Rattle.age_header.proofs.DeviceLemmas.{gave_some, of_any, of_map, of_more, of_then}
 use Rattle.age_stream.specs.declared.fault.StreamFault.{StreamFault}
 use Rattle.age_stream.specs.declared.fault.StreamFault.TheVariants as stream
 use Rattle.age_stream.specs.declared.salvaged.Salvaged.{Salvaged}
 use Rattle.age_stream.specs.Opening.{EndsAt}
 use Rattle.age_stream.specs.Salvage.{EndsSaving, KnownLosses, Salvages, SavesPayload, told}
-use Rattle.age_stream.proofs.SalvageLemmas.{reports-none}
+use Rattle.age_stream.proofs.SalvageLemmas.{reports_none}
 use Rattle.age_file.specs.declared.fault.Fault.{Fault}
 use Rattle.age_file.specs.declared.fault.Fault.TheVariants.{Read, OutOfMemory}
 use Rattle.age_file.specs.AgeFile.{Bounds}
@@ -22,63 +22,63 @@ use Rattle.age_file.specs.Decrypt.{TookUpTo}
 use Rattle.age_file.specs.Inspect.{Inspects}
 use Rattle.age_file.specs.Salvage.{SalvagesFile, SalvagesText, SavesFile, SavesNone, SavesUnder, salvage_result}
 use Rattle.age_file.specs.Verdict.{Answering, found_in, header_fault, stream_fault, unlocked}
-use Rattle.age_file.proofs.DecryptLemmas.{IsHeaded, err-err, headed, payload-takes}
+use Rattle.age_file.proofs.DecryptLemmas.{IsHeaded, err_err, headed, payload_takes}
 
-saves-none : (old : Known) (lost : KnownLosses) → SavesNone (moved old old) (told lost lost)
-saves-none old lost = (Appends-nil old, reports-none lost)
+saves_none : (old : Known) (lost : KnownLosses) → SavesNone (moved old old) (told lost lost)
+saves_none old lost = (Appends-nil old, reports_none lost)
 
 -- what a file comes to, where a fault ends the work before its payload
 stopped : (limits : Bounds) (answers : Answering) (b : Bytes) (old : Known) (lost : KnownLosses) (fault : Fault)
     → SavesFile limits answers b (moved old old) (told lost lost) (Err fault)
     → SalvagesText limits answers b (moved old old) (told lost lost) (Err fault)
-stopped limits answers b old lost OutOfMemory h = saves-none old lost
-stopped limits answers b old lost Read h = inl (saves-none old lost)
+stopped limits answers b old lost OutOfMemory h = saves_none old lost
+stopped limits answers b old lost Read h = inl (saves_none old lost)
 stopped limits answers b old lost _ h = h
 
 -- ---- the header
 
-header-text : (limits : Bounds) (answers : Answering) (b : Bytes) (old : Known) (lost : KnownLosses) (g : HeaderFault)
+header_text : (limits : Bounds) (answers : Answering) (b : Bytes) (old : Known) (lost : KnownLosses) (g : HeaderFault)
     → Refuses b limits.max_header g
     → SalvagesText limits answers b (moved old old) (told lost lost) (Err (header_fault g))
-header-text limits answers b old lost header.Read h = inl (saves-none old lost)
-header-text limits answers b old lost header.Memory h = saves-none old lost
-header-text limits answers b old lost header.NotAge h = record {
+header_text limits answers b old lost header.Read h = inl (saves_none old lost)
+header_text limits answers b old lost header.Memory h = saves_none old lost
+header_text limits answers b old lost header.NotAge h = record {
   header = Err header.NotAge;
   header_verdict = h;
-  saves = (refl, saves-none old lost);
+  saves = (refl, saves_none old lost);
 }
-header-text limits answers b old lost (header.BadLine n) h = record {
+header_text limits answers b old lost (header.BadLine n) h = record {
   header = Err (header.BadLine n);
   header_verdict = h;
-  saves = (refl, saves-none old lost);
+  saves = (refl, saves_none old lost);
 }
-header-text limits answers b old lost header.Truncated h = record {
+header_text limits answers b old lost header.Truncated h = record {
   header = Err header.Truncated;
   header_verdict = h;
-  saves = (refl, saves-none old lost);
+  saves = (refl, saves_none old lost);
 }
-header-text limits answers b old lost header.TooLarge h = record {
+header_text limits answers b old lost header.TooLarge h = record {
   header = Err header.TooLarge;
   header_verdict = h;
-  saves = (refl, saves-none old lost);
+  saves = (refl, saves_none old lost);
 }
 
-pub inspect-salvages : (limits : Bounds) (answers : Answering) (come mid : Seen) (old : Known) (lost : KnownLosses)
+pub inspect_salvages : (limits : Bounds) (answers : Answering) (come mid : Seen) (old : Known) (lost : KnownLosses)
     (fault : Fault) → Inspects limits (flow come mid) (Err fault)
     → SalvagesFile limits answers (flow come mid) (moved old old) (told lost lost) (Err fault)
-inspect-salvages limits answers come mid old lost fault (Ok parts, is, h) = absurd (cc)
-inspect-salvages limits answers come mid old lost fault (Err g, is, h) =
+inspect_salvages limits answers come mid old lost fault (Ok parts, is, h) = absurd (cc)
+inspect_salvages limits answers come mid old lost fault (Err g, is, h) =
     subst (λ f. SalvagesFile limits answers (flow come mid) (moved old old) (told lost lost) (Err f))
-    (sym (err-err {A = HeaderParts} fault (header_fault g) is))
-    (of-map come mid _ _ h (λ b refuses. header-text limits answers b old lost g refuses))
+    (sym (err_err {A = HeaderParts} fault (header_fault g) is))
+    (of_map come mid _ _ h (λ b refuses. header_text limits answers b old lost g refuses))
 
 -- what follows a header that was read
-after-header : (limits : Bounds) (answers : Answering) (come mid : Seen) (h : HeaderParts)
+after_header : (limits : Bounds) (answers : Answering) (come mid : Seen) (h : HeaderParts)
     (i : IsHeaded limits come mid h) (key : Result FileKey Fault) (rest : Bytes) (old new : Known)
     (before after : KnownLosses) (r : Result Salvaged Fault) → key ≡ unlocked answers h
     → SavesUnder limits rest key (moved old new) (told before after) r
     → SavesFile limits answers (i.text ++ rest) (moved old new) (told before after) r
-after-header limits answers come mid h i key rest old new before after r is s = record {
+after_header limits answers come mid h i key rest old new before after r is s = record {
   header = Ok (found_in i.text h);
   header_verdict = i.verdict rest;
   saves = subst (λ x. SavesUnder limits x (unlocked answers h) (moved old new) (told before after) r)
@@ -87,34 +87,34 @@ after-header limits answers come mid h i key rest old new before after r is s = 
 }
 
 -- no key
-pub locked-salvages : (limits : Bounds) (answers : Answering) (come mid : Seen) (old : Known) (lost : KnownLosses)
+pub locked_salvages : (limits : Bounds) (answers : Answering) (come mid : Seen) (old : Known) (lost : KnownLosses)
     (h : HeaderParts) (fault : Fault) → Inspects limits (flow come mid) (Ok h)
     → (◌≡◌ {A = Result FileKey Fault} (Err fault) (Err OutOfMemory)) ⊎ (Err fault ≡ unlocked answers h)
     → SalvagesFile limits answers (flow come mid) (moved old old) (told lost lost) (Err fault)
-locked-salvages limits answers come mid old lost h fault i (inl memory) =
+locked_salvages limits answers come mid old lost h fault i (inl memory) =
     let is = headed limits come mid h i in
     subst (λ f. SalvagesFile limits answers (flow come mid) (moved old old) (told lost lost) (Err f))
-    (sym (err-err {A = FileKey} fault OutOfMemory memory))
-    (of-any come mid _ (gave-some come mid is.text is.took) (λ b. saves-none old lost))
-locked-salvages limits answers come mid old lost h fault i (inr key) =
+    (sym (err_err {A = FileKey} fault OutOfMemory memory))
+    (of_any come mid _ (gave_some come mid is.text is.took) (λ b. saves_none old lost))
+locked_salvages limits answers come mid old lost h fault i (inr key) =
     let is = headed limits come mid h i in
-    of-more come mid is.text _ is.took (λ d end. stopped limits answers (is.text ++ d) old lost fault
-    (after-header limits answers come mid h is (Err fault) d old old lost lost (Err fault) key
-    (refl, saves-none old lost)))
+    of_more come mid is.text _ is.took (λ d end. stopped limits answers (is.text ++ d) old lost fault
+    (after_header limits answers come mid h is (Err fault) d old old lost lost (Err fault) key
+    (refl, saves_none old lost)))
 
 -- ---- the payload
 
-payload-text : (limits : Bounds) (answers : Answering) (come mid : Seen) (h : HeaderParts)
+payload_text : (limits : Bounds) (answers : Answering) (come mid : Seen) (h : HeaderParts)
     (i : IsHeaded limits come mid h) (k : FileKey) (c : Bytes) (old new : Known) (before after : KnownLosses)
     (r : Result Salvaged StreamFault) → Ok k ≡ unlocked answers h
     → SavesPayload k limits.max_chunks c (moved old new) (told before after) r
     → SalvagesText limits answers (i.text ++ c) (moved old new) (told before after) (salvage_result r)
-payload-text limits answers come mid h i k c old new before after r key s = go r s
+payload_text limits answers come mid h i k c old new before after r key s = go r s
   where
     file : (q : Result Salvaged StreamFault)
         → SavesPayload k limits.max_chunks c (moved old new) (told before after) q
         → SavesFile limits answers (i.text ++ c) (moved old new) (told before after) (salvage_result q)
-    file q x = after-header limits answers come mid h i (Ok k) c old new before after (salvage_result q) key
+    file q x = after_header limits answers come mid h i (Ok k) c old new before after (salvage_result q) key
         (q, refl, x)
 
     go : (q : Result Salvaged StreamFault)
@@ -130,28 +130,28 @@ payload-text limits answers come mid h i k c old new before after r key s = go r
     go (Err (stream.BadChunk n)) x = file (Err (stream.BadChunk n)) x
     go (Err stream.TooManyChunks) x = file (Err stream.TooManyChunks) x
 
-pub payload-salvages : (limits : Bounds) (answers : Answering) (come mid to : Seen) (old new : Known)
+pub payload_salvages : (limits : Bounds) (answers : Answering) (come mid to : Seen) (old new : Known)
     (before after : KnownLosses) (h : HeaderParts) (k : FileKey) (max : ℕ) (r : Result Salvaged StreamFault)
     → Inspects limits (flow come mid) (Ok h)
     → (◌≡◌ {A = Result FileKey Fault} (Ok k) (Err OutOfMemory)) ⊎ (Ok k ≡ unlocked answers h)
     → max ≡ limits.max_chunks
     → Salvages k max (flow mid to) (moved old new) (told before after) r
     → SalvagesFile limits answers (flow come to) (moved old new) (told before after) (salvage_result r)
-payload-salvages limits answers come mid to old new before after h k max r i (inl memory) same w = absurd (cc)
-payload-salvages limits answers come mid to old new before after h k max r i (inr key) same w =
+payload_salvages limits answers come mid to old new before after h k max r i (inl memory) same w = absurd (cc)
+payload_salvages limits answers come mid to old new before after h k max r i (inr key) same w =
     let is = headed limits come mid h i in
-    of-then come mid to is.text _ _ is.took w (λ c x.
-    payload-text limits answers come mid h is k c old new before after r key
+    of_then come mid to is.text _ _ is.took w (λ c x.
+    payload_text limits answers come mid h is k c old new before after r key
     (subst (λ m. SavesPayload k m c (moved old new) (told before after) r) same x))
 
 -- how much was read
-pub salvage-takes : (limits : Bounds) (come mid to : Seen) (old new : Known) (h : HeaderParts) (max : ℕ)
+pub salvage_takes : (limits : Bounds) (come mid to : Seen) (old new : Known) (h : HeaderParts) (max : ℕ)
     (fault : StreamFault) → Inspects limits (flow come mid) (Ok h) → max ≡ limits.max_chunks
     → EndsSaving max (flow mid to) (moved old new) fault
     → TookUpTo limits (flow come to) (moved old new) (stream_fault fault)
-salvage-takes limits come mid to old new h max stream.Read i same e = tt
-salvage-takes limits come mid to old new h max stream.NonceTruncated i same e = tt
-salvage-takes limits come mid to old new h max stream.Memory i same e = tt
-salvage-takes limits come mid to old new h max fault i same e =
-    payload-takes mid fault i
+salvage_takes limits come mid to old new h max stream.Read i same e = tt
+salvage_takes limits come mid to old new h max stream.NonceTruncated i same e = tt
+salvage_takes limits come mid to old new h max stream.Memory i same e = tt
+salvage_takes limits come mid to old new h max fault i same e =
+    payload_takes mid fault i
     (inr (subst (λ m. EndsAt m 16 (flow mid to) (moved old new) fault) same e))

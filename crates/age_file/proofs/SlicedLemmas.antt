@@ -10,21 +10,21 @@ use Rattle.age_header.specs.declared.file_key.FileKey.{FileKey}
 use Rattle.age_stream.specs.Ranges.{HasPlain, RangeState}
 use Rattle.age_stream.specs.Reading.{payload_reading, whole}
 use Rattle.age_stream.specs.Slice.{IsSlice, plain_len}
-use Rattle.age_stream.proofs.WholeSlices.{whole-len, whole-opens, whole-slice}
+use Rattle.age_stream.proofs.WholeSlices.{whole_len, whole_opens, whole_slice}
 use Rattle.age_file.specs.declared.fault.Fault.{Fault}
 use Rattle.age_file.specs.declared.fault.Fault.TheVariants.{OutOfMemory, Read}
 use Rattle.age_file.specs.AgeFile.{Bounds}
 use Rattle.age_file.specs.Ranges.{IsRangeFault, IsRangesOf, MissesRanges, ranges_under}
 use Rattle.age_file.specs.Verdict.{Answering, IsVerdict, header_fault, judged, parts_of, read_under, stream_fault, unlocked}
-use Rattle.age_file.proofs.FileLemmas.{never_stops, with_file_fault-whole}
+use Rattle.age_file.proofs.FileLemmas.{never_stops, with_file_fault_whole}
 
 -- under the key that was chosen
 none_under : (limits : Bounds) (rest p : Bytes) (fault : Fault) (c : Result FileKey Fault)
     → whole p ≡ read_under limits rest c → ranges_under limits rest c ≡ Err fault → ⊥
 none_under limits rest p fault (Err g) h is = never_stops p g h
 none_under limits rest p fault (Ok k) h is =
-    let o = whole-opens k rest p limits.max_chunks
-    (with_file_fault-whole p (payload_reading k limits.max_chunks rest) h) in
+    let o = whole_opens k rest p limits.max_chunks
+    (with_file_fault_whole p (payload_reading k limits.max_chunks rest) h) in
     absurd (ok-err o.0 (sym (ap (result_map_both (λ (text : Bytes). text) stream_fault) o.1) ∙ is))
   where
     ok-err : (x : Bytes) → ◌≡◌ {A = Result Bytes Fault} (Ok x) (Err fault) → ⊥
@@ -37,43 +37,43 @@ none_judged limits answers b p fault (Ok found) h is =
     none_under limits (drop (length found.text) b) p fault (unlocked answers (parts_of found)) h is
 
 -- such a file opens, unless a device failed or memory was refused
-pub file-opens : (limits : Bounds) (answers : Answering) (b p : Bytes) (fault : Fault)
+pub file_opens : (limits : Bounds) (answers : Answering) (b p : Bytes) (fault : Fault)
     → IsVerdict limits answers b (whole p) → MissesRanges limits answers (Some b) fault
     → (fault ≡ Read) ⊎ (fault ≡ OutOfMemory)
-file-opens limits answers b p fault v (inl e) = inl e
-file-opens limits answers b p fault v (inr (inl e)) = inr e
-file-opens limits answers b p fault v (inr (inr m)) =
+file_opens limits answers b p fault v (inl e) = inl e
+file_opens limits answers b p fault v (inr (inl e)) = inr e
+file_opens limits answers b p fault v (inr (inr m)) =
     absurd (none_judged limits answers b p fault v.header v.is
     (subst (λ (r : Result Found HeaderFault). IsRangeFault limits answers b r fault)
     (headers.one_verdict b limits.max_header m.0 v.header m.1 v.header_verdict) m.2))
 
 -- its payload reads whole under the reader's key
-payload-whole : (limits : Bounds) (answers : Answering) (b p : Bytes) (chunks : RangeState) (given given2 : ℕ)
+payload_whole : (limits : Bounds) (answers : Answering) (b p : Bytes) (chunks : RangeState) (given given2 : ℕ)
     → IsVerdict limits answers b (whole p)
     → (r : IsRangesOf limits answers b chunks given given2)
     → payload_reading r.key limits.max_chunks (drop (length r.found.text) b) ≡ whole p
-payload-whole limits answers b p chunks given given2 v r =
-    with_file_fault-whole p (payload_reading r.key limits.max_chunks (drop (length r.found.text) b))
+payload_whole limits answers b p chunks given given2 v r =
+    with_file_fault_whole p (payload_reading r.key limits.max_chunks (drop (length r.found.text) b))
     (v.is ∙ ap (judged limits answers b)
     (headers.one_verdict b limits.max_header v.header (Ok r.found) v.header_verdict r.header)
     ∙ ap (read_under limits (drop (length r.found.text) b)) r.chosen)
 
-pub file-len : (limits : Bounds) (answers : Answering) (b p : Bytes) (chunks : RangeState) (given given2 : ℕ)
+pub file_has_len : (limits : Bounds) (answers : Answering) (b p : Bytes) (chunks : RangeState) (given given2 : ℕ)
     → IsVerdict limits answers b (whole p)
     → IsRangesOf limits answers b chunks given given2 → chunks.layout.plain ≡ length p
-file-len limits answers b p chunks given given2 v r =
+file_has_len limits answers b p chunks given given2 v r =
     r.opened.plain ∙ ap plain_len (sym (drop-drop 16 (length r.found.text) b))
-    ∙ whole-len r.key (drop (length r.found.text) b) p limits.max_chunks
-    (payload-whole limits answers b p chunks given given2 v r)
+    ∙ whole_len r.key (drop (length r.found.text) b) p limits.max_chunks
+    (payload_whole limits answers b p chunks given given2 v r)
 
-pub file-slice : (limits : Bounds) (answers : Answering) (b p xs : Bytes) (chunks : RangeState) (given given2 at : ℕ)
+pub file_slice : (limits : Bounds) (answers : Answering) (b p xs : Bytes) (chunks : RangeState) (given given2 at : ℕ)
     → IsVerdict limits answers b (whole p)
     → IsRangesOf limits answers b chunks given given2 → HasPlain (Some b) chunks.layout at xs
     → xs ≡ take (length xs) (drop at p)
-file-slice limits answers b p xs chunks given given2 at v r s =
+file_slice limits answers b p xs chunks given given2 at v r s =
     let n : ℕ = length r.found.text in
     let rest : drop chunks.layout.first b ≡ drop 16 (drop n b) = ap (λ m. drop m b) r.opened.first
     ∙ sym (drop-drop 16 n b) in
-    whole-slice r.key (drop n b) p xs limits.max_chunks at (payload-whole limits answers b p chunks given given2 v r)
+    whole_slice r.key (drop n b) p xs limits.max_chunks at (payload_whole limits answers b p chunks given given2 v r)
     (subst (λ k. IsSlice k (drop 16 (drop n b)) at xs) r.opened.key
     (subst (λ t. IsSlice chunks.layout.key t at xs) rest s))

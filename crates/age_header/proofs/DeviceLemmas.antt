@@ -11,94 +11,94 @@ use Rattle.std.specs.declared.result.Result.TheVariants.{Ok, Err}
 use Rattle.age_kdf.specs.Bytes.{Bytes}
 use Rattle.age_header.specs.Device.{Flow, Gave, GaveAtMost, GaveSome, Grew, Known, OfGiven, Seen, Writes, WritesPart, flow, moved}
 
-grew-none : (a : Seen) → Grew (flow a a) []
-grew-none a past h = subst a.gave (sym (append-nil past)) h
+grew_none : (a : Seen) → Grew (flow a a) []
+grew_none a past h = subst a.gave (sym (append-nil past)) h
 
-grew-then : (a b c : Seen) (x y : Bytes) → Grew (flow a b) x → Grew (flow b c) y → Grew (flow a c) (x ++ y)
-grew-then a b c x y g h past p = subst c.gave (append_assoc past x y) (h (past ++ x) (g past p))
+grew_then : (a b c : Seen) (x y : Bytes) → Grew (flow a b) x → Grew (flow b c) y → Grew (flow a c) (x ++ y)
+grew_then a b c x y g h past p = subst c.gave (append_assoc past x y) (h (past ++ x) (g past p))
 
 -- no read gives nothing
-pub gave-none : (a : Seen) → Gave (flow a a) []
-gave-none a = record { consumes = Consumes-nil a.to_come; grew = grew-none a }
+pub gave_none : (a : Seen) → Gave (flow a a) []
+gave_none a = record { consumes = Consumes-nil a.to_come; grew = grew_none a }
 
-pub gave-then : (a b c : Seen) (x y : Bytes) → Gave (flow a b) x → Gave (flow b c) y → Gave (flow a c) (x ++ y)
-gave-then a b c x y g h = record {
+pub gave_then : (a b c : Seen) (x y : Bytes) → Gave (flow a b) x → Gave (flow b c) y → Gave (flow a c) (x ++ y)
+gave_then a b c x y g h = record {
   consumes = Consumes-trans a.to_come b.to_come c.to_come x y g.consumes h.consumes;
-  grew = grew-then a b c x y g.grew h.grew;
+  grew = grew_then a b c x y g.grew h.grew;
 }
 
-pub gave-some : (a b : Seen) (x : Bytes) → Gave (flow a b) x → GaveSome (flow a b)
-gave-some a b x g = record { bytes = x; grew = g.grew }
+pub gave_some : (a b : Seen) (x : Bytes) → Gave (flow a b) x → GaveSome (flow a b)
+gave_some a b x g = record { bytes = x; grew = g.grew }
 
-pub some-none : (a : Seen) → GaveSome (flow a a)
-some-none a = record { bytes = []; grew = grew-none a }
+pub some_none : (a : Seen) → GaveSome (flow a a)
+some_none a = record { bytes = []; grew = grew_none a }
 
-pub some-then : {a b c : Seen} {x : Bytes} → Gave (flow a b) x → GaveSome (flow b c) → GaveSome (flow a c)
-some-then {a} {b} {c} {x} g h = record { bytes = x ++ h.bytes; grew = grew-then a b c x h.bytes g.grew h.grew }
+pub some_then : {a b c : Seen} {x : Bytes} → Gave (flow a b) x → GaveSome (flow b c) → GaveSome (flow a c)
+some_then {a} {b} {c} {x} g h = record { bytes = x ++ h.bytes; grew = grew_then a b c x h.bytes g.grew h.grew }
 
-pub gave-more : (a b c : Seen) (n m : ℕ) → GaveAtMost n (flow a b) → GaveAtMost m (flow b c)
+pub gave_more : (a b c : Seen) (n m : ℕ) → GaveAtMost n (flow a b) → GaveAtMost m (flow b c)
     → GaveAtMost (n + m) (flow a c)
-gave-more a b c n m g h =
-    (g.0 ++ h.0, gave-then a b c g.0 h.0 g.1 h.1, omega (arith, length-append g.0 h.0, g.2, h.2))
+gave_more a b c n m g h =
+    (g.0 ++ h.0, gave_then a b c g.0 h.0 g.1 h.1, omega (arith, length-append g.0 h.0, g.2, h.2))
 
 -- what holds whatever follows these bytes
-known-more : (a b : Known) (x : Bytes) (P : Bytes → Type 0) → Consumes a b x
+known_more : (a b : Known) (x : Bytes) (P : Bytes → Type 0) → Consumes a b x
     → ((d : Bytes) → (IsAtEnd b → d ≡ []) → P (x ++ d)) → IfSome a P
-known-more None b x P h p = tt
-known-more (Some told) None x P h p = absurd h
-known-more (Some told) (Some left) x P h p = subst P (sym h) (p left (λ end. end))
+known_more None b x P h p = tt
+known_more (Some told) None x P h p = absurd h
+known_more (Some told) (Some left) x P h p = subst P (sym h) (p left (λ end. end))
 
-pub of-more : (a b : Seen) (x : Bytes) (P : Bytes → Type 0) → Gave (flow a b) x
+pub of_more : (a b : Seen) (x : Bytes) (P : Bytes → Type 0) → Gave (flow a b) x
     → ((d : Bytes) → (IsAtEnd b.to_come → d ≡ []) → P (x ++ d)) → OfGiven (flow a b) P
-of-more a b x P g p = record {
+of_more a b x P g p = record {
   given = x;
   grew = g.grew;
   holds = subst P (append-nil x) (p [] (λ end. refl));
-  known = known-more a.to_come b.to_come x P g.consumes p;
+  known = known_more a.to_come b.to_come x P g.consumes p;
 }
 
 -- what holds of the bytes up to the end of the source
-pub of-ended : (a b : Seen) (x : Bytes) (P : Bytes → Type 0) → Gave (flow a b) x → IsAtEnd b.to_come → P x
+pub of_ended : (a b : Seen) (x : Bytes) (P : Bytes → Type 0) → Gave (flow a b) x → IsAtEnd b.to_come → P x
     → OfGiven (flow a b) P
-of-ended a b x P g end p =
-    of-more a b x P g (λ d none. subst P (sym (ap (λ t. x ++ t) (none end) ∙ append-nil x)) p)
+of_ended a b x P g end p =
+    of_more a b x P g (λ d none. subst P (sym (ap (λ t. x ++ t) (none end) ∙ append-nil x)) p)
 
 -- what holds of any bytes
-known-any : (a : Known) (P : Bytes → Type 0) → ((b : Bytes) → P b) → IfSome a P
-known-any None P p = tt
-known-any (Some told) P p = p told
+known_any : (a : Known) (P : Bytes → Type 0) → ((b : Bytes) → P b) → IfSome a P
+known_any None P p = tt
+known_any (Some told) P p = p told
 
-pub of-any : (a b : Seen) (P : Bytes → Type 0) → GaveSome (flow a b) → ((b : Bytes) → P b) → OfGiven (flow a b) P
-of-any a b P g p = record {
+pub of_any : (a b : Seen) (P : Bytes → Type 0) → GaveSome (flow a b) → ((b : Bytes) → P b) → OfGiven (flow a b) P
+of_any a b P g p = record {
   given = g.bytes;
   grew = g.grew;
   holds = p g.bytes;
-  known = known-any a.to_come P p;
+  known = known_any a.to_come P p;
 }
 
 -- what holds of these bytes and those that follow them
-known-then : (a b : Known) (x : Bytes) (P Q : Bytes → Type 0) → Consumes a b x → IfSome b Q
+known_then : (a b : Known) (x : Bytes) (P Q : Bytes → Type 0) → Consumes a b x → IfSome b Q
     → ((y : Bytes) → Q y → P (x ++ y)) → IfSome a P
-known-then None b x P Q h q p = tt
-known-then (Some told) None x P Q h q p = absurd h
-known-then (Some told) (Some left) x P Q h q p = subst P (sym h) (p left q)
+known_then None b x P Q h q p = tt
+known_then (Some told) None x P Q h q p = absurd h
+known_then (Some told) (Some left) x P Q h q p = subst P (sym h) (p left q)
 
-pub of-then : (a b c : Seen) (x : Bytes) (P Q : Bytes → Type 0) → Gave (flow a b) x → OfGiven (flow b c) Q
+pub of_then : (a b c : Seen) (x : Bytes) (P Q : Bytes → Type 0) → Gave (flow a b) x → OfGiven (flow b c) Q
     → ((y : Bytes) → Q y → P (x ++ y)) → OfGiven (flow a c) P
-of-then a b c x P Q g h p = record {
+of_then a b c x P Q g h p = record {
   given = x ++ h.given;
-  grew = grew-then a b c x h.given g.grew h.grew;
+  grew = grew_then a b c x h.given g.grew h.grew;
   holds = p h.given h.holds;
-  known = known-then a.to_come b.to_come x P Q g.consumes h.known p;
+  known = known_then a.to_come b.to_come x P Q g.consumes h.known p;
 }
 
-pub of-map : (a b : Seen) (P Q : Bytes → Type 0) → OfGiven (flow a b) Q → ((y : Bytes) → Q y → P y)
+pub of_map : (a b : Seen) (P Q : Bytes → Type 0) → OfGiven (flow a b) Q → ((y : Bytes) → Q y → P y)
     → OfGiven (flow a b) P
-of-map a b P Q h p = of-then a a b [] P Q (gave-none a) h p
+of_map a b P Q h p = of_then a a b [] P Q (gave_none a) h p
 
 -- a source that gave no more
-pub of-still : (a b c : Seen) {P : Bytes → Type 0} → OfGiven (flow a b) P → Grew (flow b c) [] → OfGiven (flow a c) P
-of-still a b c h g = record {
+pub of_still : (a b c : Seen) {P : Bytes → Type 0} → OfGiven (flow a b) P → Grew (flow b c) [] → OfGiven (flow a c) P
+of_still a b c h g = record {
   given = h.given;
   grew = λ past p. subst c.gave (append-nil (past ++ h.given)) (g (past ++ h.given) (h.grew past p));
   holds = h.holds;
@@ -106,22 +106,22 @@ of-still a b c h g = record {
 }
 
 -- what holds of the bytes that a source gave holds of its known bytes
-pub of-known : (P : Bytes → Type 0) (source : Flow) (told : Bytes) → source.before.to_come ≡ Some told
+pub of_known : (P : Bytes → Type 0) (source : Flow) (told : Bytes) → source.before.to_come ≡ Some told
     → OfGiven source P → P told
-of-known P source told is h = subst (λ (o : Known). IfSome o P) is h.known
+of_known P source told is h = subst (λ (o : Known). IfSome o P) is h.known
 
 -- a source with these known bytes
 abbrev pub of_told : Bytes → Seen
 of_told b = record { to_come = Some b; gave = λ past. ⊤ }
 
-pub gave-told : (b x n : Bytes) → b ≡ x ++ n → Gave (flow (of_told b) (of_told n)) x
-gave-told b x n is = record { consumes = is; grew = λ past h. tt }
+pub gave_told : (b x n : Bytes) → b ≡ x ++ n → Gave (flow (of_told b) (of_told n)) x
+gave_told b x n is = record { consumes = is; grew = λ past h. tt }
 
 -- a source gave all that it had
-pub gave-all : (a b : Known) (given : Bytes) → Consumes a b given → IsAtEnd b → IfSome a (λ told. told ≡ given)
-gave-all None b given h end = tt
-gave-all (Some x) None given h end = absurd h
-gave-all (Some x) (Some y) given h end = h ∙ ap (λ t. given ++ t) end ∙ append-nil given
+pub gave_all : (a b : Known) (given : Bytes) → Consumes a b given → IsAtEnd b → IfSome a (λ told. told ≡ given)
+gave_all None b given h end = tt
+gave_all (Some x) None given h end = absurd h
+gave_all (Some x) (Some y) given h end = h ∙ ap (λ t. given ++ t) end ∙ append-nil given
 
 -- of the whole text a prefix was written, and what is left stands after it
 pub record Done (a b : Known) (whole left : Bytes) : Type 0 where

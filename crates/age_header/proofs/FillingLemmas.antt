@@ -1,6 +1,6 @@
 -- One read after another into a buffer.
 use Rattle.std.proofs.Common.{◌≡◌, ◌∙◌, ◌++◌, ◌+◌, ◌≤◌, ℕ, [], length, take, ap, sym, arith, append-nil, append_assoc, length-append, Result, Ok, Err, IfOk, OnErr}
-use Rattle.age_header.proofs.DeviceLemmas.{gave-none, gave-then}
+use Rattle.age_header.proofs.DeviceLemmas.{gave_none, gave_then}
 use Rattle.std.proofs.Math.Seq.{take-append-add, take-append_seam}
 use Rattle.std.specs.Io.{ReadsAtMost}
 use Rattle.age_kdf.specs.Bytes.{Bytes}
@@ -8,32 +8,32 @@ use Rattle.age_header.specs.declared.device.DeviceFault.{DeviceFault}
 use Rattle.age_header.specs.Device.{GaveSome, Gives, Grows, Seen, flow, moved}
 use Rattle.age_header.specs.Filling.{Filled, Got}
 
-pub filled-none : (start : ℕ) (buf : Bytes) (a : Seen) → start ≤ length buf → Filled start start buf buf (flow a a)
-filled-none start buf a le = record {
+pub filled_none : (start : ℕ) (buf : Bytes) (a : Seen) → start ≤ length buf → Filled start start buf buf (flow a a)
+filled_none start buf a le = record {
   piece = [];
   len = omega arith;
   room = le;
   is = sym (append-nil (take start buf));
-  bytes = gave-none a;
+  bytes = gave_none a;
 }
 
-pub filled-more : (start at n : ℕ) (buf mid after : Bytes) {a b c : Seen} → length mid ≡ length buf
+pub filled_more : (start at n : ℕ) (buf mid after : Bytes) {a b c : Seen} → length mid ≡ length buf
     → Filled start at buf mid (flow a b) → Got at n mid after (flow b c) → Filled start (at + n) buf after (flow a c)
-filled-more start at n buf mid after {a} {b} {c} size f h = record {
+filled_more start at n buf mid after {a} {b} {c} size f h = record {
   piece = f.piece ++ h.piece;
   len = omega (arith, length-append f.piece h.piece, f.len, h.len);
   room = omega (arith, h.room, size);
   is = h.is ∙ ap (λ t. t ++ h.piece) f.is ∙ append_assoc (take start buf) f.piece h.piece;
-  bytes = gave-then a b c f.piece h.piece f.bytes h.bytes;
+  bytes = gave_then a b c f.piece h.piece f.bytes h.bytes;
 }
 
 -- one read after a prefix
-pub got-read : (r : Result ℕ DeviceFault) (at : ℕ) (buf prefix rest after : Bytes) (a b : Seen) → buf ≡ prefix ++ rest
+pub got_read : (r : Result ℕ DeviceFault) (at : ℕ) (buf prefix rest after : Bytes) (a b : Seen) → buf ≡ prefix ++ rest
     → length prefix ≡ at → length after ≡ length rest
     → ReadsAtMost r after → Gives (moved a.to_come b.to_come) r after → Grows (flow a b) r after
     → IfOk r (λ n. Got at n buf (prefix ++ after) (flow a b))
-got-read (Err e) at buf prefix rest after a b is len size bound gives grows = tt
-got-read (Ok n) at buf prefix rest after a b is len size bound gives grows =
+got_read (Err e) at buf prefix rest after a b is len size bound gives grows = tt
+got_read (Ok n) at buf prefix rest after a b is len size bound gives grows =
     let all : length buf ≡ length prefix + length rest = ap length is ∙ length-append prefix rest in
     record {
       piece = take n after;
@@ -46,7 +46,7 @@ got-read (Ok n) at buf prefix rest after a b is len size bound gives grows =
       none = λ zero room. gives.1 zero (omega (arith, all, len, size, room));
     }
 
-pub got-lost : (r : Result ℕ DeviceFault) (buf : Bytes) (a b : Seen) → Grows (flow a b) r buf
+pub got_lost : (r : Result ℕ DeviceFault) (buf : Bytes) (a b : Seen) → Grows (flow a b) r buf
     → OnErr r (GaveSome (flow a b))
-got-lost (Err e) buf a b grows = record { bytes = []; grew = grows }
-got-lost (Ok n) buf a b grows = tt
+got_lost (Err e) buf a b grows = record { bytes = []; grew = grows }
+got_lost (Ok n) buf a b grows = tt

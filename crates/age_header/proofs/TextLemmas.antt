@@ -11,7 +11,7 @@ use Rattle.age_kdf.specs.Bytes.{Bytes}
 use Rattle.age_header.specs.Base64.{IsBase64, alphabet, base64_of}
 use Rattle.age_header.specs.Header.{StanzaParts, Head, IsStanza, AreStanzas, IsFullLine, argument_line, line, version_line, line_size, bytes_of_a_line}
 use Rattle.age_header.specs.Text.{IsPlain, IsWhole, IsHeaderValue, body_lines, body_text, stanza_text, signed, mac_end}
-use Rattle.age_header.proofs.Base64Lemmas.{IsBase64-encode, encode_of-unpadded, IsBase64-append}
+use Rattle.age_header.proofs.Base64Lemmas.{IsBase64-encode, encode_of_unpadded, IsBase64-append}
 
 -- what the engine wrote into a buffer
 pub encoded : (e : GeneralPurpose) (m old new : Bytes) (len : ℕ) → IsPlain e → IsEncodedOver e m old new
@@ -19,7 +19,7 @@ pub encoded : (e : GeneralPurpose) (m old new : Bytes) (len : ℕ) → IsPlain e
     → take len new ≡ base64_of m
 unfolding base64_of
 encoded e m old new len p over is =
-    let plain : encode_of e m ≡ encode_symbols alphabet m = encode_of-unpadded e m p.unpadded p.characters in
+    let plain : encode_of e m ≡ encode_symbols alphabet m = encode_of_unpadded e m p.unpadded p.characters in
     let size : encoded_size_of e (length m) ≡ unpadded_len (length m) = rw p.unpadded refl in
     let fits : length (encode_symbols alphabet m) ≡ len = length-encode_symbols alphabet m ∙ sym size ∙ sym is in
     ap (λ (z : Bytes). take len z) (over ∙ ap (λ (z : Bytes). z ++ drop (encoded_size_of e (length m)) old) plain)

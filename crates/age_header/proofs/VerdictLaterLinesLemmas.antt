@@ -2,7 +2,7 @@
 use Rattle.std.proofs.Common.{inl, inr, ◌≡◌, ◌≢◌, ◌⊎◌, ℕ, ◌+◌, ◌-◌, ◌<◌, ◌≤◌, List, [], ◌∷◌, ◌++◌, length, length-append, take, refl, sym, ap, arith, append_assoc, ◌∙◌, subst, codes, suc}
 use Rattle.std.proofs.lemmas.List.{append-nil, append_cancel_left, same_from_push, take_all, take_at}
 use Rattle.std.proofs.lemmas.List.Concat.{flat_map-append}
-use Rattle.age_header.proofs.DeviceLemmas.{gave-then}
+use Rattle.age_header.proofs.DeviceLemmas.{gave_then}
 use Rattle.std.specs.Io.KnownBytes.{IsAtEnd}
 use Rattle.std.specs.List.{AllByRecursion}
 use Rattle.std.specs.declared.result.Result.TheVariants.{Ok, Err}
@@ -27,7 +27,7 @@ pub path_truncated : (a mid new : Seen) (max room count : ℕ) (s : State) (text
     → Gave (flow mid new) text → IsLineText text → (length text < room) × IsAtEnd new.to_come
     → ReadsHeader (flow a new) max (Err Truncated)
 path_truncated a mid new max room count s text p took is ends =
-    answered_at_end a new (prefix ++ text) max Truncated (gave-then a mid new prefix text p.read took) ends.1 told
+    answered_at_end a new (prefix ++ text) max Truncated (gave_then a mid new prefix text p.read took) ends.1 told
   where
     prefix : Bytes
     prefix = version_line ++ lines_text p.ls
@@ -56,7 +56,7 @@ pub path_too_large : (a mid new : Seen) (max room count : ℕ) (s : State) (text
     → Reached a mid max room count s
     → Gave (flow mid new) text → IsLineText text → length text ≡ room → ReadsHeader (flow a new) max (Err TooLarge)
 path_too_large a mid new max room count s text p took is ends =
-    answered a new (prefix ++ text) max TooLarge (gave-then a mid new prefix text p.read took) told
+    answered a new (prefix ++ text) max TooLarge (gave_then a mid new prefix text p.read took) told
   where
     prefix : Bytes
     prefix = version_line ++ lines_text p.ls
@@ -104,7 +104,7 @@ took_line : (a mid new : Seen) (max room count : ℕ) (s : State) (text : Bytes)
     → Gave (flow mid new) (text ++ 10 ∷ []) → Gave (flow a new) (lines_text (version_text ∷ (p.ls ++ text ∷ [])))
 took_line a mid new max room count s text p took =
     subst (λ (z : Bytes). Gave (flow a new) z) (sym (pushed p.ls text))
-    (gave-then a mid new (version_line ++ lines_text p.ls) (line text) p.read took)
+    (gave_then a mid new (version_line ++ lines_text p.ls) (line text) p.read took)
 
 further : (b n : Bytes) (max room : ℕ) (ls : List Bytes) (text : Bytes)
     → b ≡ lines_text (version_text ∷ (ls ++ text ∷ [])) ++ n
@@ -265,7 +265,7 @@ path_more a mid new max room count s t text p took is low step =
       ls = p.ls ++ text ∷ [];
       each = Lines-append p.ls (text ∷ []) p.each (is, tt);
       leads = Leads-append (between []) s t p.ls (text ∷ []) p.leads (t, step, refl);
-      read = subst (λ (z : Bytes). Gave (flow a new) z) moved (gave-then a mid new _ (line text) p.read took);
+      read = subst (λ (z : Bytes). Gave (flow a new) z) moved (gave_then a mid new _ (line text) p.read took);
       size = omega (arith, p.size);
       lines = omega (arith, p.lines, length-append p.ls (text ∷ []));
     }

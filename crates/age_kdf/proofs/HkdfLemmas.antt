@@ -21,10 +21,10 @@ pub hkdf_next : (out block prk info : Bytes) {last : Bytes} (i len : ℕ) → la
       last : block ≡ hkdf_block prk info (i + 1);
     }
 unfolding hkdf_block hkdf_blocks
-hkdf_next out block prk info {last} i len last-is block-is out-is =
+hkdf_next out block prk info {last} i len last_is block-is out-is =
     let next : suc i ≡ i + 1 = omega arith in
     let is : block ≡ hkdf_block prk info (suc i) =
-    block-is ∙ ap (λ z. hmac prk (z ++ (info ++ (i + 1) ∷ []))) last-is ∙ ap (hmac prk) (sym (append_assoc _ info _)) in
+    block-is ∙ ap (λ z. hmac prk (z ++ (info ++ (i + 1) ∷ []))) last_is ∙ ap (hmac prk) (sym (append_assoc _ info _)) in
     record {
       out = out-is ∙ ap (take len) (ap (λ z. hkdf_blocks prk info i ++ z) is ∙ ap (hkdf_blocks prk info) next);
       last = is ∙ ap (hkdf_block prk info) next;

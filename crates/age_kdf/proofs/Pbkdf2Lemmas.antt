@@ -31,9 +31,9 @@ length-pbkdf2_blocks pass salt c (suc n) =
     length-append _ _ ∙ ap₂ ◌+◌ (length-pbkdf2_blocks pass salt c n) (length-pbkdf2_sum pass _ c) ∙ (omega arith)
 
 -- an output that ends with block n is the n blocks
-pub pbkdf2-whole : (pass salt : Bytes) (c n : ℕ) → pbkdf2 pass salt c (32 * n) ≡ pbkdf2_blocks pass salt c n
+pub pbkdf2_whole : (pass salt : Bytes) (c n : ℕ) → pbkdf2 pass salt c (32 * n) ≡ pbkdf2_blocks pass salt c n
 unfolding pbkdf2
-pbkdf2-whole pass salt c n =
+pbkdf2_whole pass salt c n =
     let count : (32 * n + 31) / 32 ≡ n = omega arith in
     ap (λ k. take (32 * n) (pbkdf2_blocks pass salt c k)) count
     ∙ take_all (32 * n) _ (omega (arith, length-pbkdf2_blocks pass salt c n))
@@ -55,10 +55,10 @@ pub next_sum : (pass first : Bytes) {sum last next out : Bytes} (j : ℕ) → su
     → last ≡ pbkdf2_round pass first j → next ≡ hmac pass last → out ≡ zip2 bit_xor sum next
     → record { sum : out ≡ pbkdf2_sum pass first (j + 1 + 1); last : next ≡ pbkdf2_round pass first (j + 1) }
 unfolding pbkdf2_sum pbkdf2_round
-next_sum pass first {sum} {last} {next} j sum-is last-is next-is out-is =
+next_sum pass first {sum} {last} {next} j sum-is last_is next-is out-is =
     let one : suc j ≡ j + 1 = omega arith in
     let two : suc (suc j) ≡ j + 1 + 1 = omega arith in
-    let here : next ≡ pbkdf2_round pass first (suc j) = next-is ∙ ap (hmac pass) last-is in
+    let here : next ≡ pbkdf2_round pass first (suc j) = next-is ∙ ap (hmac pass) last_is in
     let before : sum ≡ pbkdf2_sum pass first (suc j) = sum-is ∙ ap (pbkdf2_sum pass first) (sym one) in
     record {
       sum = out-is ∙ ap₂ (zip2 bit_xor) before here ∙ ap (pbkdf2_sum pass first) two;

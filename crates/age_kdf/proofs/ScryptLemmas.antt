@@ -9,17 +9,17 @@ use Rattle.age_kdf.specs.Scrypt.{words_of, word_at, parts_mixed}
 use Rattle.age_kdf.specs.RoMix.{romix}
 
 -- words that lie in the first bytes
-words-prefix : (xs ys : Bytes) (n : ℕ) → 4 * n ≤ length xs → words_of (xs ++ ys) n ≡ words_of xs n
+words_prefix : (xs ys : Bytes) (n : ℕ) → 4 * n ≤ length xs → words_of (xs ++ ys) n ≡ words_of xs n
 unfolding words_of
-words-prefix xs ys zero room = refl
-words-prefix xs ys (suc n) room =
+words_prefix xs ys zero room = refl
+words_prefix xs ys (suc n) room =
     let at : (k : ℕ) → k < length xs → get_or (xs ++ ys) k 0 ≡ get_or xs k 0 = λ k h. get_or-append xs ys 0 k h in
     rw (
       at (4 * n) (omega arith),
       at (4 * n + 1) (omega arith),
       at (4 * n + 2) (omega arith),
       at (4 * n + 3) (omega arith),
-      words-prefix xs ys n (omega arith),
+      words_prefix xs ys n (omega arith),
     ) refl
 
 -- a word that lies after the first bytes
@@ -31,17 +31,17 @@ word_behind xs ys k =
     rw (get_or-append-add xs ys k 0, at 1, at 2, at 3) refl
 
 -- the words of joined bytes are the words of each, joined
-pub words-joined : (xs ys : Bytes) (m n : ℕ) → length xs ≡ 4 * m
+pub words_joined : (xs ys : Bytes) (m n : ℕ) → length xs ≡ 4 * m
     → words_of (xs ++ ys) (m + n) ≡ words_of xs m ++ words_of ys n
 unfolding words_of
-words-joined xs ys m zero len =
+words_joined xs ys m zero len =
     let none : m + 0 ≡ m = omega arith in
-    ap (words_of (xs ++ ys)) none ∙ words-prefix xs ys m (omega arith) ∙ sym (append-nil (words_of xs m))
-words-joined xs ys m (suc n) len =
+    ap (words_of (xs ++ ys)) none ∙ words_prefix xs ys m (omega arith) ∙ sym (append-nil (words_of xs m))
+words_joined xs ys m (suc n) len =
     let next : m + suc n ≡ suc (m + n) = omega arith in
     let at_is : 4 * (m + n) ≡ length xs + 4 * n = omega arith in
     ap (words_of (xs ++ ys)) next
-    ∙ ap₂ (λ p q. p ++ q ∷ []) (words-joined xs ys m n len) (ap (word_at (xs ++ ys)) at_is ∙ word_behind xs ys (4 * n))
+    ∙ ap₂ (λ p q. p ++ q ∷ []) (words_joined xs ys m n len) (ap (word_at (xs ++ ys)) at_is ∙ word_behind xs ys (4 * n))
     ∙ append_assoc (words_of xs m) (words_of ys n) _
 
 -- a block of eight words written after those that were written before
@@ -53,7 +53,7 @@ block_loaded words {ws} prefix block i k before is len long room =
     let next : 8 * i + 8 ≡ 8 * (i + 1) = omega arith in
     take-put_mid (8 * i) k words ws (8 * (i + 1)) (omega arith) (omega arith)
     ∙ ap₂ ◌++◌ before is
-    ∙ sym (words-joined prefix block (8 * i) 8 (omega arith))
+    ∙ sym (words_joined prefix block (8 * i) 8 (omega arith))
     ∙ ap (words_of (prefix ++ block)) next
 
 -- a part mixed in place after those that were mixed before

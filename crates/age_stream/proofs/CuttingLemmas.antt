@@ -7,52 +7,52 @@ use Rattle.age_kdf.specs.Bytes.{Bytes}
 use Rattle.age_stream.specs.Cutting.{cut_into, cut, IsCut, IsFilled}
 
 -- bytes that fit go into the open list
-pub cut-fits : (size : ℕ) (held x r : Bytes) → length held + length x ≤ size
+pub cut_fits : (size : ℕ) (held x r : Bytes) → length held + length x ≤ size
     → cut_into size held (x ++ r) ≡ cut_into size (held ++ x) r
-cut-fits size held [] r le = ap (λ h. cut_into size h r) (sym (append-nil held))
-cut-fits size held (b ∷ bs) r le =
+cut_fits size held [] r le = ap (λ h. cut_into size h r) (sym (append-nil held))
+cut_fits size held (b ∷ bs) r le =
     let lt : nat_lt (length held) size ≡ true = lt-ltb _ _ (omega arith) in
     let next : cut_into size (held ++ b ∷ []) (bs ++ r) ≡ cut_into size ((held ++ b ∷ []) ++ bs) r =
-    cut-fits size (held ++ b ∷ []) bs r
+    cut_fits size (held ++ b ∷ []) bs r
     (let l : length (held ++ b ∷ []) ≡ length held + 1 = length-append held (b ∷ []) in omega arith) in
     ap (λ t. cond t (cut_into size (held ++ b ∷ []) (bs ++ r)) (held ∷ cut_into size (b ∷ []) (bs ++ r))) lt ∙ next
     ∙ ap (λ h. cut_into size h r) (append_assoc held (b ∷ []) bs)
 
 -- at a full list the next byte begins one
-pub cut-full : (size : ℕ) (held r : Bytes) → 0 < size → 0 < length r → length held ≡ size
+pub cut_full : (size : ℕ) (held r : Bytes) → 0 < size → 0 < length r → length held ≡ size
     → cut_into size held r ≡ held ∷ cut size r
-cut-full size held [] pos some full = absurd (omega arith)
-cut-full size held (b ∷ r) pos some full =
+cut_full size held [] pos some full = absurd (omega arith)
+cut_full size held (b ∷ r) pos some full =
     let ge : nat_lt (length held) size ≡ false = le-ltb _ _ (omega arith) in
     let lt : nat_lt 0 size ≡ true = lt-ltb _ _ pos in
     ap (λ t. cond t (cut_into size (held ++ b ∷ []) r) (held ∷ cut_into size (b ∷ []) r)) ge
     ∙ ap (λ t. held ∷ cond t (cut_into size (b ∷ []) r) ([] ∷ cut_into size (b ∷ []) r)) (sym lt)
 
 -- a full list with more after it is the first of the cut
-pub cut-first : (size : ℕ) (x r : Bytes) → 0 < size → 0 < length r → length x ≡ size
+pub cut_first : (size : ℕ) (x r : Bytes) → 0 < size → 0 < length r → length x ≡ size
     → cut size (x ++ r) ≡ x ∷ cut size r
-cut-first size x r pos some full = cut-fits size [] x r (omega arith) ∙ cut-full size x r pos some full
+cut_first size x r pos some full = cut_fits size [] x r (omega arith) ∙ cut_full size x r pos some full
 
 -- what fits into one list is cut into that one
-pub cut-last : (size : ℕ) (x : Bytes) → length x ≤ size → cut size x ≡ x ∷ []
-cut-last size x le = ap (cut size) (sym (append-nil x)) ∙ cut-fits size [] x [] (omega arith)
+pub cut_last : (size : ℕ) (x : Bytes) → length x ≤ size → cut size x ≡ x ∷ []
+cut_last size x le = ap (cut size) (sym (append-nil x)) ∙ cut_fits size [] x [] (omega arith)
 
 -- the lists of a filled cut hold something
-pub filled-some : (size : ℕ) (cs : List Bytes) → 0 < size → IsFilled size cs → 0 < length (concat cs)
-filled-some size [] pos h = absurd h
-filled-some size (c ∷ []) pos h = let l : length (c ++ []) ≡ length c + 0 = length-append c [] in
+pub filled_some : (size : ℕ) (cs : List Bytes) → 0 < size → IsFilled size cs → 0 < length (concat cs)
+filled_some size [] pos h = absurd h
+filled_some size (c ∷ []) pos h = let l : length (c ++ []) ≡ length c + 0 = length-append c [] in
     let k : 0 < length c = h.0 in omega arith
-filled-some size (c ∷ d ∷ more) pos h =
+filled_some size (c ∷ d ∷ more) pos h =
     let l : length (c ++ concat (d ∷ more)) ≡ length c + length (concat (d ∷ more)) = length-append c _ in
     let k : length c ≡ size = h.0 in omega arith
 
 -- filled lists are the cut of their join
-pub filled-cut : (size : ℕ) (cs : List Bytes) → 0 < size → IsFilled size cs → cut size (concat cs) ≡ cs
-filled-cut size [] pos h = absurd h
-filled-cut size (c ∷ []) pos h = ap (cut size) (append-nil c) ∙ cut-last size c h.1
-filled-cut size (c ∷ d ∷ more) pos h =
-    cut-first size c (concat (d ∷ more)) pos (filled-some size (d ∷ more) pos h.1) h.0
-    ∙ ap (λ t. c ∷ t) (filled-cut size (d ∷ more) pos h.1)
+pub filled_cut : (size : ℕ) (cs : List Bytes) → 0 < size → IsFilled size cs → cut size (concat cs) ≡ cs
+filled_cut size [] pos h = absurd h
+filled_cut size (c ∷ []) pos h = ap (cut size) (append-nil c) ∙ cut_last size c h.1
+filled_cut size (c ∷ d ∷ more) pos h =
+    cut_first size c (concat (d ∷ more)) pos (filled_some size (d ∷ more) pos h.1) h.0
+    ∙ ap (λ t. c ∷ t) (filled_cut size (d ∷ more) pos h.1)
 
 -- the lists of a cut join to what was cut
 pub concat-cut_into : (size : ℕ) (held p : Bytes) → concat (cut_into size held p) ≡ held ++ p
@@ -65,22 +65,22 @@ concat-cut_into size held (x ∷ xs) =
     ]
 
 -- one more full list before a filled one
-filled-more : (size : ℕ) (c : Bytes) (cs : List Bytes) → length c ≡ size → IsFilled size cs → IsFilled size (c ∷ cs)
-filled-more size c [] e h = absurd h
-filled-more size c (d ∷ more) e h = (e, h)
+filled_more : (size : ℕ) (c : Bytes) (cs : List Bytes) → length c ≡ size → IsFilled size cs → IsFilled size (c ∷ cs)
+filled_more size c [] e h = absurd h
+filled_more size c (d ∷ more) e h = (e, h)
 
-pub filled-cut_into : (size : ℕ) (held p : Bytes) → 0 < size → length held ≤ size → 0 < length held + length p
+pub filled_cut_into : (size : ℕ) (held p : Bytes) → 0 < size → length held ≤ size → 0 < length held + length p
     → IsFilled size (cut_into size held p)
-filled-cut_into size held [] pos le some = (omega arith, le)
-filled-cut_into size held (x ∷ xs) pos le some =
+filled_cut_into size held [] pos le some = (omega arith, le)
+filled_cut_into size held (x ∷ xs) pos le some =
     elim (cases_lt (length held) size) [
       | inl lt ↦ subst (λ t. IsFilled size
           (cond t (cut_into size (held ++ x ∷ []) xs) (held ∷ cut_into size (x ∷ []) xs))) (sym (lt-ltb _ _ lt))
           (let l : length (held ++ x ∷ []) ≡ length held + 1 = length-append held (x ∷ []) in
-          filled-cut_into size (held ++ x ∷ []) xs pos (omega arith) (omega arith))
+          filled_cut_into size (held ++ x ∷ []) xs pos (omega arith) (omega arith))
       | inr ge ↦ subst (λ t. IsFilled size
           (cond t (cut_into size (held ++ x ∷ []) xs) (held ∷ cut_into size (x ∷ []) xs))) (sym (le-ltb _ _ ge))
-          (filled-more size held _ (omega arith) (filled-cut_into size (x ∷ []) xs pos (omega arith) (omega arith)))
+          (filled_more size held _ (omega arith) (filled_cut_into size (x ∷ []) xs pos (omega arith) (omega arith)))
     ]
 
 -- the computed cut is one
@@ -89,17 +89,17 @@ is_cut size [] pos = record { joined = refl; sizes = inl refl }
 is_cut size (x ∷ xs) pos = record {
   joined = concat-cut_into size [] (x ∷ xs);
   sizes =
-      inr (filled-cut_into size [] (x ∷ xs) pos (omega arith) (omega arith));
+      inr (filled_cut_into size [] (x ∷ xs) pos (omega arith) (omega arith));
 }
 
-pub one-cut : (size : ℕ) (p : Bytes) (cs : List Bytes) → 0 < size → IsCut size p cs → cs ≡ cut size p
-one-cut size p cs pos h = elim h.sizes [
+pub cut_is_unique : (size : ℕ) (p : Bytes) (cs : List Bytes) → 0 < size → IsCut size p cs → cs ≡ cut size p
+cut_is_unique size p cs pos h = elim h.sizes [
   | inl e ↦ e ∙ ap (cut size) (sym (ap concat e) ∙ h.joined)
-  | inr filled ↦ sym (filled-cut size cs pos filled) ∙ ap (cut size) h.joined
+  | inr filled ↦ sym (filled_cut size cs pos filled) ∙ ap (cut size) h.joined
 ]
 
 pub one_cut_both : (size : ℕ) (p : Bytes) (cs : List Bytes) → 0 < size → IsCut size p cs ↔ (cs ≡ cut size p)
-one_cut_both size p cs pos = (one-cut size p cs pos, λ e. subst (IsCut size p) (sym e) (is_cut size p pos))
+one_cut_both size p cs pos = (cut_is_unique size p cs pos, λ e. subst (IsCut size p) (sym e) (is_cut size p pos))
 
 -- as `IsFilled`, but the last may be empty
 abbrev pub AtMost : ℕ → List Bytes → Type 0
@@ -107,15 +107,15 @@ AtMost size [] = ⊥
 AtMost size (c ∷ []) = length c ≤ size
 AtMost size (c ∷ d ∷ more) = (length c ≡ size) × AtMost size (d ∷ more)
 
-filled-at_most : (size : ℕ) (cs : List Bytes) → IsFilled size cs → AtMost size cs
-filled-at_most size [] h = h
-filled-at_most size (c ∷ []) h = h.1
-filled-at_most size (c ∷ d ∷ more) h = (h.0, filled-at_most size (d ∷ more) h.1)
+filled_at_most : (size : ℕ) (cs : List Bytes) → IsFilled size cs → AtMost size cs
+filled_at_most size [] h = h
+filled_at_most size (c ∷ []) h = h.1
+filled_at_most size (c ∷ d ∷ more) h = (h.0, filled_at_most size (d ∷ more) h.1)
 
-pub cut-at_most : (size : ℕ) (p : Bytes) → 0 < size → AtMost size (cut size p)
-cut-at_most size p pos = elim (is_cut size p pos).sizes [
+pub cut_at_most : (size : ℕ) (p : Bytes) → 0 < size → AtMost size (cut size p)
+cut_at_most size p pos = elim (is_cut size p pos).sizes [
   | inl e ↦ subst (AtMost size) (sym e) (omega arith)
-  | inr filled ↦ filled-at_most size (cut size p) filled
+  | inr filled ↦ filled_at_most size (cut size p) filled
 ]
 
 pub concat-append : (xs ys : List Bytes) → concat (xs ++ ys) ≡ concat xs ++ concat ys

@@ -17,81 +17,81 @@ use Rattle.age_stream.specs.Reading.{opened_at, outcome}
 use Rattle.age_stream.specs.Ranges.{last_len, opens_to, IsOpenFault, IsVerified, JudgesLast, OpensRanges}
 use Rattle.age_stream.specs.Slice.{opening, plain_len, chunk_len, last_piece, last_outcome, range_outcome}
 use Rattle.age_stream.specs.Sizes.{chunk_size, sealed_chunk_size, chunk_buf_size}
-use Rattle.age_stream.proofs.ReadingLemmas.{cut-count}
-use Rattle.age_stream.proofs.OutcomeLemmas.{outcome-many}
-use Rattle.age_stream.proofs.PayloadLemmas.{outcome-opens}
-use Rattle.age_stream.proofs.LoadLemmas.{tight-at}
-use Rattle.age_stream.proofs.SliceLemmas.{cut-at, opening-at, plain-count}
+use Rattle.age_stream.proofs.ReadingLemmas.{cut_count}
+use Rattle.age_stream.proofs.OutcomeLemmas.{outcome_many}
+use Rattle.age_stream.proofs.PayloadLemmas.{outcome_opens}
+use Rattle.age_stream.proofs.LoadLemmas.{tight_at}
+use Rattle.age_stream.proofs.SliceLemmas.{cut_at, opening_at, plain_count}
 
-pub some-or-none : (last len : ℕ) → last ≡ (len - 1) / sealed_chunk_size → (last ≡ 0) ⊎ (sealed_chunk_size * last < len)
-some-or-none last len is = elim (cases_lt 0 len) [
+pub some_or_none : (last len : ℕ) → last ≡ (len - 1) / sealed_chunk_size → (last ≡ 0) ⊎ (sealed_chunk_size * last < len)
+some_or_none last len is = elim (cases_lt 0 len) [
   | inl long ↦ inr (omega arith)
   | inr none ↦ inl (omega arith)
 ]
 
-pub piece-count : (rest : Bytes) (last : ℕ) → last ≡ (length rest - 1) / sealed_chunk_size
+pub piece_count : (rest : Bytes) (last : ℕ) → last ≡ (length rest - 1) / sealed_chunk_size
     → length (pieces rest) ≡ last + 1
-piece-count rest last is =
-    cut-count sealed_chunk_size last rest (omega arith) (some-or-none last (length rest) is) (omega arith)
+piece_count rest last is =
+    cut_count sealed_chunk_size last rest (omega arith) (some_or_none last (length rest) is) (omega arith)
 
-last-piece : (rest : Bytes) (last : ℕ) → last ≡ (length rest - 1) / sealed_chunk_size
+last_piece_is : (rest : Bytes) (last : ℕ) → last ≡ (length rest - 1) / sealed_chunk_size
     → last_piece rest ≡ drop (sealed_chunk_size * last) rest
-last-piece rest last is =
-    let n : length (pieces rest) ≡ last + 1 = piece-count rest last is in
+last_piece_is rest last is =
+    let n : length (pieces rest) ≡ last + 1 = piece_count rest last is in
     let e : length (pieces rest) - 1 ≡ last = omega arith in
     let d : length (drop (sealed_chunk_size * last) rest) ≡ length rest - sealed_chunk_size * last =
     length-drop (sealed_chunk_size * last) rest in
-    ap (λ k. get_or (pieces rest) k []) e ∙ cut-at sealed_chunk_size last rest (omega arith)
+    ap (λ k. get_or (pieces rest) k []) e ∙ cut_at sealed_chunk_size last rest (omega arith)
     ∙ take_all sealed_chunk_size (drop (sealed_chunk_size * last) rest) (omega arith)
 
 -- how long the last piece is
-pub length-last : (rest : Bytes) → length (last_piece rest) ≡ last_len (length rest)
-length-last rest =
+pub length_last : (rest : Bytes) → length (last_piece rest) ≡ last_len (length rest)
+length_last rest =
     let last : ℕ = (length rest - 1) / sealed_chunk_size in
-    ap length (last-piece rest last refl) ∙ length-drop (sealed_chunk_size * last) rest
+    ap length (last_piece_is rest last refl) ∙ length-drop (sealed_chunk_size * last) rest
 
 -- what the last piece gives, its number and its offset written out
-pub last-is : (key : Bytes) (max : ℕ) (rest : Bytes) (last : ℕ) → last ≡ (length rest - 1) / sealed_chunk_size
+pub last_is : (key : Bytes) (max : ℕ) (rest : Bytes) (last : ℕ) → last ≡ (length rest - 1) / sealed_chunk_size
     → last_outcome key max rest ≡ outcome key max last true (drop (sealed_chunk_size * last) rest)
-last-is key max rest last is =
-    let n : length (pieces rest) ≡ last + 1 = piece-count rest last is in
+last_is key max rest last is =
+    let n : length (pieces rest) ≡ last + 1 = piece_count rest last is in
     let e : length (pieces rest) - 1 ≡ last = omega arith in
-    ap (λ k. outcome key max k true (last_piece rest)) e ∙ ap (outcome key max last true) (last-piece rest last is)
+    ap (λ k. outcome key max k true (last_piece rest)) e ∙ ap (outcome key max last true) (last_piece_is rest last is)
 
-behind-len : (at n : ℕ) (bytes : Bytes) → length bytes ≡ at + n → length (drop at bytes) ≡ n
-behind-len at n bytes size = let d : length (drop at bytes) ≡ length bytes - at = length-drop at bytes in omega arith
+behind_len : (at n : ℕ) (bytes : Bytes) → length bytes ≡ at + n → length (drop at bytes) ≡ n
+behind_len at n bytes size = let d : length (drop at bytes) ≡ length bytes - at = length-drop at bytes in omega arith
 
 -- too many pieces
-pub last-many : (key : Bytes) (max first sealed last : ℕ) (told : Known) → last ≡ (sealed - 1) / sealed_chunk_size
+pub last_many : (key : Bytes) (max first sealed last : ℕ) (told : Known) → last ≡ (sealed - 1) / sealed_chunk_size
     → max ≤ last
     → IfSome told (λ bytes. length bytes ≡ first + sealed → last_outcome key max (drop first bytes) ≡ Err TooManyChunks)
-last-many key max first sealed last None is le = tt
-last-many key max first sealed last (Some bytes) is le = λ size.
-    last-is key max (drop first bytes) last
-    (is ∙ ap (λ n. (n - 1) / sealed_chunk_size) (sym (behind-len first sealed bytes size)))
-    ∙ outcome-many key max last true (drop (sealed_chunk_size * last) (drop first bytes)) le
+last_many key max first sealed last None is le = tt
+last_many key max first sealed last (Some bytes) is le = λ size.
+    last_is key max (drop first bytes) last
+    (is ∙ ap (λ n. (n - 1) / sealed_chunk_size) (sym (behind_len first sealed bytes size)))
+    ∙ outcome_many key max last true (drop (sealed_chunk_size * last) (drop first bytes)) le
 
 -- the last piece was not there to be read
-pub last-gone : (key : Bytes) (max first sealed last end : ℕ) (told : Known) (fault : StreamFault)
+pub last_gone : (key : Bytes) (max first sealed last end : ℕ) (told : Known) (fault : StreamFault)
     → last ≡ (sealed - 1) / sealed_chunk_size → end ≡ sealed - sealed_chunk_size * last
     → EndsBefore told (first + sealed_chunk_size * last + end)
     → IfSome told (λ bytes. length bytes ≡ first + sealed → last_outcome key max (drop first bytes) ≡ Err fault)
-last-gone key max first sealed last end None fault is len gone = tt
-last-gone key max first sealed last end (Some bytes) fault is len gone = λ size.
+last_gone key max first sealed last end None fault is len gone = tt
+last_gone key max first sealed last end (Some bytes) fault is len gone = λ size.
     let short : length bytes < first + sealed_chunk_size * last + end = gone in
     absurd (omega arith)
 
 -- what was read at the last piece's offset gives what the last piece does
-pub last-read : (key : Bytes) (max first sealed last end : ℕ) (told : Known) (buf : Bytes)
+pub last_read : (key : Bytes) (max first sealed last end : ℕ) (told : Known) (buf : Bytes)
     (r : Result Bytes StreamFault) → last ≡ (sealed - 1) / sealed_chunk_size
     → end ≡ sealed - sealed_chunk_size * last → length buf ≡ chunk_buf_size
     → HasAt told (first + sealed_chunk_size * last) (take end buf)
     → outcome key max last true (take end buf) ≡ r
     → IfSome told (λ bytes. length bytes ≡ first + sealed → last_outcome key max (drop first bytes) ≡ r)
-last-read key max first sealed last end None buf r is len room has gives = tt
-last-read key max first sealed last end (Some bytes) buf r is len room has gives = λ size.
+last_read key max first sealed last end None buf r is len room has gives = tt
+last_read key max first sealed last end (Some bytes) buf r is len room has gives = λ size.
     let rest : Bytes = drop first bytes in
-    let all : length rest ≡ sealed = behind-len first sealed bytes size in
+    let all : length rest ≡ sealed = behind_len first sealed bytes size in
     let d : length (drop (sealed_chunk_size * last) rest) ≡ length rest - sealed_chunk_size * last =
     length-drop (sealed_chunk_size * last) rest in
     let l : length (take end buf) ≡ end = length-take-le end buf (omega arith) in
@@ -99,17 +99,17 @@ last-read key max first sealed last end (Some bytes) buf r is len room has gives
     has ∙ ap (λ k. take k (drop (first + sealed_chunk_size * last) bytes)) l
     ∙ ap (take end) (sym (drop-drop (sealed_chunk_size * last) first bytes))
     ∙ take_all end (drop (sealed_chunk_size * last) rest) (omega arith) in
-    last-is key max rest last (is ∙ ap (λ n. (n - 1) / sealed_chunk_size) (sym all))
+    last_is key max rest last (is ∙ ap (λ n. (n - 1) / sealed_chunk_size) (sym all))
     ∙ ap (outcome key max last true) (sym same)
     ∙ gives
 
 -- how long a last piece is that opens
-pub open-len : (key : Bytes) (max i end n : ℕ) (buf after : Bytes) → length buf ≡ chunk_buf_size
+pub open_len : (key : Bytes) (max i end n : ℕ) (buf after : Bytes) → length buf ≡ chunk_buf_size
     → end ≤ sealed_chunk_size
     → outcome key max i true (take end buf) ≡ Ok (take n after) → n ≤ length after
     → (n + 16 ≡ end) × (0 < i → 0 < n)
-open-len key max i end n buf after room le opens within =
-    let o = outcome-opens key max i true (take end buf) (take n after) opens in
+open_len key max i end n buf after room le opens within =
+    let o = outcome_opens key max i true (take end buf) (take n after) opens in
     let len : length (take end buf) ≡ length (take n after) + 16 = ap length o.sealed_so
     ∙ length-sealed key (chunk_nonce i true) [] (take n after) in
     let a : length (take end buf) ≡ end = length-take-le end buf (omega arith) in
@@ -117,14 +117,14 @@ open-len key max i end n buf after room le opens within =
     (omega arith, λ pos. let some : 0 < length (take n after) = o.some refl pos in omega arith)
 
 -- a last piece that was read, and opens
-pub last-verified : (gave : ℕ → ℕ → Type 0) (layout : Layout) (max last end n : ℕ) (buf after : Bytes)
+pub last_verified : (gave : ℕ → ℕ → Type 0) (layout : Layout) (max last end n : ℕ) (buf after : Bytes)
     → layout.count ≡ last + 1
     → GaveAt gave (layout.first + sealed_chunk_size * last) (take end buf)
     → outcome layout.key max last true (take end buf) ≡ Ok (take n after)
     → n ≡ chunk_len layout.plain last → IsVerified gave layout (layout.count - 1)
     (take (chunk_len layout.plain (layout.count - 1)) after)
-last-verified gave layout max last end n buf after count read opens len =
-    let o = outcome-opens layout.key max last true (take end buf) (take n after) opens in
+last_verified gave layout max last end n buf after count read opens len =
+    let o = outcome_opens layout.key max last true (take end buf) (take n after) opens in
     let at : last ≡ layout.count - 1 = omega arith in
     let is_last : nat_eq (last + 1) layout.count ≡ true = eq-eqb (last + 1) layout.count (sym count) in
     subst (λ i. IsVerified gave layout i (take (chunk_len layout.plain i) after)) at (record {
@@ -136,14 +136,14 @@ last-verified gave layout max last end n buf after count read opens len =
     })
 
 -- a last piece that opens
-last-opens : (key : Bytes) (max : ℕ) (rest t : Bytes) (last : ℕ) → last ≡ (length rest - 1) / sealed_chunk_size
+last_opens : (key : Bytes) (max : ℕ) (rest t : Bytes) (last : ℕ) → last ≡ (length rest - 1) / sealed_chunk_size
     → last_outcome key max rest ≡ Ok t → opening key rest last ≡ Some t
-last-opens key max rest t last is h =
+last_opens key max rest t last is h =
     let piece : Bytes = drop (sealed_chunk_size * last) rest in
     let d : length piece ≡ length rest - sealed_chunk_size * last = length-drop (sealed_chunk_size * last) rest in
-    let n : length (pieces rest) ≡ last + 1 = piece-count rest last is in
-    let o = outcome-opens key max last true piece t (sym (last-is key max rest last is) ∙ h) in
-    opening-at key rest last (omega arith)
+    let n : length (pieces rest) ≡ last + 1 = piece_count rest last is in
+    let o = outcome_opens key max last true piece t (sym (last_is key max rest last is) ∙ h) in
+    opening_at key rest last (omega arith)
     ∙ ap (λ b. opened_at key last b (take sealed_chunk_size piece))
     (le-leb (length rest) (sealed_chunk_size * (last + 1)) (omega arith))
     ∙ ap (opened_at key last true) (take_all sealed_chunk_size piece (omega arith))
@@ -155,42 +155,42 @@ abbrev pub IsNonce : Known → ℕ → Bytes → ℕ → Type 0
 IsNonce told at nonce n = IfSome told (λ bytes. (nonce ≡ take 16 (drop at bytes)) × (length bytes ≡ at + 16 + n))
 
 -- what is after a nonce decides
-behind-nonce : (k : FileKey) (max at : ℕ) (bytes nonce : Bytes) (n : ℕ) → nonce ≡ take 16 (drop at bytes)
+behind_nonce : (k : FileKey) (max at : ℕ) (bytes nonce : Bytes) (n : ℕ) → nonce ≡ take 16 (drop at bytes)
     → length bytes ≡ at + 16 + n
     → range_outcome k max (drop at bytes) ≡ last_outcome (payload_key k nonce) max (drop (at + 16) bytes)
-behind-nonce k max at bytes nonce n is size =
+behind_nonce k max at bytes nonce n is size =
     let d : length (drop at bytes) ≡ length bytes - at = length-drop at bytes in
     cond-false (nat_lt (length (drop at bytes)) 16) _ _ (le-ltb (length (drop at bytes)) 16 (omega arith))
     ∙ ap (λ x. last_outcome (payload_key k x) max (drop 16 (drop at bytes))) (sym is)
     ∙ ap (last_outcome (payload_key k nonce) max) (drop-drop 16 at bytes)
 
 -- the last piece's fault
-pub judged-err : (k : FileKey) (max at : ℕ) (told : Known) (nonce after : Bytes) (n : ℕ) (fault : StreamFault)
+pub judged_err : (k : FileKey) (max at : ℕ) (told : Known) (nonce after : Bytes) (n : ℕ) (fault : StreamFault)
     → IsNonce told at nonce n
     → JudgesLast (payload_key k nonce) max (at + 16) n told after (Err fault) → OpensRanges k max at told (Err fault)
-judged-err k max at told nonce after n fault h (inl e) = inl e
-judged-err k max at None nonce after n fault h (inr j) = inr (inr tt)
-judged-err k max at (Some bytes) nonce after n fault h (inr j) =
-    inr (inr (behind-nonce k max at bytes nonce n h.0 h.1 ∙ j h.1))
+judged_err k max at told nonce after n fault h (inl e) = inl e
+judged_err k max at None nonce after n fault h (inr j) = inr (inr tt)
+judged_err k max at (Some bytes) nonce after n fault h (inr j) =
+    inr (inr (behind_nonce k max at bytes nonce n h.0 h.1 ∙ j h.1))
 
-plain-there : (layout : Layout) (rest : Bytes) → length rest ≡ layout.plain + 16 * layout.count
+plain_there : (layout : Layout) (rest : Bytes) → length rest ≡ layout.plain + 16 * layout.count
     → plain_len rest ≡ layout.plain
-plain-there layout rest size =
+plain_there layout rest size =
     let some : 0 < layout.count = layout.some in
     let covers : layout.plain ≤ chunk_size * layout.count = layout.covers in
-    let low : chunk_size * (layout.count - 1) ≤ layout.plain = tight-at layout (layout.count - 1) (omega arith) in
+    let low : chunk_size * (layout.count - 1) ≤ layout.plain = tight_at layout (layout.count - 1) (omega arith) in
     let more : (layout.count - 1 ≡ 0) ⊎ (sealed_chunk_size * (layout.count - 1) < length rest) =
     elim (cases_lt 1 layout.count) [
       | inl lt ↦ inr (let tight : chunk_size * (layout.count - 1) < layout.plain = layout.tight lt in omega arith)
       | inr ge ↦ inl (omega arith)
     ] in
     let n : plain_len rest + 16 * (layout.count - 1 + 1) ≡ length rest =
-    plain-count (layout.count - 1) rest more (omega arith) (omega arith) in
+    plain_count (layout.count - 1) rest more (omega arith) (omega arith) in
     omega arith
 
-count-there : (layout : Layout) (n : ℕ) → layout.plain + 16 * layout.count ≡ n
+count_there : (layout : Layout) (n : ℕ) → layout.plain + 16 * layout.count ≡ n
     → layout.count - 1 ≡ (n - 1) / sealed_chunk_size
-count-there layout n sealed =
+count_there layout n sealed =
     let some : 0 < layout.count = layout.some in
     let covers : layout.plain ≤ chunk_size * layout.count = layout.covers in
     elim (cases_lt 1 layout.count) [
@@ -198,53 +198,53 @@ count-there layout n sealed =
       | inr ge ↦ omega arith
     ]
 
-same-some : (a b : ℕ) → ◌≡◌ {A = Option ℕ} (Some a) (Some b) → a ≡ b
-same-some a b e = ap (λ o. unwrap_or o 0) e
+same_some : (a b : ℕ) → ◌≡◌ {A = Option ℕ} (Some a) (Some b) → a ≡ b
+same_some a b e = ap (λ o. unwrap_or o 0) e
 
 -- the last piece opened
-pub judged-ok : (k : FileKey) (max at : ℕ) (told : Known) (nonce buf : Bytes) (n : ℕ) (layout : Layout)
+pub judged_ok : (k : FileKey) (max at : ℕ) (told : Known) (nonce buf : Bytes) (n : ℕ) (layout : Layout)
     → IsNonce told at nonce n
     → JudgesLast (payload_key k nonce) max (at + 16) n told buf (Ok layout)
     → OpensRanges k max at told (Ok (record
     { layout = layout; index = Some (layout.count - 1); buf = buf; opened = 1 }))
-judged-ok k max at None nonce buf n layout h j = (refl, refl, tt)
-judged-ok k max at (Some bytes) nonce buf n layout h j =
+judged_ok k max at None nonce buf n layout h j = (refl, refl, tt)
+judged_ok k max at (Some bytes) nonce buf n layout h j =
     let text : Bytes = take (chunk_len layout.plain (layout.count - 1)) buf in
-    let size : length (drop (at + 16) bytes) ≡ n = behind-len (at + 16) n bytes h.1 in
+    let size : length (drop (at + 16) bytes) ≡ n = behind_len (at + 16) n bytes h.1 in
     let gives : last_outcome (payload_key k nonce) max (drop (at + 16) bytes) ≡ Ok text = j.3 h.1 in
     let there : length (drop layout.first bytes) ≡ layout.plain + 16 * layout.count =
     ap (λ f. length (drop f bytes)) j.1 ∙ size ∙ sym j.2 in
     let opens : opens_to (Some bytes) layout (layout.count - 1) ≡ Some text =
     ap (λ x. opening x (drop layout.first bytes) (layout.count - 1)) j.0
     ∙ ap (λ f. opening (payload_key k nonce) (drop f bytes) (layout.count - 1)) j.1
-    ∙ last-opens (payload_key k nonce) max (drop (at + 16) bytes) text (layout.count - 1)
-    (count-there layout n j.2 ∙ ap (λ m. (m - 1) / sealed_chunk_size) (sym size)) gives in (
+    ∙ last_opens (payload_key k nonce) max (drop (at + 16) bytes) text (layout.count - 1)
+    (count_there layout n j.2 ∙ ap (λ m. (m - 1) / sealed_chunk_size) (sym size)) gives in (
       refl,
       refl,
       record {
-        opens = behind-nonce k max at bytes nonce n h.0 h.1 ∙ gives;
+        opens = behind_nonce k max at bytes nonce n h.0 h.1 ∙ gives;
         key = j.0 ∙ ap (payload_key k) h.0;
         first = j.1;
-        plain = sym (plain-there layout (drop layout.first bytes) there) ∙ ap (λ f. plain_len (drop f bytes)) j.1;
+        plain = sym (plain_there layout (drop layout.first bytes) there) ∙ ap (λ f. plain_len (drop f bytes)) j.1;
         sound = record {
           there = record { known = refl; size = there };
           keeps = λ i e. subst (λ m. opens_to (Some bytes) layout m ≡ Some (take (chunk_len layout.plain m) buf))
-              (same-some (layout.count - 1) i e) opens;
+              (same_some (layout.count - 1) i e) opens;
         };
       },
     )
 
 -- what was given, with the last piece
-pub given-last : (told : Known) (nonce : Bytes) (at n new mid old : ℕ) → IsNonce told at nonce n
+pub given_last : (told : Known) (nonce : Bytes) (at n new mid old : ℕ) → IsNonce told at nonce n
     → new ≤ mid + last_len n → mid ≤ old + 16
     → IfSome told (λ bytes. new ≤ old + (16 + length (last_piece (drop (at + 16) bytes))))
-given-last None nonce at n new mid old h le le2 = tt
-given-last (Some bytes) nonce at n new mid old h le le2 =
-    let l : length (last_piece (drop (at + 16) bytes)) ≡ last_len n = length-last (drop (at + 16) bytes)
-    ∙ ap last_len (behind-len (at + 16) n bytes h.1) in
+given_last None nonce at n new mid old h le le2 = tt
+given_last (Some bytes) nonce at n new mid old h le le2 =
+    let l : length (last_piece (drop (at + 16) bytes)) ≡ last_len n = length_last (drop (at + 16) bytes)
+    ∙ ap last_len (behind_len (at + 16) n bytes h.1) in
     omega (arith, l, le, le2)
 
 -- a fault of a piece is one of opening
-pub piece-named : (max i : ℕ) (fault : StreamFault) → IsAtPiece max i fault → IsOpenFault fault
-piece-named max i Write h = absurd h
-piece-named max i _ h = tt
+pub piece_named : (max i : ℕ) (fault : StreamFault) → IsAtPiece max i fault → IsOpenFault fault
+piece_named max i Write h = absurd h
+piece_named max i _ h = tt

@@ -9,29 +9,29 @@ use Rattle.age_cipher.specs.Sealing.{opened}
 use Rattle.age_stream.specs.Payload.{chunk_nonce}
 use Rattle.age_stream.specs.Reading.{outcome}
 
-pub outcome-many : (key : Bytes) (max i : ℕ) (last : Bool) (c : Bytes) → max ≤ i
+pub outcome_many : (key : Bytes) (max i : ℕ) (last : Bool) (c : Bytes) → max ≤ i
     → outcome key max i last c ≡ Err TooManyChunks
 unfolding outcome
-outcome-many key max i last c le = cond-true (nat_le max i) _ _ (le-leb max i le)
+outcome_many key max i last c le = cond-true (nat_le max i) _ _ (le-leb max i le)
 
-pub outcome-short : (key : Bytes) (max i : ℕ) (last : Bool) (c : Bytes) → i < max → length c < 16
+pub outcome_short : (key : Bytes) (max i : ℕ) (last : Bool) (c : Bytes) → i < max → length c < 16
     → outcome key max i last c ≡ Err (ChunkShort i)
 unfolding outcome
-outcome-short key max i last c lt short = cond-false (nat_le max i) _ _ (lt-leb max i lt)
+outcome_short key max i last c lt short = cond-false (nat_le max i) _ _ (lt-leb max i lt)
     ∙ cond-true (nat_lt (length c) 16) _ _ (lt-ltb (length c) 16 short)
 
-pub outcome-empty : (key : Bytes) (max i : ℕ) (last : Bool) (c : Bytes) → i < max → 16 ≤ length c
+pub outcome_empty : (key : Bytes) (max i : ℕ) (last : Bool) (c : Bytes) → i < max → 16 ≤ length c
     → (last && nat_lt 0 i && nat_eq (length c) 16) ≡ true
     → outcome key max i last c ≡ Err (EmptyFinal i)
 unfolding outcome
-outcome-empty key max i last c lt some empty =
+outcome_empty key max i last c lt some empty =
     cond-false (nat_le max i) _ _ (lt-leb max i lt) ∙ cond-false (nat_lt (length c) 16) _ _ (le-ltb (length c) 16 some)
     ∙ cond-true (last && nat_lt 0 i && nat_eq (length c) 16) _ _ empty
 
-pub outcome-open : (key : Bytes) (max i : ℕ) (last : Bool) (c : Bytes) (o : Known) → i < max → 16 ≤ length c
+pub outcome_open : (key : Bytes) (max i : ℕ) (last : Bool) (c : Bytes) (o : Known) → i < max → 16 ≤ length c
     → (last && nat_lt 0 i && nat_eq (length c) 16) ≡ false
     → opened key (chunk_nonce i last) [] c ≡ o → outcome key max i last c ≡ ok_or o (BadChunk i)
 unfolding outcome
-outcome-open key max i last c o lt some empty is =
+outcome_open key max i last c o lt some empty is =
     cond-false (nat_le max i) _ _ (lt-leb max i lt) ∙ cond-false (nat_lt (length c) 16) _ _ (le-ltb (length c) 16 some)
     ∙ cond-false (last && nat_lt 0 i && nat_eq (length c) 16) _ _ empty ∙ ap (λ x. ok_or x (BadChunk i)) is

@@ -13,7 +13,7 @@ use Rattle.age_cipher.specs.Sealing.{sealed, opened}
 use Rattle.age_stream.specs.Payload.{chunks, pieces, chunk_nonce, is_end, sealed_from, payload_key, payload}
 use Rattle.age_stream.specs.Reading.{Reading, outcome, outcomes, first_fault, front, stops, reading_from, payload_reading, whole}
 use Rattle.age_stream.specs.Sizes.{chunk_size, sealed_chunk_size}
-use Rattle.age_stream.proofs.CuttingLemmas.{is_cut, one-cut, filled-cut, AtMost, cut-at_most}
+use Rattle.age_stream.proofs.CuttingLemmas.{is_cut, cut_is_unique, filled_cut, AtMost, cut_at_most}
 use Rattle.age_cipher.proofs.OpeningLemmas.{length-sealed, opened_is}
 use Rattle.age_header.specs.declared.file_key.FileKey.{FileKey}
 
@@ -22,14 +22,14 @@ pub result_cases : {A F : Type 0} (r : Result A F) → ((t : A) × (r ≡ Ok t))
 result_cases (Ok t) = inl (t, refl)
 result_cases (Err f) = inr (f, refl)
 
-cond-ok : {A F : Type 0} (b : Bool) (f : F) (r : Result A F) (t : A) → cond b (Err f) r ≡ Ok t
+cond_ok : {A F : Type 0} (b : Bool) (f : F) (r : Result A F) (t : A) → cond b (Err f) r ≡ Ok t
     → (b ≡ false) × (r ≡ Ok t)
-cond-ok true f r t h = absurd (cc)
-cond-ok false f r t h = (refl, h)
+cond_ok true f r t h = absurd (cc)
+cond_ok false f r t h = (refl, h)
 
-ok_or-ok : {A F : Type 0} (o : Option A) (f : F) (t : A) → ok_or o f ≡ Ok t → o ≡ Some t
-ok_or-ok None f t h = absurd (cc)
-ok_or-ok (Some x) f t h = cc
+ok_or_ok : {A F : Type 0} (o : Option A) (f : F) (t : A) → ok_or o f ≡ Ok t → o ≡ Some t
+ok_or_ok None f t h = absurd (cc)
+ok_or_ok (Some x) f t h = cc
 
 two_not_one : {A : Type 0} {x y z : A} {zs : List A} → x ∷ y ∷ zs ≡ z ∷ [] → ⊥
 two_not_one h = cc
@@ -40,18 +40,18 @@ pub record Opens (key : Bytes) (max i : ℕ) (last : Bool) (c t : Bytes) : Type 
   pub sealed_so : c ≡ sealed key (chunk_nonce i last) [] t
   pub some : last ≡ true → 0 < i → 0 < length t
 
-pub outcome-opens : (key : Bytes) (max i : ℕ) (last : Bool) (c t : Bytes) → outcome key max i last c ≡ Ok t
+pub outcome_opens : (key : Bytes) (max i : ℕ) (last : Bool) (c t : Bytes) → outcome key max i last c ≡ Ok t
     → Opens key max i last c t
 unfolding outcome
-outcome-opens key max i last c t h =
+outcome_opens key max i last c t h =
     let empty : Bool = last && nat_lt 0 i && nat_eq (length c) 16 in
     let inner : Result Bytes StreamFault = ok_or (opened key (chunk_nonce i last) [] c) (BadChunk i) in
-    let a = cond-ok (nat_le max i) TooManyChunks
+    let a = cond_ok (nat_le max i) TooManyChunks
     (cond (nat_lt (length c) 16) (Err (ChunkShort i)) (cond empty (Err (EmptyFinal i)) inner)) t h in
-    let b = cond-ok (nat_lt (length c) 16) (ChunkShort i) (cond empty (Err (EmptyFinal i)) inner) t a.1 in
-    let d = cond-ok empty (EmptyFinal i) inner t b.1 in
+    let b = cond_ok (nat_lt (length c) 16) (ChunkShort i) (cond empty (Err (EmptyFinal i)) inner) t a.1 in
+    let d = cond_ok empty (EmptyFinal i) inner t b.1 in
     let is : c ≡ sealed key (chunk_nonce i last) [] t =
-    sym ((opened_is key (chunk_nonce i last) [] c t).0 (ok_or-ok _ (BadChunk i) t d.1)) in
+    sym ((opened_is key (chunk_nonce i last) [] c t).0 (ok_or_ok _ (BadChunk i) t d.1)) in
     let len : length c ≡ length t + 16 = ap length is ∙ length-sealed key (chunk_nonce i last) [] t in
     record {
       within = leb-false max i a.0;
@@ -63,10 +63,10 @@ outcome-opens key max i last c t h =
       ];
     }
 
-pub opens-outcome : (key : Bytes) (max i : ℕ) (last : Bool) (c t : Bytes) → Opens key max i last c t
+pub opens_outcome : (key : Bytes) (max i : ℕ) (last : Bool) (c t : Bytes) → Opens key max i last c t
     → outcome key max i last c ≡ Ok t
 unfolding outcome
-opens-outcome key max i last c t h =
+opens_outcome key max i last c t h =
     let within : i < max = h.within in
     let len : length c ≡ length t + 16 = ap length h.sealed_so ∙ length-sealed key (chunk_nonce i last) [] t in
     let empty : Bool = last && nat_lt 0 i && nat_eq (length c) 16 in
@@ -86,22 +86,22 @@ opens-outcome key max i last c t h =
 abbrev pub Sized : ℕ → List Bytes → Type 0
 Sized i ts = ((ts ≡ [] ∷ []) × (i ≡ 0)) ⊎ IsFilled chunk_size ts
 
-pub sized-one : (i : ℕ) (t : Bytes) → length t ≤ chunk_size → (0 < i → 0 < length t) → Sized i (t ∷ [])
-sized-one i [] le h = elim (cases_lt 0 i) [
+pub sized_one : (i : ℕ) (t : Bytes) → length t ≤ chunk_size → (0 < i → 0 < length t) → Sized i (t ∷ [])
+sized_one i [] le h = elim (cases_lt 0 i) [
   | inl pos ↦ absurd (let z : 0 < 0 = h pos in omega arith)
   | inr zero ↦ inl (refl, omega arith)
 ]
-sized-one i (x ∷ t) le h = inr (omega arith, le)
+sized_one i (x ∷ t) le h = inr (omega arith, le)
 
-pub sized-more : (i : ℕ) (t : Bytes) (ts : List Bytes) → length t ≡ chunk_size → Sized (i + 1) ts → Sized i (t ∷ ts)
-sized-more i t [] len (inl e) = absurd (let z : i + 1 ≡ 0 = e.1 in omega arith)
-sized-more i t [] len (inr f) = absurd f
-sized-more i t (u ∷ ts) len (inl e) = absurd (let z : i + 1 ≡ 0 = e.1 in omega arith)
-sized-more i t (u ∷ ts) len (inr f) = inr (len, f)
+pub sized_more : (i : ℕ) (t : Bytes) (ts : List Bytes) → length t ≡ chunk_size → Sized (i + 1) ts → Sized i (t ∷ ts)
+sized_more i t [] len (inl e) = absurd (let z : i + 1 ≡ 0 = e.1 in omega arith)
+sized_more i t [] len (inr f) = absurd f
+sized_more i t (u ∷ ts) len (inl e) = absurd (let z : i + 1 ≡ 0 = e.1 in omega arith)
+sized_more i t (u ∷ ts) len (inr f) = inr (len, f)
 
-pub is_end-each : (key : Bytes) (i : ℕ) (ts : List Bytes) → is_end (sealed_from key i ts) ≡ is_end ts
-is_end-each key i [] = refl
-is_end-each key i (t ∷ ts) = refl
+pub is_end_each : (key : Bytes) (i : ℕ) (ts : List Bytes) → is_end (sealed_from key i ts) ≡ is_end ts
+is_end_each key i [] = refl
+is_end_each key i (t ∷ ts) = refl
 
 -- the pieces cs open to texts, of which p is the join
 pub record AllOpen (key : Bytes) (max i : ℕ) (cs : List Bytes) (p : Bytes) : Type 0 where
@@ -112,14 +112,14 @@ pub record AllOpen (key : Bytes) (max i : ℕ) (cs : List Bytes) (p : Bytes) : T
   pub sizes : AtMost sealed_chunk_size cs → Sized i texts
 
 -- pieces without a fault open
-pub no_fault-open : (key : Bytes) (max i : ℕ) (c : Bytes) (cs : List Bytes)
+pub no_fault_open : (key : Bytes) (max i : ℕ) (c : Bytes) (cs : List Bytes)
     → first_fault (outcomes key max i (c ∷ cs)) ≡ None
     → AllOpen key max i (c ∷ cs) (front (outcomes key max i (c ∷ cs)))
-no_fault-open key max i c [] h =
+no_fault_open key max i c [] h =
     elim (result_cases (outcome key max i true c)) [
       | inr r ↦ absurd (none-some r.0 (sym h ∙ ap (λ x. first_fault (x ∷ [])) r.1))
       | inl r ↦
-          let o = outcome-opens key max i true c r.0 r.1 in
+          let o = outcome_opens key max i true c r.0 r.1 in
           let within : i < max = o.within in
           let len : length c ≡ length r.0 + 16 = ap length o.sealed_so
           ∙ length-sealed key (chunk_nonce i true) [] r.0 in
@@ -128,18 +128,18 @@ no_fault-open key max i c [] h =
             sealed_so = ap (λ x. x ∷ []) (sym o.sealed_so);
             joined = sym (ap (λ x. front (x ∷ [])) r.1);
             count = omega arith;
-            sizes = λ le. sized-one i r.0 (let k : length c ≤ sealed_chunk_size = le in omega arith) (o.some refl);
+            sizes = λ le. sized_one i r.0 (let k : length c ≤ sealed_chunk_size = le in omega arith) (o.some refl);
           }
     ]
-no_fault-open key max i c (d ∷ more) h =
+no_fault_open key max i c (d ∷ more) h =
     elim (result_cases (outcome key max i false c)) [
       | inr r ↦ absurd (none-some r.0 (sym h ∙ ap (λ x. first_fault (x ∷ outcomes key max (i + 1) (d ∷ more))) r.1))
       | inl r ↦
-          let o = outcome-opens key max i false c r.0 r.1 in
-          let rest = no_fault-open key max (i + 1) d more
+          let o = outcome_opens key max i false c r.0 r.1 in
+          let rest = no_fault_open key max (i + 1) d more
           (sym (ap (λ x. first_fault (x ∷ outcomes key max (i + 1) (d ∷ more))) r.1) ∙ h) in
           let count : length rest.texts + (i + 1) ≤ max = rest.count in
-          let more_left : is_end rest.texts ≡ false = sym (is_end-each key (i + 1) rest.texts)
+          let more_left : is_end rest.texts ≡ false = sym (is_end_each key (i + 1) rest.texts)
           ∙ ap is_end rest.sealed_so in
           record {
             texts = r.0 ∷ rest.texts;
@@ -152,56 +152,56 @@ no_fault-open key max i c (d ∷ more) h =
                 let len : length c ≡ length r.0 + 16 = ap length o.sealed_so
                 ∙ length-sealed key (chunk_nonce i false) [] r.0 in
                 let full : length c ≡ sealed_chunk_size = le.0 in
-                sized-more i r.0 rest.texts (omega arith) (rest.sizes le.1);
+                sized_more i r.0 rest.texts (omega arith) (rest.sizes le.1);
           }
     ]
 
 -- sealed texts open
-pub each-opens : (key : Bytes) (max i : ℕ) (ts : List Bytes) → Sized i ts → length ts + i ≤ max
+pub each_opens : (key : Bytes) (max i : ℕ) (ts : List Bytes) → Sized i ts → length ts + i ≤ max
     → outcomes key max i (sealed_from key i ts) ≡ map Ok ts
-each-opens key max i [] s le = refl
-each-opens key max i (t ∷ []) s le =
-    ap (λ r. r ∷ []) (opens-outcome key max i true (sealed key (chunk_nonce i true) [] t) t (record {
+each_opens key max i [] s le = refl
+each_opens key max i (t ∷ []) s le =
+    ap (λ r. r ∷ []) (opens_outcome key max i true (sealed key (chunk_nonce i true) [] t) t (record {
       within = omega arith;
       sealed_so = refl;
       some = λ _ pos. elim s [ inl e ↦ absurd (let z : i ≡ 0 = e.1 in omega arith) | inr f ↦ f.0 ];
     }))
-each-opens key max i (t ∷ u ∷ ts) s le =
+each_opens key max i (t ∷ u ∷ ts) s le =
     let rest : Sized (i + 1) (u ∷ ts) = elim s [ inl e ↦ absurd (two_not_one e.0) | inr f ↦ inr f.1 ] in
     ap (λ b. outcome key max i b (sealed key (chunk_nonce i false) [] t)
-    ∷ outcomes key max (i + 1) (sealed_from key (i + 1) (u ∷ ts))) (is_end-each key (i + 1) (u ∷ ts))
+    ∷ outcomes key max (i + 1) (sealed_from key (i + 1) (u ∷ ts))) (is_end_each key (i + 1) (u ∷ ts))
     ∙ ap (λ r. r ∷ outcomes key max (i + 1) (sealed_from key (i + 1) (u ∷ ts)))
-    (opens-outcome key max i false (sealed key (chunk_nonce i false) [] t) t (record {
+    (opens_outcome key max i false (sealed key (chunk_nonce i false) [] t) t (record {
       within = omega arith;
       sealed_so = refl;
       some = λ no _. absurd (false≢true no);
     }))
-    ∙ ap (λ rs. Ok t ∷ rs) (each-opens key max (i + 1) (u ∷ ts) rest (omega arith))
+    ∙ ap (λ rs. Ok t ∷ rs) (each_opens key max (i + 1) (u ∷ ts) rest (omega arith))
 
-front-all : (ts : List Bytes) → front {F = StreamFault} (map Ok ts) ≡ concat ts
-front-all [] = refl
-front-all (t ∷ ts) = ap (λ x. t ++ x) (front-all ts)
+front_all : (ts : List Bytes) → front {F = StreamFault} (map Ok ts) ≡ concat ts
+front_all [] = refl
+front_all (t ∷ ts) = ap (λ x. t ++ x) (front_all ts)
 
-fault-all : (ts : List Bytes) → first_fault {F = StreamFault} (map Ok ts) ≡ None
-fault-all [] = refl
-fault-all (t ∷ ts) = fault-all ts
+fault_all : (ts : List Bytes) → first_fault {F = StreamFault} (map Ok ts) ≡ None
+fault_all [] = refl
+fault_all (t ∷ ts) = fault_all ts
 
 -- sealed texts are cut as pieces are
-each-filled : (key : Bytes) (i : ℕ) (ts : List Bytes) → AtMost chunk_size ts
+each_filled : (key : Bytes) (i : ℕ) (ts : List Bytes) → AtMost chunk_size ts
     → IsFilled sealed_chunk_size (sealed_from key i ts)
-each-filled key i [] h = h
-each-filled key i (t ∷ []) h =
+each_filled key i [] h = h
+each_filled key i (t ∷ []) h =
     let l : length (sealed key (chunk_nonce i true) [] t) ≡ length t + 16 =
     length-sealed key (chunk_nonce i true) [] t in
     let le : length t ≤ chunk_size = h in (omega arith, omega arith)
-each-filled key i (t ∷ u ∷ ts) h =
+each_filled key i (t ∷ u ∷ ts) h =
     let l : length (sealed key (chunk_nonce i false) [] t) ≡ length t + 16 =
     length-sealed key (chunk_nonce i false) [] t in
-    let le : length t ≡ chunk_size = h.0 in (omega arith, each-filled key (i + 1) (u ∷ ts) h.1)
+    let le : length t ≡ chunk_size = h.0 in (omega arith, each_filled key (i + 1) (u ∷ ts) h.1)
 
-pub pieces-each : (key : Bytes) (ts : List Bytes) → AtMost chunk_size ts
+pub pieces_each : (key : Bytes) (ts : List Bytes) → AtMost chunk_size ts
     → pieces (concat (sealed_from key 0 ts)) ≡ sealed_from key 0 ts
-pieces-each key ts h = filled-cut sealed_chunk_size (sealed_from key 0 ts) (omega arith) (each-filled key 0 ts h)
+pieces_each key ts h = filled_cut sealed_chunk_size (sealed_from key 0 ts) (omega arith) (each_filled key 0 ts h)
 
 -- what reading a payload to its end says of it
 pub record IsPayload (k : FileKey) (b p : Bytes) (max : ℕ) : Type 0 where
@@ -211,16 +211,16 @@ pub record IsPayload (k : FileKey) (b p : Bytes) (max : ℕ) : Type 0 where
   pub count : length (chunks p) ≤ max
 
 -- the sizes of texts numbered from 0 on are those of a cut
-pub sized-cut : (ts : List Bytes) → Sized 0 ts → IsCut chunk_size (concat ts) ts
-sized-cut ts (inl e) = record { joined = refl; sizes = inl e.0 }
-sized-cut ts (inr f) = record { joined = refl; sizes = inr f }
+pub sized_cut : (ts : List Bytes) → Sized 0 ts → IsCut chunk_size (concat ts) ts
+sized_cut ts (inl e) = record { joined = refl; sizes = inl e.0 }
+sized_cut ts (inr f) = record { joined = refl; sizes = inr f }
 
-all_open-payload : (k : FileKey) (b p : Bytes) (max : ℕ) → 16 ≤ length b
+all_open_payload : (k : FileKey) (b p : Bytes) (max : ℕ) → 16 ≤ length b
     → AllOpen (payload_key k (take 16 b)) max 0 (pieces (drop 16 b)) p → IsPayload k b p max
-all_open-payload k b p max le o =
+all_open_payload k b p max le o =
     let key : Bytes = payload_key k (take 16 b) in
-    let same : o.texts ≡ chunks p = one-cut chunk_size (concat o.texts) o.texts (omega arith)
-    (sized-cut o.texts (o.sizes (cut-at_most sealed_chunk_size (drop 16 b) (omega arith)))) ∙ ap chunks o.joined in
+    let same : o.texts ≡ chunks p = cut_is_unique chunk_size (concat o.texts) o.texts (omega arith)
+    (sized_cut o.texts (o.sizes (cut_at_most sealed_chunk_size (drop 16 b) (omega arith)))) ∙ ap chunks o.joined in
     let rest : drop 16 b ≡ concat (sealed_from key 0 (chunks p)) =
     sym (is_cut sealed_chunk_size (drop 16 b) (omega arith)).joined ∙ ap concat (sym o.sealed_so)
     ∙ ap (λ ts. concat (sealed_from key 0 ts)) same in
@@ -233,15 +233,15 @@ all_open-payload k b p max le o =
       count = omega arith;
     }
 
-some-open : (key : Bytes) (max : ℕ) (cs : List Bytes) → AtMost sealed_chunk_size cs
+some_open : (key : Bytes) (max : ℕ) (cs : List Bytes) → AtMost sealed_chunk_size cs
     → first_fault (outcomes key max 0 cs) ≡ None
     → AllOpen key max 0 cs (front (outcomes key max 0 cs))
-some-open key max [] at h = absurd at
-some-open key max (c ∷ cs) at h = no_fault-open key max 0 c cs h
+some_open key max [] at h = absurd at
+some_open key max (c ∷ cs) at h = no_fault_open key max 0 c cs h
 
-pub ok-payload : (k : FileKey) (b p : Bytes) (max : ℕ) → payload_reading k max b ≡ record { front = p; fault = None }
+pub ok_payload : (k : FileKey) (b p : Bytes) (max : ℕ) → payload_reading k max b ≡ record { front = p; fault = None }
     → IsPayload k b p max
-ok-payload k b p max h = elim (cases_lt (length b) 16) [
+ok_payload k b p max h = elim (cases_lt (length b) 16) [
   | inl lt ↦
       let cut_off : payload_reading k max b ≡ stops NonceTruncated =
       cond-true (nat_lt (length b) 16) _ _ (lt-ltb _ _ lt) in
@@ -251,18 +251,18 @@ ok-payload k b p max h = elim (cases_lt (length b) 16) [
       let key : Bytes = payload_key k (take 16 b) in
       let is : payload_reading k max b ≡ reading_from key max 0 (drop 16 b) =
       cond-false (nat_lt (length b) 16) _ _ (le-ltb _ _ ge) in
-      let all = some-open key max (pieces (drop 16 b)) (cut-at_most sealed_chunk_size (drop 16 b) (omega arith))
+      let all = some_open key max (pieces (drop 16 b)) (cut_at_most sealed_chunk_size (drop 16 b) (omega arith))
       (ap (λ (r : Reading StreamFault). r.fault) (sym is ∙ h)) in
-      all_open-payload k b p max ge (subst (AllOpen key max 0 (pieces (drop 16 b)))
+      all_open_payload k b p max ge (subst (AllOpen key max 0 (pieces (drop 16 b)))
       (ap (λ (r : Reading StreamFault). r.front) (sym is ∙ h)) all)
 ]
 
-pub at_most-chunks : (p : Bytes) → Sized 0 (chunks p)
-at_most-chunks p = elim (is_cut chunk_size p (omega arith)).sizes [ inl e ↦ inl (e, refl) | inr f ↦ inr f ]
+pub at_most_chunks : (p : Bytes) → Sized 0 (chunks p)
+at_most_chunks p = elim (is_cut chunk_size p (omega arith)).sizes [ inl e ↦ inl (e, refl) | inr f ↦ inr f ]
 
-pub payload-ok : (k : FileKey) (b p : Bytes) (max : ℕ) → IsPayload k b p max
+pub payload_ok : (k : FileKey) (b p : Bytes) (max : ℕ) → IsPayload k b p max
     → payload_reading k max b ≡ record { front = p; fault = None }
-payload-ok k b p max h =
+payload_ok k b p max h =
     let key : Bytes = payload_key k h.nonce in
     let sealed_text : Bytes = concat (sealed_from key 0 (chunks p)) in
     let len : length b ≡ length h.nonce + length sealed_text = ap length h.spelled
@@ -272,12 +272,12 @@ payload-ok k b p max h =
     let rest : drop 16 b ≡ sealed_text = ap (drop 16) h.spelled ∙ drop_at h.nonce sealed_text 16 sixteen in
     let count : length (chunks p) ≤ max = h.count in
     let outs : outcomes key max 0 (pieces sealed_text) ≡ map Ok (chunks p) =
-    ap (outcomes key max 0) (pieces-each key (chunks p) (cut-at_most chunk_size p (omega arith)))
-    ∙ each-opens key max 0 (chunks p) (at_most-chunks p) (omega arith) in
-    let the_front : front (outcomes key max 0 (pieces sealed_text)) ≡ p = ap front outs ∙ front-all (chunks p)
+    ap (outcomes key max 0) (pieces_each key (chunks p) (cut_at_most chunk_size p (omega arith)))
+    ∙ each_opens key max 0 (chunks p) (at_most_chunks p) (omega arith) in
+    let the_front : front (outcomes key max 0 (pieces sealed_text)) ≡ p = ap front outs ∙ front_all (chunks p)
     ∙ (is_cut chunk_size p (omega arith)).joined in
     let the_fault : first_fault (outcomes key max 0 (pieces sealed_text)) ≡ None = ap first_fault outs
-    ∙ fault-all (chunks p) in
+    ∙ fault_all (chunks p) in
     cond-false (nat_lt (length b) 16) _ _ (le-ltb (length b) 16 (omega arith))
     ∙ ap (λ x. reading_from (payload_key k x) max 0 (drop 16 b)) head
     ∙ ap (reading_from key max 0) rest
@@ -288,19 +288,19 @@ pub ok_is_payload_both : (k : FileKey) (b p : Bytes) (max : ℕ)
     → (payload_reading k max b ≡ record { front = p; fault = None }) ↔
     ((nonce : Bytes) × (length nonce ≡ 16) × (b ≡ payload k nonce p) × (length (chunks p) ≤ max))
 ok_is_payload_both k b p max = (
-  (λ h. let i = ok-payload k b p max h in (i.nonce, i.nonce_len, i.spelled, i.count)),
-  (λ h. payload-ok k b p max (record { nonce = h.0; nonce_len = h.1; spelled = h.2; count = h.3 })),
+  (λ h. let i = ok_payload k b p max h in (i.nonce, i.nonce_len, i.spelled, i.count)),
+  (λ h. payload_ok k b p max (record { nonce = h.0; nonce_len = h.1; spelled = h.2; count = h.3 })),
 )
 
-pub length-each : (key : Bytes) (i : ℕ) (ts : List Bytes) → length (sealed_from key i ts) ≡ length ts
-length-each key i [] = refl
-length-each key i (t ∷ ts) = ap suc (length-each key (i + 1) ts)
+pub length_each : (key : Bytes) (i : ℕ) (ts : List Bytes) → length (sealed_from key i ts) ≡ length ts
+length_each key i [] = refl
+length_each key i (t ∷ ts) = ap suc (length_each key (i + 1) ts)
 
 -- a payload that reads whole has as many pieces as chunks
-pub whole-count : (k : FileKey) (max : ℕ) (b p : Bytes) → payload_reading k max b ≡ whole p
+pub whole_count : (k : FileKey) (max : ℕ) (b p : Bytes) → payload_reading k max b ≡ whole p
     → length (pieces (drop 16 b)) ≡ length (chunks p)
-whole-count k max b p e =
-    let i = ok-payload k b p max e in
+whole_count k max b p e =
+    let i = ok_payload k b p max e in
     let key : Bytes = payload_key k i.nonce in
     ap (λ x. length (pieces x)) (ap (drop 16) i.spelled ∙ drop_at i.nonce _ 16 i.nonce_len)
-    ∙ ap length (pieces-each key (chunks p) (cut-at_most chunk_size p (omega arith))) ∙ length-each key 0 (chunks p)
+    ∙ ap length (pieces_each key (chunks p) (cut_at_most chunk_size p (omega arith))) ∙ length_each key 0 (chunks p)

@@ -8,11 +8,11 @@ use Rattle.age_header.specs.Device.{Known}
 use Rattle.age_stream.specs.Offsets.{HasAt, StaysGiven, GaveAt}
 
 -- further bytes after those that were read
-pub has-on : (told : Known) (at got n : ℕ) (old new : Bytes) → got + n ≤ length new → length new ≡ length old
+pub has_on : (told : Known) (at got n : ℕ) (old new : Bytes) → got + n ≤ length new → length new ≡ length old
     → take got new ≡ take got old
     → HasAt told at (take got old) → HasAt told (at + got) (take n (drop got new)) → HasAt told at (take (got + n) new)
-has-on None at got n old new le len same so_far more = tt
-has-on (Some bytes) at got n old new le len same so_far more =
+has_on None at got n old new le len same so_far more = tt
+has_on (Some bytes) at got n old new le len same so_far more =
     let a : length (take got old) ≡ got = length-take-le got old (omega arith) in
     let d : length (drop got new) ≡ length new - got = length-drop got new in
     let b : length (take n (drop got new)) ≡ n = length-take-le n (drop got new) (omega arith) in
@@ -23,11 +23,11 @@ has-on (Some bytes) at got n old new le len same so_far more =
     ∙ sym (take-add got n (drop at bytes)) ∙ ap (λ k. take k (drop at bytes)) (sym c)
 
 -- what was read before, and then the next bytes
-pub read-on : (old_read new_read : ℕ → ℕ → Type 0) (at got n : ℕ) (old new : Bytes) → got + n ≤ length new
+pub read_on : (old_read new_read : ℕ → ℕ → Type 0) (at got n : ℕ) (old new : Bytes) → got + n ≤ length new
     → length new ≡ length old → take got new ≡ take got old
     → StaysGiven old_read new_read → GaveAt old_read at (take got old)
     → GaveAt new_read (at + got) (take n (drop got new)) → GaveAt new_read at (take (got + n) new)
-read-on old_read new_read at got n old new le len same stays so_far more k lt =
+read_on old_read new_read at got n old new le len same stays so_far more k lt =
     let c : length (take (got + n) new) ≡ got + n = length-take-le (got + n) new le in
     let a : length (take got old) ≡ got = length-take-le got old (omega arith) in
     let d : length (drop got new) ≡ length new - got = length-drop got new in

@@ -9,16 +9,16 @@ use Rattle.age_stream.specs.Reader.{StartsReader}
 use Rattle.age_stream.specs.Sizes.{nonce_size}
 
 -- no read failed where an opener was given
-pub not-read : {X : Type 0} (s : OpenerState) → IsErrOf {T = OpenerState} (Ok s) Read ⊎ X → X
-not-read s (inl e) = absurd (cc)
-not-read s (inr x) = x
+pub not_read : {X : Type 0} (s : OpenerState) → IsErrOf {T = OpenerState} (Ok s) Read ⊎ X → X
+not_read s (inl e) = absurd (cc)
+not_read s (inr x) = x
 
 -- a reader of the source from which an opener read the nonce
-pub starts-reader : {S : Type 0} (to_come : S → Known) (gave : S → Bytes → Type 0) (failed : S → ℕ) (k : FileKey)
+pub starts_reader : {S : Type 0} (to_come : S → Known) (gave : S → Bytes → Type 0) (failed : S → ℕ) (k : FileKey)
     (max : ℕ) (old : S) {mid new : S} (s : OpenerState) {t : OpenerState}
     → new ≡ mid → t ≡ s → Starts k max (flow_by to_come gave old mid) (Ok s)
     → IsErrOf {T = OpenerState} (Ok s) Read ⊎ GaveAtMost nonce_size (flow_by to_come gave old mid)
     → failed mid ≡ failed old
     → StartsReader to_come gave failed k max old new (Ok t)
-starts-reader to_come gave failed k max old s same opener starts most uncounted =
-    rw same (rw opener (starts, not-read s most, uncounted))
+starts_reader to_come gave failed k max old s same opener starts most uncounted =
+    rw same (rw opener (starts, not_read s most, uncounted))

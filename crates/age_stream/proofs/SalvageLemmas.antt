@@ -9,7 +9,7 @@ use Rattle.age_kdf.specs.Bytes.{Bytes}
 use Rattle.age_header.specs.Device.{Gave, GaveSome, Known, OfGiven, Seen, WritesPart, flow, moved}
 use Rattle.age_header.specs.declared.file_key.FileKey.{FileKey}
 use Rattle.age_header.specs.Filling.{Filled}
-use Rattle.age_header.proofs.DeviceLemmas.{done_part, gave-more, gave-none, gave-then, of-any, of-ended, of-map, of-more, of-then}
+use Rattle.age_header.proofs.DeviceLemmas.{done_part, gave_more, gave_none, gave_then, of_any, of_ended, of_map, of_more, of_then}
 use Rattle.age_stream.specs.declared.fault.StreamFault.{StreamFault}
 use Rattle.age_stream.specs.declared.fault.StreamFault.TheVariants.{NonceTruncated, ChunkShort, EmptyFinal, BadChunk, TooManyChunks, Read, Write, Memory}
 use Rattle.age_stream.specs.declared.salvaged.Lost.{Lost}
@@ -22,13 +22,13 @@ use Rattle.age_stream.specs.Opening.{EndsAt, GivesNonce}
 use Rattle.age_stream.specs.Payload.{chunk_nonce, payload_key, pieces}
 use Rattle.age_stream.specs.Reading.{opened_at}
 use Rattle.age_stream.specs.Salvage.{EndsSaving, KnownLosses, Part, ReadsAhead, Reports, Salvages, SavesParts, SavesPayload, first_part, last_saved, loss, losses, lost_part, opening_or, part, parts, payload_parts, salvaged, summary, told, with_part}
-use Rattle.age_stream.proofs.CuttingLemmas.{cut-last}
-use Rattle.age_stream.proofs.ReadingLemmas.{cut-some, cut-step, is_end-cut}
+use Rattle.age_stream.proofs.CuttingLemmas.{cut_last}
+use Rattle.age_stream.proofs.ReadingLemmas.{cut_some, cut_step, is_end_cut}
 
 -- ---- one part
 
-opened-short : (key nonce c : Bytes) → length c < 16 → opened key nonce [] c ≡ None
-opened-short key nonce c short = go (opened key nonce [] c) refl
+opened_short : (key nonce c : Bytes) → length c < 16 → opened key nonce [] c ≡ None
+opened_short key nonce c short = go (opened key nonce [] c) refl
   where
     go : (o : Known) → opened key nonce [] c ≡ o → opened key nonce [] c ≡ None
     go None e = e
@@ -42,10 +42,10 @@ pub part-opened : (key : Bytes) (i : ℕ) (last : Bool) (c t : Bytes) → opened
 part-opened key i last c t is =
     ap (λ x. opening_or last x (opening_or (not last) (opened_at key i (not last) c) (lost_part c))) is
 
-pub part-other : (key : Bytes) (i : ℕ) (last : Bool) (c t : Bytes) → opened_at key i last c ≡ None
+pub part_other : (key : Bytes) (i : ℕ) (last : Bool) (c t : Bytes) → opened_at key i last c ≡ None
     → opened_at key i (not last) c ≡ Some t
     → part key i last c ≡ record { text = t; saved = cond last Chunk LastChunk }
-part-other key i last c t none is =
+part_other key i last c t none is =
     ap (λ x. opening_or last x (opening_or (not last) (opened_at key i (not last) c) (lost_part c))) none
     ∙ ap (λ x. opening_or (not last) x (lost_part c)) is ∙ flag last
   where
@@ -54,19 +54,19 @@ part-other key i last c t none is =
     flag true = refl
     flag false = refl
 
-part-lost : (key : Bytes) (i : ℕ) (last : Bool) (c : Bytes) → opened_at key i last c ≡ None
+part_lost : (key : Bytes) (i : ℕ) (last : Bool) (c : Bytes) → opened_at key i last c ≡ None
     → opened_at key i (not last) c ≡ None → part key i last c ≡ lost_part c
-part-lost key i last c none other =
+part_lost key i last c none other =
     ap (λ x. opening_or last x (opening_or (not last) (opened_at key i (not last) c) (lost_part c))) none
     ∙ ap (λ x. opening_or (not last) x (lost_part c)) other
 
-pub part-short : (key : Bytes) (i : ℕ) (last : Bool) (c : Bytes) (end : ℕ) (bytes : Bytes) → length c ≡ end → end < 16
+pub part_short : (key : Bytes) (i : ℕ) (last : Bool) (c : Bytes) (end : ℕ) (bytes : Bytes) → length c ≡ end → end < 16
     → part key i last c ≡ record { text = take (end - 16) bytes; saved = Nothing }
-part-short key i last c end bytes len short =
+part_short key i last c end bytes len short =
     let none : length c - 16 ≡ 0 = omega arith in
     let nothing : end - 16 ≡ 0 = omega arith in
-    part-lost key i last c (opened-short key (chunk_nonce i last) c (omega arith))
-    (opened-short key (chunk_nonce i (not last)) c (omega arith))
+    part_lost key i last c (opened_short key (chunk_nonce i last) c (omega arith))
+    (opened_short key (chunk_nonce i (not last)) c (omega arith))
     ∙ ap (λ n. record { text = replicate n 0; saved = cond (nat_le (length c) 16) Nothing Zeros }) none
     ∙ ap (λ b. record { text = []; saved = cond b Nothing Zeros }) (le-leb (length c) 16 (omega arith))
     ∙ ap (λ n. record { text = take n bytes; saved = Nothing }) (sym nothing)
@@ -76,84 +76,84 @@ pub part-zeros : (key : Bytes) (i : ℕ) (last : Bool) (c : Bytes) (end : ℕ) (
     → text ≡ replicate (end - 16) 0
     → part key i last c ≡ record { text = text; saved = cond (nat_le end 16) Nothing Zeros }
 part-zeros key i last c end text none other len zeros =
-    part-lost key i last c none other
+    part_lost key i last c none other
     ∙ ap (λ n. record { text = replicate (n - 16) 0; saved = cond (nat_le n 16) Nothing Zeros }) len
     ∙ ap (λ t. record { text = t; saved = cond (nat_le end 16) Nothing Zeros }) (sym zeros)
 
 -- ---- the parts of what follows the nonce
 
 -- the last piece
-pub parts-last : (key : Bytes) (i : ℕ) (c : Bytes) → length c ≤ 65552
+pub parts_last : (key : Bytes) (i : ℕ) (c : Bytes) → length c ≤ 65552
     → parts key i (pieces c) ≡ first_part key i c ∷ []
-parts-last key i c le =
-    ap (parts key i) (cut-last 65552 c le)
+parts_last key i c le =
+    ap (parts key i) (cut_last 65552 c le)
     ∙ ap (λ b. part key i b c ∷ []) (sym (le-leb (length c) 65552 le))
     ∙ ap (λ t. part key i (nat_le (length c) 65552) t ∷ []) (sym (take_all 65552 c le))
 
 -- a piece with more after it
-pub parts-more : (key : Bytes) (i : ℕ) (c : Bytes) → 65552 < length c
+pub parts_more : (key : Bytes) (i : ℕ) (c : Bytes) → 65552 < length c
     → parts key i (pieces c) ≡ first_part key i c ∷ parts key (i + 1) (pieces (drop 65552 c))
-parts-more key i c lt =
-    ap (parts key i) (cut-step 65552 c (omega arith) lt)
+parts_more key i c lt =
+    ap (parts key i) (cut_step 65552 c (omega arith) lt)
     ∙ ap (λ b. part key i b (take 65552 c) ∷ parts key (i + 1) (pieces (drop 65552 c)))
-    (is_end-cut 65552 [] (drop 65552 c) ∙ sym (lt-leb (length c) 65552 lt))
+    (is_end_cut 65552 [] (drop 65552 c) ∙ sym (lt-leb (length c) 65552 lt))
 
 -- the same whatever follows
-pub parts-next : (key : Bytes) (i : ℕ) (c d : Bytes) → 65552 < length c
+pub parts_next : (key : Bytes) (i : ℕ) (c d : Bytes) → 65552 < length c
     → parts key i (pieces (c ++ d)) ≡ first_part key i c ∷ parts key (i + 1) (pieces (drop 65552 c ++ d))
-parts-next key i c d lt =
+parts_next key i c d lt =
     let l : length (c ++ d) ≡ length c + length d = length-append c d in
     let far : nat_le (length (c ++ d)) 65552 ≡ false = lt-leb (length (c ++ d)) 65552 (omega arith) in
     let no : nat_le (length c) 65552 ≡ false = lt-leb (length c) 65552 lt in
-    parts-more key i (c ++ d) (omega arith)
+    parts_more key i (c ++ d) (omega arith)
     ∙ ap (λ b. part key i b (take 65552 (c ++ d)) ∷ parts key (i + 1) (pieces (drop 65552 (c ++ d)))) (far ∙ sym no)
     ∙ ap (λ t. part key i (nat_le (length c) 65552) t ∷ parts key (i + 1) (pieces (drop 65552 (c ++ d))))
     (take-append-le 65552 c d (omega arith))
     ∙ ap (λ t. first_part key i c ∷ parts key (i + 1) (pieces t)) (drop-append-le 65552 c d (omega arith))
 
 -- the first part, where the piece is whole
-pub parts-first : (key : Bytes) (i : ℕ) (c d : Bytes) → (65552 < length c) ⊎ (d ≡ [])
+pub parts_first : (key : Bytes) (i : ℕ) (c d : Bytes) → (65552 < length c) ⊎ (d ≡ [])
     → (more : List Part) × (parts key i (pieces (c ++ d)) ≡ first_part key i c ∷ more)
-parts-first key i c d (inl lt) = (parts key (i + 1) (pieces (drop 65552 c ++ d)), parts-next key i c d lt)
-parts-first key i c d (inr none) = elim (cases_lt 65552 (length c)) [
-  | inl lt ↦ (parts key (i + 1) (pieces (drop 65552 c ++ d)), parts-next key i c d lt)
-  | inr le ↦ ([], ap (λ t. parts key i (pieces t)) (ap (λ t. c ++ t) none ∙ append-nil c) ∙ parts-last key i c le)
+parts_first key i c d (inl lt) = (parts key (i + 1) (pieces (drop 65552 c ++ d)), parts_next key i c d lt)
+parts_first key i c d (inr none) = elim (cases_lt 65552 (length c)) [
+  | inl lt ↦ (parts key (i + 1) (pieces (drop 65552 c ++ d)), parts_next key i c d lt)
+  | inr le ↦ ([], ap (λ t. parts key i (pieces t)) (ap (λ t. c ++ t) none ∙ append-nil c) ∙ parts_last key i c le)
 ]
 
 pub length-parts : (key : Bytes) (i : ℕ) (cs : List Bytes) → length (parts key i cs) ≡ length cs
 length-parts key i [] = refl
 length-parts key i (c ∷ cs) = ap suc (length-parts key (i + 1) cs)
 
-pub parts-some : (key : Bytes) (i : ℕ) (c : Bytes) → 0 < length (parts key i (pieces c))
-parts-some key i c = omega (arith, length-parts key i (pieces c), cut-some 65552 [] c)
+pub parts_some : (key : Bytes) (i : ℕ) (c : Bytes) → 0 < length (parts key i (pieces c))
+parts_some key i c = omega (arith, length-parts key i (pieces c), cut_some 65552 [] c)
 
 -- ---- one part more
 
-pub salvaged-append : (xs ys : List Part) → salvaged (xs ++ ys) ≡ salvaged xs ++ salvaged ys
-salvaged-append [] ys = refl
-salvaged-append (x ∷ xs) ys =
-    ap (λ t. x.text ++ t) (salvaged-append xs ys) ∙ sym (append_assoc x.text (salvaged xs) (salvaged ys))
+pub salvaged_append : (xs ys : List Part) → salvaged (xs ++ ys) ≡ salvaged xs ++ salvaged ys
+salvaged_append [] ys = refl
+salvaged_append (x ∷ xs) ys =
+    ap (λ t. x.text ++ t) (salvaged_append xs ys) ∙ sym (append_assoc x.text (salvaged xs) (salvaged ys))
 
-pub salvaged-snoc : (xs : List Part) (y : Part) → salvaged (xs ++ y ∷ []) ≡ salvaged xs ++ y.text
-salvaged-snoc xs y = salvaged-append xs (y ∷ []) ∙ ap (λ t. salvaged xs ++ t) (append-nil y.text)
+pub salvaged_snoc : (xs : List Part) (y : Part) → salvaged (xs ++ y ∷ []) ≡ salvaged xs ++ y.text
+salvaged_snoc xs y = salvaged_append xs (y ∷ []) ∙ ap (λ t. salvaged xs ++ t) (append-nil y.text)
 
-lost-at : (s : Saved) (i j a b len : ℕ) → i ≡ j → a ≡ b
+lost_at : (s : Saved) (i j a b len : ℕ) → i ≡ j → a ≡ b
     → loss s (record { chunk = i; start = a; len = len }) ≡ loss s (record { chunk = j; start = b; len = len })
-lost-at s i j a b len e f = ap (λ k. loss s (record { chunk = k; start = a; len = len })) e
+lost_at s i j a b len e f = ap (λ k. loss s (record { chunk = k; start = a; len = len })) e
     ∙ ap (λ k. loss s (record { chunk = j; start = k; len = len })) f
 
-pub losses-snoc : (i at : ℕ) (xs : List Part) (y : Part)
+pub losses_snoc : (i at : ℕ) (xs : List Part) (y : Part)
     → losses i at (xs ++ y ∷ []) ≡ losses i at xs
     ++ loss y.saved (record { chunk = i + length xs; start = at + length (salvaged xs); len = length y.text })
-losses-snoc i at [] y = append-nil (loss y.saved (record { chunk = i; start = at; len = length y.text }))
-    ∙ lost-at y.saved i (i + 0) at (at + 0) (length y.text) (omega arith) (omega arith)
-losses-snoc i at (x ∷ xs) y =
+losses_snoc i at [] y = append-nil (loss y.saved (record { chunk = i; start = at; len = length y.text }))
+    ∙ lost_at y.saved i (i + 0) at (at + 0) (length y.text) (omega arith) (omega arith)
+losses_snoc i at (x ∷ xs) y =
     let first : List Lost = loss x.saved (record { chunk = i; start = at; len = length x.text }) in
     let rest : List Lost = losses (i + 1) (at + length x.text) xs in
     let l : length (x.text ++ salvaged xs) ≡ length x.text + length (salvaged xs) =
     length-append x.text (salvaged xs) in
-    ap (λ t. first ++ t) (losses-snoc (i + 1) (at + length x.text) xs y)
-    ∙ ap (λ t. first ++ (rest ++ t)) (lost-at y.saved (i + 1 + length xs) (i + length (x ∷ xs))
+    ap (λ t. first ++ t) (losses_snoc (i + 1) (at + length x.text) xs y)
+    ∙ ap (λ t. first ++ (rest ++ t)) (lost_at y.saved (i + 1 + length xs) (i + length (x ∷ xs))
     (at + length x.text + length (salvaged xs)) (at + length (salvaged (x ∷ xs))) (length y.text) (omega arith)
     (omega arith))
     ∙ sym (append_assoc first rest (loss y.saved (record {
@@ -162,46 +162,46 @@ losses-snoc i at (x ∷ xs) y =
       len = length y.text;
     })))
 
-pub last-snoc : (xs : List Part) (y : Part) → last_saved (xs ++ y ∷ []) ≡ y.saved
-last-snoc [] y = refl
-last-snoc (x ∷ []) y = refl
-last-snoc (x ∷ z ∷ xs) y = last-snoc (z ∷ xs) y
+pub last_snoc : (xs : List Part) (y : Part) → last_saved (xs ++ y ∷ []) ≡ y.saved
+last_snoc [] y = refl
+last_snoc (x ∷ []) y = refl
+last_snoc (x ∷ z ∷ xs) y = last_snoc (z ∷ xs) y
 
 -- ---- what was reported
 
-pub reports-none : (a : KnownLosses) → Reports (told a a) []
-reports-none None = tt
-reports-none (Some past) = ap Some (sym (append-nil past))
+pub reports_none : (a : KnownLosses) → Reports (told a a) []
+reports_none None = tt
+reports_none (Some past) = ap Some (sym (append-nil past))
 
-pub reports-then : (a b c : KnownLosses) (xs ys : List Lost) → Reports (told a b) xs → Reports (told b c) ys
+pub reports_then : (a b c : KnownLosses) (xs ys : List Lost) → Reports (told a b) xs → Reports (told b c) ys
     → Reports (told a c) (xs ++ ys)
-reports-then None b c xs ys g h = tt
-reports-then (Some past) b c xs ys g h =
+reports_then None b c xs ys g h = tt
+reports_then (Some past) b c xs ys g h =
     let next : c ≡ Some ((past ++ xs) ++ ys) = subst (λ (x : KnownLosses). IfSome x (λ p. c ≡ Some (p ++ ys))) g h in
     next ∙ ap Some (append_assoc past xs ys)
 
 -- ---- the next piece
 
 -- what filling the buffer after the byte that was held leaves there
-pub reads-ahead : {E : Type 0} (r : Result ℕ E) (ahead : ℕ) (held carried after : Bytes) (now next : Seen)
+pub reads_ahead : {E : Type 0} (r : Result ℕ E) (ahead : ℕ) (held carried after : Bytes) (now next : Seen)
     → IfOk r (λ n. Filled ahead n carried after (flow now next))
     → IfOk r (λ n. n < length carried → IsAtEnd next.to_come) → take ahead carried ≡ held → length carried ≡ 65553
     → IfOk r (λ n. ReadsAhead held n after (flow now next))
-reads-ahead (Ok n) ahead held carried after now next f end is size = record {
+reads_ahead (Ok n) ahead held carried after now next f end is size = record {
   given = f.piece;
   gave = f.bytes;
   is = f.is ∙ ap (λ t. t ++ f.piece) is;
   room = omega (arith, f.room);
   end = λ low. end (omega arith);
 }
-reads-ahead (Err e) ahead held carried after now next f end is size = tt
+reads_ahead (Err e) ahead held carried after now next f end is size = tt
 
 -- the first piece, where no byte follows it
-pub first-last : (key : Bytes) (i n len : ℕ) (bytes piece new rest : Bytes) (saved : Saved) → bytes ≡ piece ++ rest
+pub first_last : (key : Bytes) (i n len : ℕ) (bytes piece new rest : Bytes) (saved : Saved) → bytes ≡ piece ++ rest
     → length piece ≡ 65552 → n ≤ 65552 → length new ≡ length piece → len ≡ n - 16
     → part key i true (take n piece) ≡ record { text = take (n - 16) new; saved = saved }
     → first_part key i (take n bytes) ≡ record { text = take len (new ++ rest); saved = saved }
-first-last key i n len bytes piece new rest saved is whole le same wide found =
+first_last key i n len bytes piece new rest saved is whole le same wide found =
     let cut : take n bytes ≡ take n piece = ap (take n) is ∙ take-append-le n piece rest (omega arith) in
     let l : length (take n bytes) ≡ n = ap length cut ∙ length-take-le n piece (omega arith) in
     ap (λ b. part key i b (take 65552 (take n bytes))) (le-leb (length (take n bytes)) 65552 (omega arith))
@@ -210,11 +210,11 @@ first-last key i n len bytes piece new rest saved is whole le same wide found =
     ∙ ap (λ k. record { text = take k (new ++ rest); saved = saved }) (sym wide)
 
 -- the same with a byte after it
-pub first-more : (key : Bytes) (i n : ℕ) (bytes piece new rest : Bytes) (saved : Saved) → bytes ≡ piece ++ rest
+pub first_more : (key : Bytes) (i n : ℕ) (bytes piece new rest : Bytes) (saved : Saved) → bytes ≡ piece ++ rest
     → length piece ≡ 65552 → length bytes ≡ 65553 → 65552 < n → n ≤ 65553 → length new ≡ length piece
     → part key i false (take 65552 piece) ≡ record { text = take 65536 new; saved = saved }
     → first_part key i (take n bytes) ≡ record { text = take 65536 (new ++ rest); saved = saved }
-first-more key i n bytes piece new rest saved is whole size lt le same found =
+first_more key i n bytes piece new rest saved is whole size lt le same found =
     let all : take n bytes ≡ bytes = take_all n bytes (omega arith) in
     ap (first_part key i) all
     ∙ ap (λ b. part key i b (take 65552 bytes)) (lt-leb (length bytes) 65552 (omega arith))
@@ -222,9 +222,9 @@ first-more key i n bytes piece new rest saved is whole size lt le same found =
     ∙ ap (λ t. record { text = t; saved = saved }) (sym (take-append-le 65536 new rest (omega arith)))
 
 -- what follows the piece is as it was
-pub first-rest : (bytes piece new rest : Bytes) → bytes ≡ piece ++ rest → length piece ≡ 65552
+pub first_rest : (bytes piece new rest : Bytes) → bytes ≡ piece ++ rest → length piece ≡ 65552
     → length new ≡ length piece → drop 65552 (new ++ rest) ≡ drop 65552 bytes
-first-rest bytes piece new rest is whole same =
+first_rest bytes piece new rest is whole same =
     drop_at new rest 65552 (omega arith) ∙ sym (ap (drop 65552) is ∙ drop_at piece rest 65552 (omega arith))
 
 -- one more was counted
@@ -253,16 +253,16 @@ pub record Salvaging (key : Bytes) (s : Salvaged) (ahead : Bytes) (from now : Se
   pub read : length given ≡ 65552 * s.chunks + length ahead
   pub short : length ahead ≤ 1
 
-pub salvaging-none : (key : Bytes) (s : Salvaged) (ahead : Bytes) (from : Seen) (old : Known) (before : KnownLosses)
+pub salvaging_none : (key : Bytes) (s : Salvaged) (ahead : Bytes) (from : Seen) (old : Known) (before : KnownLosses)
     → s.bytes ≡ 0 → s.chunks ≡ 0 → s.lost ≡ 0 → ahead ≡ [] → Salvaging key s ahead from from old old before before
-salvaging-none key s ahead from old before bytes chunks lost none = record {
+salvaging_none key s ahead from old before bytes chunks lost none = record {
   front = [];
   given = [];
-  gave = gave-none from;
+  gave = gave_none from;
   reads = λ d. ap (λ t. parts key 0 (pieces (t ++ d))) (sym none)
       ∙ ap (λ k. parts key k (pieces (ahead ++ d))) (sym chunks);
   written = Appends-nil old;
-  reported = reports-none before;
+  reported = reports_none before;
   bytes = bytes;
   chunks = chunks;
   lost = lost;
@@ -272,30 +272,30 @@ salvaging-none key s ahead from old before bytes chunks lost none = record {
   short = omega (arith, ap length none);
 }
 
-loss-len : (s : Saved) (lost : Lost) → length (loss s lost) ≤ 1
-loss-len Zeros lost = omega arith
-loss-len Chunk lost = omega arith
-loss-len LastChunk lost = omega arith
-loss-len Nothing lost = omega arith
+loss_len : (s : Saved) (lost : Lost) → length (loss s lost) ≤ 1
+loss_len Zeros lost = omega arith
+loss_len Chunk lost = omega arith
+loss_len LastChunk lost = omega arith
+loss_len Nothing lost = omega arith
 
 -- the summary of the parts so far and one more
-snoc-summary : (front : List Part) (s : Salvaged) (y : Part) → s.bytes ≡ length (salvaged front)
+snoc_summary : (front : List Part) (s : Salvaged) (y : Part) → s.bytes ≡ length (salvaged front)
     → s.chunks ≡ length front → s.lost ≡ length (losses 0 0 front)
     → with_part s (length y.text) y.saved ≡ summary (front ++ y ∷ [])
-snoc-summary front s y bytes chunks lost =
+snoc_summary front s y bytes chunks lost =
     let one : List Lost = loss y.saved (record { chunk = s.chunks; start = s.bytes; len = length y.text }) in
     let text : length (salvaged (front ++ y ∷ [])) ≡ length (salvaged front) + length y.text =
-    ap length (salvaged-snoc front y) ∙ length-append (salvaged front) y.text in
+    ap length (salvaged_snoc front y) ∙ length-append (salvaged front) y.text in
     let all : losses 0 0 (front ++ y ∷ []) ≡ losses 0 0 front ++ one =
-    losses-snoc 0 0 front y ∙ ap (λ t. losses 0 0 front ++ t)
-    (lost-at y.saved (0 + length front) s.chunks (0 + length (salvaged front)) s.bytes (length y.text) (omega arith)
+    losses_snoc 0 0 front y ∙ ap (λ t. losses 0 0 front ++ t)
+    (lost_at y.saved (0 + length front) s.chunks (0 + length (salvaged front)) s.bytes (length y.text) (omega arith)
     (omega arith)) in
     let count : length (losses 0 0 (front ++ y ∷ [])) ≡ length (losses 0 0 front) + length one =
     ap length all ∙ length-append (losses 0 0 front) one in
     let b : s.bytes + length y.text ≡ length (salvaged (front ++ y ∷ [])) = omega arith in
     let n : s.chunks + 1 ≡ length (front ++ y ∷ []) = omega (arith, length-append front (y ∷ [])) in
     let m : s.lost + length one ≡ length (losses 0 0 (front ++ y ∷ [])) = omega arith in
-    same (s.bytes + length y.text) _ (s.chunks + 1) _ (s.lost + length one) _ y.saved _ b n m (sym (last-snoc front y))
+    same (s.bytes + length y.text) _ (s.chunks + 1) _ (s.lost + length one) _ y.saved _ b n m (sym (last_snoc front y))
   where
     same : (a b c d e f : ℕ) (g h : Saved) → a ≡ b → c ≡ d → e ≡ f → g ≡ h
         → ◌≡◌ {A = Salvaged} (record { bytes = a; chunks = c; lost = e; last = g })
@@ -308,21 +308,21 @@ abbrev pub read_bytes : (held : Bytes) (n : ℕ) (after : Bytes) (now next : See
 read_bytes held n after now next r = held ++ r.given
 
 -- the whole text of the parts so far, the next and those that follow
-text-next : (front more : List Part) (y : Part)
+text_next : (front more : List Part) (y : Part)
     → salvaged (front ++ y ∷ more) ≡ salvaged front ++ (y.text ++ salvaged more)
-text-next front more y = salvaged-append front (y ∷ more)
+text_next front more y = salvaged_append front (y ∷ more)
 
 -- ---- the ends
 
 -- there is a piece more than are allowed
-pub saves-many : (key : Bytes) (max : ℕ) (s : Salvaged) (ahead : Bytes) (from now : Seen) (old new : Known)
+pub saves_many : (key : Bytes) (max : ℕ) (s : Salvaged) (ahead : Bytes) (from now : Seen) (old new : Known)
     (before after : KnownLosses) → Salvaging key s ahead from now old new before after → s.chunks ≡ max
     → OfGiven (flow from now)
     (λ rest. SavesParts max (parts key 0 (pieces rest)) (moved old new) (told before after) (Err TooManyChunks))
-saves-many key max s ahead from now old new before after o full =
-    of-more from now o.given _ o.gave (λ d end.
+saves_many key max s ahead from now old new before after o full =
+    of_more from now o.given _ o.gave (λ d end.
     let more : List Part = parts key s.chunks (pieces (ahead ++ d)) in
-    let some : 0 < length more = parts-some key s.chunks (ahead ++ d) in
+    let some : 0 < length more = parts_some key s.chunks (ahead ++ d) in
     let len : length (parts key 0 (pieces (o.given ++ d))) ≡ length o.front + length more =
     ap length (o.reads d) ∙ length-append o.front more in
     let first : take max (parts key 0 (pieces (o.given ++ d))) ≡ o.front =
@@ -335,13 +335,13 @@ saves-many key max s ahead from now old new before after o full =
     ))
 
 -- a read failed
-pub saves-read : (key : Bytes) (max : ℕ) (s : Salvaged) (ahead : Bytes) (from now next : Seen) (old new : Known)
+pub saves_read : (key : Bytes) (max : ℕ) (s : Salvaged) (ahead : Bytes) (from now next : Seen) (old new : Known)
     (before after : KnownLosses) → Salvaging key s ahead from now old new before after → GaveSome (flow now next)
     → OfGiven (flow from next)
     (λ rest. SavesParts max (parts key 0 (pieces rest)) (moved old new) (told before after) (Err Read))
-saves-read key max s ahead from now next old new before after o some =
-    of-then from now next o.given _ _ o.gave
-    (of-any now next
+saves_read key max s ahead from now next old new before after o some =
+    of_then from now next o.given _ _ o.gave
+    (of_any now next
     (λ d. SavesParts max (parts key 0 (pieces (o.given ++ d))) (moved old new) (told before after) (Err Read)) some so)
     (λ d h. h)
   where
@@ -359,10 +359,10 @@ saves-read key max s ahead from now next old new before after o some =
         )
 
 -- there the pieces that are allowed were read, and one byte
-pub ends-many : (key : Bytes) (max : ℕ) (s : Salvaged) (ahead : Bytes) (from now : Seen) (old new : Known)
+pub ends_many : (key : Bytes) (max : ℕ) (s : Salvaged) (ahead : Bytes) (from now : Seen) (old new : Known)
     (before after : KnownLosses) → Salvaging key s ahead from now old new before after → s.chunks ≡ max
     → EndsAt max 0 (flow from now) (moved old new) TooManyChunks
-ends-many key max s ahead from now old new before after o full = record {
+ends_many key max s ahead from now old new before after o full = record {
   piece = s.chunks;
   text = salvaged o.front;
   written = o.written;
@@ -371,11 +371,11 @@ ends-many key max s ahead from now old new before after o full = record {
 }
 
 -- where a write failed, its piece too
-pub ends-write : (key : Bytes) (max : ℕ) (s : Salvaged) (held : Bytes) (n : ℕ) (buf text : Bytes)
+pub ends_write : (key : Bytes) (max : ℕ) (s : Salvaged) (held : Bytes) (n : ℕ) (buf text : Bytes)
     (from now next : Seen) (old mid new : Known) (before after : KnownLosses)
     → Salvaging key s held from now old mid before after → (r : ReadsAhead held n buf (flow now next))
     → length buf ≡ 65553 → WritesPart (moved mid new) text → EndsAt max 0 (flow from next) (moved old new) Write
-ends-write key max s held n buf text from now next old mid new before after o r size part =
+ends_write key max s held n buf text from now next old mid new before after o r size part =
     let l : length (held ++ r.given) ≡ n = ap length (sym r.is) ∙ length-take-le n buf (omega (arith, r.room)) in
     record {
       piece = s.chunks;
@@ -385,16 +385,16 @@ ends-write key max s held n buf text from now next old mid new before after o r 
           (refl, omega (arith, o.full, o.bytes, length-append (salvaged o.front) (take part.0 text)));
       gave = (
         o.given ++ r.given,
-        gave-then from now next o.given r.given o.gave r.gave,
+        gave_then from now next o.given r.given o.gave r.gave,
         omega (arith, o.read, r.room, length-append held r.given, length-append o.given r.given),
       );
     }
 
 -- the piece that was read is whole, whatever comes
-whole-piece : (held : Bytes) (n : ℕ) (buf : Bytes) (now next : Seen) (r : ReadsAhead held n buf (flow now next))
+whole_piece : (held : Bytes) (n : ℕ) (buf : Bytes) (now next : Seen) (r : ReadsAhead held n buf (flow now next))
     → length buf ≡ 65553 → (d : Bytes) → (IsAtEnd next.to_come → d ≡ [])
     → (65552 < length (held ++ r.given)) ⊎ (d ≡ [])
-whole-piece held n buf now next r size d end =
+whole_piece held n buf now next r size d end =
     let l : length (held ++ r.given) ≡ n = ap length (sym r.is) ∙ length-take-le n buf (omega (arith, r.room)) in
     elim (cases_lt 65552 n) [
       | inl lt ↦ inl (omega arith)
@@ -402,18 +402,18 @@ whole-piece held n buf now next r size d end =
     ]
 
 -- a write failed
-pub saves-write : (key : Bytes) (max : ℕ) (s : Salvaged) (held : Bytes) (n : ℕ) (buf : Bytes) (y : Part)
+pub saves_write : (key : Bytes) (max : ℕ) (s : Salvaged) (held : Bytes) (n : ℕ) (buf : Bytes) (y : Part)
     (from now next : Seen) (old mid new : Known) (before after : KnownLosses)
     → Salvaging key s held from now old mid before after → (r : ReadsAhead held n buf (flow now next))
     → length buf ≡ 65553
     → first_part key s.chunks (take n buf) ≡ y → WritesPart (moved mid new) y.text
     → OfGiven (flow from next)
     (λ rest. SavesParts max (parts key 0 (pieces rest)) (moved old new) (told before after) (Err Write))
-saves-write key max s held n buf y from now next old mid new before after o r size is part =
-    of-more from next (o.given ++ r.given) _ (gave-then from now next o.given r.given o.gave r.gave) (λ d end.
+saves_write key max s held n buf y from now next old mid new before after o r size is part =
+    of_more from next (o.given ++ r.given) _ (gave_then from now next o.given r.given o.gave r.gave) (λ d end.
     let c : Bytes = held ++ r.given in
     let p : first_part key s.chunks c ≡ y = ap (first_part key s.chunks) (sym r.is) ∙ is in
-    let next_part = parts-first key s.chunks c d (whole-piece held n buf now next r size d end) in
+    let next_part = parts_first key s.chunks c d (whole_piece held n buf now next r size d end) in
     let more : List Part = next_part.0 in
     let all : parts key 0 (pieces ((o.given ++ r.given) ++ d)) ≡ o.front ++ y ∷ more =
     ap (λ t. parts key 0 (pieces t)) (append_assoc o.given r.given d) ∙ o.reads (r.given ++ d)
@@ -421,7 +421,7 @@ saves-write key max s held n buf y from now next old mid new before after o r si
     ∙ ap (λ t. o.front ++ t) next_part.1 ∙ ap (λ x. o.front ++ x ∷ more) p in
     let text : salvaged (parts key 0 (pieces ((o.given ++ r.given) ++ d)))
     ≡ salvaged o.front ++ (y.text ++ salvaged more) =
-    ap salvaged all ∙ text-next o.front more y in
+    ap salvaged all ∙ text_next o.front more y in
     let first : take s.chunks (parts key 0 (pieces ((o.given ++ r.given) ++ d))) ≡ o.front =
     ap (take s.chunks) all ∙ take_at o.front (y ∷ more) s.chunks (omega (arith, o.chunks)) in (
       s.chunks,
@@ -431,22 +431,22 @@ saves-write key max s held n buf y from now next old mid new before after o r si
     ))
 
 -- one part more was written, and reported if it is lost
-after-part : (front : List Part) (y : Part) (s : Salvaged) (old mid new : Known) (before now after : KnownLosses)
+after_part : (front : List Part) (y : Part) (s : Salvaged) (old mid new : Known) (before now after : KnownLosses)
     → s.bytes ≡ length (salvaged front) → s.chunks ≡ length front
     → Appends old mid (salvaged front) → Appends mid new y.text
     → Reports (told before now) (losses 0 0 front)
     → Reports (told now after) (loss y.saved (record { chunk = s.chunks; start = s.bytes; len = length y.text }))
     → Appends old new (salvaged (front ++ y ∷ [])) × Reports (told before after) (losses 0 0 (front ++ y ∷ []))
-after-part front y s old mid new before now after bytes chunks put more said one = (
-  subst (Appends old new) (sym (salvaged-snoc front y)) (Appends-trans old mid new (salvaged front) y.text put more),
-  subst (Reports (told before after)) (sym (losses-snoc 0 0 front y ∙ ap (λ t. losses 0 0 front ++ t)
-      (lost-at y.saved (0 + length front) s.chunks (0 + length (salvaged front)) s.bytes (length y.text) (omega arith)
+after_part front y s old mid new before now after bytes chunks put more said one = (
+  subst (Appends old new) (sym (salvaged_snoc front y)) (Appends-trans old mid new (salvaged front) y.text put more),
+  subst (Reports (told before after)) (sym (losses_snoc 0 0 front y ∙ ap (λ t. losses 0 0 front ++ t)
+      (lost_at y.saved (0 + length front) s.chunks (0 + length (salvaged front)) s.bytes (length y.text) (omega arith)
       (omega arith))))
-      (reports-then before now after (losses 0 0 front) _ said one),
+      (reports_then before now after (losses 0 0 front) _ said one),
 )
 
 -- the last piece was saved
-pub saves-last : (key : Bytes) (max : ℕ) (s t : Salvaged) (held : Bytes) (n : ℕ) (buf : Bytes) (y : Part)
+pub saves_last : (key : Bytes) (max : ℕ) (s t : Salvaged) (held : Bytes) (n : ℕ) (buf : Bytes) (y : Part)
     (from now next : Seen) (old mid new : Known) (before said after : KnownLosses) (len : ℕ)
     → Salvaging key s held from now old mid before said → (r : ReadsAhead held n buf (flow now next))
     → length buf ≡ 65553 → n ≤ 65552 → s.chunks < max → length y.text ≡ len
@@ -455,7 +455,7 @@ pub saves-last : (key : Bytes) (max : ℕ) (s t : Salvaged) (held : Bytes) (n : 
     → t ≡ with_part s len y.saved
     → OfGiven (flow from next)
     (λ rest. SavesParts max (parts key 0 (pieces rest)) (moved old new) (told before after) (Ok t))
-saves-last key max s t held n buf y from now next old mid new before said after len o r size low within wide is put
+saves_last key max s t held n buf y from now next old mid new before said after len o r size low within wide is put
     lost sum =
     let one : Reports (told said after)
     (loss y.saved (record { chunk = s.chunks; start = s.bytes; len = length y.text })) = subst
@@ -464,13 +464,13 @@ saves-last key max s t held n buf y from now next old mid new before said after 
     let c : Bytes = held ++ r.given in
     let l : length c ≡ n = ap length (sym r.is) ∙ length-take-le n buf (omega (arith, r.room)) in
     let all : parts key 0 (pieces (o.given ++ r.given)) ≡ o.front ++ y ∷ [] = o.reads r.given
-    ∙ ap (λ t. o.front ++ t) (parts-last key s.chunks c (omega arith))
+    ∙ ap (λ t. o.front ++ t) (parts_last key s.chunks c (omega arith))
     ∙ ap (λ x. o.front ++ x ∷ []) (ap (first_part key s.chunks) (sym r.is) ∙ is) in
     let count : length (o.front ++ y ∷ []) ≡ length o.front + 1 = length-append o.front (y ∷ []) in
-    let w = after-part o.front y s old mid new before said after o.bytes o.chunks o.written put o.reported one in
+    let w = after_part o.front y s old mid new before said after o.bytes o.chunks o.written put o.reported one in
     let whole : take (length (o.front ++ y ∷ [])) (o.front ++ y ∷ []) ≡ o.front ++ y ∷ [] =
     take_all (length (o.front ++ y ∷ [])) (o.front ++ y ∷ []) (omega arith) in
-    of-ended from next (o.given ++ r.given) _ (gave-then from now next o.given r.given o.gave r.gave)
+    of_ended from next (o.given ++ r.given) _ (gave_then from now next o.given r.given o.gave r.gave)
     (r.end (omega arith))
     (subst (λ ps. SavesParts max ps (moved old new) (told before after) (Ok t)) (sym all) (
       omega (arith, o.chunks, within),
@@ -478,11 +478,11 @@ saves-last key max s t held n buf y from now next old mid new before said after 
         subst (λ x. Appends old new (salvaged x)) (sym whole) w.0,
         subst (λ x. Reports (told before after) (losses 0 0 x)) (sym whole) w.1,
       ),
-      sum ∙ ap (λ k. with_part s k y.saved) (sym wide) ∙ snoc-summary o.front s y o.bytes o.chunks o.lost,
+      sum ∙ ap (λ k. with_part s k y.saved) (sym wide) ∙ snoc_summary o.front s y o.bytes o.chunks o.lost,
     ))
 
 -- a piece with more after it was saved
-pub salvaging-more : (key : Bytes) (s t : Salvaged) (held ahead : Bytes) (n : ℕ) (buf : Bytes) (y : Part)
+pub salvaging_more : (key : Bytes) (s t : Salvaged) (held ahead : Bytes) (n : ℕ) (buf : Bytes) (y : Part)
     (from now next : Seen) (old mid new : Known) (before said after : KnownLosses) (len : ℕ)
     → Salvaging key s held from now old mid before said → (r : ReadsAhead held n buf (flow now next))
     → length buf ≡ 65553 → 65552 < n → len ≡ 65536 → length y.text ≡ len
@@ -490,7 +490,7 @@ pub salvaging-more : (key : Bytes) (s t : Salvaged) (held ahead : Bytes) (n : �
     → Reports (told said after) (loss y.saved (record { chunk = s.chunks; start = s.bytes; len = len }))
     → t ≡ with_part s len y.saved → ahead ≡ drop 65552 buf
     → Salvaging key t ahead from next old new before after
-salvaging-more key s t held ahead n buf y from now next old mid new before said after len o r size high whole wide is
+salvaging_more key s t held ahead n buf y from now next old mid new before said after len o r size high whole wide is
     put loses counts rest =
     let one : Reports (told said after)
     (loss y.saved (record { chunk = s.chunks; start = s.bytes; len = length y.text })) = subst
@@ -505,19 +505,19 @@ salvaging-more key s t held ahead n buf y from now next old mid new before said 
     let both : length c ≡ length held + length r.given = length-append held r.given in
     let given : length (o.given ++ r.given) ≡ length o.given + length r.given = length-append o.given r.given in
     let p : first_part key s.chunks c ≡ y = ap (first_part key s.chunks) (sym r.is) ∙ is in
-    let w = after-part o.front y s old mid new before said after o.bytes o.chunks o.written put o.reported one in
+    let w = after_part o.front y s old mid new before said after o.bytes o.chunks o.written put o.reported one in
     let all : with_part s (length y.text) y.saved ≡ summary (o.front ++ y ∷ []) =
-    snoc-summary o.front s y o.bytes o.chunks o.lost in
+    snoc_summary o.front s y o.bytes o.chunks o.lost in
     let k : t.chunks ≡ s.chunks + 1 = ap (λ (x : Salvaged). x.chunks) sum in
     let bytes : t.bytes ≡ s.bytes + length y.text = ap (λ (x : Salvaged). x.bytes) sum in
     let lost = ap (λ (x : Salvaged). x.lost) sum in
     record {
       front = o.front ++ y ∷ [];
       given = o.given ++ r.given;
-      gave = gave-then from now next o.given r.given o.gave r.gave;
+      gave = gave_then from now next o.given r.given o.gave r.gave;
       reads = λ d. ap (λ t. parts key 0 (pieces t)) (append_assoc o.given r.given d) ∙ o.reads (r.given ++ d)
           ∙ ap (λ t. o.front ++ parts key s.chunks (pieces t)) (sym (append_assoc held r.given d))
-          ∙ ap (λ t. o.front ++ t) (parts-next key s.chunks c d (omega arith))
+          ∙ ap (λ t. o.front ++ t) (parts_next key s.chunks c d (omega arith))
           ∙ ap (λ x. o.front ++ x ∷ parts key (s.chunks + 1) (pieces (drop 65552 c ++ d))) p
           ∙ ap (λ j. o.front ++ y ∷ parts key j (pieces (drop 65552 c ++ d))) (sym k)
           ∙ ap (λ t2. o.front ++ y ∷ parts key t.chunks (pieces (t2 ++ d))) tail
@@ -531,7 +531,7 @@ salvaging-more key s t held ahead n buf y from now next old mid new before said 
       lost_bound = omega (
         arith,
         o.lost_bound,
-        loss-len y.saved
+        loss_len y.saved
             (record { chunk = s.chunks; start = s.bytes; len = length y.text }),
       );
       read = omega (arith, o.read, r.room);
@@ -541,26 +541,26 @@ salvaging-more key s t held ahead n buf y from now next old mid new before said 
 -- ---- a payload
 
 -- the nonce is cut short, or was not read
-pub nonce-salvages : (k : FileKey) (max : ℕ) (from mid : Seen) (old : Known) (lost : KnownLosses) (fault : StreamFault)
+pub nonce_salvages : (k : FileKey) (max : ℕ) (from mid : Seen) (old : Known) (lost : KnownLosses) (fault : StreamFault)
     → GivesNonce (flow from mid) (Err fault)
     → Salvages k max (flow from mid) (moved old old) (told lost lost) (Err fault)
-nonce-salvages k max from mid old lost Read h =
-    of-any from mid _ h (λ c. (0, (Appends-nil old, reports-none lost)))
-nonce-salvages k max from mid old lost NonceTruncated h =
-    of-map from mid _ _ h.1 (λ c less. (less, (Appends-nil old, reports-none lost)))
-nonce-salvages k max from mid old lost (ChunkShort i) h = absurd (cc)
-nonce-salvages k max from mid old lost (EmptyFinal i) h = absurd (cc)
-nonce-salvages k max from mid old lost (BadChunk i) h = absurd (cc)
-nonce-salvages k max from mid old lost TooManyChunks h = absurd (cc)
-nonce-salvages k max from mid old lost Write h = absurd (cc)
-nonce-salvages k max from mid old lost Memory h = absurd (cc)
+nonce_salvages k max from mid old lost Read h =
+    of_any from mid _ h (λ c. (0, (Appends-nil old, reports_none lost)))
+nonce_salvages k max from mid old lost NonceTruncated h =
+    of_map from mid _ _ h.1 (λ c less. (less, (Appends-nil old, reports_none lost)))
+nonce_salvages k max from mid old lost (ChunkShort i) h = absurd (cc)
+nonce_salvages k max from mid old lost (EmptyFinal i) h = absurd (cc)
+nonce_salvages k max from mid old lost (BadChunk i) h = absurd (cc)
+nonce_salvages k max from mid old lost TooManyChunks h = absurd (cc)
+nonce_salvages k max from mid old lost Write h = absurd (cc)
+nonce_salvages k max from mid old lost Memory h = absurd (cc)
 
 -- what was read with the nonce
-with-nonce : (max : ℕ) (nonce : Bytes) (from mid to : Seen) (old new : Known) (fault : StreamFault)
+with_nonce : (max : ℕ) (nonce : Bytes) (from mid to : Seen) (old new : Known) (fault : StreamFault)
     → Gave (flow from mid) nonce → length nonce ≡ 16 → EndsAt max 0 (flow mid to) (moved old new) fault
     → EndsAt max 16 (flow from to) (moved old new) fault
-with-nonce max nonce from mid to old new fault gave size e =
-    let all = gave-more from mid to 16 (0 + (65552 * (e.piece + 1) + 1)) (nonce, gave, omega (arith, size)) e.gave in
+with_nonce max nonce from mid to old new fault gave size e =
+    let all = gave_more from mid to 16 (0 + (65552 * (e.piece + 1) + 1)) (nonce, gave, omega (arith, size)) e.gave in
     record {
       piece = e.piece;
       text = e.text;
@@ -569,15 +569,15 @@ with-nonce max nonce from mid to old new fault gave size e =
       gave = (all.0, all.1, omega (arith, all.2));
     }
 
-pub payload-ends : (max : ℕ) (nonce : Bytes) (from mid to : Seen) (old new : Known) (r : Result Salvaged StreamFault)
+pub payload_ends : (max : ℕ) (nonce : Bytes) (from mid to : Seen) (old new : Known) (r : Result Salvaged StreamFault)
     → Gave (flow from mid) nonce → length nonce ≡ 16
     → IfErr r (λ f. (f ≡ Read) ⊎ EndsAt max 0 (flow mid to) (moved old new) f)
     → IfErr r (EndsSaving max (flow from to) (moved old new))
-payload-ends max nonce from mid to old new (Ok s) gave size h = tt
-payload-ends max nonce from mid to old new (Err fault) gave size (inl e) =
+payload_ends max nonce from mid to old new (Ok s) gave size h = tt
+payload_ends max nonce from mid to old new (Err fault) gave size (inl e) =
     subst (EndsSaving max (flow from to) (moved old new)) (sym e) tt
-payload-ends max nonce from mid to old new (Err fault) gave size (inr e) =
-    saving fault (with-nonce max nonce from mid to old new fault gave size e)
+payload_ends max nonce from mid to old new (Err fault) gave size (inr e) =
+    saving fault (with_nonce max nonce from mid to old new fault gave size e)
   where
     saving : (f : StreamFault) → EndsAt max 16 (flow from to) (moved old new) f
         → EndsSaving max (flow from to) (moved old new) f
@@ -586,25 +586,25 @@ payload-ends max nonce from mid to old new (Err fault) gave size (inr e) =
     saving Memory h = tt
     saving _ h = h
 
-pub nonce-ends : (max : ℕ) (from mid : Seen) (old : Known) (fault : StreamFault)
+pub nonce_ends : (max : ℕ) (from mid : Seen) (old : Known) (fault : StreamFault)
     → GivesNonce (flow from mid) (Err fault) → EndsSaving max (flow from mid) (moved old old) fault
-nonce-ends max from mid old Read h = tt
-nonce-ends max from mid old NonceTruncated h = tt
-nonce-ends max from mid old Memory h = tt
-nonce-ends max from mid old (ChunkShort i) h = absurd (cc)
-nonce-ends max from mid old (EmptyFinal i) h = absurd (cc)
-nonce-ends max from mid old (BadChunk i) h = absurd (cc)
-nonce-ends max from mid old TooManyChunks h = absurd (cc)
-nonce-ends max from mid old Write h = absurd (cc)
+nonce_ends max from mid old Read h = tt
+nonce_ends max from mid old NonceTruncated h = tt
+nonce_ends max from mid old Memory h = tt
+nonce_ends max from mid old (ChunkShort i) h = absurd (cc)
+nonce_ends max from mid old (EmptyFinal i) h = absurd (cc)
+nonce_ends max from mid old (BadChunk i) h = absurd (cc)
+nonce_ends max from mid old TooManyChunks h = absurd (cc)
+nonce_ends max from mid old Write h = absurd (cc)
 
 -- the nonce, then the pieces
-pub payload-salvages : (k : FileKey) (max : ℕ) (nonce key : Bytes) (from mid to : Seen) (old new : Known)
+pub payload_salvages : (k : FileKey) (max : ℕ) (nonce key : Bytes) (from mid to : Seen) (old new : Known)
     (before after : KnownLosses) (r : Result Salvaged StreamFault) → Gave (flow from mid) nonce → length nonce ≡ 16
     → key ≡ payload_key k nonce
     → OfGiven (flow mid to) (λ rest. SavesParts max (parts key 0 (pieces rest)) (moved old new) (told before after) r)
     → Salvages k max (flow from to) (moved old new) (told before after) r
-payload-salvages k max nonce key from mid to old new before after r gave size is h =
-    of-then from mid to nonce _ _ gave h (λ c s.
+payload_salvages k max nonce key from mid to old new before after r gave size is h =
+    of_then from mid to nonce _ _ gave h (λ c s.
     let l : length (nonce ++ c) ≡ length nonce + length c = length-append nonce c in
     let front : take 16 (nonce ++ c) ≡ nonce = take_at nonce c 16 size in
     let back : drop 16 (nonce ++ c) ≡ c = drop_at nonce c 16 size in

@@ -10,8 +10,8 @@ use Rattle.age_stream.specs.declared.salvaged.Saved.TheVariants.{Chunk, LastChun
 use Rattle.age_stream.specs.Payload.{chunk_nonce, is_end, payload_key, pieces}
 use Rattle.age_stream.specs.Reading.{Reading, first_fault, front, outcome, outcomes, payload_reading, reading_from, stops, whole}
 use Rattle.age_stream.specs.Salvage.{Part, last_saved, losses, part, parts, payload_parts, salvaged}
-use Rattle.age_stream.proofs.PayloadLemmas.{outcome-opens}
-use Rattle.age_stream.proofs.ReadingLemmas.{cut-some}
+use Rattle.age_stream.proofs.PayloadLemmas.{outcome_opens}
+use Rattle.age_stream.proofs.ReadingLemmas.{cut_some}
 use Rattle.age_stream.proofs.SalvageLemmas.{part-opened}
 
 abbrev text_part : Bool → Bytes → Part
@@ -21,14 +21,14 @@ text_part last text = record { text = text; saved = cond last LastChunk Chunk }
 opened-part : (key : Bytes) (max i : ℕ) (last : Bool) (c t : Bytes) → outcome key max i last c ≡ Ok t
     → part key i last c ≡ text_part last t
 opened-part key max i last c t h =
-    let o = outcome-opens key max i last c t h in
+    let o = outcome_opens key max i last c t h in
     part-opened key i last c t ((opened_is key (chunk_nonce i last) [] c t).1 (sym o.sealed_so))
 
 -- what is saved begins with the text before the first fault
-pub front-saved : (key : Bytes) (max i : ℕ) (cs : List Bytes)
+pub front_saved : (key : Bytes) (max i : ℕ) (cs : List Bytes)
     → (rest : Bytes) × (salvaged (take (max - i) (parts key i cs)) ≡ front (outcomes key max i cs) ++ rest)
-front-saved key max i [] = ([], ap salvaged (take_all (max - i) [] (omega arith)))
-front-saved key max i (c ∷ cs) = go (front-saved key max (i + 1) cs) (outcome key max i (is_end cs) c) refl
+front_saved key max i [] = ([], ap salvaged (take_all (max - i) [] (omega arith)))
+front_saved key max i (c ∷ cs) = go (front_saved key max (i + 1) cs) (outcome key max i (is_end cs) c) refl
   where
     go : (rest : Bytes) × (salvaged (take (max - (i + 1)) (parts key (i + 1) cs))
         ≡ front (outcomes key max (i + 1) cs) ++ rest)
@@ -37,7 +37,7 @@ front-saved key max i (c ∷ cs) = go (front-saved key max (i + 1) cs) (outcome 
         ≡ front (r ∷ outcomes key max (i + 1) cs) ++ rest)
     go ih (Err f) e = (salvaged (take (max - i) (parts key i (c ∷ cs))), refl)
     go ih (Ok t) e =
-        let o = outcome-opens key max i (is_end cs) c t e in
+        let o = outcome_opens key max i (is_end cs) c t e in
         let n : max - i ≡ suc (max - (i + 1)) = omega (arith, o.within) in
         let more : List Part = take (max - (i + 1)) (parts key (i + 1) cs) in (
           ih.0,
@@ -52,27 +52,27 @@ pub record AllSaved (i : ℕ) (ps : List Part) (text : Bytes) : Type 0 where
   pub none : (at : ℕ) → losses i at ps ≡ []
   pub ends : last_saved ps ≡ LastChunk
 
-some-fault : {P : Type 0} (f : StreamFault) → ◌≡◌ {A = Option StreamFault} (Some f) None → P
-some-fault f e = absurd (cc)
+some_fault : {P : Type 0} (f : StreamFault) → ◌≡◌ {A = Option StreamFault} (Some f) None → P
+some_fault f e = absurd (cc)
 
-pub all-saved : (key : Bytes) (max i : ℕ) (c : Bytes) (cs : List Bytes)
+pub all_saved : (key : Bytes) (max i : ℕ) (c : Bytes) (cs : List Bytes)
     → first_fault (outcomes key max i (c ∷ cs)) ≡ None
     → AllSaved i (parts key i (c ∷ cs)) (front (outcomes key max i (c ∷ cs)))
-all-saved key max i c [] e = go (outcome key max i true c) refl e
+all_saved key max i c [] e = go (outcome key max i true c) refl e
   where
     go : (r : Result Bytes StreamFault) → outcome key max i true c ≡ r → first_fault (r ∷ []) ≡ None
         → AllSaved i (parts key i (c ∷ [])) (front (r ∷ []))
-    go (Err f) is none = some-fault f none
+    go (Err f) is none = some_fault f none
     go (Ok t) is none = subst (λ (p : Part). AllSaved i (p ∷ []) (t ++ [])) (sym (opened-part key max i true c t is))
         (record { is = refl; none = λ at. refl; ends = refl })
-all-saved key max i c (d ∷ ds) e = go (outcome key max i false c) refl (all-saved key max (i + 1) d ds) e
+all_saved key max i c (d ∷ ds) e = go (outcome key max i false c) refl (all_saved key max (i + 1) d ds) e
   where
     go : (r : Result Bytes StreamFault) → outcome key max i false c ≡ r
         → (first_fault (outcomes key max (i + 1) (d ∷ ds)) ≡ None
         → AllSaved (i + 1) (parts key (i + 1) (d ∷ ds)) (front (outcomes key max (i + 1) (d ∷ ds))))
         → first_fault (r ∷ outcomes key max (i + 1) (d ∷ ds)) ≡ None
         → AllSaved i (parts key i (c ∷ d ∷ ds)) (front (r ∷ outcomes key max (i + 1) (d ∷ ds)))
-    go (Err f) is ih none = some-fault f none
+    go (Err f) is ih none = some_fault f none
     go (Ok t) is ih none =
         let more : List Part = parts key (i + 1) (d ∷ ds) in
         let all = ih none in
@@ -85,9 +85,9 @@ all-saved key max i c (d ∷ ds) e = go (outcome key max i false c) refl (all-sa
 
 -- ---- a payload
 
-pub payload-front : (k : FileKey) (text : Bytes) (max : ℕ)
+pub payload_front : (k : FileKey) (text : Bytes) (max : ℕ)
     → (rest : Bytes) × (salvaged (take max (payload_parts k text)) ≡ (payload_reading k max text).front ++ rest)
-payload-front k text max = go (nat_lt (length text) 16)
+payload_front k text max = go (nat_lt (length text) 16)
   where
     key : Bytes
     key = payload_key k (take 16 text)
@@ -96,13 +96,13 @@ payload-front k text max = go (nat_lt (length text) 16)
         ≡ (cond short (stops NonceTruncated) (reading_from key max 0 (drop 16 text))).front ++ rest)
     go true = (salvaged (take max (payload_parts k text)), refl)
     go false =
-        let h = front-saved key max 0 (pieces (drop 16 text)) in
+        let h = front_saved key max 0 (pieces (drop 16 text)) in
         let n : max ≡ max - 0 = omega arith in
         (h.0, ap (λ m. salvaged (take m (payload_parts k text))) n ∙ h.1)
 
-pub payload-whole : (k : FileKey) (text plain : Bytes) (max : ℕ) → payload_reading k max text ≡ whole plain
+pub payload_whole : (k : FileKey) (text plain : Bytes) (max : ℕ) → payload_reading k max text ≡ whole plain
     → AllSaved 0 (payload_parts k text) plain
-payload-whole k text plain max is = go (nat_lt (length text) 16) is
+payload_whole k text plain max is = go (nat_lt (length text) 16) is
   where
     key : Bytes
     key = payload_key k (take 16 text)
@@ -110,12 +110,12 @@ payload-whole k text plain max is = go (nat_lt (length text) 16) is
     some : (cs : List Bytes) → 0 < length cs → first_fault (outcomes key max 0 cs) ≡ None
         → AllSaved 0 (parts key 0 cs) (front (outcomes key max 0 cs))
     some [] pos e = absurd (omega arith)
-    some (c ∷ cs) pos e = all-saved key max 0 c cs e
+    some (c ∷ cs) pos e = all_saved key max 0 c cs e
 
     go : (short : Bool)
         → cond short (stops NonceTruncated) (reading_from key max 0 (drop 16 text)) ≡ whole plain
         → AllSaved 0 (payload_parts k text) plain
-    go true e = some-fault NonceTruncated (ap (λ (r : Reading StreamFault). r.fault) e)
+    go true e = some_fault NonceTruncated (ap (λ (r : Reading StreamFault). r.fault) e)
     go false e = subst (AllSaved 0 (payload_parts k text)) (ap (λ (r : Reading StreamFault). r.front) e)
-        (some (pieces (drop 16 text)) (cut-some 65552 [] (drop 16 text))
+        (some (pieces (drop 16 text)) (cut_some 65552 [] (drop 16 text))
         (ap (λ (r : Reading StreamFault). r.fault) e))

@@ -17,36 +17,36 @@ use Rattle.age_stream.specs.Slice.{IsSlice, opening, openings}
 use Rattle.age_stream.proofs.CuttingLemmas.{is_cut}
 use Rattle.age_stream.proofs.SalvageLemmas.{part-opened}
 
-opened-len : (key : Bytes) (i : ℕ) (last : Bool) (c t : Bytes) → opened_at key i last c ≡ Some t
+opened_has_len : (key : Bytes) (i : ℕ) (last : Bool) (c t : Bytes) → opened_at key i last c ≡ Some t
     → length t ≡ length c - 16
-opened-len key i last c t is =
+opened_has_len key i last c t is =
     let l : length c ≡ length t + 16 = ap length (sym ((opened_is key (chunk_nonce i last) [] c t).0 is))
     ∙ length-sealed key (chunk_nonce i last) [] t in
     omega arith
 
 -- an opening has as many bytes as the piece, less the tag's, and so has what stands for it
-or-len : (key : Bytes) (i : ℕ) (last : Bool) (c : Bytes) (other : Part) → length other.text ≡ length c - 16
+or_len : (key : Bytes) (i : ℕ) (last : Bool) (c : Bytes) (other : Part) → length other.text ≡ length c - 16
     → length (opening_or last (opened_at key i last c) other).text ≡ length c - 16
-or-len key i last c other same = go (opened_at key i last c) refl
+or_len key i last c other same = go (opened_at key i last c) refl
   where
     go : (o : Known) → opened_at key i last c ≡ o → length (opening_or last o other).text ≡ length c - 16
     go None e = same
-    go (Some t) e = opened-len key i last c t e
+    go (Some t) e = opened_has_len key i last c t e
 
-pub part-len : (key : Bytes) (i : ℕ) (last : Bool) (c : Bytes) → length (part key i last c).text ≡ length c - 16
-part-len key i last c =
-    or-len key i last c _ (or-len key i (not last) c (lost_part c) (length-replicate (length c - 16) 0))
+pub part_len : (key : Bytes) (i : ℕ) (last : Bool) (c : Bytes) → length (part key i last c).text ≡ length c - 16
+part_len key i last c =
+    or_len key i last c _ (or_len key i (not last) c (lost_part c) (length-replicate (length c - 16) 0))
 
-pub salvaged-len : (key : Bytes) (i : ℕ) (cs : List Bytes)
+pub salvaged_len : (key : Bytes) (i : ℕ) (cs : List Bytes)
     → length (salvaged (parts key i cs)) ≡ sum_by (λ piece. length piece - 16) cs
-salvaged-len key i [] = refl
-salvaged-len key i (c ∷ cs) =
+salvaged_len key i [] = refl
+salvaged_len key i (c ∷ cs) =
     let text : Bytes = (part key i (is_end cs) c).text in
     let rest : Bytes = salvaged (parts key (i + 1) cs) in
     let sum : sum_by (λ piece. length piece - 16) (c ∷ cs)
     ≡ (length c - 16) + sum_by (λ piece. length piece - 16) cs = sum_by-cons (λ piece. length piece - 16) c cs in
-    let here : length text ≡ length c - 16 = part-len key i (is_end cs) c in
-    let there : length rest ≡ sum_by (λ piece. length piece - 16) cs = salvaged-len key (i + 1) cs in
+    let here : length text ≡ length c - 16 = part_len key i (is_end cs) c in
+    let there : length rest ≡ sum_by (λ piece. length piece - 16) cs = salvaged_len key (i + 1) cs in
     omega (arith, length-append text rest, sum, here, there)
 
 -- each piece but the last is full
@@ -55,15 +55,15 @@ AllFull [] = Unit {0}
 AllFull (c ∷ []) = Unit {0}
 AllFull (c ∷ d ∷ more) = (length c ≡ 65552) × AllFull (d ∷ more)
 
-full-filled : (cs : List Bytes) → IsFilled 65552 cs → AllFull cs
-full-filled [] h = tt
-full-filled (c ∷ []) h = tt
-full-filled (c ∷ d ∷ more) h = (h.0, full-filled (d ∷ more) h.1)
+full_filled : (cs : List Bytes) → IsFilled 65552 cs → AllFull cs
+full_filled [] h = tt
+full_filled (c ∷ []) h = tt
+full_filled (c ∷ d ∷ more) h = (h.0, full_filled (d ∷ more) h.1)
 
-full-pieces : (rest : Bytes) → AllFull (pieces rest)
-full-pieces rest = elim (is_cut 65552 rest (omega arith)).sizes [
+full_pieces : (rest : Bytes) → AllFull (pieces rest)
+full_pieces rest = elim (is_cut 65552 rest (omega arith)).sizes [
   | inl one ↦ subst AllFull (sym one) tt
-  | inr filled ↦ full-filled (pieces rest) filled
+  | inr filled ↦ full_filled (pieces rest) filled
 ]
 
 -- byte r of what the piece with number n from here opens to, in what is saved
@@ -71,11 +71,11 @@ record IsSavedAt (all text : Bytes) (n r : ℕ) : Type 0 where
   pub within : 65536 * n + r < length all
   pub is : get_or all (65536 * n + r) 0 ≡ get_or text r 0
 
-saved-at : (key : Bytes) (i n r : ℕ) (cs : List Bytes) (text : Bytes) → AllFull cs
+saved_at : (key : Bytes) (i n r : ℕ) (cs : List Bytes) (text : Bytes) → AllFull cs
     → get_or (openings key i cs) n None ≡ Some text → r < length text
     → IsSavedAt (salvaged (parts key i cs)) text n r
-saved-at key i n r [] text full is lt = absurd (none-some text is)
-saved-at key i zero r (c ∷ cs) text full is lt =
+saved_at key i n r [] text full is lt = absurd (none-some text is)
+saved_at key i zero r (c ∷ cs) text full is lt =
     let more : Bytes = salvaged (parts key (i + 1) cs) in
     let p : salvaged (parts key i (c ∷ cs)) ≡ text ++ more =
     ap (λ (x : Part). x.text ++ more) (part-opened key i (is_end cs) c text is) in
@@ -87,12 +87,12 @@ saved-at key i zero r (c ∷ cs) text full is lt =
   where
     zeroth : (k : ℕ) → 65536 * 0 + k ≡ k
     zeroth k = omega arith
-saved-at key i (suc n) r (c ∷ []) text full is lt = absurd (none-some text is)
-saved-at key i (suc n) r (c ∷ d ∷ ds) text full is lt =
+saved_at key i (suc n) r (c ∷ []) text full is lt = absurd (none-some text is)
+saved_at key i (suc n) r (c ∷ d ∷ ds) text full is lt =
     let first : Bytes = (part key i false c).text in
     let more : Bytes = salvaged (parts key (i + 1) (d ∷ ds)) in
-    let h = saved-at key (i + 1) n r (d ∷ ds) text full.1 is lt in
-    let size : length first ≡ 65536 = omega (arith, part-len key i false c, full.0) in
+    let h = saved_at key (i + 1) n r (d ∷ ds) text full.1 is lt in
+    let size : length first ≡ 65536 = omega (arith, part_len key i false c, full.0) in
     let l : length (first ++ more) ≡ length first + length more = length-append first more in
     let at : 65536 * suc n + r ≡ length first + (65536 * n + r) = omega arith in
     record {
@@ -100,23 +100,23 @@ saved-at key i (suc n) r (c ∷ d ∷ ds) text full is lt =
       is = ap (λ k. get_or (first ++ more) k 0) at ∙ get_or-append-add first more (65536 * n + r) 0 ∙ h.is;
     }
 
-byte-saved : (key rest text : Bytes) (x v : ℕ) → opening key rest (x / 65536) ≡ Some text
+byte_saved : (key rest text : Bytes) (x v : ℕ) → opening key rest (x / 65536) ≡ Some text
     → slice_get text (x % 65536) ≡ Some v
     → (x < length (salvaged (parts key 0 (pieces rest)))) × (v ≡ get_or (salvaged (parts key 0 (pieces rest))) x 0)
-byte-saved key rest text x v opens at =
+byte_saved key rest text x v opens at =
     let r : ℕ = x % 65536 in
     let n : ℕ = x / 65536 in
-    let h = saved-at key 0 n r (pieces rest) text (full-pieces rest) opens (slice_get_within text r v at) in
+    let h = saved_at key 0 n r (pieces rest) text (full_pieces rest) opens (slice_get_within text r v at) in
     let sum : 65536 * n + r ≡ x = omega arith in (
       omega (arith, h.within, sum),
       sym (get_or_from_slice_get text r v 0 at) ∙ sym h.is
           ∙ ap (λ y. get_or (salvaged (parts key 0 (pieces rest))) y 0) sum,
     )
 
-pub slice-saved : (k : FileKey) (text xs : Bytes) (at : ℕ)
+pub slice_saved : (k : FileKey) (text xs : Bytes) (at : ℕ)
     → IsSlice (payload_key k (take 16 text)) (drop 16 text) at xs
     → xs ≡ take (length xs) (drop at (salvaged (payload_parts k text)))
-slice-saved k text xs at s =
+slice_saved k text xs at s =
     let key : Bytes = payload_key k (take 16 text) in
     let rest : Bytes = drop 16 text in
     let p : Bytes = salvaged (parts key 0 (pieces rest)) in
@@ -127,11 +127,11 @@ slice-saved k text xs at s =
       | inl some ↦
           let k : ℕ = length xs - 1 in
           let z = s k (omega arith) in
-          let in_p : at + k < length p = (byte-saved key rest z.0 (at + k) (slice_index xs k) z.1 z.2).0 in
+          let in_p : at + k < length p = (byte_saved key rest z.0 (at + k) (slice_index xs k) z.1 z.2).0 in
           omega arith
       | inr none ↦ omega arith
     ] in
     ext_get_or 0 xs (take (length xs) (drop at p)) (omega arith) (λ k lt.
     let z = s k lt in
-    (byte-saved key rest z.0 (at + k) (slice_index xs k) z.1 z.2).1 ∙ sym (get_or-drop at p k 0)
+    (byte_saved key rest z.0 (at + k) (slice_index xs k) z.1 z.2).1 ∙ sym (get_or-drop at p k 0)
     ∙ sym (get_or-take (length xs) (drop at p) k 0 lt))

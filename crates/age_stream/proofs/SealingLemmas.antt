@@ -9,7 +9,7 @@ use Rattle.age_cipher.specs.Sealing.{sealed}
 use Rattle.age_cipher.proofs.OpeningLemmas.{length-sealed}
 use Rattle.age_header.specs.Device.{Gave, GaveAtMost, GaveSome, WritesPart, Known, Seen, flow, moved}
 use Rattle.age_header.specs.Filling.{Filled}
-use Rattle.age_header.proofs.DeviceLemmas.{gave-all, gave-then, of-any, of-ended, of-more, of-still, of-then, Done, done_part}
+use Rattle.age_header.proofs.DeviceLemmas.{gave_all, gave_then, of_any, of_ended, of_more, of_still, of_then, Done, done_part}
 use Rattle.age_stream.specs.declared.fault.StreamFault.{StreamFault}
 use Rattle.age_stream.specs.declared.fault.StreamFault.TheVariants.{Read, Write, TooManyChunks}
 use Rattle.age_stream.specs.Cutting.{cut, cut_into}
@@ -19,20 +19,20 @@ use Rattle.age_kdf.specs.Bytes.{Bytes}
 use Rattle.age_stream.specs.declared.done.Done.{Done as StreamDone}
 use Rattle.age_stream.specs.Sealing.{FinishesBy, Fills, SealerState, SealsAll, StopsIn, TakesAll, Fed, IsFed, Stopped, WroteAtLeast, at_start, sealed_after}
 use Rattle.age_stream.specs.Sizes.{chunk_size, sealed_chunk_size, chunk_buf_size}
-use Rattle.age_stream.proofs.CuttingLemmas.{concat-append, cut-fits, cut-full}
-use Rattle.age_stream.proofs.PayloadLemmas.{length-each}
-use Rattle.age_stream.proofs.ReadingLemmas.{is_end-cut, cut-some}
+use Rattle.age_stream.proofs.CuttingLemmas.{concat-append, cut_fits, cut_full}
+use Rattle.age_stream.proofs.PayloadLemmas.{length_each}
+use Rattle.age_stream.proofs.ReadingLemmas.{is_end_cut, cut_some}
 
 -- a full chunk with more to come is sealed as one that is not the last
-pub chunks-full : (key : Bytes) (i : ℕ) (held text : Bytes) → 0 < length text → length held ≡ chunk_size
+pub chunks_full : (key : Bytes) (i : ℕ) (held text : Bytes) → 0 < length text → length held ≡ chunk_size
     → sealed_after key i held text ≡ sealed key (chunk_nonce i false) [] held ∷ sealed_after key (i + 1) [] text
-chunks-full key i held text some full =
-    ap (λ cs. sealed_from key i cs) (cut-full chunk_size held text (omega arith) some full)
+chunks_full key i held text some full =
+    ap (λ cs. sealed_from key i cs) (cut_full chunk_size held text (omega arith) some full)
     ∙ ap (λ b. sealed key (chunk_nonce i b) [] held ∷ sealed_from key (i + 1) (cut chunk_size text))
-    (is_end-cut chunk_size [] text)
+    (is_end_cut chunk_size [] text)
 
-pub fed-none : (key : Bytes) (i : ℕ) (held : Bytes) (a : Known) → Fed key i i held [] held (moved a a)
-fed-none key i held a = record {
+pub fed_none : (key : Bytes) (i : ℕ) (held : Bytes) (a : Known) → Fed key i i held [] held (moved a a)
+fed_none key i held a = record {
   gone = [];
   count = omega arith;
   size = refl;
@@ -42,10 +42,10 @@ fed-none key i held a = record {
 }
 
 -- what fits is held
-pub fed-held : (key : Bytes) (i j : ℕ) (held text now piece : Bytes) (a b : Known)
+pub fed_held : (key : Bytes) (i j : ℕ) (held text now piece : Bytes) (a b : Known)
     → length now + length piece ≤ chunk_size
     → Fed key i j held text now (moved a b) → Fed key i j held (text ++ piece) (now ++ piece) (moved a b)
-fed-held key i j held text now piece a b fits f = record {
+fed_held key i j held text now piece a b fits f = record {
   gone = f.gone;
   count = f.count;
   size = f.size;
@@ -54,7 +54,7 @@ fed-held key i j held text now piece a b fits f = record {
   chunks = λ more.
       ap (λ t. sealed_after key i held t) (append_assoc text piece more)
       ∙ f.chunks (piece ++ more)
-      ∙ ap (λ cs. f.gone ++ sealed_from key j cs) (cut-fits chunk_size now piece more fits);
+      ∙ ap (λ cs. f.gone ++ sealed_from key j cs) (cut_fits chunk_size now piece more fits);
 }
 
 -- `now` and a piece are a full chunk and the byte that follows it
@@ -64,23 +64,23 @@ pub record IsFull (now piece full next : Bytes) : Type 0 where
   pub all : now ++ piece ≡ full ++ next
   pub fits : length now ≤ chunk_size
 
-piece-len : (now piece full next : Bytes) → IsFull now piece full next → length now + length piece ≡ 65537
-piece-len now piece full next h =
+piece_has_len : (now piece full next : Bytes) → IsFull now piece full next → length now + length piece ≡ 65537
+piece_has_len now piece full next h =
     let l : length now + length piece ≡ length full + length next = sym (length-append now piece) ∙ ap length h.all
     ∙ length-append full next in
     omega (arith, h.size, h.one)
 
 -- the chunks of what came, of the full chunk, and of what may still come
-pub chunks-after : (key : Bytes) (i j : ℕ) (held text now piece full next more : Bytes) (a b : Known)
+pub chunks_after : (key : Bytes) (i j : ℕ) (held text now piece full next more : Bytes) (a b : Known)
     (h : IsFull now piece full next) (f : Fed key i j held text now (moved a b))
     → sealed_after key i held ((text ++ piece) ++ more)
     ≡ f.gone ++ sealed key (chunk_nonce j false) [] full ∷ sealed_after key (j + 1) next more
-chunks-after key i j held text now piece full next more a b h f =
+chunks_after key i j held text now piece full next more a b h f =
     let m : ℕ = chunk_size - length now in
     let at : length now + m ≡ chunk_size = omega (arith, h.fits) in
     let prefix : Bytes = take m piece in
     let back : Bytes = drop m piece in
-    let lp : length now + length piece ≡ 65537 = piece-len now piece full next h in
+    let lp : length now + length piece ≡ 65537 = piece_has_len now piece full next h in
     let lf : length prefix ≡ m = length-take-le m piece (omega arith) in
     let whole : now ++ prefix ≡ full = sym (take-append-add now piece m) ∙ ap (λ k. take k (now ++ piece)) at
     ∙ ap (take chunk_size) h.all ∙ take_at full next chunk_size h.size in
@@ -91,19 +91,19 @@ chunks-after key i j held text now piece full next more a b h f =
     ∙ f.chunks (piece ++ more)
     ∙ ap (λ t. f.gone ++ sealed_after key j now t)
     (ap (λ t. t ++ more) (sym (take-append-drop m piece)) ∙ append_assoc prefix back more)
-    ∙ ap (λ cs. f.gone ++ sealed_from key j cs) (cut-fits chunk_size now prefix (back ++ more) (omega arith))
+    ∙ ap (λ cs. f.gone ++ sealed_from key j cs) (cut_fits chunk_size now prefix (back ++ more) (omega arith))
     ∙ ap (λ t. f.gone ++ sealed_after key j t (back ++ more)) whole
     ∙ ap (λ t. f.gone ++ sealed_after key j full (t ++ more)) rest
-    ∙ ap (λ cs. f.gone ++ cs) (chunks-full key j full (next ++ more) (omega (arith, h.one)) h.size)
+    ∙ ap (λ cs. f.gone ++ cs) (chunks_full key j full (next ++ more) (omega (arith, h.one)) h.size)
     ∙ ap (λ cs. f.gone ++ sealed key (chunk_nonce j false) [] full ∷ sealed_from key (j + 1) cs)
-    (cut-fits chunk_size [] next more (omega (arith, h.one)))
+    (cut_fits chunk_size [] next more (omega (arith, h.one)))
 
 -- a chunk became full and one byte more came: the chunk went out
-pub fed-full : (key : Bytes) (i j : ℕ) (held text now piece full next : Bytes) (a b c : Known)
+pub fed_full : (key : Bytes) (i j : ℕ) (held text now piece full next : Bytes) (a b c : Known)
     → IsFull now piece full next
     → Fed key i j held text now (moved a b) → Appends b c (sealed key (chunk_nonce j false) [] full)
     → Fed key i (j + 1) held (text ++ piece) next (moved a c)
-fed-full key i j held text now piece full next a b c h f put =
+fed_full key i j held text now piece full next a b c h f put =
     let chunk : Bytes = sealed key (chunk_nonce j false) [] full in
     let l : length chunk ≡ sealed_chunk_size =
     length-sealed key (chunk_nonce j false) [] full ∙ ap (λ n. n + 16) h.size in
@@ -113,140 +113,140 @@ fed-full key i j held text now piece full next a b c h f put =
     ∙ ap (λ t. concat f.gone ++ t) (append-nil chunk) in
     let lc : length (concat gone) ≡ length (concat f.gone) + length chunk = ap length joined
     ∙ length-append (concat f.gone) chunk in
-    let lp : length now + length piece ≡ 65537 = piece-len now piece full next h in
+    let lp : length now + length piece ≡ 65537 = piece_has_len now piece full next h in
     record {
       gone = gone;
       count = omega (arith, f.count, lg);
       size = omega (arith, lc, l, f.size, lg);
       bytes = omega (arith, f.bytes, length-append text piece, lp, lg, h.one);
       written = subst (λ t. Appends a c t) (sym joined) (Appends-trans a b c (concat f.gone) chunk f.written put);
-      chunks = λ more. chunks-after key i j held text now piece full next more a b h f
+      chunks = λ more. chunks_after key i j held text now piece full next more a b h f
           ∙ sym (append_assoc f.gone (chunk ∷ []) (sealed_after key (j + 1) next more));
     }
 
 -- what was written is a prefix of what is to be written
-done-fed : (key : Bytes) (i j : ℕ) (held text now more : Bytes) (rest : List Bytes) (a b : Known)
+done_fed : (key : Bytes) (i j : ℕ) (held text now more : Bytes) (rest : List Bytes) (a b : Known)
     (f : Fed key i j held text now (moved a b))
     → sealed_after key i held more ≡ f.gone ++ rest → Done a b (concat (sealed_after key i held more)) (concat rest)
-done-fed key i j held text now more rest a b f is =
+done_fed key i j held text now more rest a b f is =
     record { prefix = concat f.gone; took = f.written; is = ap concat is ∙ concat-append f.gone rest }
 
-wrote-fed : (key : Bytes) (i j : ℕ) (held text now part : Bytes) (a b c : Known) → Fed key i j held text now (moved a b)
+wrote_fed : (key : Bytes) (i j : ℕ) (held text now part : Bytes) (a b c : Known) → Fed key i j held text now (moved a b)
     → Appends b c part → WroteAtLeast (sealed_chunk_size * (j - i)) (moved a c)
-wrote-fed key i j held text now part a b c f put = (
+wrote_fed key i j held text now part a b c f put = (
   concat f.gone ++ part,
   Appends-trans a b c (concat f.gone) part f.written put,
   omega (arith, length-append (concat f.gone) part, f.size, f.count),
 )
 
 -- a read failed
-pub stopped-read : (key : Bytes) (max i j : ℕ) (held text : Bytes) {now : Bytes} {from mid to : Seen} {a b : Known}
+pub stopped_read : (key : Bytes) (max i j : ℕ) (held text : Bytes) {now : Bytes} {from mid to : Seen} {a b : Known}
     → Gave (flow from mid) text → GaveSome (flow mid to)
     → Fed key i j held text now (moved a b) → Stopped key max i j held (flow from to) (moved a b) Read
-stopped-read key max i j held text {now} {from} {mid} {to} {a} {b} took lost f = record {
-  stops = of-then from mid to text _ _ took (of-any mid to
+stopped_read key max i j held text {now} {from} {mid} {to} {a} {b} took lost f = record {
+  stops = of_then from mid to text _ _ took (of_any mid to
       (λ d. WritesPart (moved a b) (concat (sealed_after key i held (text ++ d)))) lost (λ d. done_part a b b _ _ [] _
-      (done-fed key i j held text now (text ++ d) (sealed_after key j now d) a b f (f.chunks d)) refl
+      (done_fed key i j held text now (text ++ d) (sealed_after key j now d) a b f (f.chunks d)) refl
       (0, Appends-nil b)))
       (λ d part. part);
-  wrote = wrote-fed key i j held text now [] a b b f (Appends-nil b);
+  wrote = wrote_fed key i j held text now [] a b b f (Appends-nil b);
   gave = inl refl;
 }
 
-gave-full : (key : Bytes) (i j : ℕ) (held text now piece full next : Bytes) (from mid to : Seen) (a b : Known)
+gave_full : (key : Bytes) (i j : ℕ) (held text now piece full next : Bytes) (from mid to : Seen) (a b : Known)
     → IsFull now piece full next → Fed key i j held text now (moved a b)
     → Gave (flow from mid) text → Gave (flow mid to) piece
     → GaveAtMost (chunk_size * (j + 1 - i) + 1 - length held) (flow from to)
-gave-full key i j held text now piece full next from mid to a b h f took more = (
+gave_full key i j held text now piece full next from mid to a b h f took more = (
   text ++ piece,
-  gave-then from mid to text piece took more,
-  omega (arith, length-append text piece, f.bytes, f.count, piece-len now piece full next h),
+  gave_then from mid to text piece took more,
+  omega (arith, length-append text piece, f.bytes, f.count, piece_has_len now piece full next h),
 )
 
 -- a write failed
-pub stopped-write : (key : Bytes) (max i j : ℕ) (held text now piece full next : Bytes) (from mid to : Seen)
+pub stopped_write : (key : Bytes) (max i j : ℕ) (held text now piece full next : Bytes) (from mid to : Seen)
     (a b c : Known)
     → IsFull now piece full next
     → Gave (flow from mid) text → Gave (flow mid to) piece → Fed key i j held text now (moved a b)
     → WritesPart (moved b c) (sealed key (chunk_nonce j false) [] full)
     → Stopped key max i j held (flow from to) (moved a c) Write
-stopped-write key max i j held text now piece full next from mid to a b c h took more f part = record {
-  stops = of-more from to (text ++ piece) _ (gave-then from mid to text piece took more) (λ d end.
+stopped_write key max i j held text now piece full next from mid to a b c h took more f part = record {
+  stops = of_more from to (text ++ piece) _ (gave_then from mid to text piece took more) (λ d end.
       let chunk : Bytes = sealed key (chunk_nonce j false) [] full in
       let rest : List Bytes = sealed_after key (j + 1) next d in
-      let done = done-fed key i j held text now ((text ++ piece) ++ d) (chunk ∷ rest) a b f
-      (chunks-after key i j held text now piece full next d a b h f) in
+      let done = done_fed key i j held text now ((text ++ piece) ++ d) (chunk ∷ rest) a b f
+      (chunks_after key i j held text now piece full next d a b h f) in
       done_part a b c _ _ chunk (concat rest) done refl part);
-  wrote = wrote-fed key i j held text now (take part.0 (sealed key (chunk_nonce j false) [] full)) a b c f part.1;
-  gave = inr (gave-full key i j held text now piece full next from mid to a b h f took more);
+  wrote = wrote_fed key i j held text now (take part.0 (sealed key (chunk_nonce j false) [] full)) a b c f part.1;
+  gave = inr (gave_full key i j held text now piece full next from mid to a b h f took more);
 }
 
 -- no chunk more is allowed
-pub stopped-many : (key : Bytes) (max i j : ℕ) (held text now piece full next : Bytes) (from mid to : Seen)
+pub stopped_many : (key : Bytes) (max i j : ℕ) (held text now piece full next : Bytes) (from mid to : Seen)
     (a b c : Known)
     → IsFull now piece full next → j < max → max ≤ j + 1
     → Gave (flow from mid) text → Gave (flow mid to) piece → Fed key i j held text now (moved a b) → Appends b c []
     → Stopped key max i j held (flow from to) (moved a c) TooManyChunks
-stopped-many key max i j held text now piece full next from mid to a b c h within many took more f none =
+stopped_many key max i j held text now piece full next from mid to a b c h within many took more f none =
     let wrote : Appends a c (concat f.gone) =
     subst (λ t. Appends a c t) (append-nil (concat f.gone))
     (Appends-trans a b c (concat f.gone) [] f.written none) in
     record {
-      stops = of-more from to (text ++ piece) _ (gave-then from mid to text piece took more) (λ d end.
+      stops = of_more from to (text ++ piece) _ (gave_then from mid to text piece took more) (λ d end.
           let all : Bytes = (text ++ piece) ++ d in
           let chunk : Bytes = sealed key (chunk_nonce j false) [] full in
           let rest : List Bytes = sealed_after key (j + 1) next d in
           let is : sealed_after key i held all ≡ f.gone ++ chunk ∷ rest =
-          chunks-after key i j held text now piece full next d a b h f in
+          chunks_after key i j held text now piece full next d a b h f in
           let lr : length rest ≡ length (cut_into chunk_size next d) =
-          length-each key (j + 1) (cut_into chunk_size next d) in
-          let some : 0 < length (cut_into chunk_size next d) = cut-some chunk_size next d in
+          length_each key (j + 1) (cut_into chunk_size next d) in
+          let some : 0 < length (cut_into chunk_size next d) = cut_some chunk_size next d in
           let ll : length (cut_into chunk_size held all) ≡ length f.gone + length (chunk ∷ rest) =
-          sym (length-each key i (cut_into chunk_size held all)) ∙ ap length is ∙ length-append f.gone (chunk ∷ rest) in
+          sym (length_each key i (cut_into chunk_size held all)) ∙ ap length is ∙ length-append f.gone (chunk ∷ rest) in
           let n : max - 1 - i ≡ length f.gone = omega (arith, f.count) in
           let gone : take (max - 1 - i) (sealed_after key i held all) ≡ f.gone = ap (take (max - 1 - i)) is
           ∙ take_at f.gone (chunk ∷ rest) (max - 1 - i) (sym n) in
           let lc : length (chunk ∷ rest) ≡ suc (length rest) = refl in
           (omega (arith, f.count), subst (λ t. Appends a c (concat t)) (sym gone) wrote));
-      wrote = wrote-fed key i j held text now [] a b c f none;
-      gave = inr (gave-full key i j held text now piece full next from mid to a b h f took more);
+      wrote = wrote_fed key i j held text now [] a b c f none;
+      gave = inr (gave_full key i j held text now piece full next from mid to a b h f took more);
     }
 
 -- the source is at its end
-pub fed-end : (key : Bytes) (i j : ℕ) (held text now piece : Bytes) {from mid to : Seen} {a b : Known}
+pub fed_end : (key : Bytes) (i j : ℕ) (held text now piece : Bytes) {from mid to : Seen} {a b : Known}
     → length now + length piece ≤ chunk_size → Gave (flow from mid) text → Gave (flow mid to) piece → IsAtEnd to.to_come
     → Fed key i j held text now (moved a b) → IsFed key i j held (now ++ piece) (flow from to) (moved a b)
-fed-end key i j held text now piece {from} {mid} {to} {a} {b} fits took more end f = record {
+fed_end key i j held text now piece {from} {mid} {to} {a} {b} fits took more end f = record {
   text = text ++ piece;
-  took = gave-then from mid to text piece took more;
-  all = gave-all from.to_come to.to_come (text ++ piece) (gave-then from mid to text piece took more).consumes end;
-  fed = fed-held key i j held text now piece a b fits f;
+  took = gave_then from mid to text piece took more;
+  all = gave_all from.to_come to.to_come (text ++ piece) (gave_then from mid to text piece took more).consumes end;
+  fed = fed_held key i j held text now piece a b fits f;
 }
 
 -- a chunk that did not go out
-pub stopped-full : (key : Bytes) (max i j k : ℕ) (held text : Bytes) {now : Bytes} (piece : Bytes) {full next : Bytes}
+pub stopped_full : (key : Bytes) (max i j k : ℕ) (held text : Bytes) {now : Bytes} (piece : Bytes) {full next : Bytes}
     {from mid to : Seen} {a b c : Known} (fault : StreamFault) → IsFull now piece full next → j < max
     → Gave (flow from mid) text → Gave (flow mid to) piece → Fed key i j held text now (moved a b)
     → (k ≡ j) × (((fault ≡ Write) × WritesPart (moved b c) (sealed key (chunk_nonce j false) [] full))
     ⊎ ((fault ≡ TooManyChunks) × (max ≤ j + 1) × Appends b c []))
     → Stopped key max i k held (flow from to) (moved a c) fault
-stopped-full key max i j k held text {now} piece {full} {next} {from} {mid} {to} {a} {b} {c} fault h within took more f
+stopped_full key max i j k held text {now} piece {full} {next} {from} {mid} {to} {a} {b} {c} fault h within took more f
     (same, inl (is, part)) =
     subst (λ n. Stopped key max i n held (flow from to) (moved a c) fault) (sym same)
     (subst (Stopped key max i j held (flow from to) (moved a c)) (sym is)
-    (stopped-write key max i j held text now piece full next from mid to a b c h took more f part))
-stopped-full key max i j k held text {now} piece {full} {next} {from} {mid} {to} {a} {b} {c} fault h within took more f
+    (stopped_write key max i j held text now piece full next from mid to a b c h took more f part))
+stopped_full key max i j k held text {now} piece {full} {next} {from} {mid} {to} {a} {b} {c} fault h within took more f
     (same, inr (is, many, none)) =
     subst (λ n. Stopped key max i n held (flow from to) (moved a c) fault) (sym same)
     (subst (Stopped key max i j held (flow from to) (moved a c)) (sym is)
-    (stopped-many key max i j held text now piece full next from mid to a b c h within many took more f none))
+    (stopped_many key max i j held text now piece full next from mid to a b c h within many took more f none))
 
 -- a buffer that was filled up to the byte after a full chunk
-pub full-is : (held n : ℕ) (bytes filled : Bytes) {a b : Seen} → chunk_size < n → n ≤ 65537 → held ≤ chunk_size
+pub full_is : (held n : ℕ) (bytes filled : Bytes) {a b : Seen} → chunk_size < n → n ≤ 65537 → held ≤ chunk_size
     → length bytes ≡ chunk_buf_size → length filled ≡ chunk_buf_size
     → (f : Filled held n bytes filled (flow a b))
     → IsFull (take held bytes) f.piece (take chunk_size filled) (take 1 (drop chunk_size filled))
-full-is held n bytes filled low high le size full_size f =
+full_is held n bytes filled low high le size full_size f =
     let is : n ≡ chunk_size + 1 = omega arith in
     record {
       size = length-take-le chunk_size filled (omega arith);
@@ -255,24 +255,24 @@ full-is held n bytes filled low high le size full_size f =
       fits = omega (arith, length-take-le held bytes (omega arith));
     }
 
-pub first-set : (xs : Bytes) (v : ℕ) → 0 < length xs → take 1 (slice_set xs 0 v) ≡ v ∷ []
-first-set [] v some = absurd (omega arith)
-first-set (x ∷ xs) v some = refl
+pub first_set : (xs : Bytes) (v : ℕ) → 0 < length xs → take 1 (slice_set xs 0 v) ≡ v ∷ []
+first_set [] v some = absurd (omega arith)
+first_set (x ∷ xs) v some = refl
 
-pub first-of : (xs : Bytes) (k : ℕ) → k < length xs → take 1 (drop k xs) ≡ slice_index_or xs k 0 ∷ []
-first-of [] k lt = absurd (omega arith)
-first-of (x ∷ xs) zero lt = refl
-first-of (x ∷ xs) (suc k) lt = first-of xs k (omega arith)
+pub one_taken : (xs : Bytes) (k : ℕ) → k < length xs → take 1 (drop k xs) ≡ slice_index_or xs k 0 ∷ []
+one_taken [] k lt = absurd (omega arith)
+one_taken (x ∷ xs) zero lt = refl
+one_taken (x ∷ xs) (suc k) lt = one_taken xs k (omega arith)
 
 -- a chunk that went out, by the byte that is then first
-pub fed-next : (key : Bytes) (i j k : ℕ) (held text now piece full next prefix : Bytes) {a b c : Known}
+pub fed_next : (key : Bytes) (i j k : ℕ) (held text now piece full next prefix : Bytes) {a b c : Known}
     → IsFull now piece full next → Fed key i j held text now (moved a b)
     → k ≡ j + 1 → prefix ≡ next → Appends b c (sealed key (chunk_nonce j false) [] full)
     → Fed key i k held (text ++ piece) prefix (moved a c)
-fed-next key i j k held text now piece full next prefix {a} {b} {c} h f is same put =
+fed_next key i j k held text now piece full next prefix {a} {b} {c} h f is same put =
     subst (λ n. Fed key i n held (text ++ piece) prefix (moved a c)) (sym is)
     (subst (λ t. Fed key i (j + 1) held (text ++ piece) t (moved a c)) (sym same)
-    (fed-full key i j held text now piece full next a b c h f put))
+    (fed_full key i j held text now piece full next a b c h f put))
 
 -- a sealer between two calls, by its parts
 abbrev pub parts : Bytes → ℕ → ℕ → ℕ → Bytes → Option StreamFault → SealerState
@@ -284,13 +284,13 @@ unkept None p = p
 unkept (Some f) p = tt
 
 -- all was taken
-pub takes-ok : {u : Unit {0}} {now : SealerState} {from to : Seen} {a b : Known} (key : Bytes) (max i j len n : ℕ)
+pub takes_ok : {u : Unit {0}} {now : SealerState} {from to : Seen} {a b : Known} (key : Bytes) (max i j len n : ℕ)
     (old slice bytes items : Bytes) (fault : Option StreamFault)
     → parts key max i len old fault ≡ now → fault ≡ None → slice ≡ old → length bytes ≡ chunk_buf_size → items ≡ bytes
     → n ≤ chunk_size → j < max
     → IsFed key i j (take len slice) (take n bytes) (flow from to) (moved a b) × IsAtEnd to.to_come
     → IfNone now.fault (TakesAll {A = Unit {0}} now (parts key max j n items fault) (flow from to) (moved a b) (Ok u))
-takes-ok {u} {from} {to} {a} {b} key max i j len n old slice bytes items fault view none same size all le within
+takes_ok {u} {from} {to} {a} {b} key max i j len n old slice bytes items fault view none same size all le within
     (fed, end) =
     subst (λ s. IfNone s.fault (TakesAll s (parts key max j n items fault) (flow from to) (moved a b) (Ok u))) view
     (unkept fault (
@@ -307,13 +307,13 @@ takes-ok {u} {from} {to} {a} {b} key max i j len n old slice bytes items fault v
     ))
 
 -- a fault was met
-pub takes-err : {now : SealerState} {from to : Seen} {a b : Known} (key : Bytes) (max i j len : ℕ)
+pub takes_err : {now : SealerState} {from to : Seen} {a b : Known} (key : Bytes) (max i j len : ℕ)
     (old slice items : Bytes) (kept : Option StreamFault) (fault : StreamFault)
     → parts key max i len old kept ≡ now → slice ≡ old
     → Stopped key max i j (take len slice) (flow from to) (moved a b) fault
     → IfNone now.fault
     (TakesAll {A = Unit {0}} now (parts key max j len items (Some fault)) (flow from to) (moved a b) (Err fault))
-takes-err {from} {to} {a} {b} key max i j len old slice items kept fault view same stopped =
+takes_err {from} {to} {a} {b} key max i j len old slice items kept fault view same stopped =
     subst
     (λ s. IfNone s.fault
     (TakesAll {A = Unit {0}} s (parts key max j len items (Some fault)) (flow from to) (moved a b)
@@ -326,81 +326,81 @@ takes-err {from} {to} {a} {b} key max i j len old slice items kept fault view sa
 -- ---- a whole payload
 
 -- the chunks of a whole text: those that went out, and the last
-chunks-all : (key : Bytes) (i j : ℕ) (held text now : Bytes) (a b : Known) (f : Fed key i j held text now (moved a b))
+chunks_all : (key : Bytes) (i j : ℕ) (held text now : Bytes) (a b : Known) (f : Fed key i j held text now (moved a b))
     → sealed_after key i held text ≡ f.gone ++ sealed_after key j now []
-chunks-all key i j held text now a b f = ap (sealed_after key i held) (sym (append-nil text)) ∙ f.chunks []
+chunks_all key i j held text now a b f = ap (sealed_after key i held) (sym (append-nil text)) ∙ f.chunks []
 
-answer-all : (key : Bytes) (i j : ℕ) (held text now : Bytes) (a b : Known) (f : Fed key i j held text now (moved a b))
+answer_all : (key : Bytes) (i j : ℕ) (held text now : Bytes) (a b : Known) (f : Fed key i j held text now (moved a b))
     → concat (sealed_after key i held text) ≡ concat f.gone ++ concat (sealed_after key j now [])
-answer-all key i j held text now a b f = ap concat (chunks-all key i j held text now a b f)
+answer_all key i j held text now a b f = ap concat (chunks_all key i j held text now a b f)
     ∙ concat-append f.gone (sealed_after key j now [])
 
-count-all : (key : Bytes) (i j : ℕ) (held text now : Bytes) (a b : Known) (f : Fed key i j held text now (moved a b))
+count_all : (key : Bytes) (i j : ℕ) (held text now : Bytes) (a b : Known) (f : Fed key i j held text now (moved a b))
     → i + length (cut_into chunk_size held text) ≡ j + 1
-count-all key i j held text now a b f =
+count_all key i j held text now a b f =
     let l : length (cut_into chunk_size held text) ≡ length f.gone + length (sealed_after key j now []) =
-    sym (length-each key i (cut_into chunk_size held text)) ∙ ap length (chunks-all key i j held text now a b f)
+    sym (length_each key i (cut_into chunk_size held text)) ∙ ap length (chunks_all key i j held text now a b f)
     ∙ length-append f.gone (sealed_after key j now []) in
     let one : length (sealed_after key j now []) ≡ 1 = refl in
     omega (arith, l, one, f.count)
 
-pub seals-ok : (s t : SealerState) (u : Unit {0}) (from to : Seen) (a b c : Known) (done : StreamDone) → s.fault ≡ None
+pub seals_ok : (s t : SealerState) (u : Unit {0}) (from to : Seen) (a b c : Known) (done : StreamDone) → s.fault ≡ None
     → IfNone s.fault (TakesAll s t (flow from to) (moved a b) (Ok u))
     → IfNone t.fault (FinishesBy t (moved b c) (Ok done))
     → SealsAll s (flow from to) (moved a c) (Ok done)
-seals-ok s t u from to a b c done none takes finishes =
+seals_ok s t u from to a b c done none takes finishes =
     let h = subst (λ (x : Option StreamFault). IfNone x (TakesAll s t (flow from to) (moved a b) (Ok u))) none takes in
     let e = subst (λ (x : Option StreamFault). IfNone x (FinishesBy t (moved b c) (Ok done))) h.2.0 finishes in
     let fed = h.2.3 in
     let last : Appends b c (concat (sealed_after s.key t.index t.held [])) =
     subst (λ k. Appends b c (concat (sealed_after k t.index t.held []))) h.0 e.0 in
     let count : s.index + length (cut_into chunk_size s.held fed.text) ≡ t.index + 1 =
-    count-all s.key s.index t.index s.held fed.text t.held a b fed.fed in
+    count_all s.key s.index t.index s.held fed.text t.held a b fed.fed in
     let fits : t.index < s.max_chunks = subst (λ m. t.index < m) h.1 h.2.2 in
-    of-ended from to fed.text _ fed.took h.2.4 (
-      subst (Appends a c) (sym (answer-all s.key s.index t.index s.held fed.text t.held a b fed.fed))
+    of_ended from to fed.text _ fed.took h.2.4 (
+      subst (Appends a c) (sym (answer_all s.key s.index t.index s.held fed.text t.held a b fed.fed))
           (Appends-trans a b c (concat fed.fed.gone) _ fed.fed.written last),
       omega (arith, count, fits),
       omega (arith, e.1, fed.fed.bytes, fed.fed.count),
       e.2 ∙ sym count,
     )
 
-pub seals-last : (s t : SealerState) (u : Unit {0}) (from to : Seen) (a b c : Known) (fault : StreamFault)
+pub seals_last : (s t : SealerState) (u : Unit {0}) (from to : Seen) (a b c : Known) (fault : StreamFault)
     → s.fault ≡ None
     → IfNone s.fault (TakesAll s t (flow from to) (moved a b) (Ok u))
     → IfNone t.fault (FinishesBy t (moved b c) (Err fault))
     → SealsAll s (flow from to) (moved a c) (Err fault)
-seals-last s t u from to a b c fault none takes finishes =
+seals_last s t u from to a b c fault none takes finishes =
     let h = subst (λ (x : Option StreamFault). IfNone x (TakesAll s t (flow from to) (moved a b) (Ok u))) none takes in
     let e = subst (λ (x : Option StreamFault). IfNone x (FinishesBy t (moved b c) (Err fault))) h.2.0 finishes in
     let fed = h.2.3 in
     let part : WritesPart (moved b c) (concat (sealed_after s.key t.index t.held [])) =
     subst (λ k. WritesPart (moved b c) (concat (sealed_after k t.index t.held []))) h.0 e.1 in
-    let done = done-fed s.key s.index t.index s.held fed.text t.held fed.text (sealed_after s.key t.index t.held []) a b
-    fed.fed (chunks-all s.key s.index t.index s.held fed.text t.held a b fed.fed) in (
+    let done = done_fed s.key s.index t.index s.held fed.text t.held fed.text (sealed_after s.key t.index t.held []) a b
+    fed.fed (chunks_all s.key s.index t.index s.held fed.text t.held a b fed.fed) in (
       t.index,
       subst (Stopped s.key s.max_chunks s.index t.index s.held (flow from to) (moved a c)) (sym e.0) (record {
-        stops = of-ended from to fed.text _ fed.took h.2.4
+        stops = of_ended from to fed.text _ fed.took h.2.4
             (done_part a b c _ _ (concat (sealed_after s.key t.index t.held [])) [] done (sym (append-nil _)) part);
-        wrote = wrote-fed s.key s.index t.index s.held fed.text t.held
+        wrote = wrote_fed s.key s.index t.index s.held fed.text t.held
             (take part.0 (concat (sealed_after s.key t.index t.held []))) a b c fed.fed part.1;
         gave = inr (fed.text, fed.took, omega (arith, fed.fed.bytes, fed.fed.count, h.2.1));
       }),
     )
 
-pub seals-finish : (s t : SealerState) {u : Unit {0}} (from to : Seen) (a b c : Known)
+pub seals_finish : (s t : SealerState) {u : Unit {0}} (from to : Seen) (a b c : Known)
     (r : Result StreamDone StreamFault)
     → s.fault ≡ None → IfNone s.fault (TakesAll s t (flow from to) (moved a b) (Ok u))
     → IfNone t.fault (FinishesBy t (moved b c) r)
     → SealsAll s (flow from to) (moved a c) r
-seals-finish s t {u} from to a b c (Ok done) none takes finishes = seals-ok s t u from to a b c done none takes finishes
-seals-finish s t {u} from to a b c (Err fault) none takes finishes =
-    seals-last s t u from to a b c fault none takes finishes
+seals_finish s t {u} from to a b c (Ok done) none takes finishes = seals_ok s t u from to a b c done none takes finishes
+seals_finish s t {u} from to a b c (Err fault) none takes finishes =
+    seals_last s t u from to a b c fault none takes finishes
 
-pub seals-err : (s t : SealerState) {from to : Seen} {a b : Known} (fault : StreamFault) → s.fault ≡ None
+pub seals_err : (s t : SealerState) {from to : Seen} {a b : Known} (fault : StreamFault) → s.fault ≡ None
     → IfNone s.fault (TakesAll {A = Unit {0}} s t (flow from to) (moved a b) (Err fault))
     → SealsAll s (flow from to) (moved a b) (Err fault)
-seals-err s t {from} {to} {a} {b} fault none takes =
+seals_err s t {from} {to} {a} {b} fault none takes =
     let h = subst
     (λ (x : Option StreamFault). IfNone x (TakesAll {A = Unit {0}} s t (flow from to) (moved a b) (Err fault)))
     none
@@ -408,22 +408,22 @@ seals-err s t {from} {to} {a} {b} fault none takes =
     (t.index, h.2.1)
 
 -- a clause on what is so where no fault is kept
-pub when-none : {P : Type 0} (fault : Option StreamFault) → (fault ≡ None → P) → IfNone fault P
-when-none None f = f refl
-when-none (Some kept) f = tt
+pub when_none : {P : Type 0} (fault : Option StreamFault) → (fault ≡ None → P) → IfNone fault P
+when_none None f = f refl
+when_none (Some kept) f = tt
 
 -- ---- a payload whose first chunk was filled before anything was written
 
 -- what was held is cut as if it came
-cut-held : (x more : Bytes) → length x ≤ chunk_size → cut_into chunk_size [] (x ++ more) ≡ cut_into chunk_size x more
-cut-held x more fits = cut-fits chunk_size [] x more (omega (arith, fits))
+cut_held : (x more : Bytes) → length x ≤ chunk_size → cut_into chunk_size [] (x ++ more) ≡ cut_into chunk_size x more
+cut_held x more fits = cut_fits chunk_size [] x more (omega (arith, fits))
 
 -- a sealer that was filled seals what came and what comes
-pub filled-seals : (key : Bytes) (max : ℕ) (t : SealerState) (more : Bool) (from mid to : Seen) (a c : Known)
+pub filled_seals : (key : Bytes) (max : ℕ) (t : SealerState) (more : Bool) (from mid to : Seen) (a c : Known)
     (r : Result StreamDone StreamFault)
     → Fills (at_start key max) t (flow from mid) (Ok more) → SealsAll t (flow mid to) (moved a c) r
     → SealsAll (at_start key max) (flow from to) (moved a c) r
-filled-seals key max t more from mid to a c r (x, took, is, fits, full, ended) seals =
+filled_seals key max t more from mid to a c r (x, took, is, fits, full, ended) seals =
     go r (subst (λ (u : SealerState). SealsAll u (flow mid to) (moved a c) r) is seals)
   where
     le : length x ≤ chunk_size
@@ -432,8 +432,8 @@ filled-seals key max t more from mid to a c r (x, took, is, fits, full, ended) s
     go : (q : Result StreamDone StreamFault)
         → SealsAll (record (at_start key max) { held = x }) (flow mid to) (moved a c) q
         → SealsAll (at_start key max) (flow from to) (moved a c) q
-    go (Ok done) h = of-then from mid to x _ _ took h (λ text q.
-        let same : cut_into chunk_size [] (x ++ text) ≡ cut_into chunk_size x text = cut-held x text le in (
+    go (Ok done) h = of_then from mid to x _ _ took h (λ text q.
+        let same : cut_into chunk_size [] (x ++ text) ≡ cut_into chunk_size x text = cut_held x text le in (
           subst (λ cs. Appends a c (concat (sealed_from key 0 cs))) (sym same) q.0,
           subst (λ (cs : List Bytes). 0 + length cs ≤ max) (sym same) q.1,
           omega (arith, q.2, length-append x text),
@@ -442,7 +442,7 @@ filled-seals key max t more from mid to a c r (x, took, is, fits, full, ended) s
     go (Err fault) (j, s) = (
       j,
       record {
-        stops = of-then from mid to x _ _ took s.stops (λ text h. stops text fault h);
+        stops = of_then from mid to x _ _ took s.stops (λ text h. stops text fault h);
         wrote = s.wrote;
         gave = gave s.gave;
       },
@@ -451,12 +451,12 @@ filled-seals key max t more from mid to a c r (x, took, is, fits, full, ended) s
         stops : (text : Bytes) (f : StreamFault) → StopsIn key max 0 x text (moved a c) f
             → StopsIn key max 0 [] (x ++ text) (moved a c) f
         stops text Read h =
-            subst (λ cs. WritesPart (moved a c) (concat (sealed_from key 0 cs))) (sym (cut-held x text le)) h
+            subst (λ cs. WritesPart (moved a c) (concat (sealed_from key 0 cs))) (sym (cut_held x text le)) h
         stops text Write h =
-            subst (λ cs. WritesPart (moved a c) (concat (sealed_from key 0 cs))) (sym (cut-held x text le)) h
+            subst (λ cs. WritesPart (moved a c) (concat (sealed_from key 0 cs))) (sym (cut_held x text le)) h
         stops text TooManyChunks h =
             subst (λ (cs : List Bytes). (max < 0 + length cs)
-            × Appends a c (concat (take (max - 1 - 0) (sealed_from key 0 cs)))) (sym (cut-held x text le)) h
+            × Appends a c (concat (take (max - 1 - 0) (sealed_from key 0 cs)))) (sym (cut_held x text le)) h
         stops text _ h = absurd h
 
         gave : (fault ≡ Read) ⊎ GaveAtMost (chunk_size * (j + 1 - 0) + 1 - length x) (flow mid to)
@@ -464,27 +464,27 @@ filled-seals key max t more from mid to a c r (x, took, is, fits, full, ended) s
         gave (inl e) = inl e
         gave (inr g) = inr (
           x ++ g.0,
-          gave-then from mid to x g.0 took g.1,
+          gave_then from mid to x g.0 took g.1,
           omega (arith, length-append x g.0, g.2, le),
         )
 
 -- a sealer that was filled with all that came seals it as the last chunk
-pub filled-finishes : (key : Bytes) (max : ℕ) (t : SealerState) (from mid to : Seen) (a c : Known)
+pub filled_finishes : (key : Bytes) (max : ℕ) (t : SealerState) (from mid to : Seen) (a c : Known)
     (r : Result StreamDone StreamFault) → 1 ≤ max
     → Fills (at_start key max) t (flow from mid) (Ok false) → Gave (flow mid to) [] → FinishesBy t (moved a c) r
     → SealsAll (at_start key max) (flow from to) (moved a c) r
-filled-finishes key max t from mid to a c r some (x, took, is, fits, full, ended) still finishes =
+filled_finishes key max t from mid to a c r some (x, took, is, fits, full, ended) still finishes =
     go r (subst (λ (u : SealerState). FinishesBy u (moved a c) r) is finishes)
   where
     le : length x ≤ chunk_size
     le = subst (λ (u : SealerState). length u.held ≤ chunk_size) is fits
 
     same : cut_into chunk_size [] x ≡ x ∷ []
-    same = ap (cut_into chunk_size []) (sym (append-nil x)) ∙ cut-held x [] le
+    same = ap (cut_into chunk_size []) (sym (append-nil x)) ∙ cut_held x [] le
 
     go : (q : Result StreamDone StreamFault) → FinishesBy (record (at_start key max) { held = x }) (moved a c) q
         → SealsAll (at_start key max) (flow from to) (moved a c) q
-    go (Ok done) (put, bytes, count) = of-still from mid to (of-ended from mid x _ took (ended refl) (
+    go (Ok done) (put, bytes, count) = of_still from mid to (of_ended from mid x _ took (ended refl) (
       subst (λ cs. Appends a c (concat (sealed_from key 0 cs))) (sym same) put,
       subst (λ (cs : List Bytes). 0 + length cs ≤ max) (sym same) (omega (arith, some)),
       omega (arith, bytes),
@@ -493,10 +493,10 @@ filled-finishes key max t from mid to a c r some (x, took, is, fits, full, ended
     go (Err fault) (write, part) = (
       0,
       record {
-        stops = of-still from mid to (of-ended from mid x _ took (ended refl)
+        stops = of_still from mid to (of_ended from mid x _ took (ended refl)
             (subst (λ f. StopsIn key max 0 [] x (moved a c) f) (sym write)
             (subst (λ cs. WritesPart (moved a c) (concat (sealed_from key 0 cs))) (sym same) part))) still.grew;
         wrote = (_, part.1, omega arith);
-        gave = inr (x ++ [], gave-then from mid to x [] took still, omega (arith, le, length-append x []));
+        gave = inr (x ++ [], gave_then from mid to x [] took still, omega (arith, le, length-append x []));
       },
     )

@@ -9,25 +9,25 @@ use Rattle.age_kdf.specs.Bytes.{Bytes}
 use Rattle.age_stream.specs.Cutting.{cut}
 use Rattle.age_stream.specs.Payload.{pieces, is_end}
 use Rattle.age_stream.specs.Reading.{opened_at}
-use Rattle.age_stream.proofs.CuttingLemmas.{cut-last}
-use Rattle.age_stream.proofs.ReadingLemmas.{cut-step, is_end-cut}
+use Rattle.age_stream.proofs.CuttingLemmas.{cut_last}
+use Rattle.age_stream.proofs.ReadingLemmas.{cut_step, is_end_cut}
 use Rattle.age_stream.specs.Slice.{openings, opening, plain_len, IsSlice}
 use Rattle.age_stream.specs.Sizes.{chunk_size, sealed_chunk_size}
 
 -- list i of a cut, by its offset
-pub cut-at : (size i : ℕ) (p : Bytes) → 0 < size → get_or (cut size p) i [] ≡ take size (drop (size * i) p)
-cut-at size zero p pos = elim (cases_lt size (length p)) [
-  | inl lt ↦ ap (λ cs. get_or cs 0 []) (cut-step size p pos lt) ∙ ap (λ n. take size (drop n p)) none
-  | inr ge ↦ ap (λ cs. get_or cs 0 []) (cut-last size p ge) ∙ sym (take_all size p ge)
+pub cut_at : (size i : ℕ) (p : Bytes) → 0 < size → get_or (cut size p) i [] ≡ take size (drop (size * i) p)
+cut_at size zero p pos = elim (cases_lt size (length p)) [
+  | inl lt ↦ ap (λ cs. get_or cs 0 []) (cut_step size p pos lt) ∙ ap (λ n. take size (drop n p)) none
+  | inr ge ↦ ap (λ cs. get_or cs 0 []) (cut_last size p ge) ∙ sym (take_all size p ge)
       ∙ ap (λ n. take size (drop n p)) none
 ]
   where
     none : 0 ≡ size * 0
     none = omega arith
-cut-at size (suc i) p pos = elim (cases_lt size (length p)) [
-  | inl lt ↦ ap (λ cs. get_or cs (suc i) []) (cut-step size p pos lt) ∙ cut-at size i (drop size p) pos
+cut_at size (suc i) p pos = elim (cases_lt size (length p)) [
+  | inl lt ↦ ap (λ cs. get_or cs (suc i) []) (cut_step size p pos lt) ∙ cut_at size i (drop size p) pos
       ∙ ap (take size) (drop-drop (size * i) size p) ∙ ap (λ n. take size (drop n p)) more
-  | inr ge ↦ ap (λ cs. get_or cs (suc i) []) (cut-last size p ge)
+  | inr ge ↦ ap (λ cs. get_or cs (suc i) []) (cut_last size p ge)
       ∙ sym (take_all size [] (omega arith)) ∙ ap (take size) (sym (drop_all (size * suc i) p (omega arith)))
 ]
   where
@@ -42,45 +42,45 @@ shifted size n len lt = elim (cases_lt (size * suc n) len) [
 ]
 
 -- whether list i of a cut is the last
-pub last-cut : (size i : ℕ) (p : Bytes) → 0 < size
+pub last_cut : (size i : ℕ) (p : Bytes) → 0 < size
     → is_end (drop (suc i) (cut size p)) ≡ nat_le (length p) (size * suc i)
-last-cut size zero p pos = elim (cases_lt size (length p)) [
-  | inl lt ↦ ap (λ cs. is_end (drop 1 cs)) (cut-step size p pos lt) ∙ is_end-cut size [] (drop size p)
+last_cut size zero p pos = elim (cases_lt size (length p)) [
+  | inl lt ↦ ap (λ cs. is_end (drop 1 cs)) (cut_step size p pos lt) ∙ is_end_cut size [] (drop size p)
       ∙ sym (lt-leb (length p) (size * 1) (omega arith))
-  | inr ge ↦ ap (λ cs. is_end (drop 1 cs)) (cut-last size p ge) ∙ sym (le-leb (length p) (size * 1) (omega arith))
+  | inr ge ↦ ap (λ cs. is_end (drop 1 cs)) (cut_last size p ge) ∙ sym (le-leb (length p) (size * 1) (omega arith))
 ]
-last-cut size (suc i) p pos = elim (cases_lt size (length p)) [
-  | inl lt ↦ ap (λ cs. is_end (drop (suc (suc i)) cs)) (cut-step size p pos lt) ∙ last-cut size i (drop size p) pos
+last_cut size (suc i) p pos = elim (cases_lt size (length p)) [
+  | inl lt ↦ ap (λ cs. is_end (drop (suc (suc i)) cs)) (cut_step size p pos lt) ∙ last_cut size i (drop size p) pos
       ∙ ap (λ n. nat_le n (size * suc i)) (length-drop size p) ∙ shifted size (suc i) (length p) lt
-  | inr ge ↦ ap (λ cs. is_end (drop (suc (suc i)) cs)) (cut-last size p ge)
+  | inr ge ↦ ap (λ cs. is_end (drop (suc (suc i)) cs)) (cut_last size p ge)
       ∙ sym (le-leb (length p) (size * suc (suc i)) (omega arith))
 ]
 
-openings-at : (key : Bytes) (j i : ℕ) (cs : List Bytes) → i < length cs
+openings_at : (key : Bytes) (j i : ℕ) (cs : List Bytes) → i < length cs
     → get_or (openings key j cs) i None ≡ opened_at key (j + i) (is_end (drop (suc i) cs)) (get_or cs i [])
-openings-at key j i [] lt = absurd (omega arith)
-openings-at key j zero (c ∷ cs) lt = ap (λ n. opened_at key n (is_end cs) c) zero_more
+openings_at key j i [] lt = absurd (omega arith)
+openings_at key j zero (c ∷ cs) lt = ap (λ n. opened_at key n (is_end cs) c) zero_more
   where
     zero_more : j ≡ j + 0
     zero_more = omega arith
-openings-at key j (suc i) (c ∷ cs) lt =
-    openings-at key (j + 1) i cs (omega arith)
+openings_at key j (suc i) (c ∷ cs) lt =
+    openings_at key (j + 1) i cs (omega arith)
     ∙ ap (λ n. opened_at key n (is_end (drop (suc i) cs)) (get_or cs i [])) one_more
   where
     one_more : j + 1 + i ≡ j + suc i
     one_more = omega arith
 
 -- what piece i opens to, by its offset
-pub opening-at : (key rest : Bytes) (i : ℕ) → i < length (pieces rest)
+pub opening_at : (key rest : Bytes) (i : ℕ) → i < length (pieces rest)
     → opening key rest i ≡ opened_at key i (nat_le (length rest) (sealed_chunk_size * (i + 1)))
     (take sealed_chunk_size (drop (sealed_chunk_size * i) rest))
-opening-at key rest i lt =
-    openings-at key 0 i (pieces rest) lt
+opening_at key rest i lt =
+    openings_at key 0 i (pieces rest) lt
     ∙ ap (λ n. opened_at key n (is_end (drop (suc i) (pieces rest))) (get_or (pieces rest) i [])) none
     ∙ ap (λ b. opened_at key i b (get_or (pieces rest) i []))
-    (last-cut sealed_chunk_size i rest (omega arith) ∙ ap (λ n. nat_le (length rest) (sealed_chunk_size * n)) one)
+    (last_cut sealed_chunk_size i rest (omega arith) ∙ ap (λ n. nat_le (length rest) (sealed_chunk_size * n)) one)
     ∙ ap (λ x. opened_at key i (nat_le (length rest) (sealed_chunk_size * (i + 1))) x)
-    (cut-at sealed_chunk_size i rest (omega arith))
+    (cut_at sealed_chunk_size i rest (omega arith))
   where
     none : 0 + i ≡ i
     none = omega arith
@@ -89,34 +89,34 @@ opening-at key rest i lt =
     one = omega arith
 
 -- how long the plaintext is, where the last piece has a tag
-pub plain-count : (n : ℕ) (rest : Bytes) → (n ≡ 0) ⊎ (sealed_chunk_size * n < length rest)
+pub plain_count : (n : ℕ) (rest : Bytes) → (n ≡ 0) ⊎ (sealed_chunk_size * n < length rest)
     → length rest ≤ sealed_chunk_size * (n + 1)
     → sealed_chunk_size * n + 16 ≤ length rest
     → plain_len rest + 16 * (n + 1) ≡ length rest
-plain-count zero rest some le tag =
+plain_count zero rest some le tag =
     let one : plain_len rest ≡ (length rest - 16) + 0 =
-    ap (sum_by (λ piece. length piece - 16)) (cut-last sealed_chunk_size rest (omega arith))
+    ap (sum_by (λ piece. length piece - 16)) (cut_last sealed_chunk_size rest (omega arith))
     ∙ sum_by-cons (λ piece. length piece - 16) rest [] in
     omega arith
-plain-count (suc n) rest (inl e) le tag = absurd (omega arith)
-plain-count (suc n) rest (inr lt) le tag =
+plain_count (suc n) rest (inl e) le tag = absurd (omega arith)
+plain_count (suc n) rest (inr lt) le tag =
     let more : sealed_chunk_size < length rest = omega arith in
     let d : length (drop sealed_chunk_size rest) ≡ length rest - sealed_chunk_size =
     length-drop sealed_chunk_size rest in
     let t : length (take sealed_chunk_size rest) ≡ sealed_chunk_size =
     length-take-le sealed_chunk_size rest (omega arith) in
     let behind : plain_len (drop sealed_chunk_size rest) + 16 * (n + 1) ≡ length (drop sealed_chunk_size rest) =
-    plain-count n (drop sealed_chunk_size rest) (inr (omega arith)) (omega arith) (omega arith) in
+    plain_count n (drop sealed_chunk_size rest) (inr (omega arith)) (omega arith) (omega arith) in
     let step : plain_len rest ≡ (length (take sealed_chunk_size rest) - 16) + plain_len (drop sealed_chunk_size rest) =
-    ap (sum_by (λ piece. length piece - 16)) (cut-step sealed_chunk_size rest (omega arith) more)
+    ap (sum_by (λ piece. length piece - 16)) (cut_step sealed_chunk_size rest (omega arith) more)
     ∙ sum_by-cons (λ piece. length piece - 16) (take sealed_chunk_size rest) (pieces (drop sealed_chunk_size rest)) in
     omega arith
 
 -- a slice goes on within one chunk
-pub slice-on : (key rest xs text : Bytes) (at i skip n : ℕ) → at + length xs ≡ chunk_size * i + skip
+pub slice_on : (key rest xs text : Bytes) (at i skip n : ℕ) → at + length xs ≡ chunk_size * i + skip
     → opening key rest i ≡ Some text → skip + n ≤ length text → length text ≤ chunk_size
     → IsSlice key rest at xs → IsSlice key rest at (xs ++ take n (drop skip text))
-slice-on key rest xs text at i skip n pos opens within size so_far k lt =
+slice_on key rest xs text at i skip n pos opens within size so_far k lt =
     let ys : Bytes = take n (drop skip text) in
     let d : length (drop skip text) ≡ length text - skip = length-drop skip text in
     let l : length ys ≡ n = length-take-le n (drop skip text) (omega arith) in

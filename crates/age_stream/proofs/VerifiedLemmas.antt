@@ -11,43 +11,43 @@ use Rattle.age_stream.specs.Slice.{chunk_len}
 use Rattle.age_stream.specs.Sizes.{chunk_size, sealed_chunk_size}
 
 -- what was verified stays so
-pub verified-stays : (old new : ℕ → ℕ → Type 0) (layout : Layout) (i : ℕ) (text : Bytes) → StaysGiven old new
+pub verified_stays : (old new : ℕ → ℕ → Type 0) (layout : Layout) (i : ℕ) (text : Bytes) → StaysGiven old new
     → IsVerified old layout i text → IsVerified new layout i text
-verified-stays old new layout i text stays v = record {
+verified_stays old new layout i text stays v = record {
   piece = v.piece;
   read = λ k lt. stays (layout.first + sealed_chunk_size * i + k) (slice_index v.piece k) (v.read k lt);
   opens = v.opens;
 }
 
-pub byte-stays : (old new : ℕ → ℕ → Type 0) (layout : Layout) (at byte : ℕ) → StaysGiven old new
+pub byte_stays : (old new : ℕ → ℕ → Type 0) (layout : Layout) (at byte : ℕ) → StaysGiven old new
     → IsVerifiedByte old layout at byte → IsVerifiedByte new layout at byte
-byte-stays old new layout at byte stays v = (v.0, verified-stays old new layout (at / chunk_size) v.0 stays v.1, v.2)
+byte_stays old new layout at byte stays v = (v.0, verified_stays old new layout (at / chunk_size) v.0 stays v.1, v.2)
 
 -- the text of the kept chunk
-pub verified-text : (gave : ℕ → ℕ → Type 0) (s : RangeState) (layout : Layout) (i : ℕ) (text : Bytes)
+pub verified_text : (gave : ℕ → ℕ → Type 0) (s : RangeState) (layout : Layout) (i : ℕ) (text : Bytes)
     → s.layout ≡ layout → s.index ≡ Some i → text ≡ kept_text s i
     → KeepsVerified gave s → IsVerified gave layout i text
-verified-text gave s layout i text same at is keeps =
+verified_text gave s layout i text same at is keeps =
     subst (λ l. IsVerified gave l i text) same (subst (IsVerified gave s.layout i) (sym is) (keeps i at))
 
 -- the last chunk is kept
-pub keeps-last : (gave : ℕ → ℕ → Type 0) (layout : Layout) (opened : ℕ) (items new : Bytes) → items ≡ new
+pub keeps_last : (gave : ℕ → ℕ → Type 0) (layout : Layout) (opened : ℕ) (items new : Bytes) → items ≡ new
     → IsVerified gave layout (layout.count - 1) (take (chunk_len layout.plain (layout.count - 1)) new)
     → KeepsVerified gave (record { layout = layout; index = Some (layout.count - 1); buf = items; opened = opened })
-keeps-last gave layout opened items new same v i e =
+keeps_last gave layout opened items new same v i e =
     let at : layout.count - 1 ≡ i = cc in
     subst (λ b. IsVerified gave layout i (take (chunk_len layout.plain i) b)) (sym same)
     (subst (λ j. IsVerified gave layout j (take (chunk_len layout.plain j) new)) at v)
 
 -- so far, one chunk on
-pub verified-on : (old_read new_read : ℕ → ℕ → Type 0) (layout : Layout) (text old new : Bytes) (at done i skip n : ℕ)
+pub verified_on : (old_read new_read : ℕ → ℕ → Type 0) (layout : Layout) (text old new : Bytes) (at done i skip n : ℕ)
     → StaysGiven old_read new_read
     → at + done ≡ chunk_size * i + skip → done ≤ length old → done + n ≤ length new → skip + n ≤ length text
     → length text ≤ chunk_size → IsVerified new_read layout i text
     → ((k : ℕ) → k < done → IsVerifiedByte old_read layout (at + k) (slice_index old k))
     → take (done + n) new ≡ take done old ++ take n (drop skip text)
     → (k : ℕ) → k < done + n → IsVerifiedByte new_read layout (at + k) (slice_index new k)
-verified-on old_read new_read layout text old new at done i skip n stays pos le room within size verified so_far is k
+verified_on old_read new_read layout text old new at done i skip n stays pos le room within size verified so_far is k
     lt =
     let xs : Bytes = take done old in
     let ys : Bytes = take n (drop skip text) in
@@ -61,7 +61,7 @@ verified-on old_read new_read layout text old new at done i skip n stays pos le 
           let value : slice_index new k ≡ slice_index old k =
           whole ∙ get_or_append_left xs ys 0 k (omega (arith, a, before)) ∙ get_or-take done old k 0 before in
           subst (IsVerifiedByte new_read layout (at + k)) (sym value)
-          (byte-stays old_read new_read layout (at + k) (slice_index old k) stays (so_far k before))
+          (byte_stays old_read new_read layout (at + k) (slice_index old k) stays (so_far k before))
       | inr ge ↦
           let j : ℕ = k - done in
           let sum : k ≡ length xs + j = omega arith in
@@ -78,12 +78,12 @@ verified-on old_read new_read layout text old new at done i skip n stays pos le 
     ]
 
 -- each byte is as it was, or was verified
-pub changed-verified : (old_read new_read : ℕ → ℕ → Type 0) (layout : Layout) (old new : Bytes) (at done : ℕ)
+pub changed_verified : (old_read new_read : ℕ → ℕ → Type 0) (layout : Layout) (old new : Bytes) (at done : ℕ)
     → StaysGiven old_read new_read → drop done new ≡ drop done old
     → ((k : ℕ) → k < done → IsVerifiedByte old_read layout (at + k) (slice_index new k))
     → (k : ℕ) → (slice_index new k ≡ slice_index old k) ⊎ IsVerifiedByte new_read layout (at + k) (slice_index new k)
-changed-verified old_read new_read layout old new at done stays rest so_far k = elim (cases_lt k done) [
-  | inl before ↦ inr (byte-stays old_read new_read layout (at + k) (slice_index new k) stays (so_far k before))
+changed_verified old_read new_read layout old new at done stays rest so_far k = elim (cases_lt k done) [
+  | inl before ↦ inr (byte_stays old_read new_read layout (at + k) (slice_index new k) stays (so_far k before))
   | inr ge ↦
       let j : ℕ = k - done in
       let sum : k ≡ done + j = omega arith in

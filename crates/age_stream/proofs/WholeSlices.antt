@@ -14,99 +14,99 @@ use Rattle.age_stream.specs.declared.fault.StreamFault.{StreamFault}
 use Rattle.age_stream.specs.declared.fault.StreamFault.TheVariants.{TooManyChunks}
 use Rattle.age_stream.specs.Payload.{chunks, pieces, chunk_nonce, is_end, sealed_from, payload_key}
 use Rattle.age_stream.specs.Reading.{opened_at, outcome, outcomes, payload_reading, whole}
-use Rattle.age_stream.proofs.CuttingLemmas.{is_cut, cut-at_most}
-use Rattle.age_stream.proofs.PayloadLemmas.{ok-payload, pieces-each, each-opens, is_end-each, length-each, at_most-chunks}
-use Rattle.age_stream.proofs.ReadingLemmas.{cut-some}
+use Rattle.age_stream.proofs.CuttingLemmas.{is_cut, cut_at_most}
+use Rattle.age_stream.proofs.PayloadLemmas.{ok_payload, pieces_each, each_opens, is_end_each, length_each, at_most_chunks}
+use Rattle.age_stream.proofs.ReadingLemmas.{cut_some}
 use Rattle.age_stream.specs.Slice.{openings, opening, plain_len, IsSlice, last_piece, range_outcome}
 use Rattle.age_stream.specs.Sizes.{chunk_size, sealed_chunk_size}
-use Rattle.age_stream.proofs.SliceLemmas.{cut-at}
+use Rattle.age_stream.proofs.SliceLemmas.{cut_at}
 
 -- what is known of a payload that reads whole
 pub record IsWhole (key rest p : Bytes) (max : ℕ) : Type 0 where
   pub sealed_so : pieces rest ≡ sealed_from key 0 (chunks p)
   pub count : length (chunks p) ≤ max
 
-pub whole-is : (k : FileKey) (b p : Bytes) (max : ℕ) → payload_reading k max b ≡ whole p
+pub whole_is : (k : FileKey) (b p : Bytes) (max : ℕ) → payload_reading k max b ≡ whole p
     → IsWhole (payload_key k (take 16 b)) (drop 16 b) p max
-whole-is k b p max h =
-    let i = ok-payload k b p max h in
+whole_is k b p max h =
+    let i = ok_payload k b p max h in
     let key : Bytes = payload_key k i.nonce in
     let text : Bytes = concat (sealed_from key 0 (chunks p)) in
     let head : take 16 b ≡ i.nonce = ap (take 16) i.spelled ∙ take_at i.nonce text 16 i.nonce_len in
     let rest : drop 16 b ≡ text = ap (drop 16) i.spelled ∙ drop_at i.nonce text 16 i.nonce_len in
     record {
-      sealed_so = ap pieces rest ∙ pieces-each key (chunks p) (cut-at_most chunk_size p (omega arith))
+      sealed_so = ap pieces rest ∙ pieces_each key (chunks p) (cut_at_most chunk_size p (omega arith))
           ∙ ap (λ n. sealed_from (payload_key k n) 0 (chunks p)) (sym head);
       count = i.count;
     }
 
-openings-each : (key : Bytes) (i : ℕ) (ts : List Bytes) → openings key i (sealed_from key i ts) ≡ map Some ts
-openings-each key i [] = refl
-openings-each key i (t ∷ ts) =
+openings_each : (key : Bytes) (i : ℕ) (ts : List Bytes) → openings key i (sealed_from key i ts) ≡ map Some ts
+openings_each key i [] = refl
+openings_each key i (t ∷ ts) =
     ap (λ b. opened_at key i b (sealed key (chunk_nonce i (is_end ts)) [] t)
-    ∷ openings key (i + 1) (sealed_from key (i + 1) ts)) (is_end-each key (i + 1) ts)
+    ∷ openings key (i + 1) (sealed_from key (i + 1) ts)) (is_end_each key (i + 1) ts)
     ∙ ap (λ o. o ∷ openings key (i + 1) (sealed_from key (i + 1) ts))
     (opened-sealed key (chunk_nonce i (is_end ts)) [] t)
-    ∙ ap (λ x. Some t ∷ x) (openings-each key (i + 1) ts)
+    ∙ ap (λ x. Some t ∷ x) (openings_each key (i + 1) ts)
 
-plain-each : (key : Bytes) (i : ℕ) (ts : List Bytes)
+plain_each : (key : Bytes) (i : ℕ) (ts : List Bytes)
     → sum_by (λ piece. length piece - 16) (sealed_from key i ts) ≡ length (concat ts)
-plain-each key i [] = refl
-plain-each key i (t ∷ ts) =
+plain_each key i [] = refl
+plain_each key i (t ∷ ts) =
     let l : length (sealed key (chunk_nonce i (is_end ts)) [] t) ≡ length t + 16 =
     length-sealed key (chunk_nonce i (is_end ts)) [] t in
     let a : length (t ++ concat ts) ≡ length t + length (concat ts) = length-append t (concat ts) in
     let rest : sum_by (λ piece. length piece - 16) (sealed_from key (i + 1) ts) ≡ length (concat ts) =
-    plain-each key (i + 1) ts in
+    plain_each key (i + 1) ts in
     sum_by-cons (λ piece. length piece - 16) (sealed key (chunk_nonce i (is_end ts)) [] t) (sealed_from key (i + 1) ts)
     ∙ ap (λ n. (length (sealed key (chunk_nonce i (is_end ts)) [] t) - 16) + n) rest
     ∙ ap (λ n. (n - 16) + length (concat ts)) l ∙ omega arith
 
-pub whole-len : (k : FileKey) (b p : Bytes) (max : ℕ) → payload_reading k max b ≡ whole p
+pub whole_len : (k : FileKey) (b p : Bytes) (max : ℕ) → payload_reading k max b ≡ whole p
     → plain_len (drop 16 b) ≡ length p
-whole-len k b p max h =
-    let w = whole-is k b p max h in
-    ap (sum_by (λ piece. length piece - 16)) w.sealed_so ∙ plain-each (payload_key k (take 16 b)) 0 (chunks p)
+whole_len k b p max h =
+    let w = whole_is k b p max h in
+    ap (sum_by (λ piece. length piece - 16)) w.sealed_so ∙ plain_each (payload_key k (take 16 b)) 0 (chunks p)
     ∙ ap length (is_cut chunk_size p (omega arith)).joined
 
-outcomes-at : (key : Bytes) (max j i : ℕ) (cs : List Bytes) (d : Result Bytes StreamFault) → i < length cs
+outcomes_at : (key : Bytes) (max j i : ℕ) (cs : List Bytes) (d : Result Bytes StreamFault) → i < length cs
     → get_or (outcomes key max j cs) i d ≡ outcome key max (j + i) (is_end (drop (suc i) cs)) (get_or cs i [])
-outcomes-at key max j i [] d lt = absurd (omega arith)
-outcomes-at key max j zero (c ∷ cs) d lt = ap (λ n. outcome key max n (is_end cs) c) zero_more
+outcomes_at key max j i [] d lt = absurd (omega arith)
+outcomes_at key max j zero (c ∷ cs) d lt = ap (λ n. outcome key max n (is_end cs) c) zero_more
   where
     zero_more : j ≡ j + 0
     zero_more = omega arith
-outcomes-at key max j (suc i) (c ∷ cs) d lt =
-    outcomes-at key max (j + 1) i cs d (omega arith)
+outcomes_at key max j (suc i) (c ∷ cs) d lt =
+    outcomes_at key max (j + 1) i cs d (omega arith)
     ∙ ap (λ n. outcome key max n (is_end (drop (suc i) cs)) (get_or cs i [])) one_more
   where
     one_more : j + 1 + i ≡ j + suc i
     one_more = omega arith
 
-pub whole-opens : (k : FileKey) (b p : Bytes) (max : ℕ) → payload_reading k max b ≡ whole p
+pub whole_opens : (k : FileKey) (b p : Bytes) (max : ℕ) → payload_reading k max b ≡ whole p
     → (last : Bytes) × (range_outcome k max b ≡ Ok last)
-whole-opens k b p max h =
-    let w = whole-is k b p max h in
-    let i = ok-payload k b p max h in
+whole_opens k b p max h =
+    let w = whole_is k b p max h in
+    let i = ok_payload k b p max h in
     let key : Bytes = payload_key k (take 16 b) in
     let rest : Bytes = drop 16 b in
     let count : length (chunks p) ≤ max = w.count in
-    let n : length (pieces rest) ≡ length (chunks p) = ap length w.sealed_so ∙ length-each key 0 (chunks p) in
-    let some : 0 < length (pieces rest) = cut-some sealed_chunk_size [] rest in
+    let n : length (pieces rest) ≡ length (chunks p) = ap length w.sealed_so ∙ length_each key 0 (chunks p) in
+    let some : 0 < length (pieces rest) = cut_some sealed_chunk_size [] rest in
     let last : ℕ = length (pieces rest) - 1 in
     let none : 0 + last ≡ last = omega arith in
     let sixteen : length i.nonce ≡ 16 = i.nonce_len in
     let size : length b ≡ length i.nonce + length (concat (sealed_from (payload_key k i.nonce) 0 (chunks p))) =
     ap length i.spelled ∙ length-append i.nonce _ in
     let all : outcomes key max 0 (pieces rest) ≡ map Ok (chunks p) = ap (outcomes key max 0) w.sealed_so
-    ∙ each-opens key max 0 (chunks p) (at_most-chunks p) (omega arith) in
+    ∙ each_opens key max 0 (chunks p) (at_most_chunks p) (omega arith) in
     let end : is_end (drop (suc last) (pieces rest)) ≡ true =
     ap is_end (drop_all (suc last) (pieces rest) (omega arith)) in (
       get_or (chunks p) last [],
       cond-false (nat_lt (length b) 16) _ _ (le-ltb (length b) 16 (omega arith))
           ∙ ap (λ e. outcome key max last e (last_piece rest)) (sym end)
           ∙ ap (λ m. outcome key max m (is_end (drop (suc last) (pieces rest))) (last_piece rest)) (sym none)
-          ∙ sym (outcomes-at key max 0 last (pieces rest) (Err TooManyChunks) (omega arith))
+          ∙ sym (outcomes_at key max 0 last (pieces rest) (Err TooManyChunks) (omega arith))
           ∙ ap (λ rs. get_or rs last (Err TooManyChunks)) all
           ∙ get_or-map Ok (chunks p) last [] (Err TooManyChunks) (omega arith),
     )
@@ -117,17 +117,17 @@ got (c ∷ cs) zero t h = sym (ap (λ o. unwrap_or o []) h)
 got (c ∷ cs) (suc i) t h = got cs i t h
 
 -- a byte of a slice is the plaintext's byte at its offset
-byte-of : (key rest p text : Bytes) (max x v : ℕ) → IsWhole key rest p max
+byte_of : (key rest p text : Bytes) (max x v : ℕ) → IsWhole key rest p max
     → opening key rest (x / chunk_size) ≡ Some text
     → slice_get text (x % chunk_size) ≡ Some v
     → (x < length p) × (v ≡ get_or p x 0)
-byte-of key rest p text max x v w opens at =
+byte_of key rest p text max x v w opens at =
     let i : ℕ = x / chunk_size in
     let r : ℕ = x % chunk_size in
     let same : text ≡ take chunk_size (drop (chunk_size * i) p) =
     got (chunks p) i text (sym (ap (λ os. get_or os i None)
-    (ap (openings key 0) w.sealed_so ∙ openings-each key 0 (chunks p))) ∙ opens)
-    ∙ cut-at chunk_size i p (omega arith) in
+    (ap (openings key 0) w.sealed_so ∙ openings_each key 0 (chunks p))) ∙ opens)
+    ∙ cut_at chunk_size i p (omega arith) in
     let d : length (drop (chunk_size * i) p) ≡ length p - chunk_size * i = length-drop (chunk_size * i) p in
     let l : length text ≡ min chunk_size (length (drop (chunk_size * i) p)) = ap length same
     ∙ length-take chunk_size (drop (chunk_size * i) p) in
@@ -139,11 +139,11 @@ byte-of key rest p text max x v w opens at =
           ∙ ap (λ y. get_or p y 0) sum,
     )
 
-pub whole-slice : (k : FileKey) (b p xs : Bytes) (max at : ℕ) → payload_reading k max b ≡ whole p
+pub whole_slice : (k : FileKey) (b p xs : Bytes) (max at : ℕ) → payload_reading k max b ≡ whole p
     → IsSlice (payload_key k (take 16 b)) (drop 16 b) at xs
     → xs ≡ take (length xs) (drop at p)
-whole-slice k b p xs max at h s =
-    let w = whole-is k b p max h in
+whole_slice k b p xs max at h s =
+    let w = whole_is k b p max h in
     let key : Bytes = payload_key k (take 16 b) in
     let rest : Bytes = drop 16 b in
     let d : length (drop at p) ≡ length p - at = length-drop at p in
@@ -153,11 +153,11 @@ whole-slice k b p xs max at h s =
       | inl some ↦
           let k : ℕ = length xs - 1 in
           let z = s k (omega arith) in
-          let in_p : at + k < length p = (byte-of key rest p z.0 max (at + k) (slice_index xs k) w z.1 z.2).0 in
+          let in_p : at + k < length p = (byte_of key rest p z.0 max (at + k) (slice_index xs k) w z.1 z.2).0 in
           omega arith
       | inr none ↦ omega arith
     ] in
     ext_get_or 0 xs (take (length xs) (drop at p)) (omega arith) (λ k lt.
     let z = s k lt in
-    (byte-of key rest p z.0 max (at + k) (slice_index xs k) w z.1 z.2).1 ∙ sym (get_or-drop at p k 0)
+    (byte_of key rest p z.0 max (at + k) (slice_index xs k) w z.1 z.2).1 ∙ sym (get_or-drop at p k 0)
     ∙ sym (get_or-take (length xs) (drop at p) k 0 lt))

@@ -8,7 +8,7 @@ use Rattle.std.proofs.lemmas.Bool.{le-leb, lt-leb, cases_lt}
 use Rattle.std.proofs.lemmas.List.{drop-append-le, take_all, take-append-le}
 use Rattle.age_kdf.specs.Bytes.{Bytes}
 use Rattle.age_header.specs.Device.{Gave, Grew, Known, Seen, WritesPart, flow, moved}
-use Rattle.age_header.proofs.DeviceLemmas.{gave-none, gave-then, of-any, of-more, of-still, of-then, done_part}
+use Rattle.age_header.proofs.DeviceLemmas.{gave_none, gave_then, of_any, of_more, of_still, of_then, done_part}
 use Rattle.age_stream.specs.declared.done.Done.{Done}
 use Rattle.age_stream.specs.declared.fault.StreamFault.{StreamFault}
 use Rattle.age_stream.specs.declared.fault.StreamFault.TheVariants.{ChunkShort, EmptyFinal, BadChunk, TooManyChunks, Read, Write}
@@ -16,7 +16,7 @@ use Rattle.age_stream.specs.Opening.{Advances, EndsAt, IsAtPiece, IsFilled, Lose
 use Rattle.age_stream.specs.Payload.{pieces}
 use Rattle.age_stream.specs.Reading.{Reading, after_first, first_outcome, outcome, reading_from, stops}
 use Rattle.age_stream.specs.Sizes.{chunk_size, sealed_chunk_size, chunk_buf_size}
-use Rattle.age_stream.proofs.ReadingLemmas.{count-last, count-more, then_read, reading-last, reading-more}
+use Rattle.age_stream.proofs.ReadingLemmas.{count_last, count_more, then_read, reading_last, reading_more}
 
 -- a text, and then what a reading gives
 abbrev pub before : Bytes → Reading StreamFault → Reading StreamFault
@@ -27,21 +27,21 @@ pub record IsFirst (key : Bytes) (max i : ℕ) (c text : Bytes) (left : Known) :
   pub reads : reading_from key max i c ≡ before text (reading_left key max (i + 1) left)
   pub count : length (pieces c) ≡ length (pieces_left left) + 1
 
-first-last : (key : Bytes) (max i : ℕ) (c text : Bytes) (left : Known) → length c ≤ sealed_chunk_size
+first_last : (key : Bytes) (max i : ℕ) (c text : Bytes) (left : Known) → length c ≤ sealed_chunk_size
     → first_outcome key max i c ≡ Ok text → left ≡ after_first c → IsFirst key max i c text left
-first-last key max i c text left le is rest =
+first_last key max i c text left le is rest =
     let yes : nat_le (length c) sealed_chunk_size ≡ true = le-leb (length c) sealed_chunk_size le in
     let all : outcome key max i true c ≡ Ok text = ap (outcome key max i true) (sym (take_all sealed_chunk_size c le))
     ∙ ap (λ b. outcome key max i b (take sealed_chunk_size c)) (sym yes) ∙ is in
     let none : left ≡ None = rest ∙ ap (λ b. cond b None (Some (drop sealed_chunk_size c))) yes in
     subst (IsFirst key max i c text) (sym none) (record {
-      reads = reading-last key max i c le ∙ ap (λ r. then_read r (record { front = []; fault = None })) all;
-      count = count-last c le;
+      reads = reading_last key max i c le ∙ ap (λ r. then_read r (record { front = []; fault = None })) all;
+      count = count_last c le;
     })
 
-first-more : (key : Bytes) (max i : ℕ) (c text : Bytes) (left : Known) → sealed_chunk_size < length c
+first_more : (key : Bytes) (max i : ℕ) (c text : Bytes) (left : Known) → sealed_chunk_size < length c
     → first_outcome key max i c ≡ Ok text → left ≡ after_first c → IsFirst key max i c text left
-first-more key max i c text left lt is rest =
+first_more key max i c text left lt is rest =
     let no : nat_le (length c) sealed_chunk_size ≡ false = lt-leb (length c) sealed_chunk_size lt in
     let one : outcome key max i false (take sealed_chunk_size c) ≡ Ok text =
     ap (λ b. outcome key max i b (take sealed_chunk_size c)) (sym no)
@@ -49,33 +49,33 @@ first-more key max i c text left lt is rest =
     let some : left ≡ Some (drop sealed_chunk_size c) =
     rest ∙ ap (λ b. cond b None (Some (drop sealed_chunk_size c))) no in
     subst (IsFirst key max i c text) (sym some) (record {
-      reads = reading-more key max i c lt
+      reads = reading_more key max i c lt
           ∙ ap (λ r. then_read r (reading_from key max (i + 1) (drop sealed_chunk_size c))) one;
-      count = count-more c lt;
+      count = count_more c lt;
     })
 
-pub first-ok : (key : Bytes) (max i : ℕ) (c text : Bytes) (left : Known) → first_outcome key max i c ≡ Ok text
+pub first_ok : (key : Bytes) (max i : ℕ) (c text : Bytes) (left : Known) → first_outcome key max i c ≡ Ok text
     → left ≡ after_first c → IsFirst key max i c text left
-first-ok key max i c text left is rest = elim (cases_lt sealed_chunk_size (length c)) [
-  | inr le ↦ first-last key max i c text left le is rest
-  | inl lt ↦ first-more key max i c text left lt is rest
+first_ok key max i c text left is rest = elim (cases_lt sealed_chunk_size (length c)) [
+  | inr le ↦ first_last key max i c text left le is rest
+  | inl lt ↦ first_more key max i c text left lt is rest
 ]
 
-pub first-err : (key : Bytes) (max i : ℕ) (c : Bytes) (fault : StreamFault) → first_outcome key max i c ≡ Err fault
+pub first_err : (key : Bytes) (max i : ℕ) (c : Bytes) (fault : StreamFault) → first_outcome key max i c ≡ Err fault
     → reading_from key max i c ≡ stops fault
-first-err key max i c fault is = elim (cases_lt sealed_chunk_size (length c)) [
-  | inr le ↦ reading-last key max i c le ∙ ap (λ r. then_read r (record { front = []; fault = None }))
+first_err key max i c fault is = elim (cases_lt sealed_chunk_size (length c)) [
+  | inr le ↦ reading_last key max i c le ∙ ap (λ r. then_read r (record { front = []; fault = None }))
       (ap (outcome key max i true) (sym (take_all sealed_chunk_size c le))
       ∙ ap (λ b. outcome key max i b (take sealed_chunk_size c)) (sym (le-leb (length c) sealed_chunk_size le)) ∙ is)
   | inl lt ↦
-      reading-more key max i c lt ∙ ap (λ r. then_read r (reading_from key max (i + 1) (drop sealed_chunk_size c)))
+      reading_more key max i c lt ∙ ap (λ r. then_read r (reading_from key max (i + 1) (drop sealed_chunk_size c)))
       (ap (λ b. outcome key max i b (take sealed_chunk_size c)) (sym (lt-leb (length c) sealed_chunk_size lt)) ∙ is)
 ]
 
 -- what the first piece gives, where more follows it or nothing is added
-first-on : (key : Bytes) (max i : ℕ) (c d : Bytes) → (sealed_chunk_size < length c) ⊎ (d ≡ [])
+first_on : (key : Bytes) (max i : ℕ) (c d : Bytes) → (sealed_chunk_size < length c) ⊎ (d ≡ [])
     → first_outcome key max i (c ++ d) ≡ first_outcome key max i c
-first-on key max i c d (inl lt) =
+first_on key max i c d (inl lt) =
     let l : length (c ++ d) ≡ length c + length d = length-append c d in
     let no : nat_le (length c) sealed_chunk_size ≡ false = lt-leb (length c) sealed_chunk_size lt in
     let far : nat_le (length (c ++ d)) sealed_chunk_size ≡ false =
@@ -83,12 +83,12 @@ first-on key max i c d (inl lt) =
     ap (λ b. outcome key max i b (take sealed_chunk_size (c ++ d))) far
     ∙ ap (outcome key max i false) (take-append-le sealed_chunk_size c d (omega arith))
     ∙ ap (λ b. outcome key max i b (take sealed_chunk_size c)) (sym no)
-first-on key max i c d (inr none) = ap (first_outcome key max i) (ap (λ t. c ++ t) none ∙ append-nil c)
+first_on key max i c d (inr none) = ap (first_outcome key max i) (ap (λ t. c ++ t) none ∙ append-nil c)
 
 -- what follows the first piece, with what comes after it
-after-on : (c d : Bytes) (left : Known) → left ≡ after_first c → IfNone left (d ≡ [])
+after_on : (c d : Bytes) (left : Known) → left ≡ after_first c → IfNone left (d ≡ [])
     → ((sealed_chunk_size < length c) ⊎ (d ≡ [])) × (left_of left d ≡ after_first (c ++ d))
-after-on c d left is fits = elim (cases_lt sealed_chunk_size (length c)) [
+after_on c d left is fits = elim (cases_lt sealed_chunk_size (length c)) [
   | inr le ↦
       let none : after_first c ≡ None =
       ap (λ b. cond b None (Some (drop sealed_chunk_size c))) (le-leb (length c) sealed_chunk_size le) in
@@ -135,8 +135,8 @@ pub record Opened (s t : OpenerState) (bytes : ℕ) (from now : Seen) (old new :
   pub ended : IfNone t.held (IfSome s.held (λ ahead. IsAtEnd now.to_come))
   pub reads : (d : Bytes) → IfNone t.held (d ≡ []) → IsOpenedIn s t front given d
 
-pub opened-none : (s : OpenerState) {from : Seen} {old : Known} → s.fault ≡ None → Opened s s 0 from from old old
-opened-none s {from} {old} none = record {
+pub opened_none : (s : OpenerState) {from : Seen} {old : Known} → s.fault ≡ None → Opened s s 0 from from old old
+opened_none s {from} {old} none = record {
   front = [];
   len = refl;
   key = refl;
@@ -147,7 +147,7 @@ opened-none s {from} {old} none = record {
   bound = omega arith;
   full = full s.held;
   given = [];
-  gave = gave-none from;
+  gave = gave_none from;
   size = size s.held;
   ended = ended s.held;
   reads = λ d fits. (refl, refl);
@@ -165,22 +165,22 @@ opened-none s {from} {old} none = record {
     ended None = tt
     ended (Some h) = tt
 
-true-not-false : ◌≡◌ {A = Result Bool StreamFault} (Ok true) (Ok false) → ⊥
-true-not-false e = cc
+true_not_false : ◌≡◌ {A = Result Bool StreamFault} (Ok true) (Ok false) → ⊥
+true_not_false e = cc
 
-err-not-ok : (fault : StreamFault) (some : Bool) → ◌≡◌ {A = Result Bool StreamFault} (Err fault) (Ok some) → ⊥
-err-not-ok fault some e = cc
+err_not_ok : (fault : StreamFault) (some : Bool) → ◌≡◌ {A = Result Bool StreamFault} (Err fault) (Ok some) → ⊥
+err_not_ok fault some e = cc
 
-ok-not-err : (fault : StreamFault) (some : Bool) → ◌≡◌ {A = Result Bool StreamFault} (Ok some) (Err fault) → ⊥
-ok-not-err fault some e = cc
+ok_not_err : (fault : StreamFault) (some : Bool) → ◌≡◌ {A = Result Bool StreamFault} (Ok some) (Err fault) → ⊥
+ok_not_err fault some e = cc
 
-false-not-true : false ≡ true → ⊥
-false-not-true e = cc
+false_not_true : false ≡ true → ⊥
+false_not_true e = cc
 
 -- a call that did not find the end had a piece
-held-some : (t u : OpenerState) (now next : Seen) (r : Result Bool StreamFault) → (r ≡ Ok false → ⊥)
+held_some : (t u : OpenerState) (now next : Seen) (r : Result Bool StreamFault) → (r ≡ Ok false → ⊥)
     → Advances t u (flow now next) r → (h : Bytes) × (t.held ≡ Some h)
-held-some t u now next r not adv = go t.held refl
+held_some t u now next r not adv = go t.held refl
   where
     go : (held : Known) → t.held ≡ held → (h : Bytes) × (t.held ≡ Some h)
     go (Some h) e = (h, e)
@@ -189,30 +189,30 @@ held-some t u now next r not adv = go t.held refl
         subst (λ (x : Known). OpensNext t.key t.max_chunks t.index (left_of x adv.given) u.held u.text r) e adv.opens in
         absurd (not none.0)
 
-at-some : (P : Bytes → Type 0) (held : Known) (h : Bytes) → held ≡ Some h → IfSome held P → P h
-at-some P held h is p = subst (λ (x : Known). IfSome x P) is p
+at_some : (P : Bytes → Type 0) (held : Known) (h : Bytes) → held ≡ Some h → IfSome held P → P h
+at_some P held h is p = subst (λ (x : Known). IfSome x P) is p
 
 -- one piece more
-step-reads : (key : Bytes) (max i : ℕ) (held left : Known) (h c text front : Bytes) (all : Reading StreamFault)
+step_reads : (key : Bytes) (max i : ℕ) (held left : Known) (h c text front : Bytes) (all : Reading StreamFault)
     → held ≡ Some h
     → OpensNext key max i (left_of held c) left text (Ok true)
     → all ≡ before front (reading_left key max i (left_of held c))
     → all ≡ before (front ++ text) (reading_left key max (i + 1) left)
-step-reads key max i held left h c text front all is opens so =
+step_reads key max i held left h c text front all is opens so =
     let o : OpensNext key max i (Some (h ++ c)) left text (Ok true) =
     subst (λ (x : Known). OpensNext key max i (left_of x c) left text (Ok true)) is opens in
-    let first = first-ok key max i (h ++ c) text left o.1 o.2 in
+    let first = first_ok key max i (h ++ c) text left o.1 o.2 in
     so ∙ ap (λ (x : Known). before front (reading_left key max i (left_of x c))) is ∙ ap (before front) first.reads
     ∙ ap (λ t. record { front = t; fault = (reading_left key max (i + 1) left).fault })
     (sym (append_assoc front text (reading_left key max (i + 1) left).front))
 
-step-count : (key : Bytes) (max i : ℕ) (held left : Known) (h c text : Bytes) → held ≡ Some h
+step_count : (key : Bytes) (max i : ℕ) (held left : Known) (h c text : Bytes) → held ≡ Some h
     → OpensNext key max i (left_of held c) left text (Ok true)
     → length (pieces_left (left_of held c)) ≡ length (pieces_left left) + 1
-step-count key max i held left h c text is opens =
+step_count key max i held left h c text is opens =
     let o : OpensNext key max i (Some (h ++ c)) left text (Ok true) =
     subst (λ (x : Known). OpensNext key max i (left_of x c) left text (Ok true)) is opens in
-    ap (λ (x : Known). length (pieces_left (left_of x c))) is ∙ (first-ok key max i (h ++ c) text left o.1 o.2).count
+    ap (λ (x : Known). length (pieces_left (left_of x c))) is ∙ (first_ok key max i (h ++ c) text left o.1 o.2).count
 
 under : (t : OpenerState) (key : Bytes) (max : ℕ) (left rest : Known) (text : Bytes) (r : Result Bool StreamFault)
     → t.key ≡ key → t.max_chunks ≡ max
@@ -222,67 +222,67 @@ under t key max left rest text r k m o =
     (subst (λ x. OpensNext t.key x t.index left rest text r) m o)
 
 -- the next piece, whatever comes
-opens-on : (key : Bytes) (max i : ℕ) (held left : Known) (h g d text : Bytes) → held ≡ Some h → IfNone left (d ≡ [])
+opens_on : (key : Bytes) (max i : ℕ) (held left : Known) (h g d text : Bytes) → held ≡ Some h → IfNone left (d ≡ [])
     → OpensNext key max i (left_of held g) left text (Ok true)
     → OpensNext key max i (left_of held (g ++ d)) (left_of left d) text (Ok true)
-opens-on key max i held left h g d text is fits opens =
+opens_on key max i held left h g d text is fits opens =
     let o : OpensNext key max i (Some (h ++ g)) left text (Ok true) =
     subst (λ (x : Known). OpensNext key max i (left_of x g) left text (Ok true)) is opens in
-    let more = after-on (h ++ g) d left o.2 fits in
-    let first : first_outcome key max i ((h ++ g) ++ d) ≡ Ok text = first-on key max i (h ++ g) d more.0 ∙ o.1 in
+    let more = after_on (h ++ g) d left o.2 fits in
+    let first : first_outcome key max i ((h ++ g) ++ d) ≡ Ok text = first_on key max i (h ++ g) d more.0 ∙ o.1 in
     subst (λ (x : Known). OpensNext key max i (left_of x (g ++ d)) (left_of left d) text (Ok true)) (sym is) (
       refl,
       subst (λ z. first_outcome key max i z ≡ Ok text) (append_assoc h g d) first,
       subst (λ z. left_of left d ≡ after_first z) (append_assoc h g d) more.1,
     )
 
-some-fits : (P : Type 0) (held : Known) (h : Bytes) → held ≡ Some h → IfNone held P
-some-fits P held h is = subst (λ (x : Known). IfNone x P) (sym is) tt
+some_fits : (P : Type 0) (held : Known) (h : Bytes) → held ≡ Some h → IfNone held P
+some_fits P held h is = subst (λ (x : Known). IfNone x P) (sym is) tt
 
 -- so much was opened when the next piece is
-next-reads : (s t u : OpenerState) (n : ℕ) (from now next : Seen) (old new : Known) (o : Opened s t n from now old new)
+next_reads : (s t u : OpenerState) (n : ℕ) (from now next : Seen) (old new : Known) (o : Opened s t n from now old new)
     (adv : Advances t u (flow now next) (Ok true)) (d : Bytes) → IfNone u.held (d ≡ [])
     → (reading_left s.key s.max_chunks s.index (left_of s.held ((o.given ++ adv.given) ++ d))
     ≡ before (o.front ++ u.text) (reading_left s.key s.max_chunks (t.index + 1) (left_of u.held d)))
     × (s.index + length (pieces_left (left_of s.held ((o.given ++ adv.given) ++ d)))
     ≡ t.index + 1 + length (pieces_left (left_of u.held d)))
-next-reads s t u n from now next old new o adv d fits =
-    let h = held-some t u now next (Ok true) true-not-false adv in
+next_reads s t u n from now next old new o adv d fits =
+    let h = held_some t u now next (Ok true) true_not_false adv in
     let g : Bytes = adv.given in
     let opens = under t s.key s.max_chunks (left_of t.held (g ++ d)) (left_of u.held d) u.text (Ok true) o.key
-    o.max_chunks (opens-on t.key t.max_chunks t.index t.held u.held h.0 g d u.text h.1 fits adv.opens) in
-    let past = o.reads (g ++ d) (some-fits (g ++ d ≡ []) t.held h.0 h.1) in
-    let more = step-count s.key s.max_chunks t.index t.held (left_of u.held d) h.0 (g ++ d) u.text h.1 opens in
+    o.max_chunks (opens_on t.key t.max_chunks t.index t.held u.held h.0 g d u.text h.1 fits adv.opens) in
+    let past = o.reads (g ++ d) (some_fits (g ++ d ≡ []) t.held h.0 h.1) in
+    let more = step_count s.key s.max_chunks t.index t.held (left_of u.held d) h.0 (g ++ d) u.text h.1 opens in
     subst (λ z. (reading_left s.key s.max_chunks s.index (left_of s.held z)
     ≡ before (o.front ++ u.text) (reading_left s.key s.max_chunks (t.index + 1) (left_of u.held d)))
     × (s.index + length (pieces_left (left_of s.held z)) ≡ t.index + 1 + length (pieces_left (left_of u.held d))))
     (sym (append_assoc o.given g d)) (
-      step-reads s.key s.max_chunks t.index t.held (left_of u.held d) h.0 (g ++ d) u.text o.front _ h.1 opens past.0,
+      step_reads s.key s.max_chunks t.index t.held (left_of u.held d) h.0 (g ++ d) u.text o.front _ h.1 opens past.0,
       omega (arith, past.1, more),
     )
 
-gave-all : (s t u : OpenerState) (n : ℕ) (from now next : Seen) (old new : Known) (r : Result Bool StreamFault)
+gave_all : (s t u : OpenerState) (n : ℕ) (from now next : Seen) (old new : Known) (r : Result Bool StreamFault)
     (o : Opened s t n from now old new) (adv : Advances t u (flow now next) r)
     → Gave (flow from next) (o.given ++ adv.given)
-gave-all s t u n from now next old new r o adv = gave-then from now next o.given adv.given o.gave adv.gave
+gave_all s t u n from now next old new r o adv = gave_then from now next o.given adv.given o.gave adv.gave
 
-gave-len : (s t u : OpenerState) (n : ℕ) (from now next : Seen) (old new : Known) (r : Result Bool StreamFault)
+gave_len : (s t u : OpenerState) (n : ℕ) (from now next : Seen) (old new : Known) (r : Result Bool StreamFault)
     (o : Opened s t n from now old new) (adv : Advances t u (flow now next) r) → (r ≡ Ok false → ⊥)
     → length (o.given ++ adv.given) ≤ sealed_chunk_size * (t.index - s.index + 1) + 1
-gave-len s t u n from now next old new r o adv not =
-    let h = held-some t u now next r not adv in
+gave_len s t u n from now next old new r o adv not =
+    let h = held_some t u now next r not adv in
     let past : length o.given ≤ sealed_chunk_size * (t.index - s.index) + length h.0 =
-    at-some _ t.held h.0 h.1 o.size in
+    at_some _ t.held h.0 h.1 o.size in
     let filled : IsFilled (Some h.0) adv.given next.to_come =
     subst (λ (x : Known). IsFilled x adv.given next.to_come) h.1 adv.filled in
     omega (arith, past, filled.0, length-append o.given adv.given)
 
 -- the last piece is opened only at the end of the source
-ended-by : (key : Bytes) (max i : ℕ) (left : Known) (h g text : Bytes) (next : Known)
+ended_by : (key : Bytes) (max i : ℕ) (left : Known) (h g text : Bytes) (next : Known)
     → OpensNext key max i (Some (h ++ g)) left text (Ok true) → (length h + length g < chunk_buf_size → IsAtEnd next)
     → IfNone left (IsAtEnd next)
-ended-by key max i (Some a) h g text next o end = tt
-ended-by key max i None h g text next o end = elim (cases_lt sealed_chunk_size (length (h ++ g))) [
+ended_by key max i (Some a) h g text next o end = tt
+ended_by key max i None h g text next o end = elim (cases_lt sealed_chunk_size (length (h ++ g))) [
   | inl lt ↦
       let some : after_first (h ++ g) ≡ Some (drop sealed_chunk_size (h ++ g)) =
       ap (λ b. cond b None (Some (drop sealed_chunk_size (h ++ g)))) (lt-leb (length (h ++ g)) sealed_chunk_size lt) in
@@ -293,34 +293,34 @@ ended-by key max i None h g text next o end = elim (cases_lt sealed_chunk_size (
     none-some : (x : Bytes) → ◌≡◌ {A = Known} None (Some x) → ⊥
     none-some x e = cc
 
-ended-next : (t u : OpenerState) (now next : Seen) → Advances t u (flow now next) (Ok true)
+ended_next : (t u : OpenerState) (now next : Seen) → Advances t u (flow now next) (Ok true)
     → IfNone u.held (IsAtEnd next.to_come)
-ended-next t u now next adv =
-    let h = held-some t u now next (Ok true) true-not-false adv in
+ended_next t u now next adv =
+    let h = held_some t u now next (Ok true) true_not_false adv in
     let filled : IsFilled (Some h.0) adv.given next.to_come =
     subst (λ (x : Known). IsFilled x adv.given next.to_come) h.1 adv.filled in
-    ended-by t.key t.max_chunks t.index u.held h.0 adv.given u.text next.to_come
+    ended_by t.key t.max_chunks t.index u.held h.0 adv.given u.text next.to_come
     (subst (λ (x : Known). OpensNext t.key t.max_chunks t.index (left_of x adv.given) u.held u.text (Ok true)) h.1
     adv.opens) filled.1
 
-none-map : {P Q : Type 0} (held : Known) → (P → Q) → IfNone held P → IfNone held Q
-none-map None f p = f p
-none-map (Some h) f p = tt
+none_map : {P Q : Type 0} (held : Known) → (P → Q) → IfNone held P → IfNone held Q
+none_map None f p = f p
+none_map (Some h) f p = tt
 
-some-const : {P : Type 0} (held : Known) → P → IfSome held (λ h. P)
-some-const None p = tt
-some-const (Some h) p = p
+some_const : {P : Type 0} (held : Known) → P → IfSome held (λ h. P)
+some_const None p = tt
+some_const (Some h) p = p
 
-pub opened-more : {s t : OpenerState} (u : OpenerState) {n : ℕ} {from now next : Seen} {a b c : Known}
+pub opened_more : {s t : OpenerState} (u : OpenerState) {n : ℕ} {from now next : Seen} {a b c : Known}
     → Opened s t n from now a b
     → Advances t u (flow now next) (Ok true) → length u.text ≤ chunk_size → Appends b c u.text
     → Opened s u (n + length u.text) from next a c
-opened-more {s} {t} u {n} {from} {now} {next} {a} {b} {c} o adv le put =
-    let h = held-some t u now next (Ok true) true-not-false adv in
+opened_more {s} {t} u {n} {from} {now} {next} {a} {b} {c} o adv le put =
+    let h = held_some t u now next (Ok true) true_not_false adv in
     let up : u.index ≡ t.index + 1 = adv.keeps.1 in
-    let full : length o.front ≡ chunk_size * (t.index - s.index) = at-some _ t.held h.0 h.1 o.full in
+    let full : length o.front ≡ chunk_size * (t.index - s.index) = at_some _ t.held h.0 h.1 o.full in
     let l : length (o.front ++ u.text) ≡ length o.front + length u.text = length-append o.front u.text in
-    let size = gave-len s t u n from now next a b (Ok true) o adv true-not-false in
+    let size = gave_len s t u n from now next a b (Ok true) o adv true_not_false in
     record {
       front = o.front ++ u.text;
       len = omega (arith, o.len, l);
@@ -332,15 +332,15 @@ opened-more {s} {t} u {n} {from} {now} {next} {a} {b} {c} o adv le put =
       bound = omega (arith, o.index);
       full = next_full u.held adv.keeps.3 up full l o.index;
       given = o.given ++ adv.given;
-      gave = gave-all s t u n from now next a b (Ok true) o adv;
+      gave = gave_all s t u n from now next a b (Ok true) o adv;
       size = next_size u.held adv.keeps.3 up size o.index;
-      ended = none-map u.held (some-const s.held) (ended-next t u now next adv);
+      ended = none_map u.held (some_const s.held) (ended_next t u now next adv);
       reads = λ d fits. subst (λ k. (reading_left s.key s.max_chunks s.index
           (left_of s.held ((o.given ++ adv.given) ++ d))
           ≡ before (o.front ++ u.text) (reading_left s.key s.max_chunks k (left_of u.held d)))
           × (s.index + length (pieces_left (left_of s.held ((o.given ++ adv.given) ++ d)))
           ≡ k + length (pieces_left (left_of u.held d)))) (sym up)
-          (next-reads s t u n from now next a b o adv d fits);
+          (next_reads s t u n from now next a b o adv d fits);
     }
   where
     next_full : (held : Known) → IfSome held (λ ahead. (length ahead ≡ 1) × (length u.text ≡ chunk_size))
@@ -358,16 +358,16 @@ opened-more {s} {t} u {n} {from} {now} {next} {a} {b} {c} o adv le put =
     next_size (Some x) k up size le = omega (arith, size, k.0)
 
 -- what was opened, and what comes where the source is not at its end
-reads-on : (s t : OpenerState) (n : ℕ) (from now : Seen) (a b : Known) (o : Opened s t n from now a b) (d : Bytes)
+reads_on : (s t : OpenerState) (n : ℕ) (from now : Seen) (a b : Known) (o : Opened s t n from now a b) (d : Bytes)
     → (IsAtEnd now.to_come → d ≡ []) → IsOpenedIn s t o.front o.given d
-reads-on s t n from now a b o d end = go s.held refl t.held refl
+reads_on s t n from now a b o d end = go s.held refl t.held refl
   where
     go : (first : Known) → s.held ≡ first → (held : Known) → t.held ≡ held → IsOpenedIn s t o.front o.given d
-    go first e (Some h) is = o.reads d (some-fits (d ≡ []) t.held h is)
+    go first e (Some h) is = o.reads d (some_fits (d ≡ []) t.held h is)
     go (Some k) e None is =
         let ended : IfSome s.held (λ ahead. IsAtEnd now.to_come) =
         subst (λ (x : Known). IfNone x (IfSome s.held (λ ahead. IsAtEnd now.to_come))) is o.ended in
-        o.reads d (none-fits (end (at-some (λ ahead. IsAtEnd now.to_come) s.held k e ended)))
+        o.reads d (none-fits (end (at_some (λ ahead. IsAtEnd now.to_come) s.held k e ended)))
       where
         none-fits : d ≡ [] → IfNone t.held (d ≡ [])
         none-fits e = subst (λ (x : Known). IfNone x (d ≡ [])) (sym is) e
@@ -388,16 +388,16 @@ reads-on s t n from now a b o d end = go s.held refl t.held refl
 -- ---- the ends
 
 -- nothing is left
-pub writes-done : {s t : OpenerState} (u : OpenerState) {n : ℕ} {from now next : Seen} {a b : Known} (done : Done)
+pub writes_done : {s t : OpenerState} (u : OpenerState) {n : ℕ} {from now next : Seen} {a b : Known} (done : Done)
     → Opened s t n from now a b → Advances t u (flow now next) (Ok false)
     → done.bytes ≡ n → done.chunks ≡ t.index - s.index → WritesAll s (flow from next) (moved a b) (Ok done)
-writes-done {s} {t} u {n} {from} {now} {next} {a} {b} done o adv bytes chunks = go t.held refl
+writes_done {s} {t} u {n} {from} {now} {next} {a} {b} done o adv bytes chunks = go t.held refl
   where
     writes : t.held ≡ None → (d : Bytes) → (IsAtEnd now.to_come → d ≡ [])
         → WritesReading (reading_left s.key s.max_chunks s.index (left_of s.held (o.given ++ d)))
         (length (pieces_left (left_of s.held (o.given ++ d)))) (moved a b) (Ok done)
     writes is d end =
-        let past = reads-on s t n from now a b o d end in
+        let past = reads_on s t n from now a b o d end in
         let none : left_of t.held d ≡ None = ap (λ (x : Known). left_of x d) is in
         let all = past.0 ∙ ap (λ (x : Known). before o.front (reading_left s.key s.max_chunks t.index x)) none in
         let front : (reading_left s.key s.max_chunks s.index (left_of s.held (o.given ++ d))).front ≡ o.front =
@@ -414,84 +414,84 @@ writes-done {s} {t} u {n} {from} {now} {next} {a} {b} done o adv bytes chunks = 
         let some : OpensNext t.key t.max_chunks t.index (Some (h ++ adv.given)) u.held u.text (Ok false) =
         subst (λ (x : Known). OpensNext t.key t.max_chunks t.index (left_of x adv.given) u.held u.text (Ok false)) is
         adv.opens in
-        absurd (false-not-true some.0)
+        absurd (false_not_true some.0)
     go None is =
         let none : adv.given ≡ [] = subst (λ (x : Known). IsFilled x adv.given next.to_come) is adv.filled in
-        of-still from now next (of-more from now o.given _ o.gave (writes is))
+        of_still from now next (of_more from now o.given _ o.gave (writes is))
         (subst (λ x. Grew (flow now next) x) none adv.gave.grew)
 
 -- a prefix of a reading was written
-part-of : {all : Reading StreamFault} (rest : Reading StreamFault) (front part : Bytes) (a b c : Known)
+part_of : {all : Reading StreamFault} (rest : Reading StreamFault) (front part : Bytes) (a b c : Known)
     → all ≡ before front rest
     → Appends a b front → (more : Bytes) → rest.front ≡ part ++ more → WritesPart (moved b c) part
     → WritesPart (moved a c) all.front
-part-of {all} rest front part a b c is put more cut wrote =
+part_of {all} rest front part a b c is put more cut wrote =
     done_part a b c all.front rest.front part more
     (record { prefix = front; took = put; is = ap (λ (r : Reading StreamFault). r.front) is }) cut wrote
 
 -- a read failed
-pub writes-read : (s t : OpenerState) (n : ℕ) (from now next : Seen) (a b : Known) → Opened s t n from now a b
+pub writes_read : (s t : OpenerState) (n : ℕ) (from now next : Seen) (a b : Known) → Opened s t n from now a b
     → Loses t.held (flow now next) → WritesAll s (flow from next) (moved a b) (Err Read)
-writes-read s t n from now next a b o lost = go t.held refl
+writes_read s t n from now next a b o lost = go t.held refl
   where
     begins : (h : Bytes) → t.held ≡ Some h → (d : Bytes)
         → WritesPart (moved a b) (reading_left s.key s.max_chunks s.index (left_of s.held (o.given ++ d))).front
     begins h is d =
-        let past = o.reads d (some-fits (d ≡ []) t.held h is) in
-        part-of (reading_left s.key s.max_chunks t.index (left_of t.held d)) o.front [] a b b past.0
+        let past = o.reads d (some_fits (d ≡ []) t.held h is) in
+        part_of (reading_left s.key s.max_chunks t.index (left_of t.held d)) o.front [] a b b past.0
         o.written _ refl (0, Appends-nil b)
 
     go : (held : Known) → t.held ≡ held → WritesAll s (flow from next) (moved a b) (Err Read)
     go None is = absurd (subst (λ (x : Known). Loses x (flow now next)) is lost)
     go (Some h) is =
-        of-then from now next o.given _ _ o.gave
-        (of-any now next
+        of_then from now next o.given _ _ o.gave
+        (of_any now next
         (λ d. WritesPart (moved a b) (reading_left s.key s.max_chunks s.index (left_of s.held (o.given ++ d))).front)
         (subst (λ (x : Known). Loses x (flow now next)) is lost) (begins h is)) (λ d part. part)
 
 -- a write failed
-pub writes-write : {s t : OpenerState} (u : OpenerState) {n : ℕ} {from now next : Seen} {a b : Known} (c : Known)
+pub writes_write : {s t : OpenerState} (u : OpenerState) {n : ℕ} {from now next : Seen} {a b : Known} (c : Known)
     → Opened s t n from now a b
     → Advances t u (flow now next) (Ok true) → WritesPart (moved b c) u.text
     → WritesAll s (flow from next) (moved a c) (Err Write)
-writes-write {s} {t} u {n} {from} {now} {next} {a} {b} c o adv part =
-    of-more from next (o.given ++ adv.given) _ (gave-all s t u n from now next a b (Ok true) o adv) (λ d end.
-    let past = next-reads s t u n from now next a b o adv d (none-map u.held end (ended-next t u now next adv)) in
+writes_write {s} {t} u {n} {from} {now} {next} {a} {b} c o adv part =
+    of_more from next (o.given ++ adv.given) _ (gave_all s t u n from now next a b (Ok true) o adv) (λ d end.
+    let past = next_reads s t u n from now next a b o adv d (none_map u.held end (ended_next t u now next adv)) in
     let rest = reading_left s.key s.max_chunks (t.index + 1) (left_of u.held d) in
     let all = past.0 ∙ ap (λ f. record { front = f; fault = rest.fault }) (append_assoc o.front u.text rest.front) in
-    part-of (before u.text rest) o.front u.text a b c all o.written rest.front refl part)
+    part_of (before u.text rest) o.front u.text a b c all o.written rest.front refl part)
 
-pub ends-write : {s t : OpenerState} (u : OpenerState) {n : ℕ} {from now next : Seen} {a b c : Known}
+pub ends_write : {s t : OpenerState} (u : OpenerState) {n : ℕ} {from now next : Seen} {a b c : Known}
     → Opened s t n from now a b
     → Advances t u (flow now next) (Ok true) → WritesPart (moved b c) u.text
     → EndsAt s.max_chunks 0 (flow from next) (moved a c) Write
-ends-write {s} {t} u {n} {from} {now} {next} {a} {b} {c} o adv part =
-    let h = held-some t u now next (Ok true) true-not-false adv in
-    let full : length o.front ≡ chunk_size * (t.index - s.index) = at-some _ t.held h.0 h.1 o.full in
-    let len = gave-len s t u n from now next a b (Ok true) o adv true-not-false in
+ends_write {s} {t} u {n} {from} {now} {next} {a} {b} {c} o adv part =
+    let h = held_some t u now next (Ok true) true_not_false adv in
+    let full : length o.front ≡ chunk_size * (t.index - s.index) = at_some _ t.held h.0 h.1 o.full in
+    let len = gave_len s t u n from now next a b (Ok true) o adv true_not_false in
     record {
       piece = t.index - s.index;
       text = o.front ++ take part.0 u.text;
       written = Appends-trans a b c o.front (take part.0 u.text) o.written part.1;
       at = inl (refl, omega (arith, length-append o.front (take part.0 u.text)));
-      gave = (o.given ++ adv.given, gave-all s t u n from now next a b (Ok true) o adv, omega (arith, len));
+      gave = (o.given ++ adv.given, gave_all s t u n from now next a b (Ok true) o adv, omega (arith, len));
     }
 
 -- a piece's fault
-stops-writes : (reading : Reading StreamFault) (n max i : ℕ) (a b : Known) (fault : StreamFault) → IsAtPiece max i fault
+stops_writes : (reading : Reading StreamFault) (n max i : ℕ) (a b : Known) (fault : StreamFault) → IsAtPiece max i fault
     → reading.fault ≡ Some fault → Appends a b reading.front
     → WritesReading reading n (moved a b) (Err fault)
-stops-writes reading n max i a b (ChunkShort j) at f w = (f, w)
-stops-writes reading n max i a b (EmptyFinal j) at f w = (f, w)
-stops-writes reading n max i a b (BadChunk j) at f w = (f, w)
-stops-writes reading n max i a b TooManyChunks at f w = (f, w)
-stops-writes reading n max i a b _ at f w = absurd at
+stops_writes reading n max i a b (ChunkShort j) at f w = (f, w)
+stops_writes reading n max i a b (EmptyFinal j) at f w = (f, w)
+stops_writes reading n max i a b (BadChunk j) at f w = (f, w)
+stops_writes reading n max i a b TooManyChunks at f w = (f, w)
+stops_writes reading n max i a b _ at f w = absurd at
 
-pub writes-stop : (s t u : OpenerState) (n : ℕ) (from now next : Seen) (a b : Known) (fault : StreamFault)
+pub writes_stop : (s t u : OpenerState) (n : ℕ) (from now next : Seen) (a b : Known) (fault : StreamFault)
     → Opened s t n from now a b → Advances t u (flow now next) (Err fault)
     → WritesAll s (flow from next) (moved a b) (Err fault)
-writes-stop s t u n from now next a b fault o adv =
-    let h = held-some t u now next (Err fault) (err-not-ok fault false) adv in
+writes_stop s t u n from now next a b fault o adv =
+    let h = held_some t u now next (Err fault) (err_not_ok fault false) adv in
     let g : Bytes = adv.given in
     let filled : IsFilled (Some h.0) g next.to_come =
     subst (λ (x : Known). IsFilled x g next.to_come) h.1 adv.filled in
@@ -499,8 +499,8 @@ writes-stop s t u n from now next a b fault o adv =
     under t s.key s.max_chunks (Some (h.0 ++ g)) u.held u.text (Err fault) o.key o.max_chunks
     (subst (λ (x : Known). OpensNext t.key t.max_chunks t.index (left_of x g) u.held u.text (Err fault)) h.1 adv.opens)
     in
-    of-more from next (o.given ++ g) _ (gave-all s t u n from now next a b (Err fault) o adv) (λ d end.
-    let past = o.reads (g ++ d) (some-fits (g ++ d ≡ []) t.held h.0 h.1) in
+    of_more from next (o.given ++ g) _ (gave_all s t u n from now next a b (Err fault) o adv) (λ d end.
+    let past = o.reads (g ++ d) (some_fits (g ++ d ≡ []) t.held h.0 h.1) in
     let same : o.given ++ (g ++ d) ≡ (o.given ++ g) ++ d = sym (append_assoc o.given g d) in
     let stop = stops-on h.0 g d (at-end h.0 g d filled.1 end) met in
     let left : left_of t.held (g ++ d) ≡ Some (h.0 ++ (g ++ d)) = ap (λ (x : Known). left_of x (g ++ d)) h.1 in
@@ -508,7 +508,7 @@ writes-stop s t u n from now next a b fault o adv =
     ∙ ap (λ (x : Known). before o.front (reading_left s.key s.max_chunks t.index x)) left ∙ ap (before o.front) stop in
     let front : (reading_left s.key s.max_chunks s.index (left_of s.held ((o.given ++ g) ++ d))).front ≡ o.front =
     ap (λ (r : Reading StreamFault). r.front) all ∙ append-nil o.front in
-    stops-writes (reading_left s.key s.max_chunks s.index (left_of s.held ((o.given ++ g) ++ d)))
+    stops_writes (reading_left s.key s.max_chunks s.index (left_of s.held ((o.given ++ g) ++ d)))
     (length (pieces_left (left_of s.held ((o.given ++ g) ++ d)))) t.max_chunks t.index a b fault adv.keeps.2
     (ap (λ (r : Reading StreamFault). r.fault) all) (subst (Appends a b) (sym front) o.written))
   where
@@ -523,21 +523,21 @@ writes-stop s t u n from now next a b fault o adv =
     stops-on : (h g d : Bytes) → (sealed_chunk_size < length (h ++ g)) ⊎ (d ≡ [])
         → first_outcome s.key s.max_chunks t.index (h ++ g) ≡ Err fault
         → reading_left s.key s.max_chunks t.index (Some (h ++ (g ++ d))) ≡ stops fault
-    stops-on h g d full met = first-err s.key s.max_chunks t.index (h ++ (g ++ d)) fault
+    stops-on h g d full met = first_err s.key s.max_chunks t.index (h ++ (g ++ d)) fault
         (ap (first_outcome s.key s.max_chunks t.index) (sym (append_assoc h g d))
-        ∙ first-on s.key s.max_chunks t.index (h ++ g) d full ∙ met)
+        ∙ first_on s.key s.max_chunks t.index (h ++ g) d full ∙ met)
 
-pub ends-stop : (s t u : OpenerState) (n : ℕ) (from now next : Seen) (a b : Known) (fault : StreamFault)
+pub ends_stop : (s t u : OpenerState) (n : ℕ) (from now next : Seen) (a b : Known) (fault : StreamFault)
     → Opened s t n from now a b → Advances t u (flow now next) (Err fault)
     → EndsAt s.max_chunks 0 (flow from next) (moved a b) fault
-ends-stop s t u n from now next a b fault o adv =
-    let len = gave-len s t u n from now next a b (Err fault) o adv (err-not-ok fault false) in
+ends_stop s t u n from now next a b fault o adv =
+    let len = gave_len s t u n from now next a b (Err fault) o adv (err_not_ok fault false) in
     record {
       piece = t.index;
       text = o.front;
       written = o.written;
       at = inr (subst (λ m. IsAtPiece m t.index fault) o.max_chunks adv.keeps.2);
-      gave = (o.given ++ adv.given, gave-all s t u n from now next a b (Err fault) o adv, omega (arith, len));
+      gave = (o.given ++ adv.given, gave_all s t u n from now next a b (Err fault) o adv, omega (arith, len));
     }
 
 -- of the clause of a call what it says where no fault was kept, and no read failed
@@ -547,47 +547,47 @@ pub advanced : {r : Result Bool StreamFault} (t u : OpenerState) (now next : See
 advanced {r} t u now next none h = subst
     (λ (x : Option StreamFault). IfNone x (IsErrOf r Read ⊎ Advances t u (flow now next) r)) none h
 
-same-fault : (fault : StreamFault) → IsErrOf {T = Bool} (Err fault) Read → fault ≡ Read
-same-fault fault e = cc
+same_fault : (fault : StreamFault) → IsErrOf {T = Bool} (Err fault) Read → fault ≡ Read
+same_fault fault e = cc
 
-pub advanced-ok : (some : Bool) (t u : OpenerState) {now next : Seen} → t.fault ≡ None
+pub advanced_ok : (some : Bool) (t u : OpenerState) {now next : Seen} → t.fault ≡ None
     → IfNone t.fault (IsErrOf (Ok some) Read ⊎ Advances t u (flow now next) (Ok some))
     → Advances t u (flow now next) (Ok some)
-advanced-ok some t u {now} {next} none h = go (advanced t u now next none h)
+advanced_ok some t u {now} {next} none h = go (advanced t u now next none h)
   where
     go : IsErrOf (Ok some) Read ⊎ Advances t u (flow now next) (Ok some) → Advances t u (flow now next) (Ok some)
-    go (inl e) = absurd (ok-not-err Read some e)
+    go (inl e) = absurd (ok_not_err Read some e)
     go (inr a) = a
 
 -- the fault of a call, of a read or of a piece
-pub failed-writes : {s t : OpenerState} (u : OpenerState) {n : ℕ} {from now next : Seen} {a b : Known}
+pub failed_writes : {s t : OpenerState} (u : OpenerState) {n : ℕ} {from now next : Seen} {a b : Known}
     (fault : StreamFault) → Opened s t n from now a b
     → IfNone t.fault (IsErrOf {T = Bool} (Err fault) Read ⊎ Advances t u (flow now next) (Err fault))
     → IfNone t.fault (Loses t.held (flow now next)) → WritesAll s (flow from next) (moved a b) (Err fault)
-failed-writes {s} {t} u {n} {from} {now} {next} {a} {b} fault o h lost = go (advanced t u now next o.none h)
+failed_writes {s} {t} u {n} {from} {now} {next} {a} {b} fault o h lost = go (advanced t u now next o.none h)
   where
     go : IsErrOf {T = Bool} (Err fault) Read ⊎ Advances t u (flow now next) (Err fault)
         → WritesAll s (flow from next) (moved a b) (Err fault)
-    go (inl e) = subst (λ f. WritesAll s (flow from next) (moved a b) (Err f)) (sym (same-fault fault e))
-        (writes-read s t n from now next a b o
+    go (inl e) = subst (λ f. WritesAll s (flow from next) (moved a b) (Err f)) (sym (same_fault fault e))
+        (writes_read s t n from now next a b o
         (subst (λ (x : Option StreamFault). IfNone x (Loses t.held (flow now next))) o.none lost))
-    go (inr adv) = writes-stop s t u n from now next a b fault o adv
+    go (inr adv) = writes_stop s t u n from now next a b fault o adv
 
-pub failed-ends : {s t : OpenerState} (u : OpenerState) {n : ℕ} {from now next : Seen} {a b : Known}
+pub failed_ends : {s t : OpenerState} (u : OpenerState) {n : ℕ} {from now next : Seen} {a b : Known}
     (fault : StreamFault) → Opened s t n from now a b
     → IfNone t.fault (IsErrOf {T = Bool} (Err fault) Read ⊎ Advances t u (flow now next) (Err fault))
     → (fault ≡ Read) ⊎ EndsAt s.max_chunks 0 (flow from next) (moved a b) fault
-failed-ends {s} {t} u {n} {from} {now} {next} {a} {b} fault o h = go (advanced t u now next o.none h)
+failed_ends {s} {t} u {n} {from} {now} {next} {a} {b} fault o h = go (advanced t u now next o.none h)
   where
     go : IsErrOf {T = Bool} (Err fault) Read ⊎ Advances t u (flow now next) (Err fault)
         → (fault ≡ Read) ⊎ EndsAt s.max_chunks 0 (flow from next) (moved a b) fault
-    go (inl e) = inl (same-fault fault e)
-    go (inr adv) = inr (ends-stop s t u n from now next a b fault o adv)
+    go (inl e) = inl (same_fault fault e)
+    go (inr adv) = inr (ends_stop s t u n from now next a b fault o adv)
 
 -- the count of bytes has room for one more text
-pub opened-room : {s t : OpenerState} (u : OpenerState) {n : ℕ} {from now next : Seen} {a b : Known} (len : ℕ)
+pub opened_room : {s t : OpenerState} (u : OpenerState) {n : ℕ} {from now next : Seen} {a b : Known} (len : ℕ)
     → Opened s t n from now a b
     → Advances t u (flow now next) (Ok true) → len ≤ chunk_size → Fits w128 (n + len)
-opened-room {t} u len o adv le =
+opened_room {t} u len o adv le =
     let within : t.index < t.max_chunks = adv.keeps.2 refl in
     omega (arith, o.len, o.bound, adv.small)

@@ -8,12 +8,12 @@ use Rattle.age_stream.specs.declared.fault.StreamFault.{StreamFault}
 use Rattle.age_stream.specs.Opening.{GivesText}
 use Rattle.age_stream.specs.Reading.{Reading, after_first, first_outcome, outcome, reading_from, stops}
 use Rattle.age_stream.specs.Sizes.{chunk_size, sealed_chunk_size}
-use Rattle.age_stream.proofs.RangeLemmas.{put-prefix, put-rest, rest-on}
-use Rattle.age_stream.proofs.WritesAllLemmas.{before, first-err, first-ok}
+use Rattle.age_stream.proofs.RangeLemmas.{prefix_put, put_rest, rest_on}
+use Rattle.age_stream.proofs.WritesAllLemmas.{before, first_err, first_ok}
 use Rattle.age_file.specs.declared.fault.Fault.{Fault}
 use Rattle.age_file.specs.declared.fault.Fault.TheVariants.{OutOfMemory}
 use Rattle.age_file.specs.Verdict.{Answering, IsVerdict, judged, stream_fault}
-use Rattle.age_file.proofs.DecryptLemmas.{err-err}
+use Rattle.age_file.proofs.DecryptLemmas.{err_err}
 use Rattle.agefile.specs.declared.report.Report.{Report}
 use Rattle.agefile.specs.declared.start.Start.{Start}
 use Rattle.agefile.specs.Codes.{code_of, fault_code}
@@ -23,7 +23,7 @@ use Rattle.agefile.specs.Limits.{limits}
 use Rattle.agefile.specs.Report.{Refuses, report_of}
 use Rattle.agefile.specs.Sizes.{opened_len}
 use Rattle.agefile.specs.Start.{FindsStart}
-use Rattle.agefile.proofs.StepsReadLemmas.{IsVerdictFrom, verdict-from}
+use Rattle.agefile.proofs.StepsReadLemmas.{IsVerdictFrom, verdict_from}
 
 -- ---- one chunk
 
@@ -142,7 +142,7 @@ read_stops {key} {sealed} {old} out at len number fault mid {new} r gives joined
     let f = faulty (first_outcome key limits.max_chunks number (drop at sealed)) fault (drop len out) mid gives in
     let same : new ≡ out = joined ∙ ap (λ m. take len out ++ m) f.1 ∙ take-append-drop len out in
     let all : reading_from key limits.max_chunks 0 sealed ≡ before (take len out) (stops fault) =
-    r.reads ∙ ap (before (take len out)) (first-err key limits.max_chunks number (drop at sealed) fault f.0) in
+    r.reads ∙ ap (before (take len out)) (first_err key limits.max_chunks number (drop at sealed) fault f.0) in
     subst (λ x. GivesReading (reading_from key limits.max_chunks 0 sealed) old x len (Some fault)) (sym same)
     (given (reading_from key limits.max_chunks 0 sealed) old out len (Some fault)
     (omega (arith, text_fits key sealed old out at len number r))
@@ -165,8 +165,8 @@ put old out mid new text len n fits count is joined rest =
     ∙ ap (λ m. take len out ++ m) (is ∙ ap (λ d. text ++ d) later)
     ∙ sym (append_assoc (take len out) text (drop (len + n) out)) in
     record {
-      front = put-prefix out text new len n (omega (arith, fits)) (sym count) all;
-      rest = rest-on out new old len n rest (put-rest out text new len n (omega (arith, fits)) (sym count) all);
+      front = prefix_put out text new len n (omega (arith, fits)) (sym count) all;
+      rest = rest_on out new old len n rest (put_rest out text new len n (omega (arith, fits)) (sym count) all);
       size = omega (
         arith,
         fits,
@@ -193,7 +193,7 @@ read_ends {key} {sealed} {old} out at len number n mid {new} r gives joined last
     sym (cond-true (nat_le (length (drop at sealed)) sealed_chunk_size) None
     (Some (drop sealed_chunk_size (drop at sealed)))
     (le-leb _ sealed_chunk_size last)) in
-    let f = first-ok key limits.max_chunks number (drop at sealed) o.0 None o.1 none in
+    let f = first_ok key limits.max_chunks number (drop at sealed) o.0 None o.1 none in
     let all = r.reads ∙ ap (before (take len out)) f.reads in
     given (reading_from key limits.max_chunks 0 sealed) old new (len + n) None (omega (arith, p.fits, p.size))
     (ap (λ (x : Reading StreamFault). x.front) all ∙ ap (λ t. take len out ++ t) (append-nil o.0) ∙ sym p.front)
@@ -214,7 +214,7 @@ read_more {key} {sealed} {old} out at len number n mid {new} r gives joined more
     let some : Some left ≡ after_first (drop at sealed) =
     sym (cond-false (nat_le (length (drop at sealed)) sealed_chunk_size) None (Some left)
     (lt-leb _ sealed_chunk_size more)) in
-    let f = first-ok key limits.max_chunks number (drop at sealed) o.0 (Some left) o.1 some in
+    let f = first_ok key limits.max_chunks number (drop at sealed) o.0 (Some left) o.1 some in
     let tail : Reading StreamFault = reading_from key limits.max_chunks (number + 1) left in
     record {
       place = omega (arith, r.place);
@@ -237,7 +237,7 @@ pub decrypts_none : (answers : Answering) (b old new : Bytes) (report : Report) 
     → FindsStart answers b (Err fault) → Refuses fault old new report code
     → Decrypts answers b old new report code
 decrypts_none answers b old new report code fault (inl memory) refuses =
-    let same : fault ≡ OutOfMemory = err-err {A = Start} fault OutOfMemory memory in
+    let same : fault ≡ OutOfMemory = err_err {A = Start} fault OutOfMemory memory in
     inl (record {
       returned = refuses.returned ∙ ap fault_code same;
       reported = refuses.reported
@@ -291,7 +291,7 @@ decrypts_opened answers {b} rest old new {report} {code} len start fault
     reported returned =
     let v : Reading Fault = judged limits answers b header in
     let judged_so : IsVerdict limits answers b v = record { header = header; header_verdict = verdict; is = refl } in
-    let from : IsVerdictFrom b v (Ok start) = verdict-from answers b (Ok start) v (header, verdict, is) judged_so in
+    let from : IsVerdictFrom b v (Ok start) = verdict_from answers b (Ok start) v (header, verdict, is) judged_so in
     let mine : GivesReading (reading_from start.key limits.max_chunks 0 (drop start.first b)) old new len fault =
     subst (λ r. GivesReading (reading_from start.key limits.max_chunks 0 r) old new len fault) back gives in
     let there : opened_len (length b - start.first) ≤ length old =

@@ -49,15 +49,15 @@ whole_verdict b (Err header.Read) h = absurd h
 whole_verdict b (Err header.Memory) h = absurd h
 
 -- sixteen bytes after the header
-nonce-front : (b : Bytes) (n : ℕ) → n ≤ limits.max_header → take 16 (drop n (take front_size b)) ≡ take 16 (drop n b)
-nonce-front b n le =
+nonce_front : (b : Bytes) (n : ℕ) → n ≤ limits.max_header → take 16 (drop n (take front_size b)) ≡ take 16 (drop n b)
+nonce_front b n le =
     let whole : n + (front_size - n) ≡ front_size = omega arith in
     ap (λ k. take 16 (drop n (take k b))) (sym whole) ∙ ap (take 16) (drop-take n (front_size - n) b)
     ∙ take-take 16 (front_size - n) (drop n b) (omega arith)
 
-nonce-there : (b : Bytes) (n : ℕ) → n ≤ limits.max_header
+nonce_there : (b : Bytes) (n : ℕ) → n ≤ limits.max_header
     → nat_lt (length (drop n (take front_size b))) 16 ≡ nat_lt (length (drop n b)) 16
-nonce-there b n le =
+nonce_there b n le =
     let front : length (drop n (take front_size b)) ≡ length (take front_size b) - n =
     length-drop n (take front_size b) in
     let all : length (drop n b) ≡ length b - n = length-drop n b in
@@ -66,20 +66,20 @@ nonce-there b n le =
       | inr ge ↦ le-ltb _ 16 (omega (arith, ge, front, all, length-take front_size b)) ∙ sym (le-ltb _ 16 ge)
     ]
 
-start-under-front : (b : Bytes) (n : ℕ) (key : Result FileKey Fault) → n ≤ limits.max_header
+start_under_front : (b : Bytes) (n : ℕ) (key : Result FileKey Fault) → n ≤ limits.max_header
     → start_under n (drop n (take front_size b)) key ≡ start_under n (drop n b) key
-start-under-front b n (Err fault) le = refl
-start-under-front b n (Ok k) le =
+start_under_front b n (Err fault) le = refl
+start_under_front b n (Ok k) le =
     ap (λ t. cond t (Err NonceTruncated)
-    (Ok (record { first = n + 16; key = payload_key k (take 16 (drop n (take front_size b))) }))) (nonce-there b n le)
+    (Ok (record { first = n + 16; key = payload_key k (take 16 (drop n (take front_size b))) }))) (nonce_there b n le)
     ∙ ap (λ x. cond (nat_lt (length (drop n b)) 16) (Err NonceTruncated)
-    (Ok (record { first = n + 16; key = payload_key k x }))) (nonce-front b n le)
+    (Ok (record { first = n + 16; key = payload_key k x }))) (nonce_front b n le)
 
-pub whole-start : (answers : Answering) (b : Bytes) (start : Result Start Fault)
+pub whole_start : (answers : Answering) (b : Bytes) (start : Result Start Fault)
     → IsStart answers (take front_size b) start
     → IsStart answers b start
-whole-start answers b start (Err e, verdict, is) = (Err e, whole_verdict b (Err e) verdict, is)
-whole-start answers b start (Ok found, verdict, is) =
+whole_start answers b start (Err e, verdict, is) = (Err e, whole_verdict b (Err e) verdict, is)
+whole_start answers b start (Ok found, verdict, is) =
     let there = whole_verdict b (Ok found) verdict in
     let fits : length found.text ≤ limits.max_header = (begins_found b limits.max_header found there).fits in
-    (Ok found, there, is ∙ start-under-front b (length found.text) (unlocked answers (parts_of found)) fits)
+    (Ok found, there, is ∙ start_under_front b (length found.text) (unlocked answers (parts_of found)) fits)

@@ -19,12 +19,12 @@ use Rattle.age_file.specs.declared.fault.Fault.{Fault}
 use Rattle.age_file.specs.declared.fault.Fault.TheVariants.{BadLine, MixedPassphrase, OutOfMemory}
 use Rattle.age_file.specs.AgeFile.{is_mixed}
 use Rattle.age_file.specs.NewFile.{IsHeading}
-use Rattle.age_file.proofs.DecryptLemmas.{err-err}
+use Rattle.age_file.proofs.DecryptLemmas.{err_err}
 use Rattle.agefile.specs.Heading.{FindsMac, HasStanzas, IsMac, MakesHeader, framed, given, in_text, lines_in, probe, stanzas_in, unless_mixed}
 use Rattle.agefile.specs.Inspect.{HeaderOf}
 use Rattle.agefile.specs.Limits.{limits}
 use Rattle.age_recipient.proofs.HeaderSizeLemmas.{b64_size}
-use Rattle.agefile.proofs.UnlockLemmas.{Fronts, ok-ok}
+use Rattle.agefile.proofs.UnlockLemmas.{Fronts, ok_ok}
 
 -- ---- the MAC
 
@@ -91,18 +91,18 @@ none_of : (text : Bytes) (k : FileKey) (fault : Fault) (verdict : Result Found H
     → IsMac k s (Err fault) → MakesHeader text k (Err fault)
 none_of text k fault verdict (Ok ss) some h eq is = absurd (cc)
 none_of text k fault verdict (Err f) some h eq is =
-    inr (Err f, inr (some, (verdict, h, eq)), ap Err (err-err {A = Bytes} fault f is))
+    inr (Err f, inr (some, (verdict, h, eq)), ap Err (err_err {A = Bytes} fault f is))
 
 pub header_none : {text : Bytes} {k : FileKey} (fault : Fault) → text ≢ [] → FindsMac text k (Err fault)
     → MakesHeader text k (Err fault)
-header_none fault some (inl memory) = inl (ap Err (err-err {A = Bytes} fault OutOfMemory memory))
+header_none fault some (inl memory) = inl (ap Err (err_err {A = Bytes} fault OutOfMemory memory))
 header_none {text} {k} fault some (inr (verdict, h, is)) =
     none_of text k fault verdict (unless_mixed (stanzas_in text verdict)) some h refl is
 
 unmixed : (b : Bool) (xs ss : List StanzaParts)
     → ◌≡◌ {A = Result (List StanzaParts) Fault} (cond b (Err MixedPassphrase) (Ok xs)) (Ok ss) → (b ≡ false) × (xs ≡ ss)
 unmixed true xs ss e = absurd (cc)
-unmixed false xs ss e = (refl, ok-ok xs ss e)
+unmixed false xs ss e = (refl, ok_ok xs ss e)
 
 -- what is known of a text whose probe was read to its end
 pub record Reads (text : Bytes) (ss : List StanzaParts) : Type 0 where
@@ -211,7 +211,7 @@ made_of text mac characters k made verdict (Ok ss) some h eq is spelled bytes le
       Ok ss,
       inr (some, (verdict, h, eq)),
       subst (IsHeading limits k (given ss) ss) (sym spelled)
-          (heading_of text mac characters k ss (reads text verdict ss h eq) (ok-ok mac (header_mac k.0 ss) is) bytes
+          (heading_of text mac characters k ss (reads text verdict ss h eq) (ok_ok mac (header_mac k.0 ss) is) bytes
           len),
     )
 

@@ -19,11 +19,11 @@ use Rattle.agefile.specs.Opening.{Opens}
 use Rattle.agefile.specs.Part as part
 use Rattle.agefile.specs.Payload.{OpensNext, may_open}
 use Rattle.agefile.specs.Report.{report_of}
-use Rattle.agefile.proofs.FrontLemmas.{whole-start}
+use Rattle.agefile.proofs.FrontLemmas.{whole_start}
 use Rattle.agefile.proofs.GroupLemmas.{fitting}
-use Rattle.agefile.proofs.OpensRunLemmas.{some-code}
+use Rattle.agefile.proofs.OpensRunLemmas.{some_code}
 use Rattle.agefile.proofs.StartLemmas.{opened_start}
-use Rattle.agefile.proofs.StepsReadLemmas.{IsVerdictFrom, verdict-from}
+use Rattle.agefile.proofs.StepsReadLemmas.{IsVerdictFrom, verdict_from}
 
 -- ---- one piece
 
@@ -41,7 +41,7 @@ opened_ok chunk after report (Ok text) (zero_is, reported, buffer) =
       front = ap (λ (x : Report). take x.len after) reported
           ∙ ap (take (length text)) buffer ∙ take-append_seam text _;
     }
-opened_ok chunk after report (Err fault) refused = absurd (some-code (stream_fault fault) (sym refused.returned))
+opened_ok chunk after report (Err fault) refused = absurd (some_code (stream_fault fault) (sym refused.returned))
 
 payload_step : (p new : Payload) (piece after : Bytes) (last : Bool) (report : Report)
     → OpensNext p new piece after last report 0
@@ -168,7 +168,7 @@ by_payload : (answers : Answering) (b : Bytes) (p : Payload) (report : Report) (
 by_payload answers b p report v opens h =
     let (start, is, at) = opened_start answers (take front_size b) p report opens in
     let from : IsVerdictFrom b v (Ok start) =
-    verdict-from answers b (Ok start) v (whole-start answers b (Ok start) is) h in
+    verdict_from answers b (Ok start) v (whole_start answers b (Ok start) is) h in
     let of : Payload → Report → Reading Fault = λ q r. record {
       front = (reading_from q.key limits.max_chunks q.number (drop r.len b)).front;
       fault = option_map stream_fault (reading_from q.key limits.max_chunks q.number (drop r.len b)).fault;

@@ -20,11 +20,11 @@ use Rattle.agefile.specs.declared.unlocking.Unlocked.{Unlocked}
 use Rattle.agefile.specs.Limits.{limits}
 use Rattle.agefile.specs.Opening.{by_file_key}
 use Rattle.agefile.specs.Unlock.{Unlocks, key_of}
-use Rattle.agefile.proofs.OpensRunLemmas.{some-code}
-use Rattle.agefile.proofs.UnlockLemmas.{key_within, ok-ok}
+use Rattle.agefile.proofs.OpensRunLemmas.{some_code}
+use Rattle.agefile.proofs.UnlockLemmas.{key_within, ok_ok}
 
 same_key : (t : Bool) (j k : FileKey) → ◌≡◌ {A = Result FileKey Fault} (cond t (Ok j) (Err BadMac)) (Ok k) → j ≡ k
-same_key true j k e = ok-ok j k e
+same_key true j k e = ok_ok j k e
 same_key false j k e = absurd (cc)
 
 -- where a key was chosen and its MAC verified, it is so of this key
@@ -65,7 +65,7 @@ opens_header answers b new found v (Ok head) verdict is same h =
 pub opens_unlocked : (answers : Answering) (b old new : Bytes) (report : Report) (v : Reading Fault)
     → Unlocks answers b old new report 0 → IsVerdict limits answers b v
     → IsVerdict limits (by_file_key new) b v
-opens_unlocked answers b old new report v (Err fault, is, gives) h = absurd (some-code fault (sym gives.returned))
+opens_unlocked answers b old new report v (Err fault, is, gives) h = absurd (some_code fault (sym gives.returned))
 opens_unlocked answers b old new report v (Ok found, inl memory, gives) h = absurd (cc)
 opens_unlocked answers b old new report v (Ok found, inr (header, verdict, is), gives) h =
     opens_header answers b new found v header verdict is gives.2 h

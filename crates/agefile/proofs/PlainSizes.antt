@@ -12,8 +12,8 @@ use Rattle.age_stream.specs.declared.fault.StreamFault.TheVariants.{NonceTruncat
 use Rattle.age_stream.specs.Payload.{is_end, payload_key, pieces, chunk_nonce}
 use Rattle.age_stream.specs.Reading.{Reading, front, outcome, outcomes, payload_reading, reading_from, stops}
 use Rattle.age_stream.specs.Sizes.{chunk_size, sealed_chunk_size}
-use Rattle.age_stream.proofs.CuttingLemmas.{AtMost, cut-at_most, concat-cut_into}
-use Rattle.age_stream.proofs.PayloadLemmas.{outcome-opens, result_cases}
+use Rattle.age_stream.proofs.CuttingLemmas.{AtMost, cut_at_most, concat-cut_into}
+use Rattle.age_stream.proofs.PayloadLemmas.{outcome_opens, result_cases}
 use Rattle.age_file.specs.declared.fault.Fault.{Fault}
 use Rattle.age_file.specs.Verdict.{Answering, IsVerdict, judged, read_under}
 use Rattle.agefile.specs.Limits.{limits}
@@ -41,7 +41,7 @@ front_comes key max i (c ∷ more) all = elim (result_cases (outcome key max i (
       let rest = front_comes key max (i + 1) more all.1 in
       let size : length c ≤ sealed_chunk_size = all.0 in
       let len : length c ≡ length some.0 + 16 =
-      ap length (outcome-opens key max i (is_end more) c some.0 some.1).sealed_so
+      ap length (outcome_opens key max i (is_end more) c some.0 some.1).sealed_so
       ∙ length-sealed key (chunk_nonce i (is_end more)) [] some.0 in
       let low : length (front (outcomes key max (i + 1) more)) ≤ chunk_size * rest.0 = rest.1 in
       let high : length (front (outcomes key max (i + 1) more)) + 16 * rest.0 ≤ length (concat more) = rest.2 in
@@ -69,7 +69,7 @@ payload_at_most k max most text le =
     let join : length (concat (pieces rest)) ≡ length rest = ap length (concat-cut_into sealed_chunk_size [] rest) in
     let size : length rest ≡ length text - 16 = length-drop 16 text in
     let comes = front_comes (payload_key k (take 16 text)) max 0 (pieces rest)
-    (small (pieces rest) (cut-at_most sealed_chunk_size rest (omega arith))) in
+    (small (pieces rest) (cut_at_most sealed_chunk_size rest (omega arith))) in
     let opens : length (reading_from (payload_key k (take 16 text)) max 0 rest).front ≤ opened_len most =
     comes_at_most _ (length (concat (pieces rest))) most comes (omega arith) in
     elim (nat_lt (length text) 16) as (λ t. length

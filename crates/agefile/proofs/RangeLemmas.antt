@@ -7,9 +7,9 @@ use Rattle.age_stream.specs.Payload.{pieces, chunk_nonce}
 use Rattle.age_stream.specs.Reading.{opened_at, outcome}
 use Rattle.age_stream.specs.Slice.{IsSlice, last_outcome, opening, plain_len}
 use Rattle.age_stream.specs.Sizes.{chunk_size, sealed_chunk_size}
-use Rattle.age_stream.proofs.JudgesLastLemmas.{last-is, piece-count, some-or-none}
-use Rattle.age_stream.proofs.PayloadLemmas.{outcome-opens}
-use Rattle.age_stream.proofs.SliceLemmas.{opening-at, plain-count, slice-on}
+use Rattle.age_stream.proofs.JudgesLastLemmas.{last_is, piece_count, some_or_none}
+use Rattle.age_stream.proofs.PayloadLemmas.{outcome_opens}
+use Rattle.age_stream.proofs.SliceLemmas.{opening_at, plain_count, slice_on}
 use Rattle.agefile.specs.declared.ranges.Ranges.{Ranges}
 use Rattle.agefile.specs.Limits.{limits}
 use Rattle.agefile.specs.Ranges.{gives, last_index, piece_at, piece_len, plain_of}
@@ -19,9 +19,9 @@ left : (r : Ranges) (b : Bytes) → length b ≡ r.first + r.sealed_len → leng
 left r b size = let d : length (drop r.first b) ≡ length b - r.first = length-drop r.first b in omega arith
 
 -- a piece by its place in the file is the piece by its place in the payload
-piece-there : (r : Ranges) (b : Bytes) (i : ℕ) → length b ≡ r.first + r.sealed_len
+piece_there : (r : Ranges) (b : Bytes) (i : ℕ) → length b ≡ r.first + r.sealed_len
     → piece_at r b i ≡ take sealed_chunk_size (drop (sealed_chunk_size * i) (drop r.first b))
-piece-there r b i size =
+piece_there r b i size =
     let rest : Bytes = drop r.first b in
     let d : length (drop (sealed_chunk_size * i) rest) ≡ length rest - sealed_chunk_size * i =
     length-drop (sealed_chunk_size * i) rest in
@@ -31,64 +31,64 @@ piece-there r b i size =
     ∙ ap (λ n. take (min sealed_chunk_size n) (drop (sealed_chunk_size * i) rest)) e
     ∙ take_min sealed_chunk_size (drop (sealed_chunk_size * i) rest)
 
-pub last-there : (r : Ranges) (b : Bytes) → length b ≡ r.first + r.sealed_len
+pub last_there : (r : Ranges) (b : Bytes) → length b ≡ r.first + r.sealed_len
     → outcome r.key limits.max_chunks (last_index r.sealed_len) true (piece_at r b (last_index r.sealed_len))
     ≡ last_outcome r.key limits.max_chunks (drop r.first b)
-last-there r b size =
+last_there r b size =
     let rest : Bytes = drop r.first b in
     let last : ℕ = last_index r.sealed_len in
     let n : length rest ≡ r.sealed_len = left r b size in
     let d : length (drop (sealed_chunk_size * last) rest) ≡ length rest - sealed_chunk_size * last =
     length-drop (sealed_chunk_size * last) rest in
     ap (outcome r.key limits.max_chunks last true)
-    (piece-there r b last size ∙ take_all sealed_chunk_size (drop (sealed_chunk_size * last) rest) (omega arith))
-    ∙ sym (last-is r.key limits.max_chunks rest last (ap last_index (sym n)))
+    (piece_there r b last size ∙ take_all sealed_chunk_size (drop (sealed_chunk_size * last) rest) (omega arith))
+    ∙ sym (last_is r.key limits.max_chunks rest last (ap last_index (sym n)))
 
-pub len-there : (r : Ranges) (b text : Bytes) → length b ≡ r.first + r.sealed_len
+pub len_there : (r : Ranges) (b text : Bytes) → length b ≡ r.first + r.sealed_len
     → last_outcome r.key limits.max_chunks (drop r.first b) ≡ Ok text
     → plain_len (drop r.first b) ≡ plain_of r.sealed_len
-len-there r b text size h =
+len_there r b text size h =
     let rest : Bytes = drop r.first b in
     let last : ℕ = last_index r.sealed_len in
     let n : length rest ≡ r.sealed_len = left r b size in
     let is : last ≡ (length rest - 1) / sealed_chunk_size = ap last_index (sym n) in
     let d : length (drop (sealed_chunk_size * last) rest) ≡ length rest - sealed_chunk_size * last =
     length-drop (sealed_chunk_size * last) rest in
-    let o = outcome-opens r.key limits.max_chunks last true (drop (sealed_chunk_size * last) rest) text
-    (sym (last-is r.key limits.max_chunks rest last is) ∙ h) in
+    let o = outcome_opens r.key limits.max_chunks last true (drop (sealed_chunk_size * last) rest) text
+    (sym (last_is r.key limits.max_chunks rest last is) ∙ h) in
     let len : length (drop (sealed_chunk_size * last) rest) ≡ length text + 16 = ap length o.sealed_so
     ∙ length-sealed r.key (chunk_nonce last true) [] text in
     let count : plain_len rest + 16 * (last + 1) ≡ length rest =
-    plain-count last rest (some-or-none last (length rest) is) (omega arith) (omega arith) in
+    plain_count last rest (some_or_none last (length rest) is) (omega arith) (omega arith) in
     omega arith
 
-pub slice-there : (r : Ranges) (b text : Bytes) (at : ℕ) → length b ≡ r.first + r.sealed_len
+pub slice_there : (r : Ranges) (b text : Bytes) (at : ℕ) → length b ≡ r.first + r.sealed_len
     → at < plain_of r.sealed_len
     → gives r (at / chunk_size) (piece_at r b (at / chunk_size)) ≡ Ok text
     → (at % chunk_size < length text) × IsSlice r.key (drop r.first b) at (drop (at % chunk_size) text)
-slice-there r b text at size within h =
+slice_there r b text at size within h =
     let rest : Bytes = drop r.first b in
     let i : ℕ = at / chunk_size in
     let skip : ℕ = at % chunk_size in
     let last : ℕ = last_index r.sealed_len in
     let n : length rest ≡ r.sealed_len = left r b size in
-    let count : length (pieces rest) ≡ last + 1 = piece-count rest last (ap last_index (sym n)) in
+    let count : length (pieces rest) ≡ last + 1 = piece_count rest last (ap last_index (sym n)) in
     let piece : Bytes = take sealed_chunk_size (drop (sealed_chunk_size * i) rest) in
-    let there : piece_at r b i ≡ piece = piece-there r b i size in
+    let there : piece_at r b i ≡ piece = piece_there r b i size in
     let d : length (drop (sealed_chunk_size * i) rest) ≡ length rest - sealed_chunk_size * i =
     length-drop (sealed_chunk_size * i) rest in
     let l : length piece ≡ min sealed_chunk_size (length (drop (sealed_chunk_size * i) rest)) =
     length-take sealed_chunk_size (drop (sealed_chunk_size * i) rest) in
     let flag : Bool = nat_le r.sealed_len (sealed_chunk_size * (i + 1)) in
-    let o = outcome-opens r.key limits.max_chunks i flag piece text
+    let o = outcome_opens r.key limits.max_chunks i flag piece text
     (ap (outcome r.key limits.max_chunks i flag) (sym there) ∙ h) in
     let len : length piece ≡ length text + 16 = ap length o.sealed_so
     ∙ length-sealed r.key (chunk_nonce i flag) [] text in
     let opens : opening r.key rest i ≡ Some text =
-    opening-at r.key rest i (omega arith) ∙ ap (λ m. opened_at r.key i (nat_le m (sealed_chunk_size * (i + 1))) piece) n
+    opening_at r.key rest i (omega arith) ∙ ap (λ m. opened_at r.key i (nat_le m (sealed_chunk_size * (i + 1))) piece) n
     ∙ ap (opened_at r.key i flag) o.sealed_so ∙ opened-sealed r.key (chunk_nonce i flag) [] text in
     let t : length (drop skip text) ≡ length text - skip = length-drop skip text in
     let part : IsSlice r.key rest at ([] ++ take (length text - skip) (drop skip text)) =
-    slice-on r.key rest [] text at i skip (length text - skip) (omega arith) opens (omega arith) (omega arith)
+    slice_on r.key rest [] text at i skip (length text - skip) (omega arith) opens (omega arith) (omega arith)
     (λ k lt. absurd (omega arith)) in
     (omega arith, subst (IsSlice r.key rest at) (take_all (length text - skip) (drop skip text) (omega arith)) part)

@@ -10,8 +10,8 @@ use Rattle.age_cipher.proofs.OpeningLemmas.{length-sealed}
 use Rattle.age_header.specs.declared.file_key.FileKey.{FileKey}
 use Rattle.age_stream.specs.Payload.{chunk_nonce, chunks, payload, sealed_from}
 use Rattle.age_stream.specs.Sizes.{chunk_size, sealed_chunk_size}
-use Rattle.age_stream.proofs.CuttingLemmas.{cut-last}
-use Rattle.age_stream.proofs.ReadingLemmas.{cut-step, is_end-cut}
+use Rattle.age_stream.proofs.CuttingLemmas.{cut_last}
+use Rattle.age_stream.proofs.ReadingLemmas.{cut_step, is_end_cut}
 use Rattle.agefile.specs.declared.report.Report.{Report}
 use Rattle.agefile.specs.Encrypting.{Encrypts}
 use Rattle.agefile.specs.Heading.{MakesHeader}
@@ -121,7 +121,7 @@ seals_end {key} {plain} out mid at done number r last is joined =
     ∙ ap (λ b. sealed key (chunk_nonce number b) [] (take chunk_size left) ++ []) (le-leb (length left) chunk_size last)
     ∙ ap (λ t. sealed key (chunk_nonce number true) [] t ++ []) (take_all chunk_size left last) in
     let rest : concat (sealed_from key number (chunks left)) ≡ sealed key (chunk_nonce number true) [] left ++ [] =
-    ap (λ cs. concat (sealed_from key number cs)) (cut-last chunk_size left last) in
+    ap (λ cs. concat (sealed_from key number cs)) (cut_last chunk_size left last) in
     joined ∙ ap (λ m. take done out ++ m) (one ∙ sym rest) ∙ sym r.seals
 
 pub seals_more : {key plain : Bytes} (out mid : Bytes) {new : Bytes} (at done number : ℕ)
@@ -148,10 +148,10 @@ seals_more {key} {plain} out mid {new} at done number r more is joined =
     (omega (arith, begun, long, length-append (take done out) one)) in
     let rest : concat (sealed_from key number (chunks left))
     ≡ one ++ concat (sealed_from key (number + 1) (chunks (drop chunk_size left))) =
-    ap (λ cs. concat (sealed_from key number cs)) (cut-step chunk_size left (omega arith) more)
+    ap (λ cs. concat (sealed_from key number cs)) (cut_step chunk_size left (omega arith) more)
     ∙ ap (λ b. sealed key (chunk_nonce number b) [] text
     ++ concat (sealed_from key (number + 1) (chunks (drop chunk_size left))))
-    (is_end-cut chunk_size [] (drop chunk_size left)) in
+    (is_end_cut chunk_size [] (drop chunk_size left)) in
     record {
       place = omega (arith, r.place);
       sealed_so = omega (arith, r.sealed_so);

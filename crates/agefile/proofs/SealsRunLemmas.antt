@@ -21,7 +21,7 @@ use Rattle.agefile.specs.Limits.{limits}
 use Rattle.agefile.specs.Payload.{after_chunk, may_seal}
 use Rattle.agefile.specs.Runs.{SealsRun}
 use Rattle.agefile.proofs.GroupLemmas.{text_of}
-use Rattle.agefile.proofs.OpensRunLemmas.{some-code}
+use Rattle.agefile.proofs.OpensRunLemmas.{some_code}
 
 -- a payload for writing before chunk i
 abbrev pub writing_at : Bytes → ℕ → Payload
@@ -33,39 +33,39 @@ AreChunks i [] = ⊥
 AreChunks i (c ∷ []) = (length c ≤ chunk_size) × ((0 < length c) ⊎ (i ≡ 0))
 AreChunks i (c ∷ d ∷ more) = (length c ≡ chunk_size) × AreChunks (i + 1) (d ∷ more)
 
-filled-chunks : (i : ℕ) (cs : List Bytes) → IsFilled chunk_size cs → AreChunks i cs
-filled-chunks i [] h = h
-filled-chunks i (c ∷ []) h = (h.1, inl h.0)
-filled-chunks i (c ∷ d ∷ more) h = (h.0, filled-chunks (i + 1) (d ∷ more) h.1)
+filled_are_chunks : (i : ℕ) (cs : List Bytes) → IsFilled chunk_size cs → AreChunks i cs
+filled_are_chunks i [] h = h
+filled_are_chunks i (c ∷ []) h = (h.1, inl h.0)
+filled_are_chunks i (c ∷ d ∷ more) h = (h.0, filled_are_chunks (i + 1) (d ∷ more) h.1)
 
-plain-chunks : (plain : Bytes) → AreChunks 0 (chunks plain)
-plain-chunks plain = elim (is_cut chunk_size plain (omega arith)).sizes [
+plain_chunks : (plain : Bytes) → AreChunks 0 (chunks plain)
+plain_chunks plain = elim (is_cut chunk_size plain (omega arith)).sizes [
   | inl one ↦ subst (AreChunks 0) (sym one) (omega arith, inr refl)
-  | inr filled ↦ filled-chunks 0 (chunks plain) filled
+  | inr filled ↦ filled_are_chunks 0 (chunks plain) filled
 ]
 
 -- ---- one step
 
-some-text : (i n : ℕ) → 0 < n → has_text i (n + 16) ≡ true
-some-text i n pos = ap (λ t. t || (nat_eq (n + 16) 16 && nat_eq i 0)) (lt-ltb 16 (n + 16) (omega arith))
+some_text : (i n : ℕ) → 0 < n → has_text i (n + 16) ≡ true
+some_text i n pos = ap (λ t. t || (nat_eq (n + 16) 16 && nat_eq i 0)) (lt-ltb 16 (n + 16) (omega arith))
 
-text-there : (i n : ℕ) → (0 < n) ⊎ (i ≡ 0) → has_text i (n + 16) ≡ true
-text-there i n (inl pos) = some-text i n pos
-text-there i n (inr zero) = elim (cases_lt 0 n) [
-  | inl pos ↦ some-text i n pos
+text_there : (i n : ℕ) → (0 < n) ⊎ (i ≡ 0) → has_text i (n + 16) ≡ true
+text_there i n (inl pos) = some_text i n pos
+text_there i n (inr zero) = elim (cases_lt 0 n) [
+  | inl pos ↦ some_text i n pos
   | inr none ↦ let empty : n ≡ 0 = omega arith in
       ap (λ k. has_text k (n + 16)) zero ∙ ap (λ m. has_text 0 (m + 16)) empty
 ]
 
-last-fits : (key : Bytes) (i : ℕ) (c : Bytes) → length c ≤ chunk_size → (0 < length c) ⊎ (i ≡ 0)
+last_fits : (key : Bytes) (i : ℕ) (c : Bytes) → length c ≤ chunk_size → (0 < length c) ⊎ (i ≡ 0)
     → may_seal (writing_at key i) (length c + 16) true ≡ true
-last-fits key i c le some =
+last_fits key i c le some =
     ap (λ t. t && has_text i (length c + 16)) (le-leb (length c + 16) sealed_chunk_size (omega arith))
-    ∙ text-there i (length c) some
+    ∙ text_there i (length c) some
 
-full-fits : (key : Bytes) (i : ℕ) (c : Bytes) → length c ≡ chunk_size
+full_fits : (key : Bytes) (i : ℕ) (c : Bytes) → length c ≡ chunk_size
     → may_seal (writing_at key i) (length c + 16) false ≡ true
-full-fits key i c is = ap (λ n. may_seal (writing_at key i) (n + 16) false) is
+full_fits key i c is = ap (λ n. may_seal (writing_at key i) (n + 16) false) is
 
 -- what a run gives, by its first step: a sealed chunk and more, or one too many
 abbrev WritesBy : Bytes → ℕ → Bool → Bytes → List Bytes → Bytes → ℕ → Type 0
@@ -74,18 +74,18 @@ WritesBy key i last c more out code =
     × SealsRun (after_chunk (writing_at key i) last 0) more rest code))
     ⊎ ((limits.max_chunks ≤ i) × (code ≡ 14))
 
-write-by : (key : Bytes) (i : ℕ) (last : Bool) (c room : Bytes) (more : List Bytes) (out : Bytes) (code : ℕ)
+write_by : (key : Bytes) (i : ℕ) (last : Bool) (c room : Bytes) (more : List Bytes) (out : Bytes) (code : ℕ)
     (new : Payload) (after : Bytes) (report : Report) (step_code : ℕ) → length room ≡ 16
     → SealsAs key i last (c ++ room) after report step_code
     → new ≡ after_chunk (writing_at key i) last step_code
     → ((step_code ≡ 0) × ((rest : Bytes) × (out ≡ after ++ rest) × SealsRun new more rest code))
     ⊎ ((step_code ≢ 0) × ((out ≡ []) × (code ≡ step_code)))
     → WritesBy key i last c more out code
-write-by key i last c room more out code new after report step_code size (inr (many, refused)) state
+write_by key i last c room more out code new after report step_code size (inr (many, refused)) state
     (inl (zero, _)) = absurd (omega (arith, refused.returned, zero))
-write-by key i last c room more out code new after report step_code size (inr (many, refused)) state
+write_by key i last c room more out code new after report step_code size (inr (many, refused)) state
     (inr (_, (none, is))) = inr (many, is ∙ refused.returned)
-write-by key i last c room more out code new after report step_code size (inl (few, returned, reported, buffer)) state
+write_by key i last c room more out code new after report step_code size (inl (few, returned, reported, buffer)) state
     (inl (zero, (rest, joined, run))) =
     inl (
       few,
@@ -95,19 +95,19 @@ write-by key i last c room more out code new after report step_code size (inl (f
         subst (λ w. SealsRun w more rest code) (state ∙ ap (after_chunk (writing_at key i) last) returned) run,
       ),
     )
-write-by key i last c room more out code new after report step_code size (inl (few, returned, reported, buffer)) state
+write_by key i last c room more out code new after report step_code size (inl (few, returned, reported, buffer)) state
     (inr (nonzero, _)) = absurd (nonzero returned)
 
-write-first : (key : Bytes) (i : ℕ) (c : Bytes) (more : List Bytes) (out : Bytes) (code : ℕ)
+write_first : (key : Bytes) (i : ℕ) (c : Bytes) (more : List Bytes) (out : Bytes) (code : ℕ)
     → may_seal (writing_at key i) (length c + 16) (is_end more) ≡ true
     → SealsRun (writing_at key i) (c ∷ more) out code → WritesBy key i (is_end more) c more out code
-write-first key i c more out code fits (new, room, size, after, report, step_code, step, on) =
+write_first key i c more out code fits (new, room, size, after, report, step_code, step, on) =
     let last : Bool = is_end more in
     let n : length (c ++ room) ≡ length c + 16 = omega (arith, size, length-append c room) in
     let d = subst (λ b. OnTrue b (SealsAs key i last (c ++ room) after report step_code
     × (new ≡ after_chunk (writing_at key i) last step_code)))
     (ap (λ k. may_seal (writing_at key i) k last) n ∙ fits) step.done in
-    write-by key i last c room more out code new after report step_code size d.0 d.1 on
+    write_by key i last c room more out code new after report step_code size d.0 d.1 on
 
 -- ---- all steps
 
@@ -117,27 +117,27 @@ AreSealed key i cs out code =
     ((code ≡ 0) × ((out ≡ concat (sealed_from key i cs)) × (i + length cs ≤ limits.max_chunks)))
     ⊎ ((code ≡ 14) × (limits.max_chunks < i + length cs))
 
-write-last : (key : Bytes) (i : ℕ) (c out : Bytes) (code : ℕ) → WritesBy key i true c [] out code
+write_last : (key : Bytes) (i : ℕ) (c out : Bytes) (code : ℕ) → WritesBy key i true c [] out code
     → AreSealed key i (c ∷ []) out code
-write-last key i c out code (inl (few, (rest, joined, (none, zero)))) =
+write_last key i c out code (inl (few, (rest, joined, (none, zero)))) =
     inl (zero, (joined ∙ ap (λ r. sealed key (chunk_nonce i true) [] c ++ r) none, omega arith))
-write-last key i c out code (inr (many, is)) = inr (is, omega arith)
+write_last key i c out code (inr (many, is)) = inr (is, omega arith)
 
-write-more : (key : Bytes) (i : ℕ) (c : Bytes) (d : Bytes) (more : List Bytes) (rest out : Bytes) (code : ℕ)
+write_more : (key : Bytes) (i : ℕ) (c : Bytes) (d : Bytes) (more : List Bytes) (rest out : Bytes) (code : ℕ)
     → out ≡ sealed key (chunk_nonce i false) [] c ++ rest
     → AreSealed key (i + 1) (d ∷ more) rest code → AreSealed key i (c ∷ d ∷ more) out code
-write-more key i c d more rest out code joined (inl (zero, (is, fits))) =
+write_more key i c d more rest out code joined (inl (zero, (is, fits))) =
     inl (zero, (joined ∙ ap (λ r. sealed key (chunk_nonce i false) [] c ++ r) is, omega (arith, fits)))
-write-more key i c d more rest out code joined (inr (is, many)) = inr (is, omega (arith, many))
+write_more key i c d more rest out code joined (inr (is, many)) = inr (is, omega (arith, many))
 
 run_writes : (key : Bytes) (i : ℕ) (cs : List Bytes) (out : Bytes) (code : ℕ) → AreChunks i cs
     → SealsRun (writing_at key i) cs out code → AreSealed key i cs out code
 run_writes key i [] out code sizes run = absurd sizes
 run_writes key i (c ∷ []) out code sizes run =
-    write-last key i c out code (write-first key i c [] out code (last-fits key i c sizes.0 sizes.1) run)
+    write_last key i c out code (write_first key i c [] out code (last_fits key i c sizes.0 sizes.1) run)
 run_writes key i (c ∷ d ∷ more) out code sizes run =
-    elim (write-first key i c (d ∷ more) out code (full-fits key i c sizes.0) run) [
-      | inl (few, (rest, joined, on)) ↦ write-more key i c d more rest out code joined
+    elim (write_first key i c (d ∷ more) out code (full_fits key i c sizes.0) run) [
+      | inl (few, (rest, joined, on)) ↦ write_more key i c d more rest out code joined
           (run_writes key (i + 1) (d ∷ more) rest code sizes.1 on)
       | inr (many, is) ↦ inr (is, omega arith)
     ]
@@ -157,7 +157,7 @@ pub steps_write : (stanzas file_key nonce plain old new : Bytes) (p : Payload) (
 steps_write stanzas file_key nonce plain old new p report out code (inl up) run = let none : ◌≡◌ {A = ℕ} 0 17 =
     up.0.returned in absurd (omega arith)
 steps_write stanzas file_key nonce plain old new p report out code (inr (Err fault, made, refuses)) run =
-    absurd (some-code fault (sym refuses.0.returned))
+    absurd (some_code fault (sym refuses.0.returned))
 steps_write stanzas file_key nonce plain old new p report out code (inr (Ok header, made, inr (exceeds, _))) run =
     let none : ◌≡◌ {A = ℕ} 0 21 = exceeds.returned in absurd (omega arith)
 steps_write stanzas file_key nonce plain old new p report out code (inr (Ok header, made, inl (fits, state))) run =
@@ -166,7 +166,7 @@ steps_write stanzas file_key nonce plain old new p report out code (inr (Ok head
     let front : take report.len new ≡ header.items ++ nonce =
     ap (λ (x : Report). take x.len new) fits.reported ∙ ap (take (length (header.items ++ nonce))) fits.buffer
     ∙ take-append_seam (header.items ++ nonce) _ in
-    elim (run_writes key 0 (chunks plain) out code (plain-chunks plain)
+    elim (run_writes key 0 (chunks plain) out code (plain_chunks plain)
     (subst (λ w. SealsRun w (chunks plain) out code) state run)) [
       | inr (is, many) ↦ inr (is, omega (arith, many))
       | inl (zero, (is, few)) ↦

@@ -4,7 +4,7 @@ use Rattle.std.specs.List.{concat}
 use Rattle.age_kdf.specs.Bytes.{Bytes}
 use Rattle.age_cipher.proofs.OpeningLemmas.{length-sealed}
 use Rattle.age_header.specs.declared.file_key.FileKey.{FileKey}
-use Rattle.age_stream.proofs.CuttingLemmas.{filled-some, is_cut}
+use Rattle.age_stream.proofs.CuttingLemmas.{filled_some, is_cut}
 use Rattle.age_stream.specs.Cutting.{IsFilled}
 use Rattle.age_cipher.specs.Sealing.{sealed}
 use Rattle.agefile.specs.Sizes.{chunk_count}
@@ -26,7 +26,7 @@ filled_chunks : (plain : Bytes) → IsFilled chunk_size (chunks plain) → lengt
     → length (chunks plain) ≡ chunk_count (length plain)
 filled_chunks plain filled join =
     let n = filled_count chunk_size (chunks plain) (omega arith) filled in
-    let some = filled-some chunk_size (chunks plain) (omega arith) filled in
+    let some = filled_some chunk_size (chunks plain) (omega arith) filled in
     omega (arith, n.0, n.1)
 
 -- the number of chunks

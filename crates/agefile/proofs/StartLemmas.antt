@@ -9,11 +9,11 @@ use Rattle.age_stream.specs.Payload.{payload_key}
 use Rattle.age_file.specs.declared.fault.Fault.{Fault}
 use Rattle.age_file.specs.declared.fault.Fault.TheVariants.{NonceTruncated, OutOfMemory}
 use Rattle.age_file.specs.Verdict.{Answering, header_fault, parts_of, unlocked}
-use Rattle.age_file.proofs.DecryptLemmas.{err-err}
+use Rattle.age_file.proofs.DecryptLemmas.{err_err}
 use Rattle.age_header.proofs.VerdictUniqueLemmas.{begins_found}
 use Rattle.agefile.specs.declared.unlocking.Unlocked.{Unlocked}
 use Rattle.agefile.specs.Unlock.{FindsKey, with_len}
-use Rattle.agefile.proofs.UnlockLemmas.{key_within, ok-ok}
+use Rattle.agefile.proofs.UnlockLemmas.{key_within, ok_ok}
 use Rattle.agefile.specs.declared.payload.Payload.{Payload}
 use Rattle.agefile.specs.declared.report.Report.{Report}
 use Rattle.agefile.specs.declared.start.Start.{Start}
@@ -21,21 +21,21 @@ use Rattle.agefile.specs.Giving.{alone}
 use Rattle.agefile.specs.Limits.{limits}
 use Rattle.agefile.specs.Opening.{Opens, StartsAt}
 use Rattle.agefile.specs.Start.{FindsStart, IsStart, start_under}
-use Rattle.agefile.proofs.OpensRunLemmas.{some-code}
+use Rattle.agefile.proofs.OpensRunLemmas.{some_code}
 
 -- no file key was found
 pub start_failed : (answers : Answering) (b : Bytes) (fault : Fault) → FindsKey answers b (Err fault)
     → FindsStart answers b (Err fault)
-start_failed answers b fault (inl memory) = inl (ap Err (err-err {A = Unlocked} fault OutOfMemory memory))
+start_failed answers b fault (inl memory) = inl (ap Err (err_err {A = Unlocked} fault OutOfMemory memory))
 start_failed answers b fault (inr (Err e, verdict, is)) =
-    inr (Err e, verdict, ap Err (err-err {A = Unlocked} fault (header_fault e) is))
+    inr (Err e, verdict, ap Err (err_err {A = Unlocked} fault (header_fault e) is))
 start_failed answers b fault (inr (Ok found, verdict, is)) =
     let locked = key_locked_so (length found.text) fault (unlocked answers (parts_of found)) is in
     inr (Ok found, verdict, ap (start_under (length found.text) (drop (length found.text) b)) (sym locked))
   where
     key_locked_so : (n : ℕ) (fault : Fault) (r : Result FileKey Fault) → Err fault ≡ with_len n r → r ≡ Err fault
     key_locked_so n fault (Ok k) e = absurd (cc)
-    key_locked_so n fault (Err other) e = ap Err (sym (err-err {A = Unlocked} fault other e))
+    key_locked_so n fault (Err other) e = ap Err (sym (err_err {A = Unlocked} fault other e))
 
 -- a file key was found: what follows the header says whether there is a start
 pub start_after : (answers : Answering) (b : Bytes) (found : Unlocked) (start : Result Start Fault)
@@ -109,7 +109,7 @@ under len rest (Ok k) s is =
         unlocks = refl;
         long = ge;
         is =
-            ok-ok s _ (is ∙ cond-false (nat_lt (length rest) 16) other found (le-ltb (length rest) 16 ge));
+            ok_ok s _ (is ∙ cond-false (nat_lt (length rest) 16) other found (le-ltb (length rest) 16 ge));
       }
     ]
 
@@ -126,7 +126,7 @@ start_within answers b start (inr (Ok found, verdict, is)) =
 -- a payload was opened: there is a start
 pub opened_start : (answers : Answering) (b : Bytes) (p : Payload) (report : Report) → Opens answers b p report 0
     → (s : Start) × IsStart answers b (Ok s) × StartsAt (Ok s) p report 0
-opened_start answers b p report (Err fault, is, opens) = absurd (some-code fault (sym opens.returned))
+opened_start answers b p report (Err fault, is, opens) = absurd (some_code fault (sym opens.returned))
 opened_start answers b p report (Ok s, inl memory, opens) = absurd (cc)
 opened_start answers b p report (Ok s, inr is, opens) = (s, is, opens)
 

@@ -21,7 +21,7 @@ use Rattle.agefile.specs.Payload.{before_first}
 use Rattle.agefile.specs.Report.{report_of}
 use Rattle.agefile.specs.Runs.{OpensRun}
 use Rattle.agefile.specs.Start.{IsStart, start_under}
-use Rattle.agefile.proofs.FrontLemmas.{whole-start}
+use Rattle.agefile.proofs.FrontLemmas.{whole_start}
 use Rattle.agefile.proofs.OpensRunLemmas.{payload_reads}
 use Rattle.agefile.proofs.StartLemmas.{found_start, opened_start}
 use Rattle.agefile.proofs.UnlockLemmas.{refusal}
@@ -36,37 +36,37 @@ IsVerdictFrom b v (Ok start) = v ≡ record {
   fault = option_map stream_fault (reading_from start.key limits.max_chunks 0 (drop start.first b)).fault;
 }
 
-payload-from : (b : Bytes) (n : ℕ) (k : FileKey) (v : Reading Fault) (t : Bool)
+payload_from : (b : Bytes) (n : ℕ) (k : FileKey) (v : Reading Fault) (t : Bool)
     → v ≡ with_file_fault (cond t (stops stream.NonceTruncated)
     (reading_from (payload_key k (take 16 (drop n b))) limits.max_chunks 0 (drop 16 (drop n b))))
     → IsVerdictFrom b v (cond t (Err NonceTruncated)
     (Ok (record { first = n + 16; key = payload_key k (take 16 (drop n b)) })))
-payload-from b n k v true is = is
-payload-from b n k v false is = is ∙ ap
+payload_from b n k v true is = is
+payload_from b n k v false is = is ∙ ap
     (λ x. with_file_fault (reading_from (payload_key k (take 16 (drop n b))) limits.max_chunks 0 x)) (drop-drop 16 n b)
 
-under-from : (b : Bytes) (n : ℕ) (v : Reading Fault) (key : Result FileKey Fault) → v ≡ read_under limits (drop n b) key
+under_from : (b : Bytes) (n : ℕ) (v : Reading Fault) (key : Result FileKey Fault) → v ≡ read_under limits (drop n b) key
     → IsVerdictFrom b v (start_under n (drop n b) key)
-under-from b n v (Err fault) is = is
-under-from b n v (Ok k) is = payload-from b n k v (nat_lt (length (drop n b)) 16) is
+under_from b n v (Err fault) is = is
+under_from b n v (Ok k) is = payload_from b n k v (nat_lt (length (drop n b)) 16) is
 
-pub verdict-from : (answers : Answering) (b : Bytes) (start : Result Start Fault) (v : Reading Fault)
+pub verdict_from : (answers : Answering) (b : Bytes) (start : Result Start Fault) (v : Reading Fault)
     → IsStart answers b start → IsVerdict limits answers b v → IsVerdictFrom b v start
-verdict-from answers b start v (Err e, verdict, is) h =
+verdict_from answers b start v (Err e, verdict, is) h =
     subst (IsVerdictFrom b v) (sym is) (one_verdict limits answers b v (stops (header_fault e)) h
     (record { header = Err e; header_verdict = verdict; is = refl }))
-verdict-from answers b start v (Ok found, verdict, is) h =
+verdict_from answers b start v (Ok found, verdict, is) h =
     let w = judged limits answers b (Ok found) in
-    subst (IsVerdictFrom b v) (sym is) (under-from b (length found.text) v (unlocked answers (parts_of found))
+    subst (IsVerdictFrom b v) (sym is) (under_from b (length found.text) v (unlocked answers (parts_of found))
     (one_verdict limits answers b v w h (record { header = Ok found; header_verdict = verdict; is = refl })))
 
 -- ---- the laws
 
-refused-by : (b : Bytes) (p : Payload) (report : Report) (code : ℕ) (v : Reading Fault) (start : Result Start Fault)
+refused_by : (b : Bytes) (p : Payload) (report : Report) (code : ℕ) (v : Reading Fault) (start : Result Start Fault)
     → StartsAt start p report code → IsVerdictFrom b v start → code ≢ 0
     → (v.front ≡ []) × (code_of v.fault ≡ code) × (report ≡ report_of 0 v.fault)
-refused-by b p report code v (Ok start) opens from some = absurd (some opens.0)
-refused-by b p report code v (Err fault) opens from some = refusal fault v opens from
+refused_by b p report code v (Ok start) opens from some = absurd (some opens.0)
+refused_by b p report code v (Err fault) opens from some = refusal fault v opens from
 
 pub opening_refused : (answers : Answering) (b : Bytes) (p : Payload) (report : Report) (code : ℕ) (v : Reading Fault)
     → Opens answers (take front_size b) p report code
@@ -74,7 +74,7 @@ pub opening_refused : (answers : Answering) (b : Bytes) (p : Payload) (report : 
     → (v.front ≡ []) × (code_of v.fault ≡ code) × (report ≡ report_of 0 v.fault)
 opening_refused answers b p report code v opens h some other =
     let (start, is, gives) = found_start answers (take front_size b) p report code opens other in
-    refused-by b p report code v start gives (verdict-from answers b start v (whole-start answers b start is) h) some
+    refused_by b p report code v start gives (verdict_from answers b start v (whole_start answers b start is) h) some
 
 pub steps_read : (answers : Answering) (b : Bytes) (p : Payload) (report : Report) (text : Bytes) (code place : ℕ)
     (v : Reading Fault) → Opens answers (take front_size b) p report 0
@@ -83,7 +83,7 @@ pub steps_read : (answers : Answering) (b : Bytes) (p : Payload) (report : Repor
 steps_read answers b p report text code place v opens run h =
     let (start, is, at) = opened_start answers (take front_size b) p report opens in
     let from : IsVerdictFrom b v (Ok start) =
-    verdict-from answers b (Ok start) v (whole-start answers b (Ok start) is) h in
+    verdict_from answers b (Ok start) v (whole_start answers b (Ok start) is) h in
     let there : OpensRun (before_first start.key 1) (pieces (drop start.first b)) text code place =
     subst (λ r. OpensRun r (pieces (drop start.first b)) text code place) at.2
     (subst (λ (x : Report). OpensRun p (pieces (drop x.len b)) text code place) at.1 run) in

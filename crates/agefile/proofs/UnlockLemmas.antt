@@ -16,7 +16,7 @@ use Rattle.age_file.specs.declared.fault.Fault.TheVariants.{OutOfMemory, Read}
 use Rattle.age_file.specs.Device.{is_read}
 use Rattle.age_file.specs.Inspect.{Inspects}
 use Rattle.age_file.specs.Verdict.{Answering, IsVerdict, header_fault, judged, parts_of, read_under, unlocked}
-use Rattle.age_file.proofs.DecryptLemmas.{err-err}
+use Rattle.age_file.proofs.DecryptLemmas.{err_err}
 use Rattle.age_file.proofs.FileLemmas.{one_verdict}
 use Rattle.agefile.specs.declared.report.Report.{Report}
 use Rattle.agefile.specs.declared.unlocking.Unlocked.{Unlocked}
@@ -27,8 +27,8 @@ use Rattle.agefile.specs.Report.{Refuses, report_of}
 use Rattle.agefile.specs.Unlock.{FindsKey, GivesKey, IsKey, Unlocks, with_len}
 use Rattle.agefile.proofs.FrontLemmas.{whole_verdict}
 
-pub ok-ok : {A : Type 0} (x y : A) → ◌≡◌ {A = Result A Fault} (Ok x) (Ok y) → x ≡ y
-ok-ok x y e = cc
+pub ok_ok : {A : Type 0} (x y : A) → ◌≡◌ {A = Result A Fault} (Ok x) (Ok y) → x ≡ y
+ok_ok x y e = cc
 
 -- a header that was read, and what follows it
 pub record Fronts (b rest : Bytes) (h : HeaderParts) : Type 0 where
@@ -41,21 +41,21 @@ pub fronts : {b rest : Bytes} {h : HeaderParts} → Inspects limits (flow (of_to
 fronts (Err g, is, _) = absurd (cc)
 fronts {b} {rest} {h} (Ok parts, is, reads) =
     let r = reads_known b (flow (of_told b) (of_told rest)) limits.max_header (Ok parts) refl reads in
-    subst (Fronts b rest) (sym (ok-ok h parts is)) (record { text = r.0; verdict = r.1; front = r.2.consumes })
+    subst (Fronts b rest) (sym (ok_ok h parts is)) (record { text = r.0; verdict = r.1; front = r.2.consumes })
 
 -- a header's length and its file key are those that were found
 pub key_within : (n : ℕ) (found : Unlocked) (r : Result FileKey Fault) → Ok found ≡ with_len n r
     → (r ≡ Ok found.key) × (found.header_len ≡ n)
 key_within n found (Err fault) e = absurd (cc)
 key_within n found (Ok k) e =
-    let same = ok-ok found (record { header_len = n; key = k }) e in
+    let same = ok_ok found (record { header_len = n; key = k }) e in
     (ap (λ (u : Unlocked). Ok u.key) (sym same), ap (λ (u : Unlocked). u.header_len) same)
 
 -- no header was read
 faulty : (answers : Answering) (b : Bytes) (fault : Fault) (g : HeaderFault)
     → ◌≡◌ {A = Result HeaderParts Fault} (Err fault) (Err (header_fault g)) → HeaderVerdict b limits.max_header (Err g)
     → FindsKey answers b (Err fault)
-faulty answers b fault g is verdict = inr (Err g, verdict, ap Err (err-err {A = HeaderParts} fault (header_fault g) is))
+faulty answers b fault g is verdict = inr (Err g, verdict, ap Err (err_err {A = HeaderParts} fault (header_fault g) is))
 
 pub key_none : (answers : Answering) {b : Bytes} (mid : Seen) {fault : Fault}
     → Inspects limits (flow (of_told b) mid) (Err fault)
@@ -63,10 +63,10 @@ pub key_none : (answers : Answering) {b : Bytes} (mid : Seen) {fault : Fault}
 key_none answers mid (Ok parts, is, h) count = absurd (cc)
 key_none answers mid {fault} (Err header.Read, is, h) count =
     let read_count : CountsFaultIf is_read 0 0 Read =
-    subst (λ f. CountsFaultIf is_read 0 0 f) (err-err {A = HeaderParts} fault Read is) count in
+    subst (λ f. CountsFaultIf is_read 0 0 f) (err_err {A = HeaderParts} fault Read is) count in
     absurd (omega (arith, read_count))
 key_none answers mid {fault} (Err header.Memory, is, h) count =
-    inl (ap Err (err-err {A = HeaderParts} fault OutOfMemory is))
+    inl (ap Err (err_err {A = HeaderParts} fault OutOfMemory is))
 key_none answers {b} mid {fault} (Err g, is, h) count =
     faulty answers b fault g is (reads_known b (flow (of_told b) mid) limits.max_header (Err g) refl h)
 
@@ -74,7 +74,7 @@ pub key_locked : (answers : Answering) {b rest : Bytes} {h : HeaderParts} {fault
     → Inspects limits (flow (of_told b) (of_told rest)) (Ok h)
     → (◌≡◌ {A = Result FileKey Fault} (Err fault) (Err OutOfMemory)) ⊎ (Err fault ≡ unlocked answers h)
     → FindsKey answers b (Err fault)
-key_locked answers {fault} i (inl memory) = inl (ap Err (err-err {A = FileKey} fault OutOfMemory memory))
+key_locked answers {fault} i (inl memory) = inl (ap Err (err_err {A = FileKey} fault OutOfMemory memory))
 key_locked answers {b} {rest} {h} i (inr is) =
     let f = fronts i in
     inr (Ok (record { stanzas = h.stanzas; mac = h.mac; text = f.text }), f.verdict, ap (with_len (length f.text)) is)
@@ -124,20 +124,20 @@ abbrev pub IsVerdictUnder : Bytes → Reading Fault → Result Unlocked Fault �
 IsVerdictUnder b v (Err fault) = v ≡ stops fault
 IsVerdictUnder b v (Ok found) = v ≡ read_under limits (drop found.header_len b) (Ok found.key)
 
-under-key : (b : Bytes) (n : ℕ) (v : Reading Fault) (key : Result FileKey Fault) → v ≡ read_under limits (drop n b) key
+under_key : (b : Bytes) (n : ℕ) (v : Reading Fault) (key : Result FileKey Fault) → v ≡ read_under limits (drop n b) key
     → IsVerdictUnder b v (with_len n key)
-under-key b n v (Err fault) is = is
-under-key b n v (Ok k) is = is
+under_key b n v (Err fault) is = is
+under_key b n v (Ok k) is = is
 
-verdict-under : (answers : Answering) (b : Bytes) (key : Result Unlocked Fault) (v : Reading Fault)
+verdict_under : (answers : Answering) (b : Bytes) (key : Result Unlocked Fault) (v : Reading Fault)
     → IsKey answers b key → IsVerdict limits answers b v → IsVerdictUnder b v key
-verdict-under answers b key v (Err e, verdict, is) h =
+verdict_under answers b key v (Err e, verdict, is) h =
     subst (IsVerdictUnder b v) (sym is)
     (one_verdict limits answers b v (stops (header_fault e)) h
     (record { header = Err e; header_verdict = verdict; is = refl }))
-verdict-under answers b key v (Ok found, verdict, is) h =
+verdict_under answers b key v (Ok found, verdict, is) h =
     let w = judged limits answers b (Ok found) in
-    subst (IsVerdictUnder b v) (sym is) (under-key b (length found.text) v (unlocked answers (parts_of found))
+    subst (IsVerdictUnder b v) (sym is) (under_key b (length found.text) v (unlocked answers (parts_of found))
     (one_verdict limits answers b v w h (record { header = Ok found; header_verdict = verdict; is = refl })))
 
 -- a fault before any plaintext is the verdict's
@@ -150,11 +150,11 @@ refusal fault v refuses is = (
   refuses.reported ∙ sym (ap (λ (r : Reading Fault). report_of 0 r.fault) is),
 )
 
-refused-by : (b old new : Bytes) (report : Report) (code : ℕ) (v : Reading Fault) (key : Result Unlocked Fault)
+refused_by : (b old new : Bytes) (report : Report) (code : ℕ) (v : Reading Fault) (key : Result Unlocked Fault)
     → GivesKey key old new report code → IsVerdictUnder b v key → code ≢ 0
     → (v.front ≡ []) × (code_of v.fault ≡ code) × (report ≡ report_of 0 v.fault)
-refused-by b old new report code v (Ok found) gives under some = absurd (some gives.0)
-refused-by b old new report code v (Err fault) gives under some =
+refused_by b old new report code v (Ok found) gives under some = absurd (some gives.0)
+refused_by b old new report code v (Err fault) gives under some =
     refusal fault v gives under
 
 pub unlocking_refused : (answers : Answering) (b old new : Bytes) (report : Report) (code : ℕ) (v : Reading Fault)
@@ -166,4 +166,4 @@ unlocking_refused answers b old new report code v (key, inl memory, gives) h som
     subst (λ k. GivesKey k old new report code) memory gives in
     absurd (other refused.returned)
 unlocking_refused answers b old new report code v (key, inr is, gives) h some other =
-    refused-by b old new report code v key gives (verdict-under answers b key v is h) some
+    refused_by b old new report code v key gives (verdict_under answers b key v is h) some

@@ -20,15 +20,15 @@ use Rattle.age_stream.specs.Reading.{opened_at, payload_reading, whole}
 use Rattle.age_stream.specs.Slice.{opening, openings}
 use Rattle.age_stream.specs.Sizes.{chunk_size}
 use Rattle.age_stream.proofs.CuttingLemmas.{is_cut}
-use Rattle.age_stream.proofs.PayloadLemmas.{is_end-each}
-use Rattle.age_stream.proofs.WholeSlices.{whole-is}
+use Rattle.age_stream.proofs.PayloadLemmas.{is_end_each}
+use Rattle.age_stream.proofs.WholeSlices.{whole_is}
 use Rattle.age_file.specs.declared.fault.Fault.{Fault}
 use Rattle.age_file.specs.declared.fault.Fault.TheVariants.{OutOfMemory, Read}
 use Rattle.age_file.specs.AgeFile.{Bounds}
 use Rattle.age_file.specs.Device.{is_read}
 use Rattle.age_file.specs.Ranges.{IsRangesOf, MissesRanges}
 use Rattle.age_file.specs.Verdict.{Answering, IsVerdict, judged, read_under}
-use Rattle.age_file.proofs.FileLemmas.{with_file_fault-whole}
+use Rattle.age_file.proofs.FileLemmas.{with_file_fault_whole}
 use Rattle.round_trip.specs.declared.slicing.Range.{Range}
 use Rattle.round_trip.specs.Slices.{AddsPart, IsSliced, part, parts}
 
@@ -37,7 +37,7 @@ opened_each : (key : Bytes) (i : ℕ) (ts : List Bytes) → openings key i (seal
 opened_each key i [] = refl
 opened_each key i (t ∷ ts) =
     ap (λ b. opened_at key i b (sealed key (chunk_nonce i (is_end ts)) [] t)
-    ∷ openings key (i + 1) (sealed_from key (i + 1) ts)) (is_end-each key (i + 1) ts)
+    ∷ openings key (i + 1) (sealed_from key (i + 1) ts)) (is_end_each key (i + 1) ts)
     ∙ ap (λ o. o ∷ openings key (i + 1) (sealed_from key (i + 1) ts))
     (opened-sealed key (chunk_nonce i (is_end ts)) [] t)
     ∙ ap (λ x. Some t ∷ x) (opened_each key (i + 1) ts)
@@ -84,11 +84,11 @@ sliced_of : (laws : SlicedLaws) (limits : Bounds) (answers : Answering) (b p : B
 sliced_of laws limits answers b p s given given2 v r =
     let n : ℕ = length r.found.text in
     let reads : payload_reading r.key limits.max_chunks (drop n b) ≡ whole p =
-    with_file_fault-whole p (payload_reading r.key limits.max_chunks (drop n b))
+    with_file_fault_whole p (payload_reading r.key limits.max_chunks (drop n b))
     (v.is ∙ ap (judged limits answers b)
     (headers.one_verdict b limits.max_header v.header (Ok r.found) v.header_verdict r.header)
     ∙ ap (read_under limits (drop n b)) r.chosen) in
-    let w = whole-is r.key (drop n b) p limits.max_chunks reads in
+    let w = whole_is r.key (drop n b) p limits.max_chunks reads in
     let key : Bytes = payload_key r.key (take 16 (drop n b)) in
     let rest : drop s.layout.first b ≡ drop 16 (drop n b) = ap (λ m. drop m b) r.opened.first
     ∙ sym (drop-drop 16 n b) in

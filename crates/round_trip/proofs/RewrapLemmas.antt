@@ -7,7 +7,7 @@ use Rattle.age_header.specs.declared.fault.HeaderFault.{HeaderFault}
 use Rattle.age_header.specs.Header.{StanzaParts}
 use Rattle.age_header.specs.Mac.{header_mac}
 use Rattle.age_header.specs.Verdict.{BeginsWith, Found, HeaderVerdict}
-use Rattle.age_header.proofs.DeviceLemmas.{of-known}
+use Rattle.age_header.proofs.DeviceLemmas.{of_known}
 use Rattle.age_header.proofs.VerdictUniqueLemmas as headers
 use Rattle.age_header.specs.declared.file_key.FileKey.{FileKey}
 use Rattle.age_recipient.specs.declared.labels.Labels.{Labels}
@@ -24,7 +24,7 @@ use Rattle.age_file.specs.Device.{is_read}
 use Rattle.age_file.specs.NewFile.{Gathered, Gathering, IsRefusal}
 use Rattle.age_file.specs.Rewrap.{IsRefusedBy, RefusesRewrap, Rewrapped, Rewraps, RewrapsText}
 use Rattle.age_file.specs.Verdict.{Answering, IsVerdict, parts_of, unlocked}
-use Rattle.age_file.proofs.FileLemmas.{file-whole, key-unlocked}
+use Rattle.age_file.proofs.FileLemmas.{file_whole, key_unlocked}
 use Rattle.round_trip.specs.Losses.{IsUnwritten}
 use Rattle.round_trip.proofs.TripLemmas.{gathered_one}
 
@@ -47,11 +47,11 @@ unlocked_is : (limits : Bounds) (answers : Answering) (k : FileKey) (stanzas : L
     (file : AgeFile limits k stanzas plain b)
     → choice (answers stanzas) ≡ Ok k → unlocked answers (parts_of (found_of limits k stanzas plain b file)) ≡ Ok k
 unlocked_is limits answers k stanzas plain b file chosen =
-    key-unlocked answers (parts_of (found_of limits k stanzas plain b file)) k
+    key_unlocked answers (parts_of (found_of limits k stanzas plain b file)) k
     (record { unmixed = file.unmixed; chosen = chosen; mac = refl })
 
-ok-key : (a b : FileKey) → ◌≡◌ {A = Result FileKey Fault} (Ok a) (Ok b) → a ≡ b
-ok-key a b e = cc
+ok_key : (a b : FileKey) → ◌≡◌ {A = Result FileKey Fault} (Ok a) (Ok b) → a ≡ b
+ok_key a b e = cc
 
 -- the key that rewrapping finds is the file's
 pub key_is : (limits : Bounds) (answers : Answering) (k : FileKey) (stanzas : List StanzaParts) (plain b c : Bytes)
@@ -60,7 +60,7 @@ pub key_is : (limits : Bounds) (answers : Answering) (k : FileKey) (stanzas : Li
 key_is limits answers k stanzas plain b c file chosen is =
     let same : is.found ≡ found_of limits k stanzas plain b file =
     cc (header_is limits answers k stanzas plain b file (Ok is.found) chosen is.header) in
-    ok-key is.key k (sym is.chosen ∙ ap (λ f. unlocked answers (parts_of f)) same
+    ok_key is.key k (sym is.chosen ∙ ap (λ f. unlocked answers (parts_of f)) same
     ∙ unlocked_is limits answers k stanzas plain b file chosen)
 
 -- such a file is refused for its new header alone
@@ -75,7 +75,7 @@ refused_by limits answers gathered k stanzas plain b fault file chosen h =
     (header_is limits answers k stanzas plain b file h.0 chosen h.1) h.2) [
       | inl stopped ↦ absurd (ok-err (sym unlocks ∙ stopped))
       | inr refused ↦ subst (λ key. IsRefusal limits key (gathered key) fault)
-          (ok-key refused.0 k (sym refused.1 ∙ unlocks)) refused.2
+          (ok_key refused.0 k (sym refused.1 ∙ unlocks)) refused.2
     ]
   where
     ok-err : ◌≡◌ {A = Result FileKey Fault} (Ok k) (Err fault) → ⊥
@@ -108,7 +108,7 @@ unrewrapped_one limits meaning xs x wraps labels ys y b fault old new short list
     λ stanzas k plain file means.
     unrewrapped limits (λ s. meaning x s ∷ []) (λ key. Gathered (wraps y key ∷ []) (labels y ∷ [])) k stanzas plain b
     fault old new short file (ap (λ u. choice (u ∷ [])) means) count
-    (of-known (λ z. RewrapsText limits (λ s. meaning x s ∷ []) (λ key. Gathered (wraps y key ∷ []) (labels y ∷ [])) z
+    (of_known (λ z. RewrapsText limits (λ s. meaning x s ∷ []) (λ key. Gathered (wraps y key ∷ []) (labels y ∷ [])) z
     (moved old new) (Err fault)) source b come
     (subst (λ z. Rewraps limits (λ s. meaning x s ∷ []) (λ key. Gathered (map (λ r. wraps r key) z) (map labels z))
     source (moved old new) (Err fault)) to
@@ -123,7 +123,7 @@ pub rewrapped_one : {X Y : Type 0} (limits : Bounds) (meaning : X → List Stanz
     source (moved (Some []) (Some c)) (Ok tt)
     → (is : Rewrapped limits (λ s. meaning x s ∷ []) b c) × (wraps y is.key ≡ Ok is.stanzas)
 rewrapped_one limits meaning xs x wraps labels ys y b c list to source come h =
-    let t = of-known
+    let t = of_known
     (λ z. RewrapsText limits (λ s. meaning x s ∷ []) (λ key. Gathered (wraps y key ∷ []) (labels y ∷ [])) z
     (moved (Some []) (Some c)) (Ok tt)) source b come
     (subst (λ z. Rewraps limits (λ s. meaning x s ∷ []) (λ key. Gathered (map (λ r. wraps r key) z) (map labels z))
@@ -147,7 +147,7 @@ whole_of_rewrapped limits old new k stanzas plain b c wraps opens file means is 
     let chosen = ap (λ u. choice (u ∷ [])) means in
     let same = key_is limits (λ s. old s ∷ []) k stanzas plain b c file chosen is in
     keeps (whole plain) (ap (λ u. choice (u ∷ [])) (opens is.key same is.stanzas made))
-    (file-whole limits (λ s. old s ∷ []) b plain stanzas k file chosen)
+    (file_whole limits (λ s. old s ∷ []) b plain stanzas k file chosen)
 
 -- what a result's value, or its error, also has
 pub if_ok : {A E : Type 0} (r : Result A E) {P Q : A → Type 0} → ((x : A) → P x → Q x) → IfOk r P → IfOk r Q

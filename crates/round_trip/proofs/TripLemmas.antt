@@ -4,7 +4,7 @@ use Rattle.std.specs.Prelude.{IfErr}
 use Rattle.std.proofs.lemmas.List.{append-nil}
 use Rattle.std.proofs.lemmas.Option.{none-some}
 use Rattle.age_header.specs.Device.{CountsFaultIf, Flow, moved}
-use Rattle.age_header.proofs.DeviceLemmas.{of-known}
+use Rattle.age_header.proofs.DeviceLemmas.{of_known}
 use Rattle.age_file.specs.declared.fault.Fault.{Fault}
 use Rattle.age_file.specs.declared.fault.Fault.TheVariants.{TooManyChunks, Read, Write, OutOfMemory}
 use Rattle.age_file.specs.declared.limits.Fresh.{Fresh}
@@ -31,7 +31,7 @@ pub file_of_one : (limits : Bounds) (fresh : Fresh) {wrapped : Result (List Stan
     → EncryptsGiven limits fresh (Gathered (wrapped ∷ []) meant) source (moved (Some []) (Some file)) (Ok done)
     → (stanzas : List StanzaParts) × (wrapped ≡ Ok stanzas) × AgeFile limits fresh.file_key stanzas plain file
 file_of_one limits fresh {wrapped} meant plain file done {source} come given =
-    let h = of-known
+    let h = of_known
     (λ x. EncryptsText limits fresh (Gathered (wrapped ∷ []) meant) x (moved (Some []) (Some file)) (Ok done))
     source plain come given in
     let is : file ≡ h.0 = h.2 in (
@@ -51,7 +51,7 @@ pub text_of_whole : (limits : Bounds) {answers : Answering} (b plain text : Byte
     → Decrypts limits answers source (moved (Some []) (Some text)) (Ok done)
     → text ≡ plain
 text_of_whole limits {answers} b plain text done once is {source} come decrypts =
-    let h = of-known (λ x. DecryptsText limits answers x (moved (Some []) (Some text)) (Ok done)) source b come decrypts
+    let h = of_known (λ x. DecryptsText limits answers x (moved (Some []) (Some text)) (Ok done)) source b come decrypts
     in
     h.3 ∙ ap (λ (v : Reading Fault). v.front) (once h.0 (whole plain) h.1 is)
 
@@ -82,7 +82,7 @@ pub lost_of_one : {X : Type 0} (limits : Bounds) (meaning : X → List StanzaPar
     → Decrypts limits (λ s. map (λ i. meaning i s) xs) source (moved old new) (Err fault) → IsMemoryFault fault
 lost_of_one limits meaning xs x b plain fault old new list once is count source come h =
     lost_of_whole limits (λ s. meaning x s ∷ []) b plain fault old new once is count
-    (of-known (λ z. DecryptsText limits (λ s. meaning x s ∷ []) z (moved old new) (Err fault)) source b come
+    (of_known (λ z. DecryptsText limits (λ s. meaning x s ∷ []) z (moved old new) (Err fault)) source b come
     (subst (λ z. Decrypts limits (λ s. map (λ i. meaning i s) z) source (moved old new) (Err fault)) list h))
 
 -- why no file was written from memory
@@ -108,7 +108,7 @@ pub unwritten_of_one : {X : Type 0} (limits : Bounds) (fresh : Fresh) (wraps : X
 unwritten_of_one limits fresh wraps labels xs x plain fault old new list count refused source come h =
     unwritten limits fresh (Gathered (wraps x ∷ []) (labels x ∷ [])) plain fault old new count
     (subst (λ z. RefusesFirst limits fresh.file_key (Gathered (map wraps z) (map labels z)) fault) list refused)
-    (of-known (λ z. EncryptsText limits fresh (Gathered (wraps x ∷ []) (labels x ∷ [])) z (moved old new) (Err fault))
+    (of_known (λ z. EncryptsText limits fresh (Gathered (wraps x ∷ []) (labels x ∷ [])) z (moved old new) (Err fault))
     source plain come
     (subst (λ z. EncryptsGiven limits fresh (Gathered (map wraps z) (map labels z)) source (moved old new) (Err fault))
     list h))

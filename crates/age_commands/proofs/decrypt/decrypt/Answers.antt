@@ -1,6 +1,6 @@
 use Rattle.std.proofs.Common.{◌∙◌, ap}
 use denote.Param.Object.{read_made}
-use Rattle.age_header.proofs.DeviceLemmas.{of-any, some-none}
+use Rattle.age_header.proofs.DeviceLemmas.{of_any, some_none}
 use Rattle.age_header.specs.Device.{seen_by}
 use Rattle.age_commands.specs.Secret.{unwraps_of}
 use Rattle.age_commands.proofs.SecretLemmas.{decrypting_meant}
@@ -15,8 +15,8 @@ returns-in-Ok-new-clause-decrypts g c =
 
 pub returns-in_default-clause-decrypts : goal.returns-in_default-clause-decrypts
 returns-in_default-clause-decrypts g c =
-    of-any _ _ _ (some-none (seen_by g.S.Source.to_come g.S.Source.gave c.args.input.now)) (λ b. tt)
+    of_any _ _ _ (some_none (seen_by g.S.Source.to_come g.S.Source.gave c.args.input.now)) (λ b. tt)
 
 pub returns-clause-decrypts : goal.returns-clause-decrypts
 returns-clause-decrypts g c =
-    of-any _ _ _ (some-none (seen_by g.S.Source.to_come g.S.Source.gave c.args.input.now)) (λ b. tt)
+    of_any _ _ _ (some_none (seen_by g.S.Source.to_come g.S.Source.gave c.args.input.now)) (λ b. tt)

@@ -1,5 +1,5 @@
 use Rattle.std.proofs.Common.{rules}
-use Rattle.age_header.proofs.DeviceLemmas.{of-any, some-none}
+use Rattle.age_header.proofs.DeviceLemmas.{of_any, some_none}
 use Rattle.age_header.specs.Device.{seen_by}
 use Rattle.age_commands.proofs.SecretLemmas.{decrypts_alone}
 use Rattle.age_commands.proofs.decrypt.decrypt_by.Goals as goal
@@ -11,4 +11,4 @@ returns-in-Ok-clause-decrypts g c =
 
 pub returns-clause-decrypts : goal.returns-clause-decrypts
 returns-clause-decrypts g c =
-    of-any _ _ _ (some-none (seen_by g.S.Source.to_come g.S.Source.gave c.args.input.now)) (λ b. tt)
+    of_any _ _ _ (some_none (seen_by g.S.Source.to_come g.S.Source.gave c.args.input.now)) (λ b. tt)

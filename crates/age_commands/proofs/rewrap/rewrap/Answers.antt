@@ -1,6 +1,6 @@
 use Rattle.std.proofs.Common.{◌∙◌, ap}
 use denote.Param.Object.{read_made}
-use Rattle.age_header.proofs.DeviceLemmas.{of-any, some-none}
+use Rattle.age_header.proofs.DeviceLemmas.{of_any, some_none}
 use Rattle.age_header.specs.Device.{seen_by}
 use Rattle.age_commands.specs.Secret.{labels_of, unwraps_of, wraps_of}
 use Rattle.age_commands.proofs.SecretLemmas.{rewrapping_meant}
@@ -20,16 +20,16 @@ returns-in-Ok-new-3-clause-rewraps g c =
 
 pub returns-in_default-clause-rewraps : goal.returns-in_default-clause-rewraps
 returns-in_default-clause-rewraps g c =
-    of-any _ _ _ (some-none (seen_by g.S.Source.to_come g.S.Source.gave c.args.input.now)) (λ b. tt)
+    of_any _ _ _ (some_none (seen_by g.S.Source.to_come g.S.Source.gave c.args.input.now)) (λ b. tt)
 
 pub returns-in_default-new-clause-rewraps : goal.returns-in_default-new-clause-rewraps
 returns-in_default-new-clause-rewraps g c =
-    of-any _ _ _ (some-none (seen_by g.S.Source.to_come g.S.Source.gave c.args.input.now)) (λ b. tt)
+    of_any _ _ _ (some_none (seen_by g.S.Source.to_come g.S.Source.gave c.args.input.now)) (λ b. tt)
 
 pub returns-in_default-new-2-clause-rewraps : goal.returns-in_default-new-2-clause-rewraps
 returns-in_default-new-2-clause-rewraps g c =
-    of-any _ _ _ (some-none (seen_by g.S.Source.to_come g.S.Source.gave c.args.input.now)) (λ b. tt)
+    of_any _ _ _ (some_none (seen_by g.S.Source.to_come g.S.Source.gave c.args.input.now)) (λ b. tt)
 
 pub returns-in-Err-clause-rewraps : goal.returns-in-Err-clause-rewraps
 returns-in-Err-clause-rewraps g c =
-    of-any _ _ _ (some-none (seen_by g.S.Source.to_come g.S.Source.gave c.args.input.now)) (λ b. tt)
+    of_any _ _ _ (some_none (seen_by g.S.Source.to_come g.S.Source.gave c.args.input.now)) (λ b. tt)

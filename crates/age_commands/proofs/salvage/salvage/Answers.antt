@@ -1,9 +1,9 @@
 use Rattle.std.proofs.Common.{◌∙◌, ap}
 use denote.Param.Object.{read_made}
 use Rattle.std.proofs.KnownBytes.{Appends-nil}
-use Rattle.age_header.proofs.DeviceLemmas.{of-any, some-none}
+use Rattle.age_header.proofs.DeviceLemmas.{of_any, some_none}
 use Rattle.age_header.specs.Device.{seen_by}
-use Rattle.age_stream.proofs.SalvageLemmas.{reports-none}
+use Rattle.age_stream.proofs.SalvageLemmas.{reports_none}
 use Rattle.age_commands.specs.Secret.{unwraps_of}
 use Rattle.age_commands.proofs.SecretLemmas.{salvaging_meant}
 use Rattle.age_commands.proofs.salvage.salvage.Goals as goal
@@ -17,10 +17,10 @@ returns-in-Ok-new-clause-salvages g c =
 
 pub returns-in_default-clause-salvages : goal.returns-in_default-clause-salvages
 returns-in_default-clause-salvages g c =
-    of-any _ _ _ (some-none (seen_by g.S.Source.to_come g.S.Source.gave c.args.input.now)) (λ b.
-    (Appends-nil (g.W.Sink.taken c.args.out.now), reports-none (g.L.Losses.lost c.args.losses.now)))
+    of_any _ _ _ (some_none (seen_by g.S.Source.to_come g.S.Source.gave c.args.input.now)) (λ b.
+    (Appends-nil (g.W.Sink.taken c.args.out.now), reports_none (g.L.Losses.lost c.args.losses.now)))
 
 pub returns-clause-salvages : goal.returns-clause-salvages
 returns-clause-salvages g c =
-    of-any _ _ _ (some-none (seen_by g.S.Source.to_come g.S.Source.gave c.args.input.now)) (λ b.
-    (Appends-nil (g.W.Sink.taken c.args.out.now), reports-none (g.L.Losses.lost c.args.losses.now)))
+    of_any _ _ _ (some_none (seen_by g.S.Source.to_come g.S.Source.gave c.args.input.now)) (λ b.
+    (Appends-nil (g.W.Sink.taken c.args.out.now), reports_none (g.L.Losses.lost c.args.losses.now)))

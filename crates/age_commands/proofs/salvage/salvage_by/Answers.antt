@@ -1,8 +1,8 @@
 use Rattle.std.proofs.Common.{rules}
 use Rattle.std.proofs.KnownBytes.{Appends-nil}
-use Rattle.age_header.proofs.DeviceLemmas.{of-any, some-none}
+use Rattle.age_header.proofs.DeviceLemmas.{of_any, some_none}
 use Rattle.age_header.specs.Device.{seen_by}
-use Rattle.age_stream.proofs.SalvageLemmas.{reports-none}
+use Rattle.age_stream.proofs.SalvageLemmas.{reports_none}
 use Rattle.age_commands.proofs.SecretLemmas.{salvages_alone}
 use Rattle.age_commands.proofs.salvage.salvage_by.Goals as goal
 
@@ -14,5 +14,5 @@ returns-in-Ok-clause-salvages g c =
 
 pub returns-clause-salvages : goal.returns-clause-salvages
 returns-clause-salvages g c =
-    of-any _ _ _ (some-none (seen_by g.S.Source.to_come g.S.Source.gave c.args.input.now)) (λ b.
-    (Appends-nil (g.W.Sink.taken c.args.out.now), reports-none (g.L.Losses.lost c.args.losses.now)))
+    of_any _ _ _ (some_none (seen_by g.S.Source.to_come g.S.Source.gave c.args.input.now)) (λ b.
+    (Appends-nil (g.W.Sink.taken c.args.out.now), reports_none (g.L.Losses.lost c.args.losses.now)))

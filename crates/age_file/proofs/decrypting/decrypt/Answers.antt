@@ -1,52 +1,52 @@
 use Rattle.std.proofs.Common.{rules, Ok, Err}
 use Rattle.age_header.specs.Device.{seen_by}
-use Rattle.age_file.proofs.DecryptLemmas.{inspect-decrypts, locked-decrypts, missed-decrypts, payload-decrypts, payload-takes}
-use Rattle.age_file.proofs.PayloadLemmas.{payload-ends, payload-writes}
+use Rattle.age_file.proofs.DecryptLemmas.{inspect_decrypts, locked_decrypts, missed_decrypts, payload_decrypts, payload_takes}
+use Rattle.age_file.proofs.PayloadLemmas.{payload_ends, payload_writes}
 use Rattle.age_file.proofs.decrypting.decrypt.Goals as goal
 
 pub returns-in-Err-clause-decrypts : goal.returns-in-Err-clause-decrypts
 returns-in-Err-clause-decrypts g c =
-    inspect-decrypts _ _ (seen_by g.S.Source.to_come g.S.Source.gave c.inspect.new.input) _ c.in-Err.fault
+    inspect_decrypts _ _ (seen_by g.S.Source.to_come g.S.Source.gave c.inspect.new.input) _ c.in-Err.fault
     c.in-Err.ensures.verdict
 
 pub returns-in-Err-unlock_header-clause-decrypts : goal.returns-in-Err-unlock_header-clause-decrypts
 returns-in-Err-unlock_header-clause-decrypts g c =
-    locked-decrypts _ _ (seen_by g.S.Source.to_come g.S.Source.gave c.inspect.new.input) _ c.in-Err-unlock_header.fault
+    locked_decrypts _ _ (seen_by g.S.Source.to_come g.S.Source.gave c.inspect.new.input) _ c.in-Err-unlock_header.fault
     c.in-Ok.ensures.verdict c.in-Err-unlock_header.ensures.key
 
 pub returns-in-Ok-copy_to-clause-decrypts : goal.returns-in-Ok-copy_to-clause-decrypts
 returns-in-Ok-copy_to-clause-decrypts g c =
-    payload-decrypts _ _ _ (seen_by g.S.Source.to_come g.S.Source.gave c.inspect.new.input) _ _ _ _
+    payload_decrypts _ _ _ (seen_by g.S.Source.to_come g.S.Source.gave c.inspect.new.input) _ _ _ _
     c.in-Ok-unlock_header.key _
     (Ok c.in-Ok-copy_to.done) c.in-Ok.ensures.verdict c.in-Ok-unlock_header.ensures.key
-    c.max_chunks.ensures.value (payload-writes _ c.in-Ok-started.reader.opener (g.W.Sink.taken c.args.out.now)
+    c.max_chunks.ensures.value (payload_writes _ c.in-Ok-started.reader.opener (g.W.Sink.taken c.args.out.now)
     (g.W.Sink.taken c.copy_to.new.out) (Ok c.in-Ok-copy_to.done)
     c.in-Ok-started.ensures.starts.0 (search rules))
 
 pub returns-clause-decrypts : goal.returns-clause-decrypts
 returns-clause-decrypts g c =
     rw c.stream_fault-in-Err-copy_to.ensures
-    (payload-decrypts _ _ _ (seen_by g.S.Source.to_come g.S.Source.gave c.inspect.new.input) _ _ _ _
+    (payload_decrypts _ _ _ (seen_by g.S.Source.to_come g.S.Source.gave c.inspect.new.input) _ _ _ _
     c.in-Ok-unlock_header.key _
     (Err c.in-Err-copy_to.fault) c.in-Ok.ensures.verdict
     c.in-Ok-unlock_header.ensures.key c.max_chunks.ensures.value
-    (payload-writes _ c.in-Ok-started.reader.opener (g.W.Sink.taken c.args.out.now)
+    (payload_writes _ c.in-Ok-started.reader.opener (g.W.Sink.taken c.args.out.now)
     (g.W.Sink.taken c.copy_to.new.out) (Err c.in-Err-copy_to.fault)
     c.in-Ok-started.ensures.starts.0 (search rules)))
 
 pub returns-clause-took : goal.returns-clause-took
 returns-clause-took g c =
     rw c.stream_fault-in-Err-copy_to.ensures
-    (payload-takes (seen_by g.S.Source.to_come g.S.Source.gave c.inspect.new.input) c.in-Err-copy_to.fault
+    (payload_takes (seen_by g.S.Source.to_come g.S.Source.gave c.inspect.new.input) c.in-Err-copy_to.fault
     c.in-Ok.ensures.verdict
-    (payload-ends _ c.in-Ok-started.reader.opener c.in-Err-copy_to.fault
+    (payload_ends _ c.in-Ok-started.reader.opener c.in-Err-copy_to.fault
     (rw c.max_chunks.ensures.value at c.in-Ok-started.ensures.starts.0)
     c.in-Ok-started.ensures.starts.1 (search rules)))
 
 pub returns-in-Err-started-clause-decrypts : goal.returns-in-Err-started-clause-decrypts
 returns-in-Err-started-clause-decrypts g c =
     rw c.stream_fault.ensures (rw c.fault.ensures.fault
-    (missed-decrypts g.S.Source.to_come g.S.Source.gave _ c.inspect.new.input _
+    (missed_decrypts g.S.Source.to_come g.S.Source.gave _ c.inspect.new.input _
     (g.S.Source.failed c.inspect.new.input) (g.S.Source.failed c.in-Err-started.refused.device.now)
     c.in-Ok-unlock_header.key c.max_chunks.result c.in-Err-started.refused.fault c.in-Ok.ensures.verdict
     c.in-Ok-unlock_header.ensures.key c.max_chunks.ensures.value (search rules)))

@@ -1,6 +1,6 @@
 use Rattle.std.proofs.Common.{◌≡◌, rules, Ok, Err, inr}
 use Rattle.age_header.specs.Device.{seen_by}
-use Rattle.age_header.proofs.DeviceLemmas.{gave-some, of-any, some-none}
+use Rattle.age_header.proofs.DeviceLemmas.{gave_some, of_any, some_none}
 use Rattle.age_file.specs.NewFile.{gathering_by}
 use Rattle.age_file.proofs.EncryptLemmas.{encrypts_begun, encrypts_sealed, encrypts_unmade, encrypts_unread, filled, read_late, sealed_filled, takes_begun, takes_sealed, unfilled}
 use Rattle.age_file.proofs.encrypting.encrypt.Goals as goal
@@ -13,12 +13,12 @@ returns-in_err-header-clause-encrypts g c =
     let is : c.from_residual.result ≡ Err c.in_err-header.field-0.0 = search rules in
     let plain = seen_by g.S.Source.to_come g.S.Source.gave c.args.plain.now in
     rw is (encrypts_unmade c.args.limits.now c.args.fresh.now gathered plain plain
-    (g.W.Sink.taken c.args.out.now) (g.W.Sink.taken c.args.out.now) c.in_err-header.field-0.0 (some-none plain)
+    (g.W.Sink.taken c.args.out.now) (g.W.Sink.taken c.args.out.now) c.in_err-header.field-0.0 (some_none plain)
     c.in_err-header.ensures.err)
 
 pub returns-in_default-clause-encrypts : goal.returns-in_default-clause-encrypts
 returns-in_default-clause-encrypts g c =
-    of-any _ _ _ (some-none (seen_by g.S.Source.to_come g.S.Source.gave c.args.plain.now)) (λ plain. tt)
+    of_any _ _ _ (some_none (seen_by g.S.Source.to_come g.S.Source.gave c.args.plain.now)) (λ plain. tt)
 
 pub returns-in-Err-clause-encrypts : goal.returns-in-Err-clause-encrypts
 returns-in-Err-clause-encrypts g c =
@@ -27,7 +27,7 @@ returns-in-Err-clause-encrypts g c =
 pub returns-in_default-write_front-clause-encrypts : goal.returns-in_default-write_front-clause-encrypts
 returns-in_default-write_front-clause-encrypts g c =
     let fills = filled c.new-sealer.ensures c.max_chunks.ensures.value c.in-Ok-fill.ensures.fills in
-    encrypts_begun (gave-some _ _ _ fills.1) c.in_ok-header.ensures.ok c.in_default-write_front.ensures.text
+    encrypts_begun (gave_some _ _ _ fills.1) c.in_ok-header.ensures.ok c.in_default-write_front.ensures.text
 
 pub returns-in_default-write_front-clause-took : goal.returns-in_default-write_front-clause-took
 returns-in_default-write_front-clause-took g c =

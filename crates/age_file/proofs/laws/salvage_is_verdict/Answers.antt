@@ -1,11 +1,11 @@
-use Rattle.age_file.proofs.SalvageLaws.{saved-fault, saved-front, saved-whole}
+use Rattle.age_file.proofs.SalvageLaws.{saved_fault, saved_front, saved_whole}
 use Rattle.age_file.proofs.laws.salvage_is_verdict.Goals as goal
 
 pub returns : goal.returns
 returns c = record {
-  whole = λ limits answers b plain sink lost s i f. (saved-whole limits answers b plain sink lost s i f).0;
+  whole = λ limits answers b plain sink lost s i f. (saved_whole limits answers b plain sink lost s i f).0;
   none = λ limits answers b plain sink lost s i f.
-      let h = saved-whole limits answers b plain sink lost s i f in (h.1, h.2);
-  front = saved-front;
-  fault = saved-fault;
+      let h = saved_whole limits answers b plain sink lost s i f in (h.1, h.2);
+  front = saved_front;
+  fault = saved_fault;
 }

@@ -1,12 +1,12 @@
 use Rattle.std.proofs.Common.{◌∙◌, ap, drop, option_map, sym, subst}
 use Rattle.age_file.specs.Ranges.{AtState, GaveHeader, IsOpenFault, IsWithin, MissesHeader}
-use Rattle.age_file.proofs.RangeLemmas.{header-found, header-gave, header-missed, header-named}
+use Rattle.age_file.proofs.RangeLemmas.{range_header_found, header_gave, header_missed, header_named}
 use Rattle.age_file.proofs.ranges.header_at.Goals as goal
 
 pub returns-in-Ok-clause-header : goal.returns-in-Ok-clause-header
 returns-in-Ok-clause-header g c =
     let told = ap g.D.ReadAt.bytes (sym c.into_parts-dev.ensures.unchanged) ∙ c.into_parts-dev.ensures.bytes in
-    header-found c.args.limits.now g.K.Origin.bytes c.into_parts-dev.result.1 c.in-Ok.header
+    range_header_found c.args.limits.now g.K.Origin.bytes c.into_parts-dev.result.1 c.in-Ok.header
     (ap (λ (s : AtState _). option_map (drop s.at) (g.D.ReadAt.bytes s.dev)) c.new-source.ensures
     ∙ ap (option_map (drop 0)) (sym c.requires.bytes))
     (ap (λ n. option_map (drop n) (g.D.ReadAt.bytes c.inspect.new.input.dev)) (sym c.into_parts-dev.ensures.at)
@@ -20,17 +20,17 @@ returns-in-Ok-clause-first g c =
     (sym c.into_parts-dev.ensures.at)
     (subst (λ d. GaveHeader c.args.limits.now (g.D.ReadAt.gave d) c.inspect.new.input.at c.in-Ok.header)
     (sym c.into_parts-dev.ensures.unchanged)
-    (header-gave (λ s. option_map (drop s.at) (g.D.ReadAt.bytes s.dev)) g.D.ReadAt.gave c.args.limits.now _
+    (header_gave (λ s. option_map (drop s.at) (g.D.ReadAt.bytes s.dev)) g.D.ReadAt.gave c.args.limits.now _
     c.inspect.new.input c.in-Ok.header
     (ap (λ (s : AtState _). s.at) c.new-source.ensures) c.in-Ok.ensures.verdict))
 
 pub returns-in-Err-clause-misses : goal.returns-in-Err-clause-misses
 returns-in-Err-clause-misses g c =
     subst (MissesHeader c.args.limits.now g.K.Origin.bytes) (sym c.of.ensures.fault)
-    (header-missed c.args.limits.now g.K.Origin.bytes c.in-Err.fault
+    (header_missed c.args.limits.now g.K.Origin.bytes c.in-Err.fault
     (ap (λ (s : AtState _). option_map (drop s.at) (g.D.ReadAt.bytes s.dev)) c.new-source.ensures
     ∙ ap (option_map (drop 0)) (sym c.requires.bytes)) c.in-Err.ensures.verdict)
 
 pub returns-in-Err-clause-named : goal.returns-in-Err-clause-named
 returns-in-Err-clause-named g c = subst IsOpenFault (sym c.of.ensures.fault)
-    (header-named c.args.limits.now c.in-Err.fault c.in-Err.ensures.verdict)
+    (header_named c.args.limits.now c.in-Err.fault c.in-Err.ensures.verdict)

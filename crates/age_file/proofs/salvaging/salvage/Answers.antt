@@ -1,24 +1,24 @@
 use Rattle.std.proofs.Common.{Ok, Err}
 use Rattle.age_header.specs.Device.{seen_by}
-use Rattle.age_file.proofs.DecryptLemmas.{reads-file}
-use Rattle.age_file.proofs.SalvageLaws.{quiet-pieces}
-use Rattle.age_file.proofs.SalvageLemmas.{inspect-salvages, locked-salvages, payload-salvages, salvage-takes}
+use Rattle.age_file.proofs.DecryptLemmas.{reads_file}
+use Rattle.age_file.proofs.SalvageLaws.{quiet_pieces}
+use Rattle.age_file.proofs.SalvageLemmas.{inspect_salvages, locked_salvages, payload_salvages, salvage_takes}
 use Rattle.age_file.proofs.salvaging.salvage.Goals as goal
 
 pub returns-in-Err-clause-salvages : goal.returns-in-Err-clause-salvages
 returns-in-Err-clause-salvages g c =
-    inspect-salvages _ _ _ (seen_by g.S.Source.to_come g.S.Source.gave c.inspect.new.input) _ _ c.in-Err.fault
+    inspect_salvages _ _ _ (seen_by g.S.Source.to_come g.S.Source.gave c.inspect.new.input) _ _ c.in-Err.fault
     c.in-Err.ensures.verdict
 
 pub returns-in-Err-unlock_header-clause-salvages : goal.returns-in-Err-unlock_header-clause-salvages
 returns-in-Err-unlock_header-clause-salvages g c =
-    locked-salvages _ _ _ (seen_by g.S.Source.to_come g.S.Source.gave c.inspect.new.input) _ _ _
+    locked_salvages _ _ _ (seen_by g.S.Source.to_come g.S.Source.gave c.inspect.new.input) _ _ _
     c.in-Err-unlock_header.fault
     c.in-Ok.ensures.verdict c.in-Err-unlock_header.ensures.key
 
 pub returns-in-Ok-salvage_payload-clause-salvages : goal.returns-in-Ok-salvage_payload-clause-salvages
 returns-in-Ok-salvage_payload-clause-salvages g c =
-    payload-salvages _ _ _ (seen_by g.S.Source.to_come g.S.Source.gave c.inspect.new.input) _ _ _ _ _ _
+    payload_salvages _ _ _ (seen_by g.S.Source.to_come g.S.Source.gave c.inspect.new.input) _ _ _ _ _ _
     c.in-Ok-unlock_header.key _
     (Ok c.in-Ok-salvage_payload.salvaged) c.in-Ok.ensures.verdict c.in-Ok-unlock_header.ensures.key
     c.max_chunks.ensures.value c.in-Ok-salvage_payload.ensures.salvages
@@ -26,7 +26,7 @@ returns-in-Ok-salvage_payload-clause-salvages g c =
 pub returns-clause-salvages : goal.returns-clause-salvages
 returns-clause-salvages g c =
     rw c.stream_fault.ensures
-    (payload-salvages _ _ _ (seen_by g.S.Source.to_come g.S.Source.gave c.inspect.new.input) _ _ _ _ _ _
+    (payload_salvages _ _ _ (seen_by g.S.Source.to_come g.S.Source.gave c.inspect.new.input) _ _ _ _ _ _
     c.in-Ok-unlock_header.key _
     (Err c.in-Err-salvage_payload.fault) c.in-Ok.ensures.verdict c.in-Ok-unlock_header.ensures.key
     c.max_chunks.ensures.value c.in-Err-salvage_payload.ensures.salvages)
@@ -34,17 +34,17 @@ returns-clause-salvages g c =
 pub returns-clause-took : goal.returns-clause-took
 returns-clause-took g c =
     rw c.stream_fault.ensures
-    (salvage-takes _ _ (seen_by g.S.Source.to_come g.S.Source.gave c.inspect.new.input) _ _ _ _ _
+    (salvage_takes _ _ (seen_by g.S.Source.to_come g.S.Source.gave c.inspect.new.input) _ _ _ _ _
     c.in-Err-salvage_payload.fault c.in-Ok.ensures.verdict c.max_chunks.ensures.value
     c.in-Err-salvage_payload.ensures.took)
 
 pub returns-clause-quiet : goal.returns-clause-quiet
 returns-clause-quiet g c =
     rw c.stream_fault.ensures
-    (quiet-pieces c.in-Err-salvage_payload.fault c.in-Err-salvage_payload.ensures.quiet)
+    (quiet_pieces c.in-Err-salvage_payload.fault c.in-Err-salvage_payload.ensures.quiet)
 
 pub returns-clause-reads : goal.returns-clause-reads
 returns-clause-reads g c =
     rw c.stream_fault.ensures
     (rw c.in-Ok.ensures.reads at
-    (reads-file _ _ c.in-Err-salvage_payload.fault c.in-Err-salvage_payload.ensures.reads))
+    (reads_file _ _ c.in-Err-salvage_payload.fault c.in-Err-salvage_payload.ensures.reads))

@@ -1,11 +1,11 @@
 use Rattle.std.proofs.Common.{◌∙◌}
 use Rattle.std.proofs.lemmas.Result.{IfOk-weaker}
 use Rattle.age_header.specs.Base64.{base64_of}
-use Rattle.age_header.proofs.Base64Lemmas.{encode_of-unpadded}
+use Rattle.age_header.proofs.Base64Lemmas.{encode_of_unpadded}
 use Rattle.age_header.proofs.base64_no_pad.encode.Goals as goal
 
 pub returns : goal.returns
 unfolding base64_of
 returns c =
-    let plain = encode_of-unpadded c.args.engine.now c.args.bytes.now c.requires.unpadded c.requires.characters in
+    let plain = encode_of_unpadded c.args.engine.now c.args.bytes.now c.requires.unpadded c.requires.characters in
     IfOk-weaker c.encode.result _ _ (λ text is. is ∙ plain) c.encode.ensures.text

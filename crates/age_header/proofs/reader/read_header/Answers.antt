@@ -4,7 +4,7 @@ use Rattle.std.proofs.lemmas.Grind.{common_steps}
 use Rattle.age_kdf.specs.Bytes.{Bytes}
 use Rattle.age_header.specs.Base64.{IsBase64}
 use Rattle.age_header.specs.Steps.{Step}
-use Rattle.age_header.proofs.DeviceLemmas.{gave-some, of-any, some-then}
+use Rattle.age_header.proofs.DeviceLemmas.{gave_some, of_any, some_then}
 use Rattle.age_header.proofs.ReaderLemmas.{outside}
 use Rattle.age_header.proofs.VerdictLaterLinesLemmas.{path_truncated, path_too_large, path_header, path_bad, path_more, path_lines, path_start}
 use Rattle.age_header.proofs.reader.read_header.Goals as goal
@@ -21,15 +21,15 @@ pub returns-in_err-text-clause-verdict : goal.returns-in_err-text-clause-verdict
 returns-in_err-text-clause-verdict g c =
     let is : c.from_residual-in_err-text.result ≡ Err c.in_err-text.field-0.0 = search rules in
     rw is (outside c.args.max c.in_err-text.field-0.0 c.in_err-text.ensures.err
-    (some-then c.lines.invariant.path.read c.in_err-text.ensures.lost))
+    (some_then c.lines.invariant.path.read c.in_err-text.ensures.lost))
 
 pub returns-in-Err-clause-verdict : goal.returns-in-Err-clause-verdict
 returns-in-Err-clause-verdict g c =
-    of-any _ _ _ (some-then c.lines.invariant.path.read (gave-some _ _ _ c.in_ok-text.ensures.bytes)) (λ b. tt)
+    of_any _ _ _ (some_then c.lines.invariant.path.read (gave_some _ _ _ c.in_ok-text.ensures.bytes)) (λ b. tt)
 
 pub returns-in-Err-step-clause-verdict : goal.returns-in-Err-step-clause-verdict
 returns-in-Err-step-clause-verdict g c =
-    of-any _ _ _ (some-then c.lines.invariant.path.read (gave-some _ _ _ c.in_ok-text.ensures.bytes)) (λ b. tt)
+    of_any _ _ _ (some_then c.lines.invariant.path.read (gave_some _ _ _ c.in_ok-text.ensures.bytes)) (λ b. tt)
 
 pub returns-in-Input-clause-verdict : goal.returns-in-Input-clause-verdict
 returns-in-Input-clause-verdict g c =

@@ -2,7 +2,7 @@ use Rattle.std.proofs.Common.{arith, rules, sym, ◌∙◌, ap, refl, suc, ◌�
 use Rattle.age_kdf.specs.Pbkdf2.{pbkdf2_blocks}
 use Rattle.age_kdf.specs.Scrypt.{words_of}
 use Rattle.age_kdf.proofs.ListLemmas.{filled}
-use Rattle.age_kdf.proofs.Pbkdf2Lemmas.{length-pbkdf2_blocks, pbkdf2-whole}
+use Rattle.age_kdf.proofs.Pbkdf2Lemmas.{length-pbkdf2_blocks, pbkdf2_whole}
 use Rattle.age_kdf.proofs.ScryptLemmas.{block_loaded}
 use Rattle.age_kdf.proofs.scrypt_kdf.load.Goals as goal
 
@@ -26,4 +26,4 @@ returns c pass salt keyed salted =
     let end : c.each_block.i ≡ c.args.count = omega arith in
     filled (omega (arith, c.each_block.auto.words)) (c.each_block.invariant pass salt keyed salted)
     ∙ ap (λ k. words_of (pbkdf2_blocks pass salt 1 k) (8 * k)) end
-    ∙ ap (λ z. words_of z (8 * c.args.count)) (sym (pbkdf2-whole pass salt 1 c.args.count))
+    ∙ ap (λ z. words_of z (8 * c.args.count)) (sym (pbkdf2_whole pass salt 1 c.args.count))

@@ -1,10 +1,10 @@
 use Rattle.std.proofs.Common.{drop, take}
 use Rattle.age_stream.specs.Payload.{payload_key, pieces}
-use Rattle.age_stream.proofs.SalvageSlices.{salvaged-len, slice-saved}
+use Rattle.age_stream.proofs.SalvageSlices.{salvaged_len, slice_saved}
 use Rattle.age_stream.proofs.laws.salvage_is_sliced.Goals as goal
 
 pub returns : goal.returns
 returns c = record {
-  slice = slice-saved;
-  len = λ k text. salvaged-len (payload_key k (take 16 text)) 0 (pieces (drop 16 text));
+  slice = slice_saved;
+  len = λ k text. salvaged_len (payload_key k (take 16 text)) 0 (pieces (drop 16 text));
 }

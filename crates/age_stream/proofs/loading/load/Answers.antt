@@ -3,7 +3,7 @@ use Rattle.std.proofs.lemmas.Bool.{OnTrue_at, OnFalse_at}
 use Rattle.age_kdf.specs.Bytes.{Bytes}
 use Rattle.age_cipher.specs.Sealing.{opened}
 use Rattle.age_stream.specs.Slice.{chunk_len}
-use Rattle.age_stream.proofs.LoadLemmas.{open-there}
+use Rattle.age_stream.proofs.LoadLemmas.{open_there}
 use Rattle.age_stream.proofs.loading.load.Goals as goal
 
 pub returns-then-open_prefix-clause-opens : goal.returns-then-open_prefix-clause-opens
@@ -11,7 +11,7 @@ returns-then-open_prefix-clause-opens g c there =
     let n = chunk_len c.args.layout.plain c.args.i in
     let end = ap (λ k. k + 16) c.chunk_len-end.ensures in
     let len : c.chunk_len-end.result + 16 - 16 ≡ n = omega (arith, c.chunk_len-end.ensures) in
-    open-there (g.D.ReadAt.bytes c.args.dev.now) c.args.layout c.chunk_nonce-nonce.result c.read_full.new.buf c.args.i
+    open_there (g.D.ReadAt.bytes c.args.dev.now) c.args.layout c.chunk_nonce-nonce.result c.read_full.new.buf c.args.i
     (c.chunk_len-end.result + 16)
     (Some (take n c.open_prefix.new.bytes))
     there c.requires.within (OnTrue_at c.in-Ok-true.field-0-test c.in-Ok-true.ensures.full) end
@@ -23,7 +23,7 @@ returns-else-open_prefix-clause-lost g c =
     inr (
       refl,
       λ there.
-          open-there (g.D.ReadAt.bytes c.args.dev.now) c.args.layout c.chunk_nonce-nonce.result c.read_full.new.buf
+          open_there (g.D.ReadAt.bytes c.args.dev.now) c.args.layout c.chunk_nonce-nonce.result c.read_full.new.buf
           c.args.i (c.chunk_len-end.result + 16) None
           there c.requires.within (OnTrue_at c.in-Ok-true.field-0-test c.in-Ok-true.ensures.full)
           (ap (λ k. k + 16) c.chunk_len-end.ensures) (c.read_full.auto.buf ∙ c.requires.room)

@@ -1,6 +1,6 @@
 use Rattle.std.proofs.Common.{arith, length, ◌≡◌, ◌+◌, ◌≤◌, ◌∙◌, take, drop, subst}
 use Rattle.age_stream.specs.Offsets.{HasAt}
-use Rattle.age_stream.proofs.ReadAtLemmas.{has-on, read-on}
+use Rattle.age_stream.proofs.ReadAtLemmas.{has_on, read_on}
 use Rattle.age_stream.proofs.loading.read_full.Goals as goal
 
 pub loop-got-preserved : goal.loop-got-preserved
@@ -18,11 +18,11 @@ loop-got-preserved g c =
       stay = c.read_after.ensures.stay ∙ old.stay;
       len = same ∙ old.len;
       within = within;
-      so_far = has-on told c.args.at got n c.loop-got.buf c.read_after.new.buf room same c.read_after.ensures.prefix
+      so_far = has_on told c.args.at got n c.loop-got.buf c.read_after.new.buf room same c.read_after.ensures.prefix
           old.so_far more;
       found = c.read_after.ensures.found ∙ old.found;
       kept = λ at byte was. c.read_after.ensures.stays_given at byte (old.kept at byte was);
-      read = read-on (g.D.ReadAt.gave c.loop-got.dev) (g.D.ReadAt.gave c.read_after.new.dev) c.args.at got n
+      read = read_on (g.D.ReadAt.gave c.loop-got.dev) (g.D.ReadAt.gave c.read_after.new.dev) c.args.at got n
           c.loop-got.buf c.read_after.new.buf room same c.read_after.ensures.prefix
           c.read_after.ensures.stays_given old.read c.in_ok-n.ensures.read;
       given = omega (arith, c.in_ok-n.ensures.given, old.given);

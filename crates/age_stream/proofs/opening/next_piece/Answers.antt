@@ -1,7 +1,7 @@
 use Rattle.std.proofs.Common.{rules, arith, ◌≡◌, ◌∙◌, ◌++◌, ap, sym, length, take, drop, inr}
 use Rattle.std.proofs.lemmas.List.{drop-drop, length-take-le, take_all}
 use Rattle.age_kdf.specs.Bytes.{Bytes}
-use Rattle.age_stream.proofs.OpeningLemmas.{counts-piece, is-filled, outcome-last, after-last, outcome-more, after-more}
+use Rattle.age_stream.proofs.OpeningLemmas.{counts_piece, is_filled, outcome_last, after_last, outcome_more, after_more}
 use Rattle.age_stream.proofs.opening.next_piece.Goals as goal
 use Rattle.age_stream.specs.Sizes.{chunk_size, sealed_chunk_size, chunk_buf_size}
 
@@ -15,14 +15,14 @@ returns-in-Ok-open_chunk-clause-opens g c =
     inr (record {
       given = f.piece;
       gave = f.bytes;
-      filled = is-filled c.args.ahead c.in-Ok.n c.args.bytes.now f.piece _ c.requires.size c.requires.ahead f.len
+      filled = is_filled c.args.ahead c.in-Ok.n c.args.bytes.now f.piece _ c.requires.size c.requires.ahead f.len
           (omega (arith, f.room, c.carry.ensures.len))
           (λ low. c.in-Ok.ensures.end (omega (arith, low, c.carry.ensures.len)));
       opens = (
-        outcome-last c.args.key.now c.args.max c.args.i ahead f.piece (take c.in-Ok.n filled) (omega arith) is
+        outcome_last c.args.key.now c.args.max c.args.i ahead f.piece (take c.in-Ok.n filled) (omega arith) is
             ∙ c.in-Ok-open_chunk.ensures.text.0,
         c.in-Ok-open_chunk.ensures.text.1,
-        sym (after-last ahead f.piece (take c.in-Ok.n filled) (omega arith) is),
+        sym (after_last ahead f.piece (take c.in-Ok.n filled) (omega arith) is),
       );
     })
 
@@ -36,10 +36,10 @@ returns-in-Err-clause-opens g c =
     inr (record {
       given = f.piece;
       gave = f.bytes;
-      filled = is-filled c.args.ahead c.in-Ok.n c.args.bytes.now f.piece _ c.requires.size c.requires.ahead f.len
+      filled = is_filled c.args.ahead c.in-Ok.n c.args.bytes.now f.piece _ c.requires.size c.requires.ahead f.len
           (omega (arith, f.room, c.carry.ensures.len))
           (λ low. c.in-Ok.ensures.end (omega (arith, low, c.carry.ensures.len)));
-      opens = outcome-last c.args.key.now c.args.max c.args.i ahead f.piece (take c.in-Ok.n filled) (omega arith) is
+      opens = outcome_last c.args.key.now c.args.max c.args.i ahead f.piece (take c.in-Ok.n filled) (omega arith) is
           ∙ c.in-Err.ensures.text;
     })
 
@@ -58,14 +58,14 @@ returns-in-Ok-open_chunk-2-clause-opens g c =
     inr (record {
       given = f.piece;
       gave = f.bytes;
-      filled = is-filled c.args.ahead c.in-Ok.n c.args.bytes.now f.piece _ c.requires.size c.requires.ahead f.len
+      filled = is_filled c.args.ahead c.in-Ok.n c.args.bytes.now f.piece _ c.requires.size c.requires.ahead f.len
           (omega (arith, f.room, c.carry.ensures.len))
           (λ low. c.in-Ok.ensures.end (omega (arith, low, c.carry.ensures.len)));
       opens = (
-        outcome-more c.args.key.now c.args.max c.args.i ahead f.piece filled size is
+        outcome_more c.args.key.now c.args.max c.args.i ahead f.piece filled size is
             ∙ c.in-Ok-open_chunk-2.ensures.text.0,
         c.in-Ok-open_chunk-2.ensures.text.1,
-        rw rest (sym (after-more ahead f.piece filled size is)),
+        rw rest (sym (after_more ahead f.piece filled size is)),
       );
     })
 
@@ -80,17 +80,17 @@ returns-in-Err-open_chunk-clause-opens g c =
     inr (record {
       given = f.piece;
       gave = f.bytes;
-      filled = is-filled c.args.ahead c.in-Ok.n c.args.bytes.now f.piece _ c.requires.size c.requires.ahead f.len
+      filled = is_filled c.args.ahead c.in-Ok.n c.args.bytes.now f.piece _ c.requires.size c.requires.ahead f.len
           (omega (arith, f.room, c.carry.ensures.len))
           (λ low. c.in-Ok.ensures.end (omega (arith, low, c.carry.ensures.len)));
-      opens = outcome-more c.args.key.now c.args.max c.args.i ahead f.piece filled size is
+      opens = outcome_more c.args.key.now c.args.max c.args.i ahead f.piece filled size is
           ∙ c.in-Err-open_chunk.ensures.text;
     })
 
 pub returns-in-Err-clause-count : goal.returns-in-Err-clause-count
-returns-in-Err-clause-count g c = counts-piece c.args.max c.args.i c.in-Err.fault c.in-Err.ensures.at
+returns-in-Err-clause-count g c = counts_piece c.args.max c.args.i c.in-Err.fault c.in-Err.ensures.at
     c.in-Ok.ensures.count
 
 pub returns-in-Err-open_chunk-clause-count : goal.returns-in-Err-open_chunk-clause-count
 returns-in-Err-open_chunk-clause-count g c =
-    counts-piece c.args.max c.args.i c.in-Err-open_chunk.fault c.in-Err-open_chunk.ensures.at c.in-Ok.ensures.count
+    counts_piece c.args.max c.args.i c.in-Err-open_chunk.fault c.in-Err-open_chunk.ensures.at c.in-Ok.ensures.count

@@ -2,25 +2,25 @@ use Rattle.std.proofs.Common.{rules, arith, ◌≡◌, ◌&&◌, ◌-◌, ◌∙
 use Rattle.std.proofs.lemmas.Bool.{OnTrue_at, OnFalse_at}
 use Rattle.std.proofs.lemmas.List.{length-take-le}
 use Rattle.age_cipher.specs.Sealing.{opened}
-use Rattle.age_stream.proofs.OutcomeLemmas.{outcome-many, outcome-short, outcome-empty, outcome-open}
+use Rattle.age_stream.proofs.OutcomeLemmas.{outcome_many, outcome_short, outcome_empty, outcome_open}
 use Rattle.age_stream.proofs.opening.open_chunk.Goals as goal
 
 pub returns-then-i-max-clause-text : goal.returns-then-i-max-clause-text
 returns-then-i-max-clause-text c =
-    outcome-many c.args.key.now c.args.max c.args.i c.args.last (take c.args.end c.args.bytes.now) (omega arith)
+    outcome_many c.args.key.now c.args.max c.args.i c.args.last (take c.args.end c.args.bytes.now) (omega arith)
 
 pub returns-then-end-lt-TAG_SIZE-clause-text : goal.returns-then-end-lt-TAG_SIZE-clause-text
 returns-then-end-lt-TAG_SIZE-clause-text c =
     let l : length (take c.args.end c.args.bytes.now) ≡ c.args.end =
     length-take-le c.args.end c.args.bytes.now (search rules) in
-    outcome-short c.args.key.now c.args.max c.args.i c.args.last (take c.args.end c.args.bytes.now) (omega arith)
+    outcome_short c.args.key.now c.args.max c.args.i c.args.last (take c.args.end c.args.bytes.now) (omega arith)
     (omega arith)
 
 pub returns-then-is_empty_final-clause-text : goal.returns-then-is_empty_final-clause-text
 returns-then-is_empty_final-clause-text c =
     let l : length (take c.args.end c.args.bytes.now) ≡ c.args.end =
     length-take-le c.args.end c.args.bytes.now (search rules) in
-    outcome-empty c.args.key.now c.args.max c.args.i c.args.last (take c.args.end c.args.bytes.now) (omega arith)
+    outcome_empty c.args.key.now c.args.max c.args.i c.args.last (take c.args.end c.args.bytes.now) (omega arith)
     (omega arith)
     (ap (λ n. c.args.last && nat_lt 0 c.args.i && nat_eq n 16) l ∙ sym c.is_empty_final.ensures
     ∙ c.if-is_empty_final.true)
@@ -29,7 +29,7 @@ pub returns-then-open_prefix-clause-text : goal.returns-then-open_prefix-clause-
 returns-then-open_prefix-clause-text c =
     let l : length (take c.args.end c.args.bytes.now) ≡ c.args.end =
     length-take-le c.args.end c.args.bytes.now (search rules) in (
-      outcome-open c.args.key.now c.args.max c.args.i c.args.last (take c.args.end c.args.bytes.now)
+      outcome_open c.args.key.now c.args.max c.args.i c.args.last (take c.args.end c.args.bytes.now)
           (Some (take (c.args.end - 16) c.open_prefix.new.bytes)) (omega arith) (omega arith)
           (ap (λ n. c.args.last && nat_lt 0 c.args.i && nat_eq n 16) l ∙ sym c.is_empty_final.ensures
           ∙ c.if-is_empty_final.false)
@@ -42,7 +42,7 @@ pub returns-else-open_prefix-clause-text : goal.returns-else-open_prefix-clause-
 returns-else-open_prefix-clause-text c =
     let l : length (take c.args.end c.args.bytes.now) ≡ c.args.end =
     length-take-le c.args.end c.args.bytes.now (search rules) in
-    outcome-open c.args.key.now c.args.max c.args.i c.args.last (take c.args.end c.args.bytes.now) None (omega arith)
+    outcome_open c.args.key.now c.args.max c.args.i c.args.last (take c.args.end c.args.bytes.now) None (omega arith)
     (omega arith)
     (ap (λ n. c.args.last && nat_lt 0 c.args.i && nat_eq n 16) l ∙ sym c.is_empty_final.ensures
     ∙ c.if-is_empty_final.false)

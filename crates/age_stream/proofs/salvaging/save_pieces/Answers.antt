@@ -1,7 +1,7 @@
 use Rattle.std.proofs.Common.{rules, arith, ◌∙◌, refl, [], inr}
 use Rattle.std.proofs.lemmas.List.{length-take-le}
-use Rattle.age_stream.proofs.OpeningLemmas.{ahead-one}
-use Rattle.age_stream.proofs.SalvageLemmas.{counted, ends-many, ends-write, salvaging-more, salvaging-none, saves-last, saves-many, saves-read, saves-write}
+use Rattle.age_stream.proofs.OpeningLemmas.{ahead_one}
+use Rattle.age_stream.proofs.SalvageLemmas.{counted, ends_many, ends_write, salvaging_more, salvaging_none, saves_last, saves_many, saves_read, saves_write}
 use Rattle.age_stream.proofs.salvaging.save_pieces.Goals as goal
 
 pub loop-done-init : goal.loop-done-init
@@ -9,7 +9,7 @@ loop-done-init g c = record {
   size = c.requires.size;
   ahead = omega arith;
   within = omega arith;
-  saved = salvaging-none c.args.key.now _ [] _ _ _ refl refl refl refl;
+  saved = salvaging_none c.args.key.now _ [] _ _ _ refl refl refl refl;
   silent = λ none. refl;
   reads = refl;
   writes = refl;
@@ -17,32 +17,32 @@ loop-done-init g c = record {
 
 pub returns-then-done-max-clause-saves : goal.returns-then-done-max-clause-saves
 returns-then-done-max-clause-saves g c =
-    saves-many _ _ c.loop-done.done _ _ _ _ _ _ _ c.loop-done.invariant.saved
+    saves_many _ _ c.loop-done.done _ _ _ _ _ _ _ c.loop-done.invariant.saved
     (omega (arith, c.loop-done.invariant.within))
 
 pub returns-then-done-max-clause-ends : goal.returns-then-done-max-clause-ends
 returns-then-done-max-clause-ends g c =
-    inr (ends-many _ _ c.loop-done.done _ _ _ _ _ _ _ c.loop-done.invariant.saved
+    inr (ends_many _ _ c.loop-done.done _ _ _ _ _ _ _ c.loop-done.invariant.saved
     (omega (arith, c.loop-done.invariant.within)))
 
 pub returns-in_default-clause-saves : goal.returns-in_default-clause-saves
 returns-in_default-clause-saves g c =
-    saves-read _ c.args.max c.loop-done.done _ _ _ _ _ _ _ _ c.loop-done.invariant.saved c.in_default.ensures.lost
+    saves_read _ c.args.max c.loop-done.done _ _ _ _ _ _ _ _ c.loop-done.invariant.saved c.in_default.ensures.lost
 
 pub returns-in-Err-clause-saves : goal.returns-in-Err-clause-saves
 returns-in-Err-clause-saves g c =
     let saved = c.save_first-len.ensures in
-    saves-write _ c.args.max c.loop-done.done _ c.in-Ok.n c.read_piece.new.bytes _ _ _ _ _ _ _ _ _
+    saves_write _ c.args.max c.loop-done.done _ c.in-Ok.n c.read_piece.new.bytes _ _ _ _ _ _ _ _ _
     c.loop-done.invariant.saved c.in-Ok.ensures.reads c.read_piece.ensures.len saved.part c.in-Err.ensures.text
 
 pub returns-in-Err-clause-ends : goal.returns-in-Err-clause-ends
 returns-in-Err-clause-ends g c =
-    inr (ends-write _ c.args.max c.loop-done.done _ c.in-Ok.n c.read_piece.new.bytes _ _ _ _ _ _ _ _ _
+    inr (ends_write _ c.args.max c.loop-done.done _ c.in-Ok.n c.read_piece.new.bytes _ _ _ _ _ _ _ _ _
     c.loop-done.invariant.saved c.in-Ok.ensures.reads c.read_piece.ensures.len c.in-Err.ensures.text)
 
 pub returns-then-n-le-SEALED_CHUNK_SIZE-clause-saves : goal.returns-then-n-le-SEALED_CHUNK_SIZE-clause-saves
 returns-then-n-le-SEALED_CHUNK_SIZE-clause-saves g c =
-    saves-last _ _ c.loop-done.done c.note.new.done _ c.in-Ok.n c.read_piece.new.bytes _ _ _ _ _ _ _ _ _ _
+    saves_last _ _ c.loop-done.done c.note.new.done _ c.in-Ok.n c.read_piece.new.bytes _ _ _ _ _ _ _ _ _ _
     c.save_first-len.result.0 c.loop-done.invariant.saved
     c.in-Ok.ensures.reads c.read_piece.ensures.len (omega arith) (omega arith)
     (length-take-le c.save_first-len.result.0 c.save_first-len.new.bytes (omega (
@@ -60,7 +60,7 @@ loop-done-preserved g c =
       size = c.save_first-len.ensures.len;
       ahead = omega arith;
       within = omega (arith, more.0);
-      saved = salvaging-more _ c.loop-done.done c.note.new.done _ _ c.in-Ok.n c.read_piece.new.bytes _ _ _ _ _ _ _ _ _ _
+      saved = salvaging_more _ c.loop-done.done c.note.new.done _ _ c.in-Ok.n c.read_piece.new.bytes _ _ _ _ _ _ _ _ _ _
           c.save_first-len.result.0 c.loop-done.invariant.saved
           c.in-Ok.ensures.reads c.read_piece.ensures.len (omega arith) (c.save_first-len.ensures.full (omega arith))
           (length-take-le c.save_first-len.result.0 c.save_first-len.new.bytes (omega (
@@ -69,7 +69,7 @@ loop-done-preserved g c =
             c.save_first-len.ensures.text,
           )))
           c.save_first-len.ensures.part c.in-Ok-write_all.ensures.text c.note.ensures.reports c.note.ensures.counts
-          (ahead-one bytes c.save_first-len.ensures.len ∙ c.save_first-len.ensures.rest);
+          (ahead_one bytes c.save_first-len.ensures.len ∙ c.save_first-len.ensures.rest);
       silent = λ none. c.note.ensures.silent none ∙ c.loop-done.invariant.silent (omega (arith, none, more.1));
       reads = search rules;
       writes = search rules;

@@ -1,5 +1,5 @@
 use Rattle.std.proofs.Common.{arith, ◌∙◌, sym, refl, inl}
-use Rattle.age_stream.proofs.SealingLemmas.{first-of, first-set}
+use Rattle.age_stream.proofs.SealingLemmas.{one_taken, first_set}
 use Rattle.age_stream.proofs.sealing.put_full.Goals as goal
 use Rattle.age_stream.specs.Sizes.{chunk_size}
 
@@ -7,8 +7,8 @@ pub returns-in-Ok-clause-puts : goal.returns-in-Ok-clause-puts
 returns-in-Ok-clause-puts g c = (
   refl,
   c.in-Ok.ensures.text,
-  first-set c.put_sealed.new.bytes _ (omega (arith, c.put_sealed.ensures.size))
-      ∙ sym (first-of c.args.bytes.now chunk_size (omega (arith, c.requires.size))),
+  first_set c.put_sealed.new.bytes _ (omega (arith, c.put_sealed.ensures.size))
+      ∙ sym (one_taken c.args.bytes.now chunk_size (omega (arith, c.requires.size))),
 )
 
 pub returns-in-Err-clause-puts : goal.returns-in-Err-clause-puts

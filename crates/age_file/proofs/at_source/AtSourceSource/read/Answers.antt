@@ -1,7 +1,7 @@
 use Rattle.std.proofs.Common.{rules, ◌≡◌, ◌+◌, ◌-◌, ◌^◌, ◌≤◌, drop, length, min, option_map, subst, sym}
 use Rattle.age_header.specs.Device.{Gives, Grows, flow_by, moved}
 use Rattle.age_file.specs.Ranges.{AtState, GaveFirst}
-use Rattle.age_file.proofs.AtStateLemmas.{gives-on, grows-on}
+use Rattle.age_file.proofs.AtStateLemmas.{gives_on, grows_on}
 use Rattle.age_file.proofs.at_source.AtSourceSource.read.Goals as goal
 
 pub returns-in-Ok-clause-bytes : goal.returns-in-Ok-clause-bytes
@@ -18,7 +18,7 @@ returns-in-Ok-clause-bytes g c =
     (option_map (drop next) (g.D.ReadAt.bytes c.read_at-read.new.self))) r buf) c.self.view_is
     (subst (λ u. Gives (moved (option_map (drop c.self.inside.at) told) (option_map (drop next) u)) r buf)
     (sym c.read_at-read.ensures.stay)
-    (gives-on told (g.D.ReadAt.found c.self.inside.dev.now) c.self.inside.at next c.in-Ok.n buf r c.in-Ok.is
+    (gives_on told (g.D.ReadAt.found c.self.inside.dev.now) c.self.inside.at next c.in-Ok.n buf r c.in-Ok.is
     c.read_at-read.ensures.offsets c.self.invariant.2 le sum c.read_at-read.ensures.bytes))
 
 pub returns-in-Ok-clause-gave : goal.returns-in-Ok-clause-gave
@@ -32,5 +32,5 @@ returns-in-Ok-clause-gave g c =
     (λ (x : AtState _). Grows (flow_by (λ (s : AtState _). option_map (drop s.at) (g.D.ReadAt.bytes s.dev))
     (λ (s : AtState _). GaveFirst (g.D.ReadAt.gave s.dev) s.at) x
     (record { dev = c.read_at-read.new.self; at = next })) r buf) c.self.view_is
-    (grows-on g.D.ReadAt.bytes g.D.ReadAt.gave (record { dev = c.self.inside.dev.now; at = c.self.inside.at }) _
+    (grows_on g.D.ReadAt.bytes g.D.ReadAt.gave (record { dev = c.self.inside.dev.now; at = c.self.inside.at }) _
     c.in-Ok.n buf r c.in-Ok.is le sum c.read_at-read.ensures.stays_given c.read_at-read.ensures.read)

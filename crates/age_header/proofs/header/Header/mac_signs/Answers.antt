@@ -4,7 +4,7 @@ use Rattle.base64.specs.GeneralPurpose.{encoded_size_of, encode_of}
 use Rattle.age_kdf.specs.Bytes.{Bytes}
 use Rattle.age_header.specs.Base64.{IsBase64}
 use Rattle.age_header.specs.Header.{HeaderParts, mac_size}
-use Rattle.age_header.proofs.Base64Lemmas.{IsBase64-encode, encode_of-unpadded}
+use Rattle.age_header.proofs.Base64Lemmas.{IsBase64-encode, encode_of_unpadded}
 use Rattle.age_header.proofs.TextLemmas.{encoded_size_plain}
 use Rattle.age_header.proofs.header.Header.mac_signs.Goals as goal
 
@@ -13,7 +13,7 @@ returns c =
     let e = c.engine.result in
     let m : Bytes = c.self.inside.mac in
     let size = encoded_size_plain e (length m) c.engine.ensures in
-    let plain = encode_of-unpadded e m c.engine.ensures.unpadded c.engine.ensures.characters in
+    let plain = encode_of_unpadded e m c.engine.ensures.unpadded c.engine.ensures.characters in
     let long : length m ≡ mac_size = search rules in
     let rest : drop (encoded_size_of e (length m)) _ ≡ [] = drop_all (encoded_size_of e (length m)) _ (omega arith) in
     let is = c.in-Ok.ensures.written ∙ ap (λ (z : Bytes). encode_of e m ++ z) rest ∙ append-nil (encode_of e m)

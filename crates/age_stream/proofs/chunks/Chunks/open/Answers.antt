@@ -1,15 +1,15 @@
 use Rattle.std.proofs.Common.{arith, rules, ◌≡◌, ◌-◌, ◌∙◌, ◌+◌, ◌*◌, ap, sym, length, slice_index, subst, Some, Ok}
 use Rattle.age_stream.specs.Ranges.{OpensRanges}
-use Rattle.age_stream.proofs.TailLemmas.{written-all}
-use Rattle.age_stream.proofs.JudgesLastLemmas.{given-last, judged-err, judged-ok}
-use Rattle.age_stream.proofs.VerifiedLemmas.{keeps-last}
+use Rattle.age_stream.proofs.TailLemmas.{written_all}
+use Rattle.age_stream.proofs.JudgesLastLemmas.{given_last, judged_err, judged_ok}
+use Rattle.age_stream.proofs.VerifiedLemmas.{keeps_last}
 use Rattle.age_stream.proofs.chunks.Chunks.open.Goals as goal
 
 pub returns-in-Ok-load_last-clause-probes : goal.returns-in-Ok-load_last-clause-probes
 returns-in-Ok-load_last-clause-probes g c = record {
   stay = c.load_last.ensures.stay ∙ c.payload_start.ensures.stay;
   most = omega (arith, c.load_last.ensures.given, c.payload_start.ensures.given);
-  last = given-last (g.D.ReadAt.bytes c.args.dev.now) c.in_ok-start.start.nonce c.args.payload_at
+  last = given_last (g.D.ReadAt.bytes c.args.dev.now) c.in_ok-start.start.nonce c.args.payload_at
       c.in_ok-start.start.sealed_len (g.D.ReadAt.given c.load_last.new.dev)
       (g.D.ReadAt.given c.payload_start.new.dev) (g.D.ReadAt.given c.args.dev.now) c.in_ok-start.ensures.ok
       c.load_last.ensures.given c.payload_start.ensures.given;
@@ -19,7 +19,7 @@ pub returns-in-Err-clause-probes : goal.returns-in-Err-clause-probes
 returns-in-Err-clause-probes g c = record {
   stay = c.load_last.ensures.stay ∙ c.payload_start.ensures.stay;
   most = omega (arith, c.load_last.ensures.given, c.payload_start.ensures.given);
-  last = given-last (g.D.ReadAt.bytes c.args.dev.now) c.in_ok-start.start.nonce c.args.payload_at
+  last = given_last (g.D.ReadAt.bytes c.args.dev.now) c.in_ok-start.start.nonce c.args.payload_at
       c.in_ok-start.start.sealed_len (g.D.ReadAt.given c.load_last.new.dev)
       (g.D.ReadAt.given c.payload_start.new.dev) (g.D.ReadAt.given c.args.dev.now) c.in_ok-start.ensures.ok
       c.load_last.ensures.given c.payload_start.ensures.given;
@@ -27,7 +27,7 @@ returns-in-Err-clause-probes g c = record {
 
 pub returns-in-Err-clause-opens : goal.returns-in-Err-clause-opens
 returns-in-Err-clause-opens g c =
-    judged-err c.args.key.now c.args.max_chunks c.args.payload_at (g.D.ReadAt.bytes c.args.dev.now)
+    judged_err c.args.key.now c.args.max_chunks c.args.payload_at (g.D.ReadAt.bytes c.args.dev.now)
     c.in_ok-start.start.nonce c.load_last.new.buf c.in_ok-start.start.sealed_len
     c.in-Err.fault c.in_ok-start.ensures.ok
     (rw (c.payload_key-key.ensures, c.payload_start.ensures.stay) at c.in-Err.ensures.judges)
@@ -38,10 +38,10 @@ returns-in-Ok-load_last-clause-opens g c =
     let layout = c.in-Ok-load_last.layout in
     let same : length new ≡ length c.into_bytes-buf.result.items = search rules in
     let len : c.into_bytes-buf.result.len ≡ length c.into_bytes-buf.result.items = search rules in
-    let all = written-all new c.into_bytes-buf.result.items c.into_bytes-buf.result.len same len in
+    let all = written_all new c.into_bytes-buf.result.items c.into_bytes-buf.result.len same len in
     subst (λ b. OpensRanges c.args.key.now c.args.max_chunks c.args.payload_at (g.D.ReadAt.bytes c.args.dev.now)
     (Ok (record { layout = layout; index = Some (layout.count - 1); buf = b; opened = 1 }))) (sym all)
-    (judged-ok c.args.key.now c.args.max_chunks c.args.payload_at (g.D.ReadAt.bytes c.args.dev.now)
+    (judged_ok c.args.key.now c.args.max_chunks c.args.payload_at (g.D.ReadAt.bytes c.args.dev.now)
     c.in_ok-start.start.nonce new c.in_ok-start.start.sealed_len
     layout c.in_ok-start.ensures.ok (rw (c.payload_key-key.ensures, c.payload_start.ensures.stay) at
     c.in-Ok-load_last.ensures.judges))
@@ -51,8 +51,8 @@ returns-in-Ok-load_last-clause-verified g c =
     let new = c.load_last.new.buf in
     let same : length new ≡ length c.into_bytes-buf.result.items = search rules in
     let len : c.into_bytes-buf.result.len ≡ length c.into_bytes-buf.result.items = search rules in
-    keeps-last (g.D.ReadAt.gave c.load_last.new.dev) c.in-Ok-load_last.layout 1 _ new
-    (written-all new c.into_bytes-buf.result.items c.into_bytes-buf.result.len same len)
+    keeps_last (g.D.ReadAt.gave c.load_last.new.dev) c.in-Ok-load_last.layout 1 _ new
+    (written_all new c.into_bytes-buf.result.items c.into_bytes-buf.result.len same len)
     c.in-Ok-load_last.ensures.verified
 
 pub returns-in-Ok-load_last-clause-begins : goal.returns-in-Ok-load_last-clause-begins

@@ -5,8 +5,8 @@ use Rattle.age_stream.specs.Counts.{is_read}
 use Rattle.age_stream.specs.Ranges.{HasPlain, IsSound, OpenedAtLeast, bytes_from, first_to_open, is_kept, opens_to, sealed_span}
 use Rattle.age_stream.specs.Slice.{chunk_len}
 use Rattle.age_stream.specs.Sizes.{chunk_size}
-use Rattle.age_stream.proofs.RangeLemmas.{put-prefix, put-rest, length-part, rest-on, prefix-on, counts-at_first, counts-later, opened-later, given-later, opened-at_first, given-at_first, at-chunk, under-chunk, below-chunk, opens-moved}
-use Rattle.age_stream.proofs.VerifiedLemmas.{changed-verified, verified-on, verified-text}
+use Rattle.age_stream.proofs.RangeLemmas.{prefix_put, put_rest, length-part, rest_on, prefix_on, counts_at_first, counts_later, opened_later, given_later, opened_at_first, given_at_first, below_next_chunk, under_chunk, below_chunk, opens_moved}
+use Rattle.age_stream.proofs.VerifiedLemmas.{changed_verified, verified_on, verified_text}
 use Rattle.age_stream.proofs.chunks.Chunks.read_range.Goals as goal
 
 pub returns : goal.returns
@@ -75,7 +75,7 @@ returns-in-Err g c =
     let n = c.range_len-end.result in
     let pos : at + c.loop-done.done ≡ chunk_size * i + c.loop-done.skip = inv.pos c.loop-done-test.true in
     let done : c.loop-done.done ≡ chunk_size * i - at = elim inv.stage [
-      | inl z ↦ let e = z.0 in let low : chunk_size * i ≤ at = below-chunk at i z.1 in omega (arith, e, low)
+      | inl z ↦ let e = z.0 in let low : chunk_size * i ≤ at = below_chunk at i z.1 in omega (arith, e, low)
       | inr z ↦ let e = z.1 in omega (arith, e, pos)
     ] in
     let same : c.layout-layout.result.plain ≡ s.layout.plain = ap (λ (x : Layout). x.plain) c.layout-layout.ensures in
@@ -87,17 +87,17 @@ returns-in-Err g c =
     ≤ g.D.ReadAt.given c.loop-done.dev + (if is_kept l.index i then 0 else chunk_len x.plain i + 16)) inv.layout
     c.hold-held.ensures.given in
     let opened : h.opened ≤ s.opened + (i + 1 - first_to_open s.index at) = elim inv.stage [
-      | inl z ↦ opened-at_first l.index s.index h.opened l.opened s.opened at i z.3 z.1 c.hold-held.ensures.opened z.4
-      | inr z ↦ opened-later (is_kept s.index (at / chunk_size)) h.opened l.opened s.opened (at / chunk_size) i
+      | inl z ↦ opened_at_first l.index s.index h.opened l.opened s.opened at i z.3 z.1 c.hold-held.ensures.opened z.4
+      | inr z ↦ opened_later (is_kept s.index (at / chunk_size)) h.opened l.opened s.opened (at / chunk_size) i
           (if is_kept l.index i then 1 else 0) c.hold-held.ensures.opened z.2 inv.opened
     ] in
     let given : g.D.ReadAt.given c.hold-held.new.dev
     ≤ g.D.ReadAt.given c.args.dev.now + sealed_span s.layout (first_to_open s.index at) (i + 1) = elim inv.stage [
-      | inl z ↦ given-at_first l.index s.index (g.D.ReadAt.given c.hold-held.new.dev)
+      | inl z ↦ given_at_first l.index s.index (g.D.ReadAt.given c.hold-held.new.dev)
           (g.D.ReadAt.given c.loop-done.dev) (g.D.ReadAt.given c.args.dev.now) at i s.layout z.3 z.1 more_given z.5
           touched
       | inr z ↦
-          given-later (is_kept s.index (at / chunk_size)) (is_kept l.index i) (g.D.ReadAt.given c.hold-held.new.dev)
+          given_later (is_kept s.index (at / chunk_size)) (is_kept l.index i) (g.D.ReadAt.given c.hold-held.new.dev)
           (g.D.ReadAt.given c.loop-done.dev) (g.D.ReadAt.given c.args.dev.now) (at / chunk_size) i s.layout
           more_given z.2 touched inv.given
     ] in
@@ -109,7 +109,7 @@ returns-in-Err g c =
         sound = λ told_so. subst (λ x. IsSound x h) inv.stay (c.hold-held.ensures.sound
             (subst (λ x. IsSound x l) (sym inv.stay) (inv.sound told_so)));
         keeps_verified = λ keeps. c.hold-held.ensures.keeps_verified (inv.keeps keeps);
-        verified = λ keeps. changed-verified (g.D.ReadAt.gave c.loop-done.dev)
+        verified = λ keeps. changed_verified (g.D.ReadAt.gave c.loop-done.dev)
             (g.D.ReadAt.gave c.hold-held.new.dev) s.layout c.args.buf.now c.loop-done.buf at c.loop-done.done
             c.hold-held.ensures.stays_given inv.rest (inv.verified keeps);
         number = tt;
@@ -118,8 +118,8 @@ returns-in-Err g c =
           some = omega (arith, more, is);
           chunk = i;
           from = elim inv.stage [
-            | inl z ↦ at-chunk at i z.1
-            | inr z ↦ under-chunk at i z.2
+            | inl z ↦ below_next_chunk at i z.1
+            | inr z ↦ under_chunk at i z.2
           ];
           to = omega (arith, pos, more, is);
           filled = (
@@ -130,14 +130,14 @@ returns-in-Err g c =
             | inl x ↦ inl x
             | inr x ↦ inr (
               x.0,
-              λ sound. opens-moved (g.D.ReadAt.bytes c.loop-done.dev) told l.layout s.layout i None inv.stay inv.layout
+              λ sound. opens_moved (g.D.ReadAt.bytes c.loop-done.dev) told l.layout s.layout i None inv.stay inv.layout
                   (x.1 (subst (λ t. IsSound t l) (sym inv.stay) (inv.sound sound))),
             )
           ];
           counts = elim inv.stage [
-            | inl z ↦ counts-at_first l.index s.index h.opened l.opened s.opened at i z.3 z.1
+            | inl z ↦ counts_at_first l.index s.index h.opened l.opened s.opened at i z.3 z.1
                 c.hold-held.ensures.counts z.4
-            | inr z ↦ counts-later (is_kept s.index (at / chunk_size)) l.index h.opened l.opened s.opened
+            | inr z ↦ counts_later (is_kept s.index (at / chunk_size)) l.index h.opened l.opened s.opened
                 (at / chunk_size) i z.4
                 z.2 c.hold-held.ensures.counts inv.counts
           ];
@@ -193,7 +193,7 @@ loop-done-preserved g c =
     subst (λ x. IsSound x h) inv.stay (c.hold-held.ensures.sound
     (subst (λ x. IsSound x l) (sym inv.stay) (inv.sound told_so))) in
     let opens : IsSound told s → opens_to told s.layout i ≡ Some t = λ told_so.
-    opens-moved told told h.layout s.layout i (Some t) refl lies
+    opens_moved told told h.layout s.layout i (Some t) refl lies
     ((sound told_so).keeps i c.in_default.ensures.kept_chunk ∙ ap Some (sym c.text.ensures.text)) in
     let next : at + (done + n) ≤ chunk_size * (i + 1) = omega (arith, pos, part, size) in
     let next-chunk : at / chunk_size < i + 1 = elim inv.stage [
@@ -213,37 +213,37 @@ loop-done-preserved g c =
       skip = omega arith;
       pos = λ lt. omega (arith, lt, count, len, pos, is);
       below = omega (arith, next);
-      rest = rest-on c.loop-done.buf c.put-n.new.buf c.args.buf.now done n inv.rest
-          (put-rest c.loop-done.buf (take n (drop skip t)) c.put-n.new.buf done n (omega (arith, room)) sized put);
-      prefix = λ told_so. prefix-on s.layout.key (bytes_from told s.layout.first) t c.loop-done.buf c.put-n.new.buf at
+      rest = rest_on c.loop-done.buf c.put-n.new.buf c.args.buf.now done n inv.rest
+          (put_rest c.loop-done.buf (take n (drop skip t)) c.put-n.new.buf done n (omega (arith, room)) sized put);
+      prefix = λ told_so. prefix_on s.layout.key (bytes_from told s.layout.first) t c.loop-done.buf c.put-n.new.buf at
           done i skip n pos (omega (arith, room)) part size (opens told_so) (inv.prefix told_so)
-          (put-prefix c.loop-done.buf (take n (drop skip t)) c.put-n.new.buf done n (omega (arith, room)) sized put);
+          (prefix_put c.loop-done.buf (take n (drop skip t)) c.put-n.new.buf done n (omega (arith, room)) sized put);
       keeps = λ keeps. c.hold-held.ensures.keeps_verified (inv.keeps keeps);
-      verified = λ keeps. verified-on (g.D.ReadAt.gave c.loop-done.dev) (g.D.ReadAt.gave c.hold-held.new.dev)
+      verified = λ keeps. verified_on (g.D.ReadAt.gave c.loop-done.dev) (g.D.ReadAt.gave c.hold-held.new.dev)
           s.layout t c.loop-done.buf c.put-n.new.buf at done i skip n
           c.hold-held.ensures.stays_given pos (omega (arith, room)) (omega (arith, room, new_len)) part size
-          (verified-text (g.D.ReadAt.gave c.hold-held.new.dev) h s.layout i t lies c.in_default.ensures.kept_chunk
+          (verified_text (g.D.ReadAt.gave c.hold-held.new.dev) h s.layout i t lies c.in_default.ensures.kept_chunk
           c.text.ensures.text (c.hold-held.ensures.keeps_verified (inv.keeps keeps)))
-          (inv.verified keeps) (put-prefix c.loop-done.buf (take n (drop skip t)) c.put-n.new.buf done n
+          (inv.verified keeps) (prefix_put c.loop-done.buf (take n (drop skip t)) c.put-n.new.buf done n
           (omega (arith, room)) sized put);
       counts = elim inv.stage [
-        | inl z ↦ counts-at_first l.index s.index h.opened l.opened s.opened at i z.3 z.1 c.hold-held.ensures.counts z.4
-        | inr z ↦ counts-later (is_kept s.index (at / chunk_size)) l.index h.opened l.opened s.opened
+        | inl z ↦ counts_at_first l.index s.index h.opened l.opened s.opened at i z.3 z.1 c.hold-held.ensures.counts z.4
+        | inr z ↦ counts_later (is_kept s.index (at / chunk_size)) l.index h.opened l.opened s.opened
             (at / chunk_size) i z.4 z.2
             c.hold-held.ensures.counts inv.counts
       ];
       rises = omega (arith, inv.rises, c.hold-held.ensures.rises);
       opened = elim inv.stage [
-        | inl z ↦ opened-at_first l.index s.index h.opened l.opened s.opened at i z.3 z.1 c.hold-held.ensures.opened z.4
-        | inr z ↦ opened-later (is_kept s.index (at / chunk_size)) h.opened l.opened s.opened (at / chunk_size) i
+        | inl z ↦ opened_at_first l.index s.index h.opened l.opened s.opened at i z.3 z.1 c.hold-held.ensures.opened z.4
+        | inr z ↦ opened_later (is_kept s.index (at / chunk_size)) h.opened l.opened s.opened (at / chunk_size) i
             (if is_kept l.index i then 1 else 0) c.hold-held.ensures.opened z.2 inv.opened
       ];
       given = elim inv.stage [
-        | inl z ↦ given-at_first l.index s.index (g.D.ReadAt.given c.hold-held.new.dev)
+        | inl z ↦ given_at_first l.index s.index (g.D.ReadAt.given c.hold-held.new.dev)
             (g.D.ReadAt.given c.loop-done.dev) (g.D.ReadAt.given c.args.dev.now) at i s.layout z.3 z.1 more_given z.5
             touched
         | inr z ↦
-            given-later (is_kept s.index (at / chunk_size)) (is_kept l.index i) (g.D.ReadAt.given c.hold-held.new.dev)
+            given_later (is_kept s.index (at / chunk_size)) (is_kept l.index i) (g.D.ReadAt.given c.hold-held.new.dev)
             (g.D.ReadAt.given c.loop-done.dev) (g.D.ReadAt.given c.args.dev.now) (at / chunk_size) i s.layout
             more_given z.2 touched inv.given
       ];

@@ -1,24 +1,24 @@
 use Rattle.std.proofs.Common.{rules, ◌∙◌, sym}
 use Rattle.std.specs.Vec.{with_items}
-use Rattle.age_stream.proofs.OpeningLemmas.{advances-none, advances-ok, advances-err, loses-held}
-use Rattle.age_stream.proofs.TailLemmas.{written-all}
+use Rattle.age_stream.proofs.OpeningLemmas.{advances_none, advances_ok, advances_err, loses_held}
+use Rattle.age_stream.proofs.TailLemmas.{written_all}
 use Rattle.age_stream.proofs.opening.ChunkOpener.advance.Goals as goal
 
 pub returns-in-Ok-clause-opens : goal.returns-in-Ok-clause-opens
 returns-in-Ok-clause-opens g c =
     let o = c.self.inside in
-    advances-ok o.key o.max_chunks o.index o.ahead o.len o.more o.buf.items c.as_mut_slice.result.now
+    advances_ok o.key o.max_chunks o.index o.ahead o.len o.more o.buf.items c.as_mut_slice.result.now
     c.next_piece.new.bytes (with_items o.buf c.next_piece.new.bytes).items o.fault c.in-Ok.piece
     c.self.view_is (search rules) (search rules) c.as_mut_slice.ensures.value c.self.invariant.0 c.self.invariant.1
     c.in-Ok.ensures.len
-    (written-all c.next_piece.new.bytes o.buf.items o.buf.len (c.in-Ok.ensures.len ∙ sym c.self.invariant.0)
+    (written_all c.next_piece.new.bytes o.buf.items o.buf.len (c.in-Ok.ensures.len ∙ sym c.self.invariant.0)
     (search rules))
     c.self.invariant.4 c.in-Ok.ensures.within c.in-Ok.ensures.size.1 c.in-Ok.ensures.opens
 
 pub returns-in-Err-clause-opens : goal.returns-in-Err-clause-opens
 returns-in-Err-clause-opens g c =
     let o = c.self.inside in
-    advances-err o.key o.max_chunks o.index o.ahead o.len o.more o.buf.items c.as_mut_slice.result.now
+    advances_err o.key o.max_chunks o.index o.ahead o.len o.more o.buf.items c.as_mut_slice.result.now
     c.next_piece.new.bytes (with_items o.buf c.next_piece.new.bytes).items o.fault c.in-Err.fault
     c.self.view_is (search rules) c.as_mut_slice.ensures.value c.self.invariant.0 c.self.invariant.1 c.self.invariant.4
     c.in-Err.ensures.opens c.in-Err.ensures.at
@@ -26,11 +26,11 @@ returns-in-Err-clause-opens g c =
 pub returns-in-Err-clause-lost : goal.returns-in-Err-clause-lost
 returns-in-Err-clause-lost g c =
     let o = c.self.inside in
-    loses-held o.key o.max_chunks o.index o.ahead o.len o.more o.buf.items o.fault c.self.view_is (search rules)
+    loses_held o.key o.max_chunks o.index o.ahead o.len o.more o.buf.items o.fault c.self.view_is (search rules)
     c.in-Err.ensures.lost
 
 pub returns-then-not-self-clause-opens : goal.returns-then-not-self-clause-opens
 returns-then-not-self-clause-opens g c =
     let o = c.self.inside in
-    advances-none _ o.key o.max_chunks o.index o.ahead o.len o.more o.buf.items o.fault c.self.view_is (search rules)
+    advances_none _ o.key o.max_chunks o.index o.ahead o.len o.more o.buf.items o.fault c.self.view_is (search rules)
     (search rules) c.self.invariant.4
