@@ -4,11 +4,9 @@ use Rattle.std.specs.Simd.Lanes.{number_l, digits_l, Each1, zip2, put_chunk}
 use Rattle.std.specs.List.{range_with_len}
 use Rattle.std.proofs.lemmas.List.{length-append, get_or_append_left, get_or-append_right, length-map}
 use Rattle.std.proofs.lemmas.List.FromFn.{fill_by_all}
-use Rattle.std.proofs.lemmas.Grind.{flat_map-append}
 use Rattle.std.proofs.lemmas.Bool.{cases_lt}
 use Rattle.std.proofs.lemmas.Simd.{length-zip2, length-chunk, get_or-zip2, get_or-chunk, get_or-put_chunk_below, get_or-put_chunk_at, get_or-put_chunk_above}
 use Rattle.age_cipher.specs.Bytes.{Bytes, Words}
-use Rattle.age_cipher.specs.Numbers.{le_bytes}
 use Rattle.age_cipher.specs.ChaCha20.{start, mixed, block, stream_byte}
 use Rattle.age_cipher.specs.Lanes.{lane, bytes, IsXoredAt}
 use Rattle.age_cipher.proofs.LaneLemmas.{lane_word}
@@ -45,12 +43,6 @@ pub length-four_blocks : (a b c d : Bytes) → length a ≡ 64 → length b ≡ 
     → length (a ++ (b ++ (c ++ d))) ≡ 256
 length-four_blocks a b c d la lb lc ld =
     omega (arith, length-append a (b ++ (c ++ d)), length-append b (c ++ d), length-append c d)
-
--- the bytes of four vectors of words
-pub bytes_of_four : (a b c d : Words) → bytes (a ++ (b ++ (c ++ d))) ≡ bytes a ++ (bytes b ++ (bytes c ++ bytes d))
-bytes_of_four a b c d =
-    let f : ℕ → Bytes = λ word. le_bytes 4 word in
-    rw (flat_map-append f a (b ++ (c ++ d)), flat_map-append f b (c ++ d), flat_map-append f c d) refl
 
 -- two pieces xored one after the other
 pub xored_on : {at next : ℕ} {s t old mid new : Bytes} → next ≡ at + length s → IsXoredAt at s old mid

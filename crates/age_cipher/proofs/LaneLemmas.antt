@@ -90,13 +90,9 @@ pub start_set : (key nonce : Words) (a b : ℕ) → set (start key nonce a) 12 b
 unfolding start
 start_set key nonce a b = refl
 
--- lists of two, four and eight, written out
+-- lists of two and eight, written out
 pub two_long : (x : Words) → length x ≡ 2 → x ≡ slice_index x 0 ∷ slice_index x 1 ∷ []
 two_long x long = fill_by_all (λ k. slice_index x k) x 2 0 long (λ k h. refl)
-
-pub four_long : (x : Words) → length x ≡ 4
-    → x ≡ slice_index x 0 ∷ slice_index x 1 ∷ slice_index x 2 ∷ slice_index x 3 ∷ []
-four_long x long = fill_by_all (λ k. slice_index x k) x 4 0 long (λ k h. refl)
 
 pub eight_long : (x : Words) → length x ≡ 8
     → x ≡ slice_index x 0 ∷ slice_index x 1 ∷ slice_index x 2 ∷ slice_index x 3

@@ -4,7 +4,7 @@ use Rattle.age_cipher.proofs.chacha20_lanes.double_round.Goals as goal
 
 pub returns : goal.returns
 unfolding double_round
-returns g c = λ j inside.
+returns c = λ j inside.
     rw (
       c.two_quarter_rounds-4.ensures j inside,
       c.two_quarter_rounds-3.ensures j inside,

@@ -3,7 +3,7 @@ use Rattle.age_cipher.proofs.LaneLemmas.{two_by_lines}
 use Rattle.age_cipher.proofs.chacha20_lanes.two_quarter_rounds.Goals as goal
 
 pub returns : goal.returns
-returns g c = λ j inside.
+returns c = λ j inside.
     rw (
       c.add_xor_rotate-8.ensures j inside,
       c.add_xor_rotate-7.ensures j inside,
