@@ -1,11 +1,13 @@
 #!/usr/bin/env python3
-"""Runs this repository's programs and their peers in turn, and prints one table of ratios.
+"""Runs this repository's programs and their peers in turn, and prints one table of ratios and one of
+throughput by size.
 
-usage: bench/peers.py [--mib 1024] [--runs 7] [--files 1000] [--cpu LEVEL] [--only WORD]
+usage: bench/peers.py [--mib 1024] [--runs 7] [--files 1000] [--cpu LEVEL] [--only WORD] [--svg FILE]
 
 The programs are built for the level of the processor at hand, or for the one that --cpu names.
---only leaves out the rows without this word. It needs the toolchain, a C compiler, openssl, age and
-GNU time. TMPDIR names the folder of the files, which takes four times the size.
+--only leaves out the rows without this word, and the second table. --svg draws that table. It needs
+the toolchain, a C compiler, openssl, age, gpg and GNU time. TMPDIR names the folder of the files,
+which takes seven times the size.
 """
 
 import argparse
@@ -22,6 +24,8 @@ import tempfile
 import time
 from pathlib import Path
 from typing import NamedTuple
+
+import picture
 
 ROOT = Path(__file__).resolve().parent.parent
 AGEP = ROOT / "crates/agep/out/agep"
@@ -170,6 +174,61 @@ def whole_files(mib, files, recipient):
     yield f"start {files} times, --version", here, {"age": age}
 
 
+def programs_by_size(recipient):
+    """Of each kind of work the words of each program, and what the name of its input ends in. Openssl
+    encrypts without authentication: its command has no cipher with it."""
+    gpg = ["gpg", "--batch", "--quiet", "--homedir", "gpg", "--pinentry-mode", "loopback", "--passphrase-file", "new.key"]
+    sealing = [*gpg, "--symmetric", "--s2k-mode", "0", "--cipher-algo", "AES256", "--compress-algo", "none", "-o", "-"]
+    openssl = ["openssl", "enc", "-chacha20", "-K", 32 * "07", "-iv", 16 * "00", "-in"]
+    return {
+        "encrypting": {
+            "agep": ([AGEP, "encrypt", "-k", "key"], ""),
+            "age": (["age", "-r", recipient], ""),
+            "gpg": (sealing, ""),
+            "openssl": (openssl, ""),
+        },
+        "decrypting": {
+            "agep": ([AGEP, "decrypt", "-k", "key"], ".agep"),
+            "age": (["age", "-d", "-i", "identity"], ".age"),
+            "gpg": ([*gpg, "-o", "-", "--decrypt"], ".gpg"),
+            "openssl": ([*openssl[:2], "-d", *openssl[2:]], ".openssl"),
+        },
+    }
+
+
+def throughput(mib, runs, recipient):
+    """The bytes a second of each kind of work, program and size, by the best of some runs."""
+    works, most = programs_by_size(recipient), mib << 20
+    os.mkdir("gpg", 0o700)
+    sizes = [1024 << shift for shift in range(0, 21, 2) if 1024 << shift <= most]
+    rates = {name: {program: {} for program in programs} for name, programs in works.items()}
+    for size in sizes:
+        with open("sized", "wb") as sized:
+            sized.truncate(size)
+        commands = [
+            (rates[name][program], Command(*words, "sized" + ending, out="/dev/null"))
+            for name, programs in works.items()
+            for program, (words, ending) in programs.items()
+        ]
+        for program, (words, _) in works["encrypting"].items():
+            Command(*words, "sized", out="sized." + program).measure()
+        # a short run ends in a millisecond or two
+        turns = runs if size >= 1 << 24 else 5 * runs
+        times = [[command.measure().clock for _, command in commands] for _ in range(turns)]
+        for (line, _), seconds in zip(commands, zip(*times)):
+            line[size] = size / min(seconds)
+    return rates
+
+
+def print_throughput(rates):
+    programs = [(name, program) for name in rates for program in rates[name]]
+    print(f"| MB/s | {' | '.join(f'{name}: {program}' for name, program in programs)} |")
+    print("|---|" + "---|" * len(programs))
+    for size in rates["encrypting"]["agep"]:
+        cells = [f"{rates[name][program][size] / 1e6:.3g}" for name, program in programs]
+        print(f"| {size >> 10} KiB | {' | '.join(cells)} |")
+
+
 def build(level):
     """Builds what is measured, and tests that both scrypts give the same key."""
     os.environ["AGEP_CPU"] = level
@@ -222,15 +281,15 @@ def cells(here, there):
 
 
 def print_table(works, times):
-    print("| Work | Peer | Here, s | Peer, s | Ratio | Here, CPU s | Peer, CPU s | Ratio | MiB |")
-    print("|---|---|---|---|---|---|---|---|---|")
+    """The seconds are those of the clock, or of the processor where the peer counts no others."""
+    print("| Work | Peer | Here, s | Peer, s | Ratio | of CPU | MiB |")
+    print("|---|---|---|---|---|---|---|")
     for name, ours, peers in works:
         for peer, program in peers.items():
-            line = [name, peer]
-            for here, there in zip(zip(*times[ours]), zip(*times[program])):
-                line += cells(here, there)
-            line.append(f"{ours.memory()}, {program.memory()}")
-            print(f"| {' | '.join(line)} |")
+            clock, cpu = (cells(*pair) for pair in zip(zip(*times[ours]), zip(*times[program])))
+            seconds = cpu[:2] if clock[0] == "-" else clock[:2]
+            memory = f"{ours.memory()}, {program.memory()}"
+            print(f"| {' | '.join([name, peer, *seconds, clock[2], cpu[2], memory])} |")
 
 
 def arguments():
@@ -241,11 +300,13 @@ def arguments():
     level = subprocess.check_output(["sh", "-c", at_hand], text=True).strip()
     parser.add_argument("--cpu", choices=HELD, default=level)
     parser.add_argument("--only", metavar="WORD", default="")
+    parser.add_argument("--svg", metavar="FILE", type=Path)
     return parser.parse_args()
 
 
 def main():
     args = arguments()
+    svg = args.svg and args.svg.absolute()
     with tempfile.TemporaryDirectory() as scratch:
         os.chdir(scratch)
         build(args.cpu)
@@ -261,6 +322,12 @@ def main():
         print(f"{processor}, {os.cpu_count()} cores, load {os.getloadavg()[0]:.1f}, {args.cpu}.")
         print(f"The best (and the median) of {args.runs} runs. A ratio above 1 is in our favour.\n")
         print_table(works, times)
+        if not args.only:
+            rates = throughput(args.mib, args.runs, recipient)
+            print()
+            print_throughput(rates)
+            if svg:
+                svg.write_text(picture.draw(rates))
 
 
 if __name__ == "__main__":

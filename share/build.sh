@@ -62,17 +62,32 @@ mark() {
     touch -r "$3" "$1"
 }
 
+# Shows at a terminal what is at work, in place of what was shown before; with no words nothing.
+show() {
+    [ ! -t 2 ] || printf '\r\033[K%s' "$*" >&2
+}
+
+# Shows which libraries are at work: those of the file `begun` that are not in `finished`.
+show_work() {
+    at_work=$(sort "$begun" "$finished" | uniq -u | paste -sd ' ')
+    show ${at_work:+"proving $at_work"}
+}
+
 # Proves and builds a library, with these flags. Where it took some seconds, it says so on standard
-# error, and how many libraries are left: `finished` has a line for each that is built. What fails
-# here fails again in the build that needs the library, which says why.
+# error, and how many libraries are left: `finished` has a line for each that is built.
+# What fails here fails again in the build that needs the library, which says why.
 library() {
     name=$1
     shift
     start=$(date +%s)
+    echo "$name" >>"$begun"
+    show_work
     (cd "$root/crates/$name" && exec rt lib "$@") >/dev/null 2>&1 </dev/null || return
     echo "$name" >>"$finished"
     took=$(($(date +%s) - start))
+    show
     [ "$took" -lt 3 ] || echo "proved $name in $took s, $((all - $(wc -l <"$finished"))) left" >&2
+    show_work
 }
 
 # Proves and builds the libraries up to age_file, or with the word age_cli up to that, lowest first.
@@ -81,6 +96,7 @@ library() {
 # The latter is to end before age_commands, which depends on age_job.
 libraries() {
     finished=$(mktemp)
+    begun=$(mktemp)
     all=6
     words=
     [ "$1" != age_cli ] || all=10
@@ -91,13 +107,13 @@ libraries() {
         words=$!
     fi
     # shellcheck disable=SC2086
-    trap 'kill "$cipher" $words 2>/dev/null; rm -f "$finished"; exit 130' INT TERM
+    trap 'kill "$cipher" $words 2>/dev/null; rm -f "$finished" "$begun"; exit 130' INT TERM
     if library age_kdf && library age_header && wait "$cipher" && library age_recipient &&
         library age_stream && library age_file && [ -n "$words" ] && wait "$words"; then
         library age_commands && library age_cli || :
     fi
     wait
-    rm -f "$finished"
+    rm -f "$finished" "$begun"
     trap - INT TERM
 }
 
@@ -117,7 +133,9 @@ build_program() {
     seconds=$(date +%s)
     began=$(mktemp)
     libraries age_cli
+    show proving agep
     if ! said=$(cd "$root/crates/agep" && rt run --cpu "$2" -- --version 2>&1 </dev/null); then
+        show
         rm -f "$began"
         printf '%s\n' "$said" >&2
         echo "$1: the build failed" >&2
@@ -125,6 +143,7 @@ build_program() {
     fi
     mark "$built" "$2" "$began"
     rm -f "$began"
+    show
     echo "$1: built for $2 in $(($(date +%s) - seconds)) s" >&2
 }
 
