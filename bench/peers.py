@@ -225,8 +225,8 @@ def print_throughput(rates):
     print(f"| MB/s | {' | '.join(f'{name}: {program}' for name, program in programs)} |")
     print("|---|" + "---|" * len(programs))
     for size in rates["encrypting"]["agep"]:
-        cells = [f"{rates[name][program][size] / 1e6:.3g}" for name, program in programs]
-        print(f"| {size >> 10} KiB | {' | '.join(cells)} |")
+        millions = [rates[name][program][size] / 1e6 for name, program in programs]
+        print(f"| {size >> 10} KiB | {' | '.join(f'{n:.0f}' if n >= 10 else f'{n:.2f}' for n in millions)} |")
 
 
 def build(level):
