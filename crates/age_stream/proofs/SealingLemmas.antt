@@ -31,8 +31,8 @@ chunks_full key i held text some full =
     ∙ ap (λ b. sealed key (chunk_nonce i b) [] held ∷ sealed_from key (i + 1) (cut chunk_size text))
     (is_end_cut chunk_size [] text)
 
-pub fed_none : (key : Bytes) (i : ℕ) (held : Bytes) (a : Known) → Fed key i i held [] held (moved a a)
-fed_none key i held a = record {
+pub fed_none : {key : Bytes} {i : ℕ} {held : Bytes} {a : Known} → Fed key i i held [] held (moved a a)
+fed_none {a} = record {
   gone = [];
   count = omega arith;
   size = refl;
@@ -255,9 +255,9 @@ full_is held n bytes filled low high le size full_size f =
       fits = omega (arith, length-take-le held bytes (omega arith));
     }
 
-pub first_set : (xs : Bytes) (v : ℕ) → 0 < length xs → take 1 (slice_set xs 0 v) ≡ v ∷ []
-first_set [] v some = absurd (omega arith)
-first_set (x ∷ xs) v some = refl
+pub first_set : (xs : Bytes) {v : ℕ} → 0 < length xs → take 1 (slice_set xs 0 v) ≡ v ∷ []
+first_set [] some = absurd (omega arith)
+first_set (x ∷ xs) some = refl
 
 pub one_taken : (xs : Bytes) (k : ℕ) → k < length xs → take 1 (drop k xs) ≡ slice_index_or xs k 0 ∷ []
 one_taken [] k lt = absurd (omega arith)

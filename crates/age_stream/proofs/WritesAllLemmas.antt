@@ -193,12 +193,13 @@ at_some : (P : Bytes → Type 0) (held : Known) (h : Bytes) → held ≡ Some h 
 at_some P held h is p = subst (λ (x : Known). IfSome x P) is p
 
 -- one piece more
-step_reads : (key : Bytes) (max i : ℕ) (held left : Known) (h c text front : Bytes) (all : Reading StreamFault)
+step_reads : (key : Bytes) (max i : ℕ) {held : Known} (left : Known) {h : Bytes} (c text front : Bytes)
+    {all : Reading StreamFault}
     → held ≡ Some h
     → OpensNext key max i (left_of held c) left text (Ok true)
     → all ≡ before front (reading_left key max i (left_of held c))
     → all ≡ before (front ++ text) (reading_left key max (i + 1) left)
-step_reads key max i held left h c text front all is opens so =
+step_reads key max i left {h} c text front is opens so =
     let o : OpensNext key max i (Some (h ++ c)) left text (Ok true) =
     subst (λ (x : Known). OpensNext key max i (left_of x c) left text (Ok true)) is opens in
     let first = first_ok key max i (h ++ c) text left o.1 o.2 in
@@ -257,7 +258,7 @@ next_reads s t u n from now next old new o adv d fits =
     ≡ before (o.front ++ u.text) (reading_left s.key s.max_chunks (t.index + 1) (left_of u.held d)))
     × (s.index + length (pieces_left (left_of s.held z)) ≡ t.index + 1 + length (pieces_left (left_of u.held d))))
     (sym (append_assoc o.given g d)) (
-      step_reads s.key s.max_chunks t.index t.held (left_of u.held d) h.0 (g ++ d) u.text o.front _ h.1 opens past.0,
+      step_reads s.key s.max_chunks t.index (left_of u.held d) (g ++ d) u.text o.front h.1 opens past.0,
       omega (arith, past.1, more),
     )
 

@@ -13,7 +13,7 @@ loop-n-init g c = record {
   within = c.requires.within;
   reads = refl;
   writes = refl;
-  fed = ([], gave_none _, fed_none c.args.key.now c.args.index.now (take c.args.len c.args.bytes.now) _);
+  fed = ([], gave_none _, fed_none);
 }
 
 pub returns-in-Err-clause-fed : goal.returns-in-Err-clause-fed
