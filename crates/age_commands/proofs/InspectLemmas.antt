@@ -33,7 +33,7 @@ missed_from : (limits : Bounds) (raw : Bool) (key : Option Bytes) (from to : See
     → ReadsHeader (flow from to) limits.max_header (Err e)
     → Inspecting limits raw key (flow from to) (moved old old) (Err (header_fault e))
 missed_from limits raw key from to old e h =
-    of_map from to _ _ h (λ b reads. missed_of limits raw key b (flow from to) old e reads)
+    of_map h (λ b reads. missed_of limits raw key b (flow from to) old e reads)
 
 -- there is no header
 pub missed : {limits l : Bounds} (raw : Bool) (key : Option Bytes) {from to : Seen} (old : Known) {fault : Fault}
@@ -52,10 +52,10 @@ shown_of : (limits : Bounds) (raw : Bool) (key : Option Bytes) (from to : Seen) 
     → Inspecting limits raw key (flow from to) (moved old new) (Err fault)
 shown_of limits raw key from to old new h fault reads (inl (is, prefix)) =
     subst (λ f. Inspecting limits raw key (flow from to) (moved old new) (Err f)) (sym is)
-    (of_map from to _ _ reads (λ b found. (h, found.0, found.1, prefix)))
+    (of_map reads (λ b found. (h, found.0, found.1, prefix)))
 shown_of limits raw key from to old new h fault reads (inr (is, k)) =
     subst (λ f. Inspecting limits raw key (flow from to) (moved old new) (Err f)) (sym is)
-    (of_map from to _ _ reads (λ b found. k))
+    (of_map reads (λ b found. k))
 
 -- all of a header was shown
 pub shown : {limits l : Bounds} (raw : Bool) (key : Option Bytes) {from to : Seen} (old new : Known) {h : HeaderParts}
@@ -65,7 +65,7 @@ pub shown : {limits l : Bounds} (raw : Bool) (key : Option Bytes) {from to : See
 shown raw key old new checked same (Err e, is, reads) made shows tells = absurd (cc)
 shown {l} raw key {from} {to} old new {h} checked same (Ok g, is, reads) made shows tells =
     let one : ◌≡◌ {A = HeaderParts} g h = cc in
-    of_map from to _ _ (subst (λ (m : Bounds). ReadsHeader (flow from to) m.max_header (Ok h)) same
+    of_map (subst (λ (m : Bounds). ReadsHeader (flow from to) m.max_header (Ok h)) same
     (subst (λ (x : HeaderParts). ReadsHeader (flow from to) l.max_header (Ok x)) one reads)) (λ b found. (
       h,
       found.0,

@@ -98,7 +98,7 @@ header_decrypts : (limits : Bounds) (answers : Answering) (come mid : Seen) (old
     → ReadsHeader (flow come mid) limits.max_header (Err g)
     → Decrypts limits answers (flow come mid) (moved old old) (Err (header_fault g))
 header_decrypts limits answers come mid old g h =
-    of_map come mid _ _ h (λ b refuses. header_text limits answers b old g refuses)
+    of_map h (λ b refuses. header_text limits answers b old g refuses)
 
 pub inspect_decrypts : (limits : Bounds) (answers : Answering) {come : Seen} (mid : Seen) (old : Known) (fault : Fault)
     → Inspects limits (flow come mid) (Err fault) → Decrypts limits answers (flow come mid) (moved old old) (Err fault)
@@ -144,7 +144,7 @@ verdict_of limits answers come mid h i rest = record {
 -- memory was refused
 pub memory_decrypts : (limits : Bounds) (answers : Answering) (come to : Seen) (old new : Known)
     → GaveSome (flow come to) → Decrypts limits answers (flow come to) (moved old new) (Err OutOfMemory)
-memory_decrypts limits answers come to old new some = of_any come to _ some (λ b. tt)
+memory_decrypts limits answers come to old new some = of_any some (λ b. tt)
 
 -- no key
 pub locked_decrypts : (limits : Bounds) (answers : Answering) {come : Seen} (mid : Seen) (old : Known) {h : HeaderParts}
@@ -155,10 +155,10 @@ locked_decrypts limits answers {come} mid old {h} fault i (inl memory) =
     let is = headed limits come mid h i in
     subst (λ f. Decrypts limits answers (flow come mid) (moved old old) (Err f))
     (sym (err_err {A = FileKey} fault OutOfMemory memory))
-    (memory_decrypts limits answers come mid old old (gave_some come mid is.text is.took))
+    (memory_decrypts limits answers come mid old old (gave_some is.took))
 locked_decrypts limits answers {come} mid old {h} fault i (inr key) =
     let is = headed limits come mid h i in
-    of_more come mid is.text _ is.took (λ d end. stops_decrypts limits answers (is.text ++ d) old fault
+    of_more is.took (λ d end. stops_decrypts limits answers (is.text ++ d) old fault
     (subst (λ k. IsVerdict limits answers (is.text ++ d) (read_under limits d k)) (sym key)
     (verdict_of limits answers come mid h is d)))
 
@@ -215,7 +215,7 @@ pub payload_decrypts : (limits : Bounds) (answers : Answering) (come mid to : Se
 payload_decrypts limits answers come mid to old new h k max r i (inl memory) same w = absurd (cc)
 payload_decrypts limits answers come mid to old new h k max r i (inr key) same w =
     let is = headed limits come mid h i in
-    of_then come mid to is.text _ _ is.took w (λ c x. payload_text limits answers come mid h is k c old new r key
+    of_then is.took w (λ c x. payload_text limits answers come mid h is k c old new r key
     (subst (λ m. WritesReading (payload_reading k m c) (length (pieces (drop 16 c))) (moved old new) r) same x))
 
 -- there is no nonce, or no memory
@@ -232,7 +232,7 @@ missed_decrypts to_come gave {limits} answers {come} mid old before after {h} k 
     (subst (λ f. Decrypts limits answers (flow come (seen_by to_come gave mid)) (moved old old)
     (Err (stream_fault f))) (sym m.0)
     (memory_decrypts limits answers come (seen_by to_come gave mid) old old
-    (gave_some come (seen_by to_come gave mid) is.text is.took)))
+    (gave_some is.took)))
 missed_decrypts to_come gave {limits} answers {come} mid {to} old before after {h} k max fault i key same (inr m) =
     payload_decrypts limits answers come (seen_by to_come gave mid) (seen_by to_come gave to) old old h k max
     (Err fault) i key same
@@ -255,7 +255,7 @@ took_piece limits come mid to old new h i fault n e le =
     e.gave in
     record {
       found = found_in i.text h;
-      header = of_more come to (i.text ++ g) _ (gave_then come mid to i.text g i.took e.gave.1) (λ d end.
+      header = of_more (gave_then i.took e.gave.1) (λ d end.
           subst (λ z. HeaderVerdict z limits.max_header (Ok (found_in i.text h))) (sym (append_assoc i.text g d))
           (i.verdict (g ++ d)));
       gave = (all.0, all.1, omega (arith, all.2));

@@ -50,7 +50,7 @@ made limits k gathered stanzas mac written (is, (text, heading)) head =
 -- memory was refused
 pub encrypts_refused : (limits : Bounds) (fresh : Fresh) (gathered : Gathering) (from to : Seen) (old new : Known)
     → GaveSome (flow from to) → EncryptsGiven limits fresh gathered (flow from to) (moved old new) (Err OutOfMemory)
-encrypts_refused limits fresh gathered from to old new some = of_any from to _ some (λ plain. tt)
+encrypts_refused limits fresh gathered from to old new some = of_any some (λ plain. tt)
 
 -- no header was made
 pub encrypts_unmade : (limits : Bounds) (fresh : Fresh) (gathered : Gathering) (from to : Seen) (old new : Known)
@@ -61,7 +61,7 @@ encrypts_unmade limits fresh gathered from to old new fault some (inl memory) =
     subst (λ f. EncryptsGiven limits fresh gathered (flow from to) (moved old new) (Err f)) (sym memory)
     (encrypts_refused limits fresh gathered from to old new some)
 encrypts_unmade limits fresh gathered from to old new fault some (inr refusal) =
-    of_any from to _ some (λ plain. go plain fault refusal)
+    of_any some (λ plain. go plain fault refusal)
   where
     go : (plain : Bytes) (f : Fault) → IsRefusal limits fresh.file_key gathered f
         → EncryptsText limits fresh gathered plain (moved old new) (Err f)
@@ -79,7 +79,7 @@ pub encrypts_begun : {limits : Bounds} {fresh : Fresh} {gathered : Gathering} {s
 encrypts_begun {limits} {fresh} {gathered} {stanzas} {mac} {from} {to} {old} {new} some header (text, head, part) =
     let m = made limits fresh.file_key gathered stanzas mac text header head in
     let front : Bytes = text ++ fresh.nonce in
-    of_any from to _ some (λ plain.
+    of_any some (λ plain.
     let rest : Bytes = concat (sealed_chunks fresh.file_key fresh.nonce plain) in
     let is : text ++ payload fresh.file_key fresh.nonce plain ≡ front ++ rest =
     sym (append_assoc text fresh.nonce rest) in
@@ -87,8 +87,7 @@ encrypts_begun {limits} {fresh} {gathered} {stanzas} {mac} {from} {to} {old} {ne
       stanzas = m.stanzas;
       text = text;
       heading = m.heading;
-      part = done_part old old new (text ++ payload fresh.file_key fresh.nonce plain) (front ++ rest) front rest
-          (record { prefix = []; took = Appends-nil old; is = is }) refl part;
+      part = done_part new front rest (record { prefix = []; took = Appends-nil old; is = is }) refl part;
     })
 
 -- the first chunk was not read, and nothing was written
@@ -97,8 +96,7 @@ pub encrypts_unread : {limits : Bounds} {fresh : Fresh} {gathered : Gathering} {
     → HeaderMade limits fresh.file_key gathered stanzas mac
     → EncryptsGiven limits fresh gathered (flow from to) (moved old old) (Err Read)
 encrypts_unread {stanzas} {from} {to} {old} some (is, (text, heading)) =
-    of_any from to _ some
-    (λ plain. record { stanzas = stanzas; text = text; heading = heading; part = (0, Appends-nil old) })
+    of_any some (λ plain. record { stanzas = stanzas; text = text; heading = heading; part = (0, Appends-nil old) })
 
 -- a prefix of the payload was written after them
 begun : (limits : Bounds) (fresh : Fresh) (gathered : Gathering) (text plain : Bytes) (a b c : Known)
@@ -111,7 +109,7 @@ begun limits fresh gathered text plain a b c m front part =
       stanzas = m.stanzas;
       text = text;
       heading = m.heading;
-      part = done_part a b c (text ++ payload fresh.file_key fresh.nonce plain) rest rest []
+      part = done_part c rest []
           (record { prefix = text ++ fresh.nonce; took = front; is = sym (append_assoc text fresh.nonce rest) })
           (sym (append-nil rest)) part;
     }
@@ -197,8 +195,7 @@ encrypts_payload : (limits : Bounds) (fresh : Fresh) (gathered : Gathering) (tex
     → SealsAll (at_start (payload_key fresh.file_key fresh.nonce) limits.max_chunks) (flow from to) (moved b c) r
     → EncryptsGiven limits fresh gathered (flow from to) (moved a c) (file_result r)
 encrypts_payload limits fresh gathered text from to a b c (Ok done) sixteen m front h =
-    of_map from to _ _ h
-    (λ plain q. whole limits fresh gathered text plain a b c done sixteen m front q.0 q.1 q.2 q.3)
+    of_map h (λ plain q. whole limits fresh gathered text plain a b c done sixteen m front q.0 q.1 q.2 q.3)
 encrypts_payload limits fresh gathered text from to a b c (Err fault) sixteen m front (chunk, s) =
     go fault s.stops
   where
@@ -208,10 +205,10 @@ encrypts_payload limits fresh gathered text from to a b c (Err fault) sixteen m 
     go : (f : StreamFault)
         → OfGiven (flow from to) (λ plain. StopsIn key limits.max_chunks 0 [] plain (moved b c) f)
         → EncryptsGiven limits fresh gathered (flow from to) (moved a c) (Err (stream_fault f))
-    go stream.Read h = of_map from to _ _ h (λ plain q. begun limits fresh gathered text plain a b c m front q)
-    go stream.Write h = of_map from to _ _ h (λ plain q. begun limits fresh gathered text plain a b c m front q)
+    go stream.Read h = of_map h (λ plain q. begun limits fresh gathered text plain a b c m front q)
+    go stream.Write h = of_map h (λ plain q. begun limits fresh gathered text plain a b c m front q)
     go stream.TooManyChunks h =
-        of_map from to _ _ h (λ plain q. up_to_limit limits fresh gathered text plain a b c m front q.0 q.1)
+        of_map h (λ plain q. up_to_limit limits fresh gathered text plain a b c m front q.0 q.1)
     go _ h = absurd h.holds
 
 -- the header, the nonce and the payload
@@ -232,7 +229,7 @@ pub read_late : {key : Bytes} {max : ℕ} {t : SealerState} {more : Bool} {from 
     → stream_fault fault ≡ Read → FillsChunk (flow from to)
 read_late {more = true} {from} {mid} {to} a c fault (x, took, is, fits, full, ended) (chunk, seals) read =
     let l : length x ≡ chunk_size = subst (λ (u : SealerState). length u.held ≡ chunk_size) is (full refl) in
-    of_then from mid to x _ _ took seals.stops (λ text h. omega (arith, length-append x text, l))
+    of_then took seals.stops (λ text h. omega (arith, length-append x text, l))
 read_late {more = false} a c fault fills ((write, part), same) read =
     absurd (not_read (subst (λ f. stream_fault f ≡ Read) write read))
   where

@@ -70,7 +70,7 @@ inspect_salvages limits answers come mid old lost fault (Ok parts, is, h) = absu
 inspect_salvages limits answers come mid old lost fault (Err g, is, h) =
     subst (λ f. SalvagesFile limits answers (flow come mid) (moved old old) (told lost lost) (Err f))
     (sym (err_err {A = HeaderParts} fault (header_fault g) is))
-    (of_map come mid _ _ h (λ b refuses. header_text limits answers b old lost g refuses))
+    (of_map h (λ b refuses. header_text limits answers b old lost g refuses))
 
 -- what follows a header that was read
 after_header : (limits : Bounds) (answers : Answering) (come mid : Seen) (h : HeaderParts)
@@ -95,10 +95,10 @@ locked_salvages limits answers come mid old lost h fault i (inl memory) =
     let is = headed limits come mid h i in
     subst (λ f. SalvagesFile limits answers (flow come mid) (moved old old) (told lost lost) (Err f))
     (sym (err_err {A = FileKey} fault OutOfMemory memory))
-    (of_any come mid _ (gave_some come mid is.text is.took) (λ b. saves_none old lost))
+    (of_any (gave_some is.took) (λ b. saves_none old lost))
 locked_salvages limits answers come mid old lost h fault i (inr key) =
     let is = headed limits come mid h i in
-    of_more come mid is.text _ is.took (λ d end. stopped limits answers (is.text ++ d) old lost fault
+    of_more is.took (λ d end. stopped limits answers (is.text ++ d) old lost fault
     (after_header limits answers come mid h is (Err fault) d old old lost lost (Err fault) key
     (refl, saves_none old lost)))
 
@@ -140,8 +140,7 @@ pub payload_salvages : (limits : Bounds) (answers : Answering) (come mid to : Se
 payload_salvages limits answers come mid to old new before after h k max r i (inl memory) same w = absurd (cc)
 payload_salvages limits answers come mid to old new before after h k max r i (inr key) same w =
     let is = headed limits come mid h i in
-    of_then come mid to is.text _ _ is.took w (λ c x.
-    payload_text limits answers come mid h is k c old new before after r key
+    of_then is.took w (λ c x. payload_text limits answers come mid h is k c old new before after r key
     (subst (λ m. SavesPayload k m c (moved old new) (told before after) r) same x))
 
 -- how much was read

@@ -259,7 +259,7 @@ pub salvaging_none : {key : Bytes} {s : Salvaged} {ahead : Bytes} {from : Seen} 
 salvaging_none {key} {ahead} {from} {old} {before} bytes chunks lost none = record {
   front = [];
   given = [];
-  gave = gave_none from;
+  gave = gave_none;
   reads = λ d. ap (λ t. parts key 0 (pieces (t ++ d))) (sym none)
       ∙ ap (λ k. parts key k (pieces (ahead ++ d))) (sym chunks);
   written = Appends-nil old;
@@ -321,7 +321,7 @@ pub saves_many : {key : Bytes} {max : ℕ} {s : Salvaged} {ahead : Bytes} {from 
     → OfGiven (flow from now)
     (λ rest. SavesParts max (parts key 0 (pieces rest)) (moved old new) (told before after) (Err TooManyChunks))
 saves_many {key} {max} {s} {ahead} {from} {now} {old} {new} {before} {after} o full =
-    of_more from now o.given _ o.gave (λ d end.
+    of_more o.gave (λ d end.
     let more : List Part = parts key s.chunks (pieces (ahead ++ d)) in
     let some : 0 < length more = parts_some key s.chunks (ahead ++ d) in
     let len : length (parts key 0 (pieces (o.given ++ d))) ≡ length o.front + length more =
@@ -341,10 +341,7 @@ pub saves_read : {key : Bytes} (max : ℕ) {s : Salvaged} {ahead : Bytes} {from 
     → OfGiven (flow from next)
     (λ rest. SavesParts max (parts key 0 (pieces rest)) (moved old new) (told before after) (Err Read))
 saves_read {key} max {s} {ahead} {from} {now} {next} {old} {new} {before} {after} o some =
-    of_then from now next o.given _ _ o.gave
-    (of_any now next
-    (λ d. SavesParts max (parts key 0 (pieces (o.given ++ d))) (moved old new) (told before after) (Err Read)) some so)
-    (λ d h. h)
+    of_then o.gave (of_any some so) (λ d h. h)
   where
     so : (d : Bytes) → SavesParts max (parts key 0 (pieces (o.given ++ d))) (moved old new) (told before after)
         (Err Read)
@@ -386,7 +383,7 @@ ends_write {s} {held} {n} {buf} text {from} {now} {next} {old} {mid} {new} o r s
           (refl, omega (arith, o.full, o.bytes, length-append (salvaged o.front) (take part.0 text)));
       gave = (
         o.given ++ r.given,
-        gave_then from now next o.given r.given o.gave r.gave,
+        gave_then o.gave r.gave,
         omega (arith, o.read, r.room, length-append held r.given, length-append o.given r.given),
       );
     }
@@ -411,7 +408,7 @@ pub saves_write : {key : Bytes} (max : ℕ) {s : Salvaged} {held : Bytes} {n : �
     → OfGiven (flow from next)
     (λ rest. SavesParts max (parts key 0 (pieces rest)) (moved old new) (told before after) (Err Write))
 saves_write {key} max {s} {held} {n} {buf} {y} {from} {now} {next} {old} {mid} new {before} {after} o r size is part =
-    of_more from next (o.given ++ r.given) _ (gave_then from now next o.given r.given o.gave r.gave) (λ d end.
+    of_more (gave_then o.gave r.gave) (λ d end.
     let c : Bytes = held ++ r.given in
     let p : first_part key s.chunks c ≡ y = ap (first_part key s.chunks) (sym r.is) ∙ is in
     let next_part = parts_first key s.chunks c d (whole_piece held n buf now next r size d end) in
@@ -426,7 +423,7 @@ saves_write {key} max {s} {held} {n} {buf} {y} {from} {now} {next} {old} {mid} n
     let first : take s.chunks (parts key 0 (pieces ((o.given ++ r.given) ++ d))) ≡ o.front =
     ap (take s.chunks) all ∙ take_at o.front (y ∷ more) s.chunks (omega (arith, o.chunks)) in (
       s.chunks,
-      done_part old mid new _ (y.text ++ salvaged more) y.text (salvaged more)
+      done_part new y.text (salvaged more)
           (record { prefix = salvaged o.front; took = o.written; is = text }) refl part,
       subst (λ x. Reports (told before after) (losses 0 0 x)) (sym first) o.reported,
     ))
@@ -472,8 +469,7 @@ saves_last {key} {max} {s} {t} {held} {n} {buf} {y} {from} {now} {next} {old} {m
     let w = after_part o.front y s old mid new before said after o.bytes o.chunks o.written put o.reported one in
     let whole : take (length (o.front ++ y ∷ [])) (o.front ++ y ∷ []) ≡ o.front ++ y ∷ [] =
     take_all (length (o.front ++ y ∷ [])) (o.front ++ y ∷ []) (omega arith) in
-    of_ended from next (o.given ++ r.given) _ (gave_then from now next o.given r.given o.gave r.gave)
-    (r.end (omega arith))
+    of_ended (gave_then o.gave r.gave) (r.end (omega arith))
     (subst (λ ps. SavesParts max ps (moved old new) (told before after) (Ok t)) (sym all) (
       omega (arith, o.chunks, within),
       (
@@ -517,7 +513,7 @@ salvaging_more {key} {s} {t} {held} {ahead} {n} {buf} {y} {from} {now} {next} {o
     record {
       front = o.front ++ y ∷ [];
       given = o.given ++ r.given;
-      gave = gave_then from now next o.given r.given o.gave r.gave;
+      gave = gave_then o.gave r.gave;
       reads = λ d. ap (λ t. parts key 0 (pieces t)) (append_assoc o.given r.given d) ∙ o.reads (r.given ++ d)
           ∙ ap (λ t. o.front ++ parts key s.chunks (pieces t)) (sym (append_assoc held r.given d))
           ∙ ap (λ t. o.front ++ t) (parts_next key s.chunks c d (omega arith))
@@ -548,9 +544,9 @@ pub nonce_salvages : (k : FileKey) (max : ℕ) {from mid : Seen} (old : Known) (
     → GivesNonce (flow from mid) (Err fault)
     → Salvages k max (flow from mid) (moved old old) (told lost lost) (Err fault)
 nonce_salvages k max {from} {mid} old lost Read h =
-    of_any from mid _ h (λ c. (0, (Appends-nil old, reports_none lost)))
+    of_any h (λ c. (0, (Appends-nil old, reports_none lost)))
 nonce_salvages k max {from} {mid} old lost NonceTruncated h =
-    of_map from mid _ _ h.1 (λ c less. (less, (Appends-nil old, reports_none lost)))
+    of_map h.1 (λ c less. (less, (Appends-nil old, reports_none lost)))
 nonce_salvages k max {from} {mid} old lost (ChunkShort i) h = absurd (cc)
 nonce_salvages k max {from} {mid} old lost (EmptyFinal i) h = absurd (cc)
 nonce_salvages k max {from} {mid} old lost (BadChunk i) h = absurd (cc)
@@ -608,7 +604,7 @@ pub payload_salvages : (k : FileKey) (max : ℕ) {nonce key : Bytes} {from mid t
     → OfGiven (flow mid to) (λ rest. SavesParts max (parts key 0 (pieces rest)) (moved old new) (told before after) r)
     → Salvages k max (flow from to) (moved old new) (told before after) r
 payload_salvages k max {nonce} {key} {from} {mid} {to} old new before after r gave size is h =
-    of_then from mid to nonce _ _ gave h (λ c s.
+    of_then gave h (λ c s.
     let l : length (nonce ++ c) ≡ length nonce + length c = length-append nonce c in
     let front : take 16 (nonce ++ c) ≡ nonce = take_at nonce c 16 size in
     let back : drop 16 (nonce ++ c) ≡ c = drop_at nonce c 16 size in

@@ -14,5 +14,5 @@ returns-in-Ok-clause-salvages g c =
 
 pub returns-clause-salvages : goal.returns-clause-salvages
 returns-clause-salvages g c =
-    of_any _ _ _ (some_none (seen_by g.S.Source.to_come g.S.Source.gave c.args.input.now)) (λ b.
+    of_any (some_none (seen_by g.S.Source.to_come g.S.Source.gave c.args.input.now)) (λ b.
     (Appends-nil (g.W.Sink.taken c.args.out.now), reports_none (g.L.Losses.lost c.args.losses.now)))
