@@ -30,11 +30,12 @@ copied_more {from} {a} {b} {old} {m} {n} true size is c (piece, took, put, full)
   long = omega (arith, length-append c.bytes piece, full, size, c.long);
 }
 
-pub copied_all : (size : ℕ) {from : Seen} (a b : Seen) {old : Known} (m n : Known) (k : ℕ) (more : Bool) → more ≡ false
+pub copied_all : (size : ℕ) {from : Seen} {a b : Seen} {old : Known} {m : Known} (n : Known) {k : ℕ} (more : Bool)
+    → more ≡ false
     → Copied from a old m k → CopiesPiece size (flow a b) (moved m n) (Ok more)
     → Copies (flow from b) (moved old n) (Ok tt)
-copied_all size a b m n k true is c h = absurd (true≢false is)
-copied_all size {from} a b {old} m n k false is c (piece, took, put, end) =
+copied_all size {m} n true is c h = absurd (true≢false is)
+copied_all size {from} {old} {m} n false is c (piece, took, put, end) =
     of_ended (gave_then c.took took) end (Appends-trans old m n c.bytes piece c.put put)
 
 -- a prefix of a text was written

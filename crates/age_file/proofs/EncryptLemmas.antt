@@ -40,9 +40,9 @@ HeaderMade limits k gathered stanzas mac = (mac ≡ header_mac k.0 stanzas)
 abbrev pub FrontWritten : List StanzaParts → Bytes → (Bytes → Type 0) → Type 0
 FrontWritten stanzas mac Puts = (text : Bytes) × Head stanzas mac text × Puts text
 
-pub made : (limits : Bounds) (k : FileKey) (gathered : Gathering) (stanzas : List StanzaParts) (mac written : Bytes)
+pub made : {limits : Bounds} {k : FileKey} {gathered : Gathering} {stanzas : List StanzaParts} {mac written : Bytes}
     → HeaderMade limits k gathered stanzas mac → Head stanzas mac written → Made limits k gathered written
-made limits k gathered stanzas mac written (is, (text, heading)) head =
+made {limits} {k} {gathered} {stanzas} {written} (is, (text, heading)) head =
     let same : text ≡ written = one_text stanzas (header_mac k.0 stanzas) text written heading.head
     (subst (λ (m : Bytes). Head stanzas m written) is head) in
     record { stanzas = stanzas; heading = subst (λ (t : Bytes). IsHeading limits k gathered stanzas t) same heading }
@@ -77,7 +77,7 @@ pub encrypts_begun : {limits : Bounds} {fresh : Fresh} {gathered : Gathering} {s
     → FrontWritten stanzas mac (λ text. WritesPart (moved old new) (text ++ fresh.nonce))
     → EncryptsGiven limits fresh gathered (flow from to) (moved old new) (Err Write)
 encrypts_begun {limits} {fresh} {gathered} {stanzas} {mac} {from} {to} {old} {new} some header (text, head, part) =
-    let m = made limits fresh.file_key gathered stanzas mac text header head in
+    let m = made header head in
     let front : Bytes = text ++ fresh.nonce in
     of_any some (λ plain.
     let rest : Bytes = concat (sealed_chunks fresh.file_key fresh.nonce plain) in
@@ -220,7 +220,7 @@ pub encrypts_sealed : {limits : Bounds} (fresh : Fresh) {gathered : Gathering} {
     → EncryptsGiven limits fresh gathered (flow from to) (moved a c) (file_result r)
 encrypts_sealed {limits} fresh {gathered} {stanzas} {mac} {from} {to} a b c r header (text, head, front) sixteen seals =
     encrypts_payload limits fresh gathered text from to a b c r sixteen
-    (made limits fresh.file_key gathered stanzas mac text header head) front seals
+    (made header head) front seals
 
 -- a read failed after something was written: the source gave a whole chunk
 pub read_late : {key : Bytes} {max : ℕ} {t : SealerState} {more : Bool} {from mid to : Seen} (a c : Known)
@@ -246,7 +246,7 @@ pub takes_begun : {limits : Bounds} {fresh : Fresh} {gathered : Gathering} {stan
     → TookWhileEncrypting limits fresh gathered (flow from mid) (moved old new) Write
 takes_begun {limits} {fresh} {gathered} {stanzas} {mac} header (text, head, part)
     (x, gave, is, fits, full, ended) =
-    let m = made limits fresh.file_key gathered stanzas mac text header head in
+    let m = made header head in
     let le : length x ≤ chunk_size = subst (λ (u : SealerState). length u.held ≤ chunk_size) is fits in
     record {
       stanzas = m.stanzas;
@@ -323,13 +323,13 @@ refuses_none limits fresh gathered from to b c (stream.EmptyFinal i) h = absurd 
 refuses_none limits fresh gathered from to b c (stream.BadChunk i) h = absurd h.1.stops.holds
 
 pub takes_sealed : {limits : Bounds} (fresh : Fresh) {gathered : Gathering} {stanzas : List StanzaParts} {mac : Bytes}
-    {from to : Seen} (a : Known) {b c : Known} (fault : StreamFault)
+    {from to : Seen} (a : Known) {b c : Known} {fault : StreamFault}
     → HeaderMade limits fresh.file_key gathered stanzas mac
     → FrontWritten stanzas mac (λ text. Appends a b (text ++ fresh.nonce)) → length fresh.nonce ≡ 16
     → SealsAll (at_start (payload_key fresh.file_key fresh.nonce) limits.max_chunks) (flow from to) (moved b c)
     (Err fault)
     → TookWhileEncrypting limits fresh gathered (flow from to) (moved a c) (stream_fault fault)
-takes_sealed {limits} fresh {gathered} {stanzas} {mac} {from} {to} a {b} {c} fault header
+takes_sealed {limits} fresh {gathered} {stanzas} {mac} {from} {to} a {b} {c} {fault} header
     (text, head, front) sixteen seals =
     takes_payload limits fresh gathered text from to a b c fault sixteen
-    (made limits fresh.file_key gathered stanzas mac text header head) front seals
+    (made header head) front seals

@@ -21,11 +21,11 @@ WritesPayload k max source old new r = OfGiven source
     (λ c. WritesReading (payload_reading k max c) (length (pieces (drop 16 c))) (moved old new) r)
 
 -- the nonce, then the pieces
-pub payload_writes : (k : FileKey) {max : ℕ} (s : OpenerState) {from mid to : Seen} (a b : Known)
+pub payload_writes : (k : FileKey) {max : ℕ} {s : OpenerState} {from mid to : Seen} (a b : Known)
     (r : Result Done StreamFault)
     → Starts k max (flow from mid) (Ok s) → IfNone s.fault (WritesAll s (flow mid to) (moved a b) r)
     → WritesPayload k max (flow from to) a b r
-payload_writes k {max} s {from} {mid} {to} a b r (nonce, len, is, gave) h =
+payload_writes k {max} {from} {mid} {to} a b r (nonce, len, is, gave) h =
     let all : WritesAll (at_start (payload_key k nonce) max) (flow mid to) (moved a b) r =
     subst (λ (x : OpenerState). IfNone x.fault (WritesAll x (flow mid to) (moved a b) r)) is h in
     of_then gave all (λ c w.
@@ -58,12 +58,12 @@ nonce_writes k max from mid a Write h = absurd (cc)
 nonce_writes k max from mid a Memory h = absurd (cc)
 
 -- what was taken, with the nonce
-pub payload_ends : (k : FileKey) {max : ℕ} (s : OpenerState) {from mid to : Seen} {a b : Known} (fault : StreamFault)
+pub payload_ends : (k : FileKey) {max : ℕ} {s : OpenerState} {from mid to : Seen} {a b : Known} {fault : StreamFault}
     → Starts k max (flow from mid) (Ok s) → GaveAtMost 16 (flow from mid)
     → IfNone s.fault
     (IfErr {T = Done} (Err fault) (λ f. (f ≡ Read) ⊎ EndsAt s.max_chunks 0 (flow mid to) (moved a b) f))
     → (fault ≡ Read) ⊎ EndsAt max 16 (flow from to) (moved a b) fault
-payload_ends k {max} s {from} {mid} {to} {a} {b} fault starts nonce h =
+payload_ends k {max} {from} {mid} {to} {a} {b} {fault} starts nonce h =
     go (subst
     (λ (x : OpenerState). IfNone x.fault ((fault ≡ Read) ⊎ EndsAt x.max_chunks 0 (flow mid to) (moved a b) fault))
     starts.2

@@ -169,11 +169,11 @@ new_file limits answers gathered come mid h key text bytes i chosen made = (
 )
 
 -- a prefix of the header was written
-pub begun_rewraps : (limits : Bounds) (answers : Answering) (gathered : FileKey → Gathering) {come mid : Seen}
-    (old new : Known) (h : HeaderParts) (key : FileKey) (text : Bytes)
+pub begun_rewraps : {limits : Bounds} {answers : Answering} (gathered : FileKey → Gathering) {come mid : Seen}
+    (old new : Known) {h : HeaderParts} {key : FileKey} {text : Bytes}
     → IsHeaded limits come mid h → unlocked answers h ≡ Ok key → Made limits key (gathered key) text
     → WritesPart (moved old new) text → Rewraps limits answers gathered (flow come mid) (moved old new) (Err Write)
-begun_rewraps limits answers gathered {come} {mid} old new h key text i chosen made part =
+begun_rewraps {limits} {answers} gathered {come} {mid} old new {h} {key} {text} i chosen made part =
     of_more i.took (λ d end. (
       text ++ d,
       new_file limits answers gathered come mid h key text d i chosen made,
@@ -192,18 +192,20 @@ copied_part limits answers gathered come mid old put new h key text bytes i chos
   done_part new bytes [] (record { prefix = text; took = front; is = refl }) (sym (append-nil bytes)) part,
 )
 
-pub copied_rewraps : (limits : Bounds) (answers : Answering) (gathered : FileKey → Gathering) {come : Seen} (mid : Seen)
-    {to : Seen} (old put new : Known) (h : HeaderParts) (key : FileKey) (text : Bytes) (r : Result (Unit {0}) Fault)
+pub copied_rewraps : {limits : Bounds} (answers : Answering) (gathered : FileKey → Gathering) {come : Seen} {mid : Seen}
+    {to : Seen} (old put new : Known) {h : HeaderParts} {key : FileKey} {text : Bytes} (r : Result (Unit {0}) Fault)
     → IsHeaded limits come mid h → unlocked answers h ≡ Ok key
     → Made limits key (gathered key) text → Appends old put text → Copies (flow mid to) (moved put new) r
     → Rewraps limits answers gathered (flow come to) (moved old new) r
-copied_rewraps limits answers gathered {come} mid {to} old put new h key text (Ok done) i chosen made front copied =
+copied_rewraps {limits} answers gathered {come} {mid} {to} old put new {h} {key} {text}
+    (Ok done) i chosen made front copied =
     of_then i.took copied (λ bytes wrote. (
       text ++ bytes,
       new_file limits answers gathered come mid h key text bytes i chosen made,
       Appends-trans old put new text bytes front wrote,
     ))
-copied_rewraps limits answers gathered {come} mid {to} old put new h key text (Err fault) i chosen made front copied =
+copied_rewraps {limits} answers gathered {come} {mid} {to} old put new {h} {key} {text}
+    (Err fault) i chosen made front copied =
     go fault copied
   where
     part : (bytes : Bytes) → WritesPart (moved put new) bytes

@@ -57,5 +57,5 @@ pub returns-clause-took : goal.returns-clause-took
 returns-clause-took g c =
     let fills = filled c.new-sealer.ensures c.max_chunks.ensures.value c.in-Ok-fill.ensures.fills in
     let seals = sealed_filled _ _ _ _ c.max_chunks.ensures.range.chunks_low fills c.in-Err-seal_rest.ensures.seals in
-    rw c.stream_fault.ensures (takes_sealed c.args.fresh.now _ c.in-Err-seal_rest.fault
+    rw c.stream_fault.ensures (takes_sealed c.args.fresh.now _
     c.in_ok-header.ensures.ok c.in-Ok-write_front.ensures.text (search rules) seals)
