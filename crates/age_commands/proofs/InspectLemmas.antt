@@ -33,7 +33,7 @@ missed_from : (limits : Bounds) (raw : Bool) (key : Option Bytes) (from to : See
     → ReadsHeader (flow from to) limits.max_header (Err e)
     → Inspecting limits raw key (flow from to) (moved old old) (Err (header_fault e))
 missed_from limits raw key from to old e h =
-    of_map from to _ _ h (λ b reads. missed_of limits raw key b (flow from to) old e reads)
+    of_map h (λ b reads. missed_of limits raw key b (flow from to) old e reads)
 
 -- there is no header
 pub missed : {limits l : Bounds} (raw : Bool) (key : Option Bytes) {from to : Seen} (old : Known) {fault : Fault}
@@ -52,20 +52,20 @@ shown_of : (limits : Bounds) (raw : Bool) (key : Option Bytes) (from to : Seen) 
     → Inspecting limits raw key (flow from to) (moved old new) (Err fault)
 shown_of limits raw key from to old new h fault reads (inl (is, prefix)) =
     subst (λ f. Inspecting limits raw key (flow from to) (moved old new) (Err f)) (sym is)
-    (of_map from to _ _ reads (λ b found. (h, found.0, found.1, prefix)))
+    (of_map reads (λ b found. (h, found.0, found.1, prefix)))
 shown_of limits raw key from to old new h fault reads (inr (is, k)) =
     subst (λ f. Inspecting limits raw key (flow from to) (moved old new) (Err f)) (sym is)
-    (of_map from to _ _ reads (λ b found. k))
+    (of_map reads (λ b found. k))
 
 -- all of a header was shown
 pub shown : {limits l : Bounds} (raw : Bool) (key : Option Bytes) {from to : Seen} (old new : Known) {h : HeaderParts}
-    (checked : Check) {r : Result ⊤ Fault} → l ≡ limits
+    {checked : Check} {r : Result ⊤ Fault} → l ≡ limits
     → Inspects l (flow from to) (Ok h) → checked ≡ check_of key h → Shows raw h checked (moved old new) (Ok tt)
     → r ≡ checked_result checked → OfGiven (flow from to) (λ b. ShowsAll limits raw key b (moved old new) r)
-shown raw key old new checked same (Err e, is, reads) made shows tells = absurd (cc)
-shown {l} raw key {from} {to} old new {h} checked same (Ok g, is, reads) made shows tells =
+shown raw key old new same (Err e, is, reads) made shows tells = absurd (cc)
+shown {l} raw key {from} {to} old new {h} same (Ok g, is, reads) made shows tells =
     let one : ◌≡◌ {A = HeaderParts} g h = cc in
-    of_map from to _ _ (subst (λ (m : Bounds). ReadsHeader (flow from to) m.max_header (Ok h)) same
+    of_map (subst (λ (m : Bounds). ReadsHeader (flow from to) m.max_header (Ok h)) same
     (subst (λ (x : HeaderParts). ReadsHeader (flow from to) l.max_header (Ok x)) one reads)) (λ b found. (
       h,
       found.0,
@@ -95,10 +95,11 @@ rows_push n (y ∷ xs) x = ap (λ r. row n y ++ r)
     (rows_push (n + 1) xs x ∙ ap (λ k. rows (n + 1) xs ++ row k x) (omega arith))
     ∙ sym (append_assoc (row n y) (rows (n + 1) xs) (row (n + length (y ∷ xs)) x))
 
-pub rows_more : (old mid new : Known) (xs : List StanzaParts) (x d : StanzaParts) (i : ℕ) → i < length xs
+pub rows_more : (old mid new : Known) (xs : List StanzaParts) {x : StanzaParts} (d : StanzaParts) {i : ℕ}
+    → i < length xs
     → x ≡ get_or xs i d
     → Appends old mid (rows 0 (take i xs)) → Appends mid new (row i x) → Appends old new (rows 0 (take (i + 1) xs))
-rows_more old mid new xs x d i low is before one =
+rows_more old mid new xs {x} d {i} low is before one =
     let l : length (take i xs) ≡ i = length-take-le i xs (omega arith) in
     let start : 0 + length (take i xs) ≡ i = omega arith in
     let at : rows 0 (take (i + 1) xs) ≡ rows 0 (take i xs) ++ row i x =
@@ -108,15 +109,15 @@ rows_more old mid new xs x d i low is before one =
     subst (Appends old new) (sym at) (Appends-trans old mid new (rows 0 (take i xs)) (row i x) before one)
 
 -- the parts of a table, one after the other
-pub tabled : {E : Type 0} (header : HeaderParts) (checked : Check) (one two three four five six : Known)
-    (characters text : Bytes) (n : ℕ) (r : Result ⊤ E)
+pub tabled : {E : Type 0} {header : HeaderParts} (checked : Check) (one two three four five six : Known)
+    (characters : Bytes) {text : Bytes} {n : ℕ} (r : Result ⊤ E)
     → n ≡ min (length text) (2 ^ 64 - 1) → IsBase64 header.mac characters → Head header.stanzas header.mac text
     → Appends one two (first_lines (length header.stanzas)) → Appends two three (rows 0 header.stanzas)
     → Appends three four (codes "mac ") → Appends four five characters
     → OnOk r (Appends five six (last_lines n checked))
     → OnOk r ((shown : Bytes) × IsTable header checked shown × Appends one six shown)
-tabled header checked one two three four five six characters text n (Err e) is mac whole a b c d f = tt
-tabled header checked one two three four five six characters text n (Ok u) is mac whole a b c d f =
+tabled {header} checked one two three four five six characters {text} {n} (Err e) is mac whole a b c d f = tt
+tabled {header} checked one two three four five six characters {text} {n} (Ok u) is mac whole a b c d f =
     let prefix : Bytes = first_lines (length header.stanzas) in
     let lines : Bytes = rows 0 header.stanzas in (
       prefix ++ lines ++ codes "mac " ++ characters ++ last_lines n checked,

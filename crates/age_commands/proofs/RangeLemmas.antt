@@ -88,10 +88,10 @@ stopped {told} {s} at left {most} {old} le within is sound stops =
     ]
 
 -- a piece was written
-pub written : {told : Known} {layout : Layout} (at n : ℕ) (buf rest : Bytes) {old new : Known} → n ≤ length buf
+pub written : {told : Known} {layout : Layout} {at n : ℕ} (buf rest : Bytes) {old new : Known} → n ≤ length buf
     → HasPlain told layout at (take n buf)
     → Appends old new (take n (buf ++ rest)) → WritesPlain told layout at n (moved old new)
-written at n buf rest {old} {new} le plain a = record {
+written {n} buf rest {old} {new} le plain a = record {
   part = take n buf;
   size = length-take-le n buf le;
   plain = plain;
@@ -99,11 +99,11 @@ written at n buf rest {old} {new} le plain a = record {
 }
 
 -- a prefix of a piece was written
-pub written_part : {told : Known} {layout : Layout} (at n k : ℕ) {most : ℕ} (buf rest : Bytes) {old new : Known}
+pub written_part : {told : Known} {layout : Layout} {at n : ℕ} (k : ℕ) {most : ℕ} (buf rest : Bytes) {old new : Known}
     → n ≤ length buf → HasPlain told layout at (take n buf) → n ≤ most
     → Appends old new (take k (take n (buf ++ rest))) → (x : ℕ) × (x ≤ most)
     × WritesPlain told layout at x (moved old new)
-written_part {told} {layout} at n k buf rest {old} {new} le plain low a =
+written_part {told} {layout} {at} {n} k buf rest {old} {new} le plain low a =
     let l : length (take k (take n buf)) ≡ min k (length (take n buf)) = length-take k (take n buf) in
     let m : length (take n buf) ≡ n = length-take-le n buf le in (
       length (take k (take n buf)),
@@ -200,14 +200,14 @@ failed_on {told} {again} {s} {t} begin len at left {old} {mid} {new} et el end l
     )
 
 -- a source that was opened, by one identity in a list
-pub ranged : {X : Type 0} (m : X → List StanzaParts → Unwrapped) (items : List X) (x : X) {l limits : Bounds}
+pub ranged : {X : Type 0} (m : X → List StanzaParts → Unwrapped) {items : List X} (x : X) {l limits : Bounds}
     (at len : ℕ) {told again : Known} {s : RangeState} (given given2 : ℕ) (old new : Known) (r : Result ⊤ Fault)
     → items ≡ x ∷ [] → l ≡ limits → again ≡ told
     → IfSome told (λ b. IsRangesOf l (λ stanzas. map (λ i. m i stanzas) items) b s given given2)
     → (IsSound again s → WritesRange again s at len (moved old new) r)
     → Ranging limits (λ stanzas. m x stanzas ∷ []) at len told (moved old new) r
-ranged m items x at len {told = None} given given2 old new r one is et opens writes = tt
-ranged m items x {l} {limits} at len {told = Some b} {s} given given2 old new r one is et opens writes =
+ranged m x at len {told = None} given given2 old new r one is et opens writes = tt
+ranged m x {l} {limits} at len {told = Some b} {s} given given2 old new r one is et opens writes =
     let opened : IsRangesOf limits (λ stanzas. m x stanzas ∷ []) b s given given2 =
     subst (λ (k : Bounds). IsRangesOf k (λ stanzas. m x stanzas ∷ []) b s given given2) is
     (subst (λ xs. IsRangesOf l (λ stanzas. map (λ i. m i stanzas) xs) b s given given2) one opens) in
@@ -221,12 +221,12 @@ ranged m items x {l} {limits} at len {told = Some b} {s} given given2 old new r 
     })
 
 -- one that was not
-pub unopened : {X : Type 0} (m : X → List StanzaParts → Unwrapped) (items : List X) (x : X) {l limits : Bounds}
+pub unopened : {X : Type 0} (m : X → List StanzaParts → Unwrapped) {items : List X} (x : X) {l limits : Bounds}
     (at len : ℕ) (told old : Known) {fault : Fault} → items ≡ x ∷ [] → l ≡ limits
     → MissesRanges l (λ stanzas. map (λ i. m i stanzas) items) told fault
     → Ranging limits (λ stanzas. m x stanzas ∷ []) at len told (moved old old) (Err fault)
-unopened m items x at len None old one is misses = tt
-unopened m items x {l} at len (Some b) old {fault} one is misses =
+unopened m x at len None old one is misses = tt
+unopened m x {l} at len (Some b) old {fault} one is misses =
     inl (
       subst (λ (k : Bounds). MissesRanges k (λ stanzas. m x stanzas ∷ []) (Some b) fault) is
           (subst (λ xs. MissesRanges l (λ stanzas. map (λ i. m i stanzas) xs) (Some b) fault) one misses),

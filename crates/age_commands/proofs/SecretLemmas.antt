@@ -24,11 +24,11 @@ use Rattle.age_file.specs.declared.fault.Fault.TheVariants.{OutOfMemory}
 use Rattle.age_file.specs.Rewrap.{Rewraps}
 use Rattle.age_commands.specs.Task.{Encrypting}
 
-pub decrypts_alone : {X : Type 0} (m : X → List StanzaParts → Unwrapped) (items : List X) (x : X) {l limits : Bounds}
+pub decrypts_alone : {X : Type 0} (m : X → List StanzaParts → Unwrapped) {items : List X} (x : X) {l limits : Bounds}
     {source : Flow} (old new : Known) (r : Result Done Fault)
     → items ≡ x ∷ [] → l ≡ limits → Decrypts l (λ s. map (λ i. m i s) items) source (moved old new) r
     → Decrypts limits (λ s. m x s ∷ []) source (moved old new) r
-decrypts_alone m items x {l} {source} old new r one is h =
+decrypts_alone m x {l} {source} old new r one is h =
     subst (λ b. Decrypts b (λ s. m x s ∷ []) source (moved old new) r) is
     (subst (λ xs. Decrypts l (λ s. map (λ i. m i s) xs) source (moved old new) r) one h)
 
@@ -39,20 +39,20 @@ pub decrypting_meant : {f g : List StanzaParts → Unwrapped} (limits : Bounds) 
 decrypting_meant limits {source} old new r same h =
     subst (λ (m : List StanzaParts → Unwrapped). Decrypts limits (λ s. m s ∷ []) source (moved old new) r) same h
 
-pub salvages_alone : {X : Type 0} (m : X → List StanzaParts → Unwrapped) (items : List X) (x : X) (l limits : Bounds)
-    (source : Flow) (old new : Known) (before after : KnownLosses) (r : Result Salvaged Fault)
+pub salvages_alone : {X : Type 0} (m : X → List StanzaParts → Unwrapped) {items : List X} (x : X) {l limits : Bounds}
+    {source : Flow} (old new : Known) (before after : KnownLosses) (r : Result Salvaged Fault)
     → items ≡ x ∷ [] → l ≡ limits
     → SalvagesFile l (λ s. map (λ i. m i s) items) source (moved old new) (told before after) r
     → SalvagesFile limits (λ s. m x s ∷ []) source (moved old new) (told before after) r
-salvages_alone m items x l limits source old new before after r one is h =
+salvages_alone m x {l} {source} old new before after r one is h =
     subst (λ b. SalvagesFile b (λ s. m x s ∷ []) source (moved old new) (told before after) r) is
     (subst (λ xs. SalvagesFile l (λ s. map (λ i. m i s) xs) source (moved old new) (told before after) r) one h)
 
-pub salvaging_meant : (f g : List StanzaParts → Unwrapped) (limits : Bounds) (source : Flow) (old new : Known)
+pub salvaging_meant : {f g : List StanzaParts → Unwrapped} (limits : Bounds) {source : Flow} (old new : Known)
     (before after : KnownLosses) (r : Result Salvaged Fault) → f ≡ g
     → SalvagesFile limits (λ s. f s ∷ []) source (moved old new) (told before after) r
     → SalvagesFile limits (λ s. g s ∷ []) source (moved old new) (told before after) r
-salvaging_meant f g limits source old new before after r same h =
+salvaging_meant limits {source} old new before after r same h =
     subst (λ (m : List StanzaParts → Unwrapped). SalvagesFile limits (λ s. m s ∷ []) source (moved old new)
     (told before after) r) same h
 

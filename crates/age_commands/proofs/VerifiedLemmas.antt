@@ -54,10 +54,10 @@ filled gave layout at n buf le verified k lt =
     (verified k (omega (arith, l, lt)))
 
 -- a piece was written
-pub written : {gave : ℕ → ℕ → Type 0} {layout : Layout} (at n : ℕ) (buf rest : Bytes) {old new : Known}
+pub written : {gave : ℕ → ℕ → Type 0} {layout : Layout} {at n : ℕ} (buf rest : Bytes) {old new : Known}
     → n ≤ length buf → ((k : ℕ) → k < n → IsVerifiedByte gave layout (at + k) (slice_index buf k))
     → Appends old new (take n (buf ++ rest)) → WritesVerified gave layout at n (moved old new)
-written {gave} {layout} at n buf rest {old} {new} le verified a = record {
+written {gave} {layout} {at} {n} buf rest {old} {new} le verified a = record {
   part = take n buf;
   size = length-take-le n buf le;
   verified = filled gave layout at n buf le verified;
@@ -65,12 +65,12 @@ written {gave} {layout} at n buf rest {old} {new} le verified a = record {
 }
 
 -- a prefix of a piece was written
-pub written_part : {gave : ℕ → ℕ → Type 0} {layout : Layout} (at n k : ℕ) {most : ℕ} (buf rest : Bytes)
+pub written_part : {gave : ℕ → ℕ → Type 0} {layout : Layout} {at n : ℕ} (k : ℕ) {most : ℕ} (buf rest : Bytes)
     {old new : Known}
     → n ≤ length buf → ((k : ℕ) → k < n → IsVerifiedByte gave layout (at + k) (slice_index buf k)) → n ≤ most
     → Appends old new (take k (take n (buf ++ rest)))
     → (x : ℕ) × (x ≤ most) × WritesVerified gave layout at x (moved old new)
-written_part {gave} {layout} at n k buf rest {old} {new} le verified low a =
+written_part {gave} {layout} {at} {n} k buf rest {old} {new} le verified low a =
     let l : length (take k (take n buf)) ≡ min k (length (take n buf)) = length-take k (take n buf) in
     let m : length (take n buf) ≡ n = length-take-le n buf le in (
       length (take k (take n buf)),
@@ -161,12 +161,12 @@ failed_on {early} {late} s t begin len at left {old} {mid} {new} {fault} stays e
 
 -- a source that was opened, by one identity in a list
 pub ranged : {D X : Type 0} {gave : D → ℕ → ℕ → Type 0} {found : D → Option ℕ} (m : X → List StanzaParts → Unwrapped)
-    (items : List X) (x : X) {l limits : Bounds} (at len : ℕ) (source : D) {new : D} {s : RangeState}
+    {items : List X} (x : X) {l limits : Bounds} {at len : ℕ} (source : D) {new : D} {s : RangeState}
     {old taken : Known} {r : Result ⊤ Fault} → items ≡ x ∷ [] → l ≡ limits
     → BeginsFile l (λ stanzas. map (λ i. m i stanzas) items) (gave source) (found source) s
     → WritesAny (gave new) s at len (moved old taken) r
     → RangingAny gave found limits (λ stanzas. m x stanzas ∷ []) at len new (moved old taken) r
-ranged {gave} {found} m items x {l} at len source {s} one is begins writes = inr (record {
+ranged {gave} {found} m x {l} source {s} one is begins writes = inr (record {
   source = source;
   state = s;
   begins = subst (λ (k : Bounds). BeginsFile k (λ stanzas. m x stanzas ∷ []) (gave source) (found source) s) is
@@ -222,5 +222,5 @@ unwritten_at at_memory n is = refl
 unwritten_at at_recipient n is = refl
 
 -- a fault of opening is no failed write
-pub opens_unwritten : (n : ℕ) (fault : Fault) → IsOpenFault fault → CountsFaultIf is_write n n fault
-opens_unwritten n fault is = unwritten_at (stage_of fault) n is
+pub opens_unwritten : {n : ℕ} (fault : Fault) → IsOpenFault fault → CountsFaultIf is_write n n fault
+opens_unwritten {n} fault is = unwritten_at (stage_of fault) n is

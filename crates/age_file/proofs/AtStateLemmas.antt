@@ -75,11 +75,11 @@ first_then old new at at2 past more stays first gave next =
     )
 
 -- a read at the current offset adds its bytes to those that were given
-pub grows_on : {D E : Type 0} (told : D → Known) (gave : D → ℕ → ℕ → Type 0) (old new : AtState D) (n : ℕ)
-    (buf : Bytes) (r : Result ℕ E) → r ≡ Ok n → n ≤ length buf → new.at ≡ min (old.at + n) (2 ^ 64 - 1)
+pub grows_on : {D E : Type 0} (told : D → Known) (gave : D → ℕ → ℕ → Type 0) (old : AtState D) {new : AtState D} {n : ℕ}
+    (buf : Bytes) {r : Result ℕ E} → r ≡ Ok n → n ≤ length buf → new.at ≡ min (old.at + n) (2 ^ 64 - 1)
     → StaysGiven (gave old.dev) (gave new.dev) → IfOk r (λ n. GaveAt (gave new.dev) old.at (take n buf))
     → Grows (flow_by (λ s. option_map (drop s.at) (told s.dev)) (λ s. GaveFirst (gave s.dev) s.at) old new) r buf
-grows_on {D} {E} told gave old new n buf r is le next stays reads =
+grows_on {D} {E} told gave old {new} {n} buf is le next stays reads =
     let more : GaveAt (gave new.dev) old.at (take n buf) =
     subst (λ (x : Result ℕ E). IfOk x (λ k. GaveAt (gave new.dev) old.at (take k buf))) is reads in
     subst (λ (x : Result ℕ E). Grows (flow_by (λ (s : AtState D). option_map (drop s.at) (told s.dev))

@@ -16,7 +16,7 @@ pub record Copied (from now : Seen) (old new : Known) (k : ℕ) : Type 0 where
   pub long : buffer_size * k ≤ length bytes
 
 pub copied_none : {from : Seen} {old : Known} → Copied from from old old 0
-copied_none {from} {old} = record { bytes = []; took = gave_none from; put = Appends-nil old; long = omega arith }
+copied_none {from} {old} = record { bytes = []; took = gave_none; put = Appends-nil old; long = omega arith }
 
 pub copied_more : {size : ℕ} {from a b : Seen} {old m n : Known} {k : ℕ} (more : Bool) → size ≡ buffer_size
     → more ≡ true
@@ -25,37 +25,34 @@ pub copied_more : {size : ℕ} {from a b : Seen} {old m n : Known} {k : ℕ} (mo
 copied_more false full is c h = absurd (true≢false (sym is))
 copied_more {from} {a} {b} {old} {m} {n} true size is c (piece, took, put, full) = record {
   bytes = c.bytes ++ piece;
-  took = gave_then from a b c.bytes piece c.took took;
+  took = gave_then c.took took;
   put = Appends-trans old m n c.bytes piece c.put put;
   long = omega (arith, length-append c.bytes piece, full, size, c.long);
 }
 
-pub copied_all : (size : ℕ) {from : Seen} (a b : Seen) {old : Known} (m n : Known) (k : ℕ) (more : Bool) → more ≡ false
+pub copied_all : (size : ℕ) {from : Seen} {a b : Seen} {old : Known} {m : Known} (n : Known) {k : ℕ} (more : Bool)
+    → more ≡ false
     → Copied from a old m k → CopiesPiece size (flow a b) (moved m n) (Ok more)
     → Copies (flow from b) (moved old n) (Ok tt)
-copied_all size a b m n k true is c h = absurd (true≢false is)
-copied_all size {from} a b {old} m n k false is c (piece, took, put, end) =
-    of_ended from b (c.bytes ++ piece) _ (gave_then from a b c.bytes piece c.took took) end
-    (Appends-trans old m n c.bytes piece c.put put)
+copied_all size {m} n true is c h = absurd (true≢false is)
+copied_all size {from} {old} {m} n false is c (piece, took, put, end) =
+    of_ended (gave_then c.took took) end (Appends-trans old m n c.bytes piece c.put put)
 
 -- a prefix of a text was written
 front : (old new : Known) (bytes rest : Bytes) → Appends old new bytes → WritesPart (moved old new) (bytes ++ rest)
 front old new bytes rest put =
-    done_part old new new (bytes ++ rest) rest [] rest (record { prefix = bytes; took = put; is = refl }) refl
-    (0, Appends-nil new)
+    done_part new [] rest (record { prefix = bytes; took = put; is = refl }) refl (0, Appends-nil new)
 
 write_failed : (from a b : Seen) (old m n : Known) (k : ℕ) (piece : Bytes) → Copied from a old m k
     → Gave (flow a b) piece → WritesPart (moved m n) piece → Copies (flow from b) (moved old n) (Err Write)
 write_failed from a b old m n k piece c took part =
-    of_more from b (c.bytes ++ piece) _ (gave_then from a b c.bytes piece c.took took) (λ d end.
-    done_part old m n ((c.bytes ++ piece) ++ d) (piece ++ d) piece d
+    of_more (gave_then c.took took) (λ d end. done_part n piece d
     (record { prefix = c.bytes; took = c.put; is = append_assoc c.bytes piece d }) refl part)
 
 read_failed : (from a b : Seen) (old m : Known) (k : ℕ) → Copied from a old m k → GaveSome (flow a b)
     → Copies (flow from b) (moved old m) (Err Read)
 read_failed from a b old m k c lost =
-    of_then from a b c.bytes _ _ c.took
-    (of_any a b (λ d. WritesPart (moved old m) (c.bytes ++ d)) lost (λ d. front old m c.bytes d c.put)) (λ d part. part)
+    of_then c.took (of_any lost (λ d. front old m c.bytes d c.put)) (λ d part. part)
 
 pub copied_failed : (size : ℕ) {from a : Seen} (b : Seen) {old m : Known} (n : Known) {k : ℕ} (fault : Fault)
     → Copied from a old m k
@@ -71,30 +68,28 @@ pub copied_beyond : {from : Seen} (a : Seen) {old m : Known} (k : ℕ) → 2 ^ 8
     → Copies (flow from a) (moved old m) (Err TooManyChunks)
 copied_beyond {from} a {old} {m} k beyond c = (
   (c.bytes, c.put, omega (arith, c.long, beyond)),
-  of_more from a c.bytes _ c.took
-      (λ d end. (front old m c.bytes d c.put, omega (arith, length-append c.bytes d, c.long, beyond))),
+  of_more c.took (λ d end. (front old m c.bytes d c.put, omega (arith, length-append c.bytes d, c.long, beyond))),
 )
 
 -- a piece, and then the rest: a prefix of the rest was written after the piece
 after_piece : (old m n : Known) (piece rest : Bytes) → Appends old m piece
     → WritesPart (moved m n) rest → WritesPart (moved old n) (piece ++ rest)
 after_piece old m n piece rest put part =
-    done_part old m n (piece ++ rest) rest rest [] (record { prefix = piece; took = put; is = refl })
-    (sym (append-nil rest)) part
+    done_part n rest [] (record { prefix = piece; took = put; is = refl }) (sym (append-nil rest)) part
 
 pub copied_after : (size : ℕ) (from a b : Seen) (old m n : Known) (more : Bool) (r : Result (Unit {0}) Fault)
     → more ≡ true → CopiesPiece size (flow from a) (moved old m) (Ok more)
     → Copies (flow a b) (moved m n) r → Copies (flow from b) (moved old n) r
 copied_after size from a b old m n false r is c h = absurd (true≢false (sym is))
 copied_after size from a b old m n true (Ok done) is (piece, took, put, full) h =
-    of_then from a b piece _ _ took h (λ rest written. Appends-trans old m n piece rest put written)
+    of_then took h (λ rest written. Appends-trans old m n piece rest put written)
 copied_after size from a b old m n true (Err Read) is (piece, took, put, full) h =
-    of_then from a b piece _ _ took h (λ rest part. after_piece old m n piece rest put part)
+    of_then took h (λ rest part. after_piece old m n piece rest put part)
 copied_after size from a b old m n true (Err Write) is (piece, took, put, full) h =
-    of_then from a b piece _ _ took h (λ rest part. after_piece old m n piece rest put part)
+    of_then took h (λ rest part. after_piece old m n piece rest put part)
 copied_after size from a b old m n true (Err TooManyChunks) is (piece, took, put, full) ((text, wrote, much), h) = (
   (piece ++ text, Appends-trans old m n piece text put wrote, omega (arith, length-append piece text, much)),
-  of_then from a b piece _ _ took h
+  of_then took h
       (λ rest part. (after_piece old m n piece rest put part.0, omega (arith, length-append piece rest, part.1))),
 )
 copied_after size from a b old m n true (Err _) is c h = absurd h

@@ -36,10 +36,10 @@ pub err_err : {A : Type 0} (f g : Fault) → ◌≡◌ {A = Result A Fault} (Err
 err_err f g e = cc
 
 -- a key that was returned is the one that was found
-pub found_key : (found : Result FileKey Fault) (k : FileKey)
+pub found_key : {found : Result FileKey Fault} {k : FileKey}
     → (◌≡◌ {A = Result FileKey Fault} (Ok k) (Err OutOfMemory)) ⊎ (Ok k ≡ found) → found ≡ Ok k
-found_key found k (inl is) = absurd (cc)
-found_key found k (inr is) = sym is
+found_key (inl is) = absurd (cc)
+found_key (inr is) = sym is
 
 -- ---- verdicts
 
@@ -98,12 +98,12 @@ header_decrypts : (limits : Bounds) (answers : Answering) (come mid : Seen) (old
     → ReadsHeader (flow come mid) limits.max_header (Err g)
     → Decrypts limits answers (flow come mid) (moved old old) (Err (header_fault g))
 header_decrypts limits answers come mid old g h =
-    of_map come mid _ _ h (λ b refuses. header_text limits answers b old g refuses)
+    of_map h (λ b refuses. header_text limits answers b old g refuses)
 
-pub inspect_decrypts : (limits : Bounds) (answers : Answering) {come : Seen} (mid : Seen) (old : Known) (fault : Fault)
+pub inspect_decrypts : (limits : Bounds) (answers : Answering) {come : Seen} {mid : Seen} (old : Known) {fault : Fault}
     → Inspects limits (flow come mid) (Err fault) → Decrypts limits answers (flow come mid) (moved old old) (Err fault)
-inspect_decrypts limits answers mid old fault (Ok parts, is, h) = absurd (cc)
-inspect_decrypts limits answers {come} mid old fault (Err g, is, h) =
+inspect_decrypts limits answers {mid} old {fault} (Ok parts, is, h) = absurd (cc)
+inspect_decrypts limits answers {come} {mid} old {fault} (Err g, is, h) =
     subst (λ f. Decrypts limits answers (flow come mid) (moved old old) (Err f))
     (sym (err_err {A = HeaderParts} fault (header_fault g) is)) (header_decrypts limits answers come mid old g h)
 
@@ -122,10 +122,10 @@ parts_headed limits come mid h r = record {
   verdict = λ rest. found_again r.given limits.max_header (found_in r.holds.0 h) r.holds.1 rest;
 }
 
-pub headed : (limits : Bounds) (come mid : Seen) (h : HeaderParts) → Inspects limits (flow come mid) (Ok h)
+pub headed : (limits : Bounds) {come mid : Seen} {h : HeaderParts} → Inspects limits (flow come mid) (Ok h)
     → IsHeaded limits come mid h
-headed limits come mid h (Err g, is, a) = absurd (cc)
-headed limits come mid h (Ok k, is, a) =
+headed limits {come} {mid} {h} (Err g, is, a) = absurd (cc)
+headed limits {come} {mid} {h} (Ok k, is, a) =
     subst (IsHeaded limits come mid) (sym (ok_ok h k is)) (parts_headed limits come mid k a)
   where
     ok_ok : (x y : HeaderParts) → ◌≡◌ {A = Result HeaderParts Fault} (Ok x) (Ok y) → x ≡ y
@@ -144,21 +144,21 @@ verdict_of limits answers come mid h i rest = record {
 -- memory was refused
 pub memory_decrypts : (limits : Bounds) (answers : Answering) (come to : Seen) (old new : Known)
     → GaveSome (flow come to) → Decrypts limits answers (flow come to) (moved old new) (Err OutOfMemory)
-memory_decrypts limits answers come to old new some = of_any come to _ some (λ b. tt)
+memory_decrypts limits answers come to old new some = of_any some (λ b. tt)
 
 -- no key
-pub locked_decrypts : (limits : Bounds) (answers : Answering) {come : Seen} (mid : Seen) (old : Known) {h : HeaderParts}
-    (fault : Fault) → Inspects limits (flow come mid) (Ok h)
+pub locked_decrypts : (limits : Bounds) (answers : Answering) {come : Seen} {mid : Seen} (old : Known) {h : HeaderParts}
+    {fault : Fault} → Inspects limits (flow come mid) (Ok h)
     → (◌≡◌ {A = Result FileKey Fault} (Err fault) (Err OutOfMemory)) ⊎ (Err fault ≡ unlocked answers h)
     → Decrypts limits answers (flow come mid) (moved old old) (Err fault)
-locked_decrypts limits answers {come} mid old {h} fault i (inl memory) =
-    let is = headed limits come mid h i in
+locked_decrypts limits answers {come} {mid} old {h} {fault} i (inl memory) =
+    let is = headed limits i in
     subst (λ f. Decrypts limits answers (flow come mid) (moved old old) (Err f))
     (sym (err_err {A = FileKey} fault OutOfMemory memory))
-    (memory_decrypts limits answers come mid old old (gave_some come mid is.text is.took))
-locked_decrypts limits answers {come} mid old {h} fault i (inr key) =
-    let is = headed limits come mid h i in
-    of_more come mid is.text _ is.took (λ d end. stops_decrypts limits answers (is.text ++ d) old fault
+    (memory_decrypts limits answers come mid old old (gave_some is.took))
+locked_decrypts limits answers {come} {mid} old {h} {fault} i (inr key) =
+    let is = headed limits i in
+    of_more is.took (λ d end. stops_decrypts limits answers (is.text ++ d) old fault
     (subst (λ k. IsVerdict limits answers (is.text ++ d) (read_under limits d k)) (sym key)
     (verdict_of limits answers come mid h is d)))
 
@@ -207,43 +207,43 @@ payload_text limits answers come mid h i k c old new r key w = go r w
     go (Err (stream.BadChunk n)) x = gives (stream.BadChunk n) x.0 x.1
     go (Err stream.TooManyChunks) x = gives stream.TooManyChunks x.0 x.1
 
-pub payload_decrypts : (limits : Bounds) (answers : Answering) (come mid to : Seen) (old new : Known) (h : HeaderParts)
-    (k : FileKey) (max : ℕ) (r : Result Done StreamFault) → Inspects limits (flow come mid) (Ok h)
+pub payload_decrypts : {limits : Bounds} (answers : Answering) {come mid to : Seen} (old new : Known) {h : HeaderParts}
+    {k : FileKey} {max : ℕ} (r : Result Done StreamFault) → Inspects limits (flow come mid) (Ok h)
     → (◌≡◌ {A = Result FileKey Fault} (Ok k) (Err OutOfMemory)) ⊎ (Ok k ≡ unlocked answers h) → max ≡ limits.max_chunks
     → WritesPayload k max (flow mid to) old new r
     → Decrypts limits answers (flow come to) (moved old new) (file_result r)
-payload_decrypts limits answers come mid to old new h k max r i (inl memory) same w = absurd (cc)
-payload_decrypts limits answers come mid to old new h k max r i (inr key) same w =
-    let is = headed limits come mid h i in
-    of_then come mid to is.text _ _ is.took w (λ c x. payload_text limits answers come mid h is k c old new r key
+payload_decrypts {limits} answers {come} {mid} old new {h} {k} r i (inl memory) same w = absurd (cc)
+payload_decrypts {limits} answers {come} {mid} old new {h} {k} r i (inr key) same w =
+    let is = headed limits i in
+    of_then is.took w (λ c x. payload_text limits answers come mid h is k c old new r key
     (subst (λ m. WritesReading (payload_reading k m c) (length (pieces (drop 16 c))) (moved old new) r) same x))
 
 -- there is no nonce, or no memory
 pub missed_decrypts : {S : Type 0} (to_come : S → Known) (gave : S → Bytes → Type 0) {limits : Bounds}
-    (answers : Answering) {come : Seen} (mid : S) {to : S} (old : Known) (before after : ℕ) {h : HeaderParts}
-    (k : FileKey) (max : ℕ) (fault : StreamFault) → Inspects limits (flow come (seen_by to_come gave mid)) (Ok h)
+    (answers : Answering) {come : Seen} {mid : S} {to : S} (old : Known) (before after : ℕ) {h : HeaderParts}
+    {k : FileKey} {max : ℕ} {fault : StreamFault} → Inspects limits (flow come (seen_by to_come gave mid)) (Ok h)
     → (◌≡◌ {A = Result FileKey Fault} (Ok k) (Err OutOfMemory)) ⊎ (Ok k ≡ unlocked answers h) → max ≡ limits.max_chunks
     → ((fault ≡ stream.Memory) × (to ≡ mid)) ⊎ MissesNonce k max (flow_by to_come gave mid to) before after fault
     → Decrypts limits answers (flow come (seen_by to_come gave to)) (moved old old) (Err (stream_fault fault))
-missed_decrypts to_come gave {limits} answers {come} mid old before after {h} k max fault i key same (inl m) =
-    let is = headed limits come (seen_by to_come gave mid) h i in
+missed_decrypts to_come gave {limits} answers {come} {mid} old before after {h} {k} {max} {fault} i key same (inl m) =
+    let is = headed limits i in
     subst (λ x. Decrypts limits answers (flow come (seen_by to_come gave x)) (moved old old) (Err (stream_fault fault)))
     (sym m.1)
     (subst (λ f. Decrypts limits answers (flow come (seen_by to_come gave mid)) (moved old old)
     (Err (stream_fault f))) (sym m.0)
     (memory_decrypts limits answers come (seen_by to_come gave mid) old old
-    (gave_some come (seen_by to_come gave mid) is.text is.took)))
-missed_decrypts to_come gave {limits} answers {come} mid {to} old before after {h} k max fault i key same (inr m) =
-    payload_decrypts limits answers come (seen_by to_come gave mid) (seen_by to_come gave to) old old h k max
-    (Err fault) i key same
+    (gave_some is.took)))
+missed_decrypts to_come gave {limits} answers {come} {mid} {to} old before after {h} {k} {max} {fault} i key same
+    (inr m) =
+    payload_decrypts answers old old (Err fault) i key same
     (nonce_writes k max (seen_by to_come gave mid) (seen_by to_come gave to) old fault m.0)
 
 -- ---- counts, and what was taken
 
-pub reads_file : (old new : ℕ) (fault : StreamFault) → CountsFaultIf counts.is_read old new fault
+pub reads_file : (old : ℕ) {new : ℕ} (fault : StreamFault) → CountsFaultIf counts.is_read old new fault
     → CountsFaultIf is_read old new (stream_fault fault)
-reads_file old new stream.Read h = h
-reads_file old new _ h = h
+reads_file old stream.Read h = h
+reads_file old _ h = h
 
 took_piece : (limits : Bounds) (come mid to : Seen) (old new : Known) (h : HeaderParts) (i : IsHeaded limits come mid h)
     (fault : StreamFault) (n : ℕ) (e : EndsAt limits.max_chunks 16 (flow mid to) (moved old new) fault) → e.piece ≤ n
@@ -255,7 +255,7 @@ took_piece limits come mid to old new h i fault n e le =
     e.gave in
     record {
       found = found_in i.text h;
-      header = of_more come to (i.text ++ g) _ (gave_then come mid to i.text g i.took e.gave.1) (λ d end.
+      header = of_more (gave_then i.took e.gave.1) (λ d end.
           subst (λ z. HeaderVerdict z limits.max_header (Ok (found_in i.text h))) (sym (append_assoc i.text g d))
           (i.verdict (g ++ d)));
       gave = (all.0, all.1, omega (arith, all.2));
@@ -323,4 +323,4 @@ pub payload_takes : {limits : Bounds} {come : Seen} (mid : Seen) {to : Seen} {ol
 payload_takes {limits} {come} mid {to} {old} {new} fault i (inl e) =
     subst (λ f. TookUpTo limits (flow come to) (moved old new) (stream_fault f)) (sym e) tt
 payload_takes {limits} {come} mid {to} {old} {new} {h} fault i (inr e) =
-    ends_takes limits come mid to old new h (headed limits come mid h i) fault e
+    ends_takes limits come mid to old new h (headed limits i) fault e

@@ -40,9 +40,9 @@ HeaderMade limits k gathered stanzas mac = (mac ≡ header_mac k.0 stanzas)
 abbrev pub FrontWritten : List StanzaParts → Bytes → (Bytes → Type 0) → Type 0
 FrontWritten stanzas mac Puts = (text : Bytes) × Head stanzas mac text × Puts text
 
-pub made : (limits : Bounds) (k : FileKey) (gathered : Gathering) (stanzas : List StanzaParts) (mac written : Bytes)
+pub made : {limits : Bounds} {k : FileKey} {gathered : Gathering} {stanzas : List StanzaParts} {mac written : Bytes}
     → HeaderMade limits k gathered stanzas mac → Head stanzas mac written → Made limits k gathered written
-made limits k gathered stanzas mac written (is, (text, heading)) head =
+made {limits} {k} {gathered} {stanzas} {written} (is, (text, heading)) head =
     let same : text ≡ written = one_text stanzas (header_mac k.0 stanzas) text written heading.head
     (subst (λ (m : Bytes). Head stanzas m written) is head) in
     record { stanzas = stanzas; heading = subst (λ (t : Bytes). IsHeading limits k gathered stanzas t) same heading }
@@ -50,7 +50,7 @@ made limits k gathered stanzas mac written (is, (text, heading)) head =
 -- memory was refused
 pub encrypts_refused : (limits : Bounds) (fresh : Fresh) (gathered : Gathering) (from to : Seen) (old new : Known)
     → GaveSome (flow from to) → EncryptsGiven limits fresh gathered (flow from to) (moved old new) (Err OutOfMemory)
-encrypts_refused limits fresh gathered from to old new some = of_any from to _ some (λ plain. tt)
+encrypts_refused limits fresh gathered from to old new some = of_any some (λ plain. tt)
 
 -- no header was made
 pub encrypts_unmade : (limits : Bounds) (fresh : Fresh) (gathered : Gathering) (from to : Seen) (old new : Known)
@@ -61,7 +61,7 @@ encrypts_unmade limits fresh gathered from to old new fault some (inl memory) =
     subst (λ f. EncryptsGiven limits fresh gathered (flow from to) (moved old new) (Err f)) (sym memory)
     (encrypts_refused limits fresh gathered from to old new some)
 encrypts_unmade limits fresh gathered from to old new fault some (inr refusal) =
-    of_any from to _ some (λ plain. go plain fault refusal)
+    of_any some (λ plain. go plain fault refusal)
   where
     go : (plain : Bytes) (f : Fault) → IsRefusal limits fresh.file_key gathered f
         → EncryptsText limits fresh gathered plain (moved old new) (Err f)
@@ -77,9 +77,9 @@ pub encrypts_begun : {limits : Bounds} {fresh : Fresh} {gathered : Gathering} {s
     → FrontWritten stanzas mac (λ text. WritesPart (moved old new) (text ++ fresh.nonce))
     → EncryptsGiven limits fresh gathered (flow from to) (moved old new) (Err Write)
 encrypts_begun {limits} {fresh} {gathered} {stanzas} {mac} {from} {to} {old} {new} some header (text, head, part) =
-    let m = made limits fresh.file_key gathered stanzas mac text header head in
+    let m = made header head in
     let front : Bytes = text ++ fresh.nonce in
-    of_any from to _ some (λ plain.
+    of_any some (λ plain.
     let rest : Bytes = concat (sealed_chunks fresh.file_key fresh.nonce plain) in
     let is : text ++ payload fresh.file_key fresh.nonce plain ≡ front ++ rest =
     sym (append_assoc text fresh.nonce rest) in
@@ -87,8 +87,7 @@ encrypts_begun {limits} {fresh} {gathered} {stanzas} {mac} {from} {to} {old} {ne
       stanzas = m.stanzas;
       text = text;
       heading = m.heading;
-      part = done_part old old new (text ++ payload fresh.file_key fresh.nonce plain) (front ++ rest) front rest
-          (record { prefix = []; took = Appends-nil old; is = is }) refl part;
+      part = done_part new front rest (record { prefix = []; took = Appends-nil old; is = is }) refl part;
     })
 
 -- the first chunk was not read, and nothing was written
@@ -97,8 +96,7 @@ pub encrypts_unread : {limits : Bounds} {fresh : Fresh} {gathered : Gathering} {
     → HeaderMade limits fresh.file_key gathered stanzas mac
     → EncryptsGiven limits fresh gathered (flow from to) (moved old old) (Err Read)
 encrypts_unread {stanzas} {from} {to} {old} some (is, (text, heading)) =
-    of_any from to _ some
-    (λ plain. record { stanzas = stanzas; text = text; heading = heading; part = (0, Appends-nil old) })
+    of_any some (λ plain. record { stanzas = stanzas; text = text; heading = heading; part = (0, Appends-nil old) })
 
 -- a prefix of the payload was written after them
 begun : (limits : Bounds) (fresh : Fresh) (gathered : Gathering) (text plain : Bytes) (a b c : Known)
@@ -111,7 +109,7 @@ begun limits fresh gathered text plain a b c m front part =
       stanzas = m.stanzas;
       text = text;
       heading = m.heading;
-      part = done_part a b c (text ++ payload fresh.file_key fresh.nonce plain) rest rest []
+      part = done_part c rest []
           (record { prefix = text ++ fresh.nonce; took = front; is = sym (append_assoc text fresh.nonce rest) })
           (sym (append-nil rest)) part;
     }
@@ -197,8 +195,7 @@ encrypts_payload : (limits : Bounds) (fresh : Fresh) (gathered : Gathering) (tex
     → SealsAll (at_start (payload_key fresh.file_key fresh.nonce) limits.max_chunks) (flow from to) (moved b c) r
     → EncryptsGiven limits fresh gathered (flow from to) (moved a c) (file_result r)
 encrypts_payload limits fresh gathered text from to a b c (Ok done) sixteen m front h =
-    of_map from to _ _ h
-    (λ plain q. whole limits fresh gathered text plain a b c done sixteen m front q.0 q.1 q.2 q.3)
+    of_map h (λ plain q. whole limits fresh gathered text plain a b c done sixteen m front q.0 q.1 q.2 q.3)
 encrypts_payload limits fresh gathered text from to a b c (Err fault) sixteen m front (chunk, s) =
     go fault s.stops
   where
@@ -208,10 +205,10 @@ encrypts_payload limits fresh gathered text from to a b c (Err fault) sixteen m 
     go : (f : StreamFault)
         → OfGiven (flow from to) (λ plain. StopsIn key limits.max_chunks 0 [] plain (moved b c) f)
         → EncryptsGiven limits fresh gathered (flow from to) (moved a c) (Err (stream_fault f))
-    go stream.Read h = of_map from to _ _ h (λ plain q. begun limits fresh gathered text plain a b c m front q)
-    go stream.Write h = of_map from to _ _ h (λ plain q. begun limits fresh gathered text plain a b c m front q)
+    go stream.Read h = of_map h (λ plain q. begun limits fresh gathered text plain a b c m front q)
+    go stream.Write h = of_map h (λ plain q. begun limits fresh gathered text plain a b c m front q)
     go stream.TooManyChunks h =
-        of_map from to _ _ h (λ plain q. up_to_limit limits fresh gathered text plain a b c m front q.0 q.1)
+        of_map h (λ plain q. up_to_limit limits fresh gathered text plain a b c m front q.0 q.1)
     go _ h = absurd h.holds
 
 -- the header, the nonce and the payload
@@ -223,7 +220,7 @@ pub encrypts_sealed : {limits : Bounds} (fresh : Fresh) {gathered : Gathering} {
     → EncryptsGiven limits fresh gathered (flow from to) (moved a c) (file_result r)
 encrypts_sealed {limits} fresh {gathered} {stanzas} {mac} {from} {to} a b c r header (text, head, front) sixteen seals =
     encrypts_payload limits fresh gathered text from to a b c r sixteen
-    (made limits fresh.file_key gathered stanzas mac text header head) front seals
+    (made header head) front seals
 
 -- a read failed after something was written: the source gave a whole chunk
 pub read_late : {key : Bytes} {max : ℕ} {t : SealerState} {more : Bool} {from mid to : Seen} (a c : Known)
@@ -232,7 +229,7 @@ pub read_late : {key : Bytes} {max : ℕ} {t : SealerState} {more : Bool} {from 
     → stream_fault fault ≡ Read → FillsChunk (flow from to)
 read_late {more = true} {from} {mid} {to} a c fault (x, took, is, fits, full, ended) (chunk, seals) read =
     let l : length x ≡ chunk_size = subst (λ (u : SealerState). length u.held ≡ chunk_size) is (full refl) in
-    of_then from mid to x _ _ took seals.stops (λ text h. omega (arith, length-append x text, l))
+    of_then took seals.stops (λ text h. omega (arith, length-append x text, l))
 read_late {more = false} a c fault fills ((write, part), same) read =
     absurd (not_read (subst (λ f. stream_fault f ≡ Read) write read))
   where
@@ -249,7 +246,7 @@ pub takes_begun : {limits : Bounds} {fresh : Fresh} {gathered : Gathering} {stan
     → TookWhileEncrypting limits fresh gathered (flow from mid) (moved old new) Write
 takes_begun {limits} {fresh} {gathered} {stanzas} {mac} header (text, head, part)
     (x, gave, is, fits, full, ended) =
-    let m = made limits fresh.file_key gathered stanzas mac text header head in
+    let m = made header head in
     let le : length x ≤ chunk_size = subst (λ (u : SealerState). length u.held ≤ chunk_size) is fits in
     record {
       stanzas = m.stanzas;
@@ -326,13 +323,13 @@ refuses_none limits fresh gathered from to b c (stream.EmptyFinal i) h = absurd 
 refuses_none limits fresh gathered from to b c (stream.BadChunk i) h = absurd h.1.stops.holds
 
 pub takes_sealed : {limits : Bounds} (fresh : Fresh) {gathered : Gathering} {stanzas : List StanzaParts} {mac : Bytes}
-    {from to : Seen} (a : Known) {b c : Known} (fault : StreamFault)
+    {from to : Seen} (a : Known) {b c : Known} {fault : StreamFault}
     → HeaderMade limits fresh.file_key gathered stanzas mac
     → FrontWritten stanzas mac (λ text. Appends a b (text ++ fresh.nonce)) → length fresh.nonce ≡ 16
     → SealsAll (at_start (payload_key fresh.file_key fresh.nonce) limits.max_chunks) (flow from to) (moved b c)
     (Err fault)
     → TookWhileEncrypting limits fresh gathered (flow from to) (moved a c) (stream_fault fault)
-takes_sealed {limits} fresh {gathered} {stanzas} {mac} {from} {to} a {b} {c} fault header
+takes_sealed {limits} fresh {gathered} {stanzas} {mac} {from} {to} a {b} {c} {fault} header
     (text, head, front) sixteen seals =
     takes_payload limits fresh gathered text from to a b c fault sixteen
-    (made limits fresh.file_key gathered stanzas mac text header head) front seals
+    (made header head) front seals

@@ -36,8 +36,8 @@ no_stream_fault None h = refl
 no_stream_fault (Some f) h = absurd (none-some (stream_fault f) (sym h))
 
 -- what a payload was read from
-pub with_file_fault_whole : (p : Bytes) (r : Reading StreamFault) → whole p ≡ with_file_fault r → r ≡ whole p
-with_file_fault_whole p r h =
+pub with_file_fault_whole : {p : Bytes} {r : Reading StreamFault} → whole p ≡ with_file_fault r → r ≡ whole p
+with_file_fault_whole {p} {r} h =
     ap (λ x. record { front = x; fault = r.fault }) (sym (ap (λ (z : Reading Fault). z.front) h))
     ∙ ap (λ x. record { front = p; fault = x }) (no_stream_fault r.fault (sym (ap (λ (z : Reading Fault). z.fault) h)))
 
@@ -108,7 +108,7 @@ under_file limits answers b p found begins (Ok k) is h =
     let rest : Bytes = drop (length found.text) b in
     let has = unlocked_key answers (parts_of found) k is in
     let body = ok_payload k rest p limits.max_chunks
-    (with_file_fault_whole p (payload_reading k limits.max_chunks rest) h) in
+    (with_file_fault_whole h) in
     record {
       stanzas = found.stanzas;
       key = k;

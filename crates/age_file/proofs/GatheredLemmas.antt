@@ -10,9 +10,9 @@ use Rattle.age_file.specs.NewFile.{preceded_by, gathered_from}
 
 -- what the recipients that are left give, at one whose answer is known
 pub gathered_step : {A : Type 0} (f : A → Result (List StanzaParts) ℕ) (xs : List A) {i : ℕ} (n : ℕ) {x : A}
-    (a : Result (List StanzaParts) ℕ) → i < length xs
+    {a : Result (List StanzaParts) ℕ} → i < length xs
     → x ≡ get_or xs i x → f x ≡ a → gathered_from n (drop i (map f xs)) ≡ gathered_from n (a ∷ drop (i + 1) (map f xs))
-gathered_step f xs {i} n {x} a low is answer =
+gathered_step f xs {i} n {x} {a} low is answer =
     ap (gathered_from n)
     (drop-map f i xs ∙ ap (map f) (drop_more xs i x low) ∙ ap (λ y. f y ∷ map f (drop (i + 1) xs)) (sym is)
     ∙ ap (λ y. y ∷ map f (drop (i + 1) xs)) answer ∙ ap (λ t. a ∷ t) (sym (drop-map f (i + 1) xs)))
@@ -24,14 +24,15 @@ preceded_twice a b (Err fault) = refl
 
 -- one recipient more has given its stanzas
 pub gathered_more : {A : Type 0} (f : A → Result (List StanzaParts) ℕ) (xs : List A) {i : ℕ} (n : ℕ) {x : A}
-    (all stanzas joined : List StanzaParts) {target : Result (List StanzaParts) Fault} → i < length xs
+    (all : List StanzaParts) {stanzas joined : List StanzaParts} {target : Result (List StanzaParts) Fault}
+    → i < length xs
     → x ≡ get_or xs i x → f x ≡ Ok stanzas → joined ≡ all ++ stanzas
     → preceded_by all (gathered_from n (drop i (map f xs))) ≡ target
     → preceded_by joined (gathered_from (n + 1) (drop (i + 1) (map f xs))) ≡ target
-gathered_more f xs {i} n {x} all stanzas joined low is answer e h =
+gathered_more f xs {i} n {x} all {stanzas} low is answer e h =
     let rest : Result (List StanzaParts) Fault = gathered_from (n + 1) (drop (i + 1) (map f xs)) in
     ap (λ t. preceded_by t rest) e ∙ sym (preceded_twice all stanzas rest)
-    ∙ ap (preceded_by all) (sym (gathered_step f xs n (Ok stanzas) low is answer)) ∙ h
+    ∙ ap (preceded_by all) (sym (gathered_step f xs n low is answer)) ∙ h
 
 pub refusal : {m : Result (List StanzaParts) ℕ} {fault : WrapFault} {code : ℕ} → fault ≡ RefusedBy code
     → WrapsAs m (Err fault) → m ≡ Err code

@@ -40,21 +40,21 @@ one_taken meant rest i m at = ap (λ n. take n meant) (add-one i) ∙ go meant i
     go (x ∷ xs) (suc k) h = ap (λ t. x ∷ t) (go xs k h)
 
 -- one recipient more
-pub collects : {A : Type 0} (f : A → Labels) (xs : List A) (i : ℕ) {x : A} (l : Labels) (before : List Labels)
+pub collects : {A : Type 0} (f : A → Labels) (xs : List A) {i : ℕ} {x : A} {l : Labels} (before : List Labels)
     {after : List Labels} → i < length xs → x ≡ get_or xs i x → MayLabel (f x) l
     → after ≡ before ++ l ∷ [] → AllZip MayLabel (take i (map f xs)) before
     → AllZip MayLabel (take (i + 1) (map f xs)) after
-collects f xs i {x} l before low is may joined h =
+collects f xs {i} {x} {l} before low is may joined h =
     subst (AllZip MayLabel (take (i + 1) (map f xs))) (sym joined)
     (subst (λ t. AllZip MayLabel t (before ++ l ∷ []))
     (sym (one_taken (map f xs) (drop (i + 1) (map f xs)) i (f x) (meant_at f xs i x low is)))
     (both MayLabel (take i (map f xs)) (f x ∷ []) before (l ∷ []) h (may, tt)))
 
 -- all recipients
-pub collects_all : {A : Type 0} (f : A → Labels) (xs : List A) (i : ℕ) (labels : List Labels) → length xs ≤ i
+pub collects_all : {A : Type 0} (f : A → Labels) (xs : List A) {i : ℕ} (labels : List Labels) → length xs ≤ i
     → AllZip MayLabel (take i (map f xs)) labels
     → AllZip MayLabel (map f xs) labels
-collects_all f xs i labels end h = subst (λ t. AllZip MayLabel t labels)
+collects_all f xs {i} labels end h = subst (λ t. AllZip MayLabel t labels)
     (take_all i (map f xs) (subst (λ n. n ≤ i) (sym (length-map xs f)) end)) h
 
 -- a refusal comes before any labels

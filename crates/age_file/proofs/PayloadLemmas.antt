@@ -21,14 +21,14 @@ WritesPayload k max source old new r = OfGiven source
     (λ c. WritesReading (payload_reading k max c) (length (pieces (drop 16 c))) (moved old new) r)
 
 -- the nonce, then the pieces
-pub payload_writes : (k : FileKey) {max : ℕ} (s : OpenerState) {from mid to : Seen} (a b : Known)
+pub payload_writes : (k : FileKey) {max : ℕ} {s : OpenerState} {from mid to : Seen} (a b : Known)
     (r : Result Done StreamFault)
     → Starts k max (flow from mid) (Ok s) → IfNone s.fault (WritesAll s (flow mid to) (moved a b) r)
     → WritesPayload k max (flow from to) a b r
-payload_writes k {max} s {from} {mid} {to} a b r (nonce, len, is, gave) h =
+payload_writes k {max} {from} {mid} {to} a b r (nonce, len, is, gave) h =
     let all : WritesAll (at_start (payload_key k nonce) max) (flow mid to) (moved a b) r =
     subst (λ (x : OpenerState). IfNone x.fault (WritesAll x (flow mid to) (moved a b) r)) is h in
-    of_then from mid to nonce _ _ gave all (λ c w.
+    of_then gave all (λ c w.
     let l : length (nonce ++ c) ≡ length nonce + length c = length-append nonce c in
     let long : nat_lt (length (nonce ++ c)) 16 ≡ false = le-ltb (length (nonce ++ c)) 16 (omega arith) in
     let front : take 16 (nonce ++ c) ≡ nonce = take_at nonce c 16 len in
@@ -44,8 +44,8 @@ payload_writes k {max} s {from} {mid} {to} a b r (nonce, len, is, gave) h =
 -- the nonce is cut short, or was not read
 pub nonce_writes : (k : FileKey) (max : ℕ) (from mid : Seen) (a : Known) (fault : StreamFault)
     → Starts k max (flow from mid) (Err fault) → WritesPayload k max (flow from mid) a a (Err fault)
-nonce_writes k max from mid a Read h = of_any from mid _ h (λ c. (0, Appends-nil a))
-nonce_writes k max from mid a NonceTruncated h = of_map from mid _ _ h.1 (λ c less.
+nonce_writes k max from mid a Read h = of_any h (λ c. (0, Appends-nil a))
+nonce_writes k max from mid a NonceTruncated h = of_map h.1 (λ c less.
     let short : nat_lt (length c) 16 ≡ true = lt-ltb (length c) 16 less in
     let all : payload_reading k max c ≡ stops NonceTruncated = cond-true (nat_lt (length c) 16) _ _ short in
     subst (λ x. WritesReading x (length (pieces (drop 16 c))) (moved a a) (Err NonceTruncated)) (sym all)
@@ -58,12 +58,12 @@ nonce_writes k max from mid a Write h = absurd (cc)
 nonce_writes k max from mid a Memory h = absurd (cc)
 
 -- what was taken, with the nonce
-pub payload_ends : (k : FileKey) {max : ℕ} (s : OpenerState) {from mid to : Seen} {a b : Known} (fault : StreamFault)
+pub payload_ends : (k : FileKey) {max : ℕ} {s : OpenerState} {from mid to : Seen} {a b : Known} {fault : StreamFault}
     → Starts k max (flow from mid) (Ok s) → GaveAtMost 16 (flow from mid)
     → IfNone s.fault
     (IfErr {T = Done} (Err fault) (λ f. (f ≡ Read) ⊎ EndsAt s.max_chunks 0 (flow mid to) (moved a b) f))
     → (fault ≡ Read) ⊎ EndsAt max 16 (flow from to) (moved a b) fault
-payload_ends k {max} s {from} {mid} {to} {a} {b} fault starts nonce h =
+payload_ends k {max} {from} {mid} {to} {a} {b} {fault} starts nonce h =
     go (subst
     (λ (x : OpenerState). IfNone x.fault ((fault ≡ Read) ⊎ EndsAt x.max_chunks 0 (flow mid to) (moved a b) fault))
     starts.2

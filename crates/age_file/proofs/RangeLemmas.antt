@@ -40,7 +40,7 @@ pub range_header_found : (limits : Bounds) (told : Known) (at : ℕ) {a b : Seen
     → Inspects limits (flow a b) (Ok h) → HasHeader limits told at h
 range_header_found limits None at h old new w i = tt
 range_header_found limits (Some b) at {a = x} {b = y} h old new w i =
-    let is = headed limits x y h i in
+    let is = headed limits i in
     let all : b ≡ is.text ++ drop at b = subst (λ (t : Known). Consumes (Some b) t is.text) new
     (subst (λ (t : Known). Consumes t y.to_come is.text) old is.took.consumes) in
     let d : length (drop at b) ≡ length b - at = length-drop at b in
@@ -52,12 +52,12 @@ range_header_found limits (Some b) at {a = x} {b = y} h old new w i =
     )
 
 -- the same whether or not the contents are known
-pub header_gave : {D : Type 0} (to_come : AtState D → Known) (gave : D → ℕ → ℕ → Type 0) (limits : Bounds)
-    (old new : AtState D) (h : HeaderParts) → old.at ≡ 0
+pub header_gave : {D : Type 0} (to_come : AtState D → Known) (gave : D → ℕ → ℕ → Type 0) {limits : Bounds}
+    {old new : AtState D} {h : HeaderParts} → old.at ≡ 0
     → Inspects limits (flow_by to_come (λ s. GaveFirst (gave s.dev) s.at) old new) (Ok h)
     → GaveHeader limits (gave new.dev) new.at h
-header_gave to_come gave limits old new h start i =
-    let is = headed limits _ _ h i in
+header_gave to_come gave {limits} {old} {h} start i =
+    let is = headed limits i in
     record {
       text = is.text;
       gave_text = is.took.grew [] (subst (λ n. GaveFirst (gave old.dev) n []) (sym start) (first_none (gave old.dev)));
@@ -210,7 +210,7 @@ payload_refuses limits answers told mid told2 failed failed1 failed2 at max h k 
       named = payload_named fault early;
       stay = stay ∙ same;
       counted = subst (λ n. CountsFaultIf is_read n failed2 (stream_fault fault)) before
-          (reads_file failed1 failed2 fault count);
+          (reads_file failed1 fault count);
     }
 
 -- ---- a file that was opened
@@ -220,7 +220,7 @@ pub file_begins : (limits : Bounds) (answers : Answering) {gave : ℕ → ℕ �
     → (◌≡◌ {A = Result FileKey Fault} (Ok k) (Err OutOfMemory)) ⊎ (Ok k ≡ unlocked answers h)
     → stream.BeginsAt k at gave size chunks → BeginsFile limits answers gave size chunks
 file_begins limits answers at h k first key b =
-    record { header = h; at = at; first = first; key = k; chosen = found_key (unlocked answers h) k key; begins = b }
+    record { header = h; at = at; first = first; key = k; chosen = found_key key; begins = b }
 
 -- what was given stays so
 pub header_stays : {limits : Bounds} {old new : ℕ → ℕ → Type 0} {at : ℕ} {h : HeaderParts} → StaysGiven old new
@@ -232,14 +232,14 @@ header_stays {old} {new} {at} stays first = record {
 }
 
 pub file_ranges : (limits : Bounds) (answers : Answering) (told : Known) {mid told2 : Known} (given : ℕ)
-    {given1 given2 : ℕ} (at max : ℕ) (h : HeaderParts) (k : FileKey) (chunks : stream.RangeState)
+    {given1 given2 : ℕ} {at max : ℕ} (h : HeaderParts) {k : FileKey} (chunks : stream.RangeState)
     → mid ≡ told → given1 ≤ given + at
     → max ≡ limits.max_chunks → HasHeader limits told at h
     → (◌≡◌ {A = Result FileKey Fault} (Ok k) (Err OutOfMemory)) ⊎ (Ok k ≡ unlocked answers h)
     → OpensRanges k max at mid (Ok chunks) → stream.Probes (moved mid told2) at given1 given2
     → IfSome told (λ b. IsRangesOf limits answers b chunks given given2)
-file_ranges limits answers None given at max h k chunks same le most found key opens probes = tt
-file_ranges limits answers (Some b) {told2} given {given1} {given2} at max h k chunks same le most found key opens
+file_ranges limits answers None given {at} {max} h {k} chunks same le most found key opens probes = tt
+file_ranges limits answers (Some b) {told2} given {given1} {given2} {at} {max} h {k} chunks same le most found key opens
     probes =
     let o = subst (λ t. OpensRanges k max at t (Ok chunks)) same opens in
     let p = subst (λ t. stream.Probes (moved t told2) at given1 given2) same probes in
@@ -247,7 +247,7 @@ file_ranges limits answers (Some b) {told2} given {given1} {given2} at max h k c
       found = found_in found.0 h;
       header = found.2;
       key = k;
-      chosen = found_key (unlocked answers h) k key;
+      chosen = found_key key;
       opened = subst (λ m. stream.IsOpened k m (Some b) (length found.0) chunks) most
           (subst (λ n. stream.IsOpened k max (Some b) n chunks) (sym found.1) o.2);
       gave = subst (λ n. given2 ≤ given + n + (16 + length (last_piece (drop (n + 16) b)))) (sym found.1)

@@ -70,7 +70,7 @@ none_read : (limits : Bounds) (answers : Answering) (gathered : FileKey → Gath
     → ReadsHeader (flow come mid) limits.max_header (Err g)
     → Rewraps limits answers gathered (flow come mid) (moved old old) (Err (header_fault g))
 none_read limits answers gathered come mid old g h =
-    of_map come mid _ _ h (λ b refuses. no_header limits answers gathered b old g refuses)
+    of_map h (λ b refuses. no_header limits answers gathered b old g refuses)
 
 pub inspect_rewraps : (limits : Bounds) (answers : Answering) (gathered : FileKey → Gathering) {come mid : Seen}
     (old : Known) (fault : Fault) → Inspects limits (flow come mid) (Err fault)
@@ -107,7 +107,7 @@ early_unlocked answers h fault e = go (is_mixed h.stanzas) e
 pub memory_rewraps : (limits : Bounds) (answers : Answering) (gathered : FileKey → Gathering) (come mid : Seen)
     (old new : Known) (h : HeaderParts) → IsHeaded limits come mid h
     → Rewraps limits answers gathered (flow come mid) (moved old new) (Err OutOfMemory)
-memory_rewraps limits answers gathered come mid old new h i = of_more come mid i.text _ i.took (λ d end. tt)
+memory_rewraps limits answers gathered come mid old new h i = of_more i.took (λ d end. tt)
 
 pub locked_rewraps : (limits : Bounds) (answers : Answering) (gathered : FileKey → Gathering) {come mid : Seen}
     (old : Known) {h : HeaderParts} (fault : Fault)
@@ -118,7 +118,7 @@ locked_rewraps limits answers gathered {come} {mid} old {h} fault i (inl is) =
     subst (λ f. Rewraps limits answers gathered (flow come mid) (moved old old) (Err f))
     (sym (err_err {A = FileKey} fault OutOfMemory is)) (memory_rewraps limits answers gathered come mid old old h i)
 locked_rewraps limits answers gathered {come} {mid} old {h} fault i (inr is) =
-    of_more come mid i.text _ i.took (λ d end. refused limits answers gathered (i.text ++ d) old fault
+    of_more i.took (λ d end. refused limits answers gathered (i.text ++ d) old fault
     (early_unlocked answers h fault (sym is)) (Ok (found_in i.text h), i.verdict d, inl (sym is)))
 
 -- a reason why there is no new header is early
@@ -141,7 +141,7 @@ heading_rewraps limits answers gathered {come} {mid} old h key fault i chosen (i
     subst (λ g. Rewraps limits answers gathered (flow come mid) (moved old old) (Err g)) (sym is)
     (memory_rewraps limits answers gathered come mid old old h i)
 heading_rewraps limits answers gathered {come} {mid} old h key fault i chosen (inr refusal) =
-    of_more come mid i.text _ i.took (λ d end. refused limits answers gathered (i.text ++ d) old fault
+    of_more i.took (λ d end. refused limits answers gathered (i.text ++ d) old fault
     (early_refusal limits key (gathered key) fault refusal)
     (Ok (found_in i.text h), i.verdict d, inr (key, chosen, refusal)))
 
@@ -169,16 +169,15 @@ new_file limits answers gathered come mid h key text bytes i chosen made = (
 )
 
 -- a prefix of the header was written
-pub begun_rewraps : (limits : Bounds) (answers : Answering) (gathered : FileKey → Gathering) {come mid : Seen}
-    (old new : Known) (h : HeaderParts) (key : FileKey) (text : Bytes)
+pub begun_rewraps : {limits : Bounds} {answers : Answering} (gathered : FileKey → Gathering) {come mid : Seen}
+    (old new : Known) {h : HeaderParts} {key : FileKey} {text : Bytes}
     → IsHeaded limits come mid h → unlocked answers h ≡ Ok key → Made limits key (gathered key) text
     → WritesPart (moved old new) text → Rewraps limits answers gathered (flow come mid) (moved old new) (Err Write)
-begun_rewraps limits answers gathered {come} {mid} old new h key text i chosen made part =
-    of_more come mid i.text _ i.took (λ d end. (
+begun_rewraps {limits} {answers} gathered {come} {mid} old new {h} {key} {text} i chosen made part =
+    of_more i.took (λ d end. (
       text ++ d,
       new_file limits answers gathered come mid h key text d i chosen made,
-      done_part old old new (text ++ d) (text ++ d) text d
-          (record { prefix = []; took = Appends-nil old; is = refl }) refl part,
+      done_part new text d (record { prefix = []; took = Appends-nil old; is = refl }) refl part,
     ))
 
 -- a prefix of the rest was written after it
@@ -190,22 +189,23 @@ copied_part : (limits : Bounds) (answers : Answering) (gathered : FileKey → Ga
 copied_part limits answers gathered come mid old put new h key text bytes i chosen made front part = (
   text ++ bytes,
   new_file limits answers gathered come mid h key text bytes i chosen made,
-  done_part old put new (text ++ bytes) bytes bytes [] (record { prefix = text; took = front; is = refl })
-      (sym (append-nil bytes)) part,
+  done_part new bytes [] (record { prefix = text; took = front; is = refl }) (sym (append-nil bytes)) part,
 )
 
-pub copied_rewraps : (limits : Bounds) (answers : Answering) (gathered : FileKey → Gathering) {come : Seen} (mid : Seen)
-    {to : Seen} (old put new : Known) (h : HeaderParts) (key : FileKey) (text : Bytes) (r : Result (Unit {0}) Fault)
+pub copied_rewraps : {limits : Bounds} (answers : Answering) (gathered : FileKey → Gathering) {come : Seen} {mid : Seen}
+    {to : Seen} (old put new : Known) {h : HeaderParts} {key : FileKey} {text : Bytes} (r : Result (Unit {0}) Fault)
     → IsHeaded limits come mid h → unlocked answers h ≡ Ok key
     → Made limits key (gathered key) text → Appends old put text → Copies (flow mid to) (moved put new) r
     → Rewraps limits answers gathered (flow come to) (moved old new) r
-copied_rewraps limits answers gathered {come} mid {to} old put new h key text (Ok done) i chosen made front copied =
-    of_then come mid to i.text _ _ i.took copied (λ bytes wrote. (
+copied_rewraps {limits} answers gathered {come} {mid} {to} old put new {h} {key} {text}
+    (Ok done) i chosen made front copied =
+    of_then i.took copied (λ bytes wrote. (
       text ++ bytes,
       new_file limits answers gathered come mid h key text bytes i chosen made,
       Appends-trans old put new text bytes front wrote,
     ))
-copied_rewraps limits answers gathered {come} mid {to} old put new h key text (Err fault) i chosen made front copied =
+copied_rewraps {limits} answers gathered {come} {mid} {to} old put new {h} {key} {text}
+    (Err fault) i chosen made front copied =
     go fault copied
   where
     part : (bytes : Bytes) → WritesPart (moved put new) bytes
@@ -215,9 +215,9 @@ copied_rewraps limits answers gathered {come} mid {to} old put new h key text (E
 
     go : (f : Fault) → Copies (flow mid to) (moved put new) (Err f)
         → Rewraps limits answers gathered (flow come to) (moved old new) (Err f)
-    go Read c = of_then come mid to i.text _ _ i.took c (λ bytes wrote. inr (part bytes wrote))
-    go Write c = of_then come mid to i.text _ _ i.took c part
-    go TooManyChunks ((copy, put-copy, much), c) = of_then come mid to i.text _ _ i.took c (λ bytes wrote. (
+    go Read c = of_then i.took c (λ bytes wrote. inr (part bytes wrote))
+    go Write c = of_then i.took c part
+    go TooManyChunks ((copy, put-copy, much), c) = of_then i.took c (λ bytes wrote. (
       part bytes wrote.0,
       omega (arith, length-append i.text bytes, wrote.1),
       (

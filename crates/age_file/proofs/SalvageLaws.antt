@@ -88,7 +88,7 @@ pub saved_whole : (limits : Bounds) (answers : Answering) (b plain : Bytes) (sin
 saved_whole limits answers b plain sink lost s i f =
     let o = saved_of limits answers b (whole plain) sink lost s i f in
     let ps : List Part = payload_parts o.key o.rest in
-    let a = payload_whole o.key o.rest plain limits.max_chunks (with_file_fault_whole plain _ o.reads) in
+    let a = payload_whole o.key o.rest plain limits.max_chunks (with_file_fault_whole o.reads) in
     let w = written ps sink lost o.saves.1 in (
       subst (Took sink) a.is w.0,
       subst (Reports lost) (a.none 0) w.1,

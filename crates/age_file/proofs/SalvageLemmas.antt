@@ -63,14 +63,14 @@ header_text limits answers b old lost header.TooLarge h = record {
   saves = (refl, saves_none old lost);
 }
 
-pub inspect_salvages : (limits : Bounds) (answers : Answering) (come mid : Seen) (old : Known) (lost : KnownLosses)
-    (fault : Fault) → Inspects limits (flow come mid) (Err fault)
+pub inspect_salvages : (limits : Bounds) (answers : Answering) {come mid : Seen} (old : Known) (lost : KnownLosses)
+    {fault : Fault} → Inspects limits (flow come mid) (Err fault)
     → SalvagesFile limits answers (flow come mid) (moved old old) (told lost lost) (Err fault)
-inspect_salvages limits answers come mid old lost fault (Ok parts, is, h) = absurd (cc)
-inspect_salvages limits answers come mid old lost fault (Err g, is, h) =
+inspect_salvages limits answers {come} {mid} old lost {fault} (Ok parts, is, h) = absurd (cc)
+inspect_salvages limits answers {come} {mid} old lost {fault} (Err g, is, h) =
     subst (λ f. SalvagesFile limits answers (flow come mid) (moved old old) (told lost lost) (Err f))
     (sym (err_err {A = HeaderParts} fault (header_fault g) is))
-    (of_map come mid _ _ h (λ b refuses. header_text limits answers b old lost g refuses))
+    (of_map h (λ b refuses. header_text limits answers b old lost g refuses))
 
 -- what follows a header that was read
 after_header : (limits : Bounds) (answers : Answering) (come mid : Seen) (h : HeaderParts)
@@ -87,18 +87,18 @@ after_header limits answers come mid h i key rest old new before after r is s = 
 }
 
 -- no key
-pub locked_salvages : (limits : Bounds) (answers : Answering) (come mid : Seen) (old : Known) (lost : KnownLosses)
-    (h : HeaderParts) (fault : Fault) → Inspects limits (flow come mid) (Ok h)
+pub locked_salvages : (limits : Bounds) (answers : Answering) {come mid : Seen} (old : Known) (lost : KnownLosses)
+    {h : HeaderParts} {fault : Fault} → Inspects limits (flow come mid) (Ok h)
     → (◌≡◌ {A = Result FileKey Fault} (Err fault) (Err OutOfMemory)) ⊎ (Err fault ≡ unlocked answers h)
     → SalvagesFile limits answers (flow come mid) (moved old old) (told lost lost) (Err fault)
-locked_salvages limits answers come mid old lost h fault i (inl memory) =
-    let is = headed limits come mid h i in
+locked_salvages limits answers {come} {mid} old lost {h} {fault} i (inl memory) =
+    let is = headed limits i in
     subst (λ f. SalvagesFile limits answers (flow come mid) (moved old old) (told lost lost) (Err f))
     (sym (err_err {A = FileKey} fault OutOfMemory memory))
-    (of_any come mid _ (gave_some come mid is.text is.took) (λ b. saves_none old lost))
-locked_salvages limits answers come mid old lost h fault i (inr key) =
-    let is = headed limits come mid h i in
-    of_more come mid is.text _ is.took (λ d end. stopped limits answers (is.text ++ d) old lost fault
+    (of_any (gave_some is.took) (λ b. saves_none old lost))
+locked_salvages limits answers {come} {mid} old lost {h} {fault} i (inr key) =
+    let is = headed limits i in
+    of_more is.took (λ d end. stopped limits answers (is.text ++ d) old lost fault
     (after_header limits answers come mid h is (Err fault) d old old lost lost (Err fault) key
     (refl, saves_none old lost)))
 
@@ -130,28 +130,27 @@ payload_text limits answers come mid h i k c old new before after r key s = go r
     go (Err (stream.BadChunk n)) x = file (Err (stream.BadChunk n)) x
     go (Err stream.TooManyChunks) x = file (Err stream.TooManyChunks) x
 
-pub payload_salvages : (limits : Bounds) (answers : Answering) (come mid to : Seen) (old new : Known)
-    (before after : KnownLosses) (h : HeaderParts) (k : FileKey) (max : ℕ) (r : Result Salvaged StreamFault)
+pub payload_salvages : {limits : Bounds} (answers : Answering) {come mid to : Seen} (old new : Known)
+    (before after : KnownLosses) {h : HeaderParts} {k : FileKey} {max : ℕ} (r : Result Salvaged StreamFault)
     → Inspects limits (flow come mid) (Ok h)
     → (◌≡◌ {A = Result FileKey Fault} (Ok k) (Err OutOfMemory)) ⊎ (Ok k ≡ unlocked answers h)
     → max ≡ limits.max_chunks
     → Salvages k max (flow mid to) (moved old new) (told before after) r
     → SalvagesFile limits answers (flow come to) (moved old new) (told before after) (salvage_result r)
-payload_salvages limits answers come mid to old new before after h k max r i (inl memory) same w = absurd (cc)
-payload_salvages limits answers come mid to old new before after h k max r i (inr key) same w =
-    let is = headed limits come mid h i in
-    of_then come mid to is.text _ _ is.took w (λ c x.
-    payload_text limits answers come mid h is k c old new before after r key
+payload_salvages {limits} answers {come} {mid} old new before after {h} {k} r i (inl memory) same w = absurd (cc)
+payload_salvages {limits} answers {come} {mid} old new before after {h} {k} r i (inr key) same w =
+    let is = headed limits i in
+    of_then is.took w (λ c x. payload_text limits answers come mid h is k c old new before after r key
     (subst (λ m. SavesPayload k m c (moved old new) (told before after) r) same x))
 
 -- how much was read
-pub salvage_takes : (limits : Bounds) (come mid to : Seen) (old new : Known) (h : HeaderParts) (max : ℕ)
+pub salvage_takes : {limits : Bounds} {come mid : Seen} (to : Seen) (old new : Known) {h : HeaderParts} {max : ℕ}
     (fault : StreamFault) → Inspects limits (flow come mid) (Ok h) → max ≡ limits.max_chunks
     → EndsSaving max (flow mid to) (moved old new) fault
     → TookUpTo limits (flow come to) (moved old new) (stream_fault fault)
-salvage_takes limits come mid to old new h max stream.Read i same e = tt
-salvage_takes limits come mid to old new h max stream.NonceTruncated i same e = tt
-salvage_takes limits come mid to old new h max stream.Memory i same e = tt
-salvage_takes limits come mid to old new h max fault i same e =
+salvage_takes {mid} to old new stream.Read i same e = tt
+salvage_takes {mid} to old new stream.NonceTruncated i same e = tt
+salvage_takes {mid} to old new stream.Memory i same e = tt
+salvage_takes {mid} to old new fault i same e =
     payload_takes mid fault i
     (inr (subst (λ m. EndsAt m 16 (flow mid to) (moved old new) fault) same e))

@@ -24,7 +24,7 @@ none_under : (limits : Bounds) (rest p : Bytes) (fault : Fault) (c : Result File
 none_under limits rest p fault (Err g) h is = never_stops p g h
 none_under limits rest p fault (Ok k) h is =
     let o = whole_opens k rest p limits.max_chunks
-    (with_file_fault_whole p (payload_reading k limits.max_chunks rest) h) in
+    (with_file_fault_whole h) in
     absurd (ok-err o.0 (sym (ap (result_map_both (λ (text : Bytes). text) stream_fault) o.1) ∙ is))
   where
     ok-err : (x : Bytes) → ◌≡◌ {A = Result Bytes Fault} (Ok x) (Err fault) → ⊥
@@ -53,8 +53,7 @@ payload_whole : (limits : Bounds) (answers : Answering) (b p : Bytes) (chunks : 
     → (r : IsRangesOf limits answers b chunks given given2)
     → payload_reading r.key limits.max_chunks (drop (length r.found.text) b) ≡ whole p
 payload_whole limits answers b p chunks given given2 v r =
-    with_file_fault_whole p (payload_reading r.key limits.max_chunks (drop (length r.found.text) b))
-    (v.is ∙ ap (judged limits answers b)
+    with_file_fault_whole (v.is ∙ ap (judged limits answers b)
     (headers.one_verdict b limits.max_header v.header (Ok r.found) v.header_verdict r.header)
     ∙ ap (read_under limits (drop (length r.found.text) b)) r.chosen)
 

@@ -18,17 +18,17 @@ grew_then : (a b c : Seen) (x y : Bytes) → Grew (flow a b) x → Grew (flow b 
 grew_then a b c x y g h past p = subst c.gave (append_assoc past x y) (h (past ++ x) (g past p))
 
 -- no read gives nothing
-pub gave_none : (a : Seen) → Gave (flow a a) []
-gave_none a = record { consumes = Consumes-nil a.to_come; grew = grew_none a }
+pub gave_none : {a : Seen} → Gave (flow a a) []
+gave_none {a} = record { consumes = Consumes-nil a.to_come; grew = grew_none a }
 
-pub gave_then : (a b c : Seen) (x y : Bytes) → Gave (flow a b) x → Gave (flow b c) y → Gave (flow a c) (x ++ y)
-gave_then a b c x y g h = record {
+pub gave_then : {a b c : Seen} {x y : Bytes} → Gave (flow a b) x → Gave (flow b c) y → Gave (flow a c) (x ++ y)
+gave_then {a} {b} {c} {x} {y} g h = record {
   consumes = Consumes-trans a.to_come b.to_come c.to_come x y g.consumes h.consumes;
   grew = grew_then a b c x y g.grew h.grew;
 }
 
-pub gave_some : (a b : Seen) (x : Bytes) → Gave (flow a b) x → GaveSome (flow a b)
-gave_some a b x g = record { bytes = x; grew = g.grew }
+pub gave_some : {a b : Seen} {x : Bytes} → Gave (flow a b) x → GaveSome (flow a b)
+gave_some {x} g = record { bytes = x; grew = g.grew }
 
 pub some_none : (a : Seen) → GaveSome (flow a a)
 some_none a = record { bytes = []; grew = grew_none a }
@@ -39,7 +39,7 @@ some_then {a} {b} {c} {x} g h = record { bytes = x ++ h.bytes; grew = grew_then 
 pub gave_more : (a b c : Seen) (n m : ℕ) → GaveAtMost n (flow a b) → GaveAtMost m (flow b c)
     → GaveAtMost (n + m) (flow a c)
 gave_more a b c n m g h =
-    (g.0 ++ h.0, gave_then a b c g.0 h.0 g.1 h.1, omega (arith, length-append g.0 h.0, g.2, h.2))
+    (g.0 ++ h.0, gave_then g.1 h.1, omega (arith, length-append g.0 h.0, g.2, h.2))
 
 -- what holds whatever follows these bytes
 known_more : (a b : Known) (x : Bytes) (P : Bytes → Type 0) → Consumes a b x
@@ -48,9 +48,9 @@ known_more None b x P h p = tt
 known_more (Some told) None x P h p = absurd h
 known_more (Some told) (Some left) x P h p = subst P (sym h) (p left (λ end. end))
 
-pub of_more : (a b : Seen) (x : Bytes) (P : Bytes → Type 0) → Gave (flow a b) x
+pub of_more : {a b : Seen} {x : Bytes} {P : Bytes → Type 0} → Gave (flow a b) x
     → ((d : Bytes) → (IsAtEnd b.to_come → d ≡ []) → P (x ++ d)) → OfGiven (flow a b) P
-of_more a b x P g p = record {
+of_more {a} {b} {x} {P} g p = record {
   given = x;
   grew = g.grew;
   holds = subst P (append-nil x) (p [] (λ end. refl));
@@ -58,18 +58,18 @@ of_more a b x P g p = record {
 }
 
 -- what holds of the bytes up to the end of the source
-pub of_ended : (a b : Seen) (x : Bytes) (P : Bytes → Type 0) → Gave (flow a b) x → IsAtEnd b.to_come → P x
+pub of_ended : {a b : Seen} {x : Bytes} {P : Bytes → Type 0} → Gave (flow a b) x → IsAtEnd b.to_come → P x
     → OfGiven (flow a b) P
-of_ended a b x P g end p =
-    of_more a b x P g (λ d none. subst P (sym (ap (λ t. x ++ t) (none end) ∙ append-nil x)) p)
+of_ended {x} {P} g end p =
+    of_more g (λ d none. subst P (sym (ap (λ t. x ++ t) (none end) ∙ append-nil x)) p)
 
 -- what holds of any bytes
 known_any : (a : Known) (P : Bytes → Type 0) → ((b : Bytes) → P b) → IfSome a P
 known_any None P p = tt
 known_any (Some told) P p = p told
 
-pub of_any : (a b : Seen) (P : Bytes → Type 0) → GaveSome (flow a b) → ((b : Bytes) → P b) → OfGiven (flow a b) P
-of_any a b P g p = record {
+pub of_any : {a b : Seen} {P : Bytes → Type 0} → GaveSome (flow a b) → ((b : Bytes) → P b) → OfGiven (flow a b) P
+of_any {a} {P} g p = record {
   given = g.bytes;
   grew = g.grew;
   holds = p g.bytes;
@@ -83,18 +83,18 @@ known_then None b x P Q h q p = tt
 known_then (Some told) None x P Q h q p = absurd h
 known_then (Some told) (Some left) x P Q h q p = subst P (sym h) (p left q)
 
-pub of_then : (a b c : Seen) (x : Bytes) (P Q : Bytes → Type 0) → Gave (flow a b) x → OfGiven (flow b c) Q
+pub of_then : {a b c : Seen} {x : Bytes} {P Q : Bytes → Type 0} → Gave (flow a b) x → OfGiven (flow b c) Q
     → ((y : Bytes) → Q y → P (x ++ y)) → OfGiven (flow a c) P
-of_then a b c x P Q g h p = record {
+of_then {a} {b} {c} {x} {P} {Q} g h p = record {
   given = x ++ h.given;
   grew = grew_then a b c x h.given g.grew h.grew;
   holds = p h.given h.holds;
   known = known_then a.to_come b.to_come x P Q g.consumes h.known p;
 }
 
-pub of_map : (a b : Seen) (P Q : Bytes → Type 0) → OfGiven (flow a b) Q → ((y : Bytes) → Q y → P y)
+pub of_map : {a b : Seen} {P Q : Bytes → Type 0} → OfGiven (flow a b) Q → ((y : Bytes) → Q y → P y)
     → OfGiven (flow a b) P
-of_map a b P Q h p = of_then a a b [] P Q (gave_none a) h p
+of_map h p = of_then (gave_none) h p
 
 -- a source that gave no more
 pub of_still : (a b c : Seen) {P : Bytes → Type 0} → OfGiven (flow a b) P → Grew (flow b c) [] → OfGiven (flow a c) P
@@ -145,10 +145,10 @@ pub done_all : (a b c : Known) (whole left : Bytes) → Done a b whole left → 
 done_all a b c whole left d h = subst (λ (z : Bytes). Appends a c z) (sym d.is)
     (Appends-trans a b c d.prefix left d.took h)
 
-pub done_part : (a b c : Known) (whole left x y : Bytes) → Done a b whole left → left ≡ x ++ y
+pub done_part : {a b : Known} (c : Known) {whole left : Bytes} (x y : Bytes) → Done a b whole left → left ≡ x ++ y
     → WritesPart (moved b c) x
     → WritesPart (moved a c) whole
-done_part a b c whole left x y d e w =
+done_part {a} {b} c {whole} x y d e w =
     let n : ℕ = min w.0 (length x) in
     let low : n ≤ length x = omega arith in
     let same : take n (x ++ y) ≡ take w.0 x = take-append-le n x y low ∙ take_min w.0 x in
@@ -163,10 +163,10 @@ done_part a b c whole left x y d e w =
 
 pub done_last : (a b c : Known) (whole left : Bytes) → Done a b whole left → WritesPart (moved b c) left
     → WritesPart (moved a c) whole
-done_last a b c whole left d w = done_part a b c whole left left [] d (sym (append-nil left)) w
+done_last a b c whole left d w = done_part c left [] d (sym (append-nil left)) w
 
 -- what the last call did to what was left, it did to the whole
-pub writes_last : {T E : Type 0} {a b : Known} (c : Known) (r : Result T E) (whole left : Bytes) → Done a b whole left
+pub writes_last : {T E : Type 0} {a b : Known} (c : Known) (r : Result T E) {whole left : Bytes} → Done a b whole left
     → Writes (moved b c) r left → Writes (moved a c) r whole
-writes_last {a} {b} c (Ok x) whole left d h = done_all a b c whole left d h
-writes_last {a} {b} c (Err e) whole left d h = done_last a b c whole left d h
+writes_last {a} {b} c (Ok x) {whole} {left} d h = done_all a b c whole left d h
+writes_last {a} {b} c (Err e) {whole} {left} d h = done_last a b c whole left d h

@@ -14,7 +14,7 @@ filled_none start buf a le = record {
   len = omega arith;
   room = le;
   is = sym (append-nil (take start buf));
-  bytes = gave_none a;
+  bytes = gave_none;
 }
 
 pub filled_more : (start at n : ℕ) (buf mid after : Bytes) {a b c : Seen} → length mid ≡ length buf
@@ -24,7 +24,7 @@ filled_more start at n buf mid after {a} {b} {c} size f h = record {
   len = omega (arith, length-append f.piece h.piece, f.len, h.len);
   room = omega (arith, h.room, size);
   is = h.is ∙ ap (λ t. t ++ h.piece) f.is ∙ append_assoc (take start buf) f.piece h.piece;
-  bytes = gave_then a b c f.piece h.piece f.bytes h.bytes;
+  bytes = gave_then f.bytes h.bytes;
 }
 
 -- one read after a prefix

@@ -37,8 +37,8 @@ same_cut (f ∷ fs) (g ∷ gs) x y hf hg lx ly e =
 
 same_stanza : (s : StanzaParts) (x y : Bytes) → IsStanza s x → IsStanza s y → x ≡ y
 same_stanza s x y h k =
-    let characters : concat h.full ++ h.last ≡ concat k.full ++ k.last = IsBase64-only s.body _ h.body
-    ∙ sym (IsBase64-only s.body _ k.body) in
+    let characters : concat h.full ++ h.last ≡ concat k.full ++ k.last = IsBase64-only s.body h.body
+    ∙ sym (IsBase64-only s.body k.body) in
     let lines = same_cut h.full k.full h.last k.last h.cut.0 k.cut.0 h.cut.1 k.cut.1 characters in
     h.spelled ∙ append_assoc (argument_line s.args) (flat_map line h.full) (line h.last)
     ∙ ap (λ (z : Bytes). argument_line s.args ++ z) lines
@@ -54,8 +54,7 @@ same_stanzas (s ∷ ss) x y h k =
 pub one_text : (ss : List StanzaParts) (m h k : Bytes) → Head ss m h → Head ss m k → h ≡ k
 one_text ss m h k a b =
     let body : a.body ≡ b.body = same_stanzas ss a.body b.body a.stanza_text b.stanza_text in
-    let characters : a.characters ≡ b.characters = IsBase64-only m a.characters a.mac_text
-    ∙ sym (IsBase64-only m b.characters b.mac_text) in
+    let characters : a.characters ≡ b.characters = IsBase64-only m a.mac_text ∙ sym (IsBase64-only m b.mac_text) in
     a.spelled ∙ ap (λ (z : Bytes). version_line ++ z ++ line (codes "--- " ++ a.characters)) body
     ∙ ap (λ (z : Bytes). version_line ++ b.body ++ line (codes "--- " ++ z)) characters ∙ sym b.spelled
 
@@ -83,8 +82,8 @@ end_is_text mac characters h = (
   ),
 )
 
-pub head_path : (ss : List StanzaParts) (mac h : Bytes) → Head ss mac h → HeadPath ss mac h
-head_path ss mac h k =
+pub head_path : {ss : List StanzaParts} {mac h : Bytes} → Head ss mac h → HeadPath ss mac h
+head_path {ss} {mac} k =
     let whole = stanzas_lead [] ss k.body k.stanza_text in
     record {
       lines = whole.0;
@@ -140,8 +139,8 @@ text_nil ((c ∷ l) ∷ more) x e = cc
 pub reading : (ss ts : List StanzaParts) (m n h x : Bytes) → Head ss m h → Head ts n (h ++ x)
     → (x ≡ []) × (ss ≡ ts) × (m ≡ n)
 reading ss ts m n h x a b =
-    let p = head_path ss m h a in
-    let q = head_path ts n (h ++ x) b in
+    let p = head_path a in
+    let q = head_path b in
     let ls : List Bytes = p.lines ++ end_text p.characters ∷ [] in
     let ms : List Bytes = q.lines ++ end_text q.characters ∷ [] in
     let e0 : (version_line ++ lines_text ls) ++ x ≡ version_line ++ lines_text ms =

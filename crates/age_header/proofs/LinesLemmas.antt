@@ -10,18 +10,18 @@ use Rattle.age_header.specs.Base64.{IsBase64, StandsFor, alphabet}
 use Rattle.age_header.specs.Header.{AreArguments, IsArgument, IsVisible}
 
 -- a line ends at its first LF
-pub line_split : (a b x y : Bytes) → IsLineText a → IsLineText b → a ++ 10 ∷ x ≡ b ++ 10 ∷ y → (a ≡ b) × (x ≡ y)
-line_split [] [] x y ha hb e = (refl, cc)
-line_split [] (b ∷ bs) x y ha hb e =
+pub line_split : {a b x y : Bytes} → IsLineText a → IsLineText b → a ++ 10 ∷ x ≡ b ++ 10 ∷ y → (a ≡ b) × (x ≡ y)
+line_split {a = []} {b = []} {x} {y} ha hb e = (refl, cc)
+line_split {a = []} {b = b ∷ bs} {x} {y} ha hb e =
     let same : b ≡ 10 = cc in
     absurd (hb.0 same)
-line_split (a ∷ az) [] x y ha hb e =
+line_split {a = a ∷ az} {b = []} {x} {y} ha hb e =
     let same : a ≡ 10 = cc in
     absurd (ha.0 same)
-line_split (a ∷ az) (b ∷ bs) x y ha hb e =
+line_split {a = a ∷ az} {b = b ∷ bs} {x} {y} ha hb e =
     let rest : az ++ 10 ∷ x ≡ bs ++ 10 ∷ y = cc in
     let head : a ≡ b = cc in
-    let tail = line_split az bs x y ha.1 hb.1 rest in
+    let tail = line_split ha.1 hb.1 rest in
     let t0 : az ≡ bs = tail.0 in
     (cc, tail.1)
 
@@ -33,7 +33,7 @@ lines_prefix [] ls x y hk hl e n = (ls, refl, e)
 lines_prefix (k ∷ ks) [] x y hk hl e n = absurd (omega arith)
 lines_prefix (k ∷ ks) (l ∷ ls) x y hk hl e n =
     let r : k ++ 10 ∷ (lines_text ks ++ x) ≡ l ++ 10 ∷ (lines_text ls ++ y) = simp append_assoc at e in
-    let cut = line_split k l _ _ hk.0 hl.0 r in
+    let cut = line_split hk.0 hl.0 r in
     let fits : length ks ≤ length ls = omega arith in
     let rest = lines_prefix ks ls x y hk.1 hl.1 cut.1 fits in
     let head : k ≡ l = cut.0 in

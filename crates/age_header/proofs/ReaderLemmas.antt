@@ -16,19 +16,19 @@ use Rattle.age_header.proofs.DeviceLemmas.{of_any, of_ended, of_known, of_more}
 -- a fault after these bytes
 pub answered : (a new : Seen) (x : Bytes) (max : ℕ) (e : HeaderFault) → Gave (flow a new) x
     → ((b n : Bytes) → b ≡ x ++ n → Refuses b max e) → ReadsHeader (flow a new) max (Err e)
-answered a new x max e took told = of_more a new x _ took (λ d end. told (x ++ d) d refl)
+answered a new x max e took told = of_more took (λ d end. told (x ++ d) d refl)
 
 -- a fault at the end of the input
 pub answered_at_end : (a new : Seen) (x : Bytes) (max : ℕ) (e : HeaderFault) → Gave (flow a new) x
     → IsAtEnd new.to_come → ((b : Bytes) → b ≡ x → Refuses b max e) → ReadsHeader (flow a new) max (Err e)
 answered_at_end a new x max e took end told =
-    of_ended a new x _ took end (told x refl)
+    of_ended took end (told x refl)
 
 -- a header
 pub answered_header : (a new : Seen) (x : Bytes) (max : ℕ) (h : HeaderParts) → Gave (flow a new) x
     → ((b n : Bytes) → b ≡ x ++ n → HeaderVerdict b max (Ok (record { stanzas = h.stanzas; mac = h.mac; text = x })))
     → ReadsHeader (flow a new) max (Ok h)
-answered_header a new x max h took told = of_more a new x _ took (λ d end. (x, told (x ++ d) d refl, took))
+answered_header a new x max h took told = of_more took (λ d end. (x, told (x ++ d) d refl, took))
 
 pub refused : (b : Bytes) (max : ℕ) (e : HeaderFault) → IsOutside e → Refuses b max e
 refused b max Read h = tt
@@ -41,7 +41,7 @@ refused b max TooLarge h = absurd h
 -- what a line's own fault says
 pub outside : {a new : Seen} (max : ℕ) (e : HeaderFault) → IsOutside e → GaveSome (flow a new)
     → ReadsHeader (flow a new) max (Err e)
-outside {a} {new} max e h some = of_any a new _ some (λ b. refused b max e h)
+outside {a} {new} max e h some = of_any some (λ b. refused b max e h)
 
 -- what a reader returns of known bytes
 pub reads_known : (b : Bytes) (source : Flow) (max : ℕ) (r : Result HeaderParts HeaderFault)

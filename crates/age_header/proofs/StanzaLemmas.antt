@@ -16,22 +16,23 @@ pub all_take : {X : Type 0} (P : X → Type 0) (xs : List X) (i : ℕ) (d : X) �
     → AllByRecursion P (take (i + 1) xs)
 all_take P xs i d low h k = rw (take_more xs i d low) (all_push P (take i xs) (get_or xs i d) h k)
 
-pub args_take : (xs : List (Bor Bytes)) (i : ℕ) (d : Bor Bytes) → i < length xs
+pub args_take : (xs : List (Bor Bytes)) {i : ℕ} (d : Bor Bytes) → i < length xs
     → AllByRecursion IsArgument (take i (map (λ a. a.now) xs))
     → (get_or xs i d).now ≢ [] → AllByRecursion IsVisible (get_or xs i d).now
     → AllByRecursion IsArgument (take (i + 1) (map (λ a. a.now) xs))
-args_take xs i d low h some seen =
+args_take xs {i} d low h some seen =
     let low' : i < length (map (λ (a : Bor Bytes). a.now) xs) =
     omega (arith, length-map xs (λ (a : Bor Bytes). a.now)) in
     let is = get_or-map (λ (a : Bor Bytes). a.now) xs i d [] low in
     all_take IsArgument (map (λ a. a.now) xs) i [] low' h (rw is (some, seen))
 
-pub copies_take : (xs : List (Bor Bytes)) (i : ℕ) (d : Bor Bytes) (old new : List (String Global))
+pub copies_take : (xs : List (Bor Bytes)) {i : ℕ} (d : Bor Bytes) (old : List (String Global))
+    {new : List (String Global)}
     (text : String Global) → i < length xs
     → map string_bytes old ≡ take i (map (λ a. a.now) xs) → new ≡ old ++ text ∷ []
     → string_bytes text ≡ (get_or xs i d).now
     → map string_bytes new ≡ take (i + 1) (map (λ a. a.now) xs)
-copies_take xs i d old new text low h is same =
+copies_take xs {i} d old text low h is same =
     let low' : i < length (map (λ (a : Bor Bytes). a.now) xs) =
     omega (arith, length-map xs (λ (a : Bor Bytes). a.now)) in
     let at = get_or-map (λ (a : Bor Bytes). a.now) xs i d [] low in

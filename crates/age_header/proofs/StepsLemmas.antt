@@ -221,8 +221,8 @@ pub record Path (text : Bytes) : Type 0 where
   pub leads : Leads (between []) lines state
 
 -- every prefix of a header is such a path
-pub prefix_path : (text : Bytes) → IsHeaderPrefix text → Path text
-prefix_path text h =
+pub prefix_path : {text : Bytes} → IsHeaderPrefix text → Path text
+prefix_path h =
     let whole = stanzas_lead [] h.stanzas h.whole h.stanza_text in
     elim h.rest_text [
       | inl none ↦ record {
@@ -258,11 +258,11 @@ abbrev pub Spells : State → Bytes → Type 0
 Spells (between ss) text = AreStanzas ss text
 Spells (within ss args body) text = Within ss args body text
 
-stanzas_more : (ss : List StanzaParts) (s : StanzaParts) (w x : Bytes) → AreStanzas ss w → IsStanza s x
+stanzas_more : (ss : List StanzaParts) {s : StanzaParts} (w : Bytes) {x : Bytes} → AreStanzas ss w → IsStanza s x
     → AreStanzas (ss ++ s ∷ []) (w ++ x)
-stanzas_more [] s w x h k = (x, [], k, refl, rw h (sym (append-nil x)))
-stanzas_more (t ∷ ss) s w x h k =
-    let rest = stanzas_more ss s h.1 x h.3 k in
+stanzas_more [] w {x} h k = (x, [], k, refl, rw h (sym (append-nil x)))
+stanzas_more (t ∷ ss) w {x} h k =
+    let rest = stanzas_more ss h.1 h.3 k in
     (h.0, h.1 ++ x, h.2, rest, ap (λ (z : Bytes). z ++ x) h.4 ∙ append_assoc h.0 h.1 x)
 
 full_more : (full : List Bytes) (l : Bytes) → AllByRecursion IsFullLine full → IsFullLine l
@@ -329,7 +329,7 @@ step_spells (within ss args body) l (between ts) text h k =
       body = IsBase64-append h.groups body (concat h.full) more l h.size h.body_text k.2;
       spelled = refl;
     } in
-    let all = stanzas_more ss s h.whole _ h.stanza_text one in
+    let all = stanzas_more ss h.whole h.stanza_text one in
     let is : text ++ line l ≡ h.whole ++ (argument_line args ++ flat_map line h.full ++ line l) =
     ap (λ (x : Bytes). x ++ line l) h.spelled
     ∙ regroup_two h.whole (argument_line args) (flat_map line h.full) (line l) in

@@ -14,11 +14,11 @@ use Rattle.age_header.specs.Text.{IsPlain, IsWhole, IsHeaderValue, body_lines, b
 use Rattle.age_header.proofs.Base64Lemmas.{IsBase64-encode, encode_of_unpadded, IsBase64-append}
 
 -- what the engine wrote into a buffer
-pub encoded : (e : GeneralPurpose) (m old new : Bytes) (len : ℕ) → IsPlain e → IsEncodedOver e m old new
+pub encoded : {e : GeneralPurpose} (m old : Bytes) {new : Bytes} {len : ℕ} → IsPlain e → IsEncodedOver e m old new
     → len ≡ encoded_size_of e (length m)
     → take len new ≡ base64_of m
 unfolding base64_of
-encoded e m old new len p over is =
+encoded {e} m old {len} p over is =
     let plain : encode_of e m ≡ encode_symbols alphabet m = encode_of_unpadded e m p.unpadded p.characters in
     let size : encoded_size_of e (length m) ≡ unpadded_len (length m) = rw p.unpadded refl in
     let fits : length (encode_symbols alphabet m) ≡ len = length-encode_symbols alphabet m ∙ sym size ∙ sym is in

@@ -99,23 +99,24 @@ no_prefix_told b n first end max took text ends none age =
     none r.0 r.1
 
 -- no prefix of the version line's text
-pub no_prefix : (a new : Seen) (first : Bytes) (end : LineEnd) (max : ℕ) → Gave (flow a new) (line_bytes first end)
+pub no_prefix : {a new : Seen} (first : Bytes) (end : LineEnd) (max : ℕ) → Gave (flow a new) (line_bytes first end)
     → IsLineText first
     → IsEnd end (length first) (min max version_size) new.to_come → ((x : Bytes) → version_text ≢ first ++ x)
     → ReadsHeader (flow a new) max (Err NotAge)
-no_prefix a new first Lf max took text ends none =
+no_prefix {a} {new} first Lf max took text ends none =
     answered a new (first ++ 10 ∷ []) max NotAge took (λ b n is. no_prefix_told b n first Lf max is text ends none)
-no_prefix a new first Input max took text ends none =
+no_prefix {a} {new} first Input max took text ends none =
     answered_at_end a new first max NotAge took ends.1
     (λ b is. no_prefix_told b [] first Input max (is ∙ sym (append-nil first)) text (ends.0, refl) none)
-no_prefix a new first Room max took text ends none =
+no_prefix {a} {new} first Room max took text ends none =
     answered a new first max NotAge took (λ b n is. no_prefix_told b n first Room max is text ends none)
 
 -- a line that ends too early
-pub short_line : (a new : Seen) (first rest : Bytes) (max : ℕ) → Gave (flow a new) (first ++ 10 ∷ []) → IsLineText first
+pub short_line : {a new : Seen} (first : Bytes) {rest : Bytes} (max : ℕ) → Gave (flow a new) (first ++ 10 ∷ [])
+    → IsLineText first
     → length first < min max version_size → version_text ≡ first ++ rest → rest ≢ []
     → ReadsHeader (flow a new) max (Err NotAge)
-short_line a new first rest max took text ends is more = answered a new (first ++ 10 ∷ []) max NotAge took told
+short_line {a} {new} first {rest} max took text ends is more = answered a new (first ++ 10 ∷ []) max NotAge took told
   where
     told : (b n : Bytes) → b ≡ (first ++ 10 ∷ []) ++ n → BeginsAsAge (take max b) → ⊥
     told b n came age =
@@ -126,7 +127,7 @@ short_line a new first rest max took text ends is more = answered a new (first +
         let e : version_text ++ 10 ∷ [] ≡ first ++ 10 ∷ (x ++ drop (length t) version_line) =
         sym version_is_line ∙ whole ∙ ap (λ (z : Bytes). z ++ drop (length t) version_line) prefix
         ∙ append_assoc first (10 ∷ x) (drop (length t) version_line) in
-        let cut = line_split version_text first [] _ version_is_text text e in
+        let cut = line_split version_is_text text e in
         more (append_cancel_left first rest [] (sym is ∙ cut.0 ∙ sym (append-nil first)))
 
 pub prefix_age : (first rest : Bytes) → version_text ≡ first ++ rest → length first ≤ version_size → BeginsAsAge first
@@ -144,10 +145,10 @@ pub prefix_size : (first rest : Bytes) → version_text ≡ first ++ rest → le
 prefix_size first rest is = omega (arith, ap length is, version_text_size, length-append first rest)
 
 -- a first line that goes on, at the end of the input or under the limit
-pub short_input : (a new : Seen) (first rest : Bytes) (max : ℕ) → Gave (flow a new) first → IsLineText first
+pub short_input : {a new : Seen} {first : Bytes} (rest : Bytes) {max : ℕ} → Gave (flow a new) first → IsLineText first
     → (length first < min max version_size) × IsAtEnd new.to_come → version_text ≡ first ++ rest
     → ReadsHeader (flow a new) max (Err Truncated)
-short_input a new first rest max took text ends is = answered_at_end a new first max Truncated took ends.1 told
+short_input {a} {new} {first} rest {max} took text ends is = answered_at_end a new first max Truncated took ends.1 told
   where
     told : (b : Bytes) → b ≡ first → IsFault b max Truncated
     told b all =
@@ -161,9 +162,9 @@ short_input a new first rest max took text ends is = answered_at_end a new first
           omega arith,
         )
 
-pub short_room : (a new : Seen) (first rest : Bytes) (max : ℕ) → Gave (flow a new) first → IsLineText first
+pub short_room : {a new : Seen} {first : Bytes} (rest : Bytes) {max : ℕ} → Gave (flow a new) first → IsLineText first
     → length first ≡ min max version_size → version_text ≡ first ++ rest → ReadsHeader (flow a new) max (Err TooLarge)
-short_room a new first rest max took text ends is = answered a new first max TooLarge took told
+short_room {a} {new} {first} rest {max} took text ends is = answered a new first max TooLarge took told
   where
     told : (b n : Bytes) → b ≡ first ++ n → IsFault b max TooLarge
     told b n came =
@@ -178,10 +179,10 @@ short_room a new first rest max took text ends is = answered a new first max Too
         )
 
 -- the version line
-pub version_read : (a new : Seen) (first rest : Bytes) (max : ℕ) → Gave (flow a new) (first ++ 10 ∷ [])
+pub version_read : {a new : Seen} (first : Bytes) {rest : Bytes} {max : ℕ} → Gave (flow a new) (first ++ 10 ∷ [])
     → length first < min max version_size
     → version_text ≡ first ++ rest → rest ≡ [] → (version_size ≤ max) × Gave (flow a new) version_line
-version_read a new first rest max took ends is none =
+version_read {a} {new} first {rest} took ends is none =
     let sum = prefix_size first rest is in
     let zero : length rest ≡ 0 = ap length none in
     let same : first ++ 10 ∷ [] ≡ version_line =

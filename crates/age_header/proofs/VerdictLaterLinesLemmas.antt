@@ -22,12 +22,12 @@ use Rattle.age_header.proofs.ReaderLemmas.{answered, answered_at_end, answered_h
 use Rattle.age_header.proofs.LengthLemmas.{length-version_line}
 
 -- what a line at the end of the input, or under the limit, says of a path
-pub path_truncated : (a mid new : Seen) (max room count : ℕ) (s : State) (text : Bytes)
+pub path_truncated : {a mid new : Seen} {max room count : ℕ} {s : State} {text : Bytes}
     → Reached a mid max room count s
     → Gave (flow mid new) text → IsLineText text → (length text < room) × IsAtEnd new.to_come
     → ReadsHeader (flow a new) max (Err Truncated)
-path_truncated a mid new max room count s text p took is ends =
-    answered_at_end a new (prefix ++ text) max Truncated (gave_then a mid new prefix text p.read took) ends.1 told
+path_truncated {a} {new} {max} {room} {s} {text} p took is ends =
+    answered_at_end a new (prefix ++ text) max Truncated (gave_then p.read took) ends.1 told
   where
     prefix : Bytes
     prefix = version_line ++ lines_text p.ls
@@ -52,11 +52,11 @@ path_truncated a mid new max room count s text p took is ends =
           low,
         )
 
-pub path_too_large : (a mid new : Seen) (max room count : ℕ) (s : State) (text : Bytes)
+pub path_too_large : {a mid new : Seen} {max room count : ℕ} {s : State} {text : Bytes}
     → Reached a mid max room count s
     → Gave (flow mid new) text → IsLineText text → length text ≡ room → ReadsHeader (flow a new) max (Err TooLarge)
-path_too_large a mid new max room count s text p took is ends =
-    answered a new (prefix ++ text) max TooLarge (gave_then a mid new prefix text p.read took) told
+path_too_large {a} {new} {max} {room} {s} {text} p took is ends =
+    answered a new (prefix ++ text) max TooLarge (gave_then p.read took) told
   where
     prefix : Bytes
     prefix = version_line ++ lines_text p.ls
@@ -104,7 +104,7 @@ took_line : (a mid new : Seen) (max room count : ℕ) (s : State) (text : Bytes)
     → Gave (flow mid new) (text ++ 10 ∷ []) → Gave (flow a new) (lines_text (version_text ∷ (p.ls ++ text ∷ [])))
 took_line a mid new max room count s text p took =
     subst (λ (z : Bytes). Gave (flow a new) z) (sym (pushed p.ls text))
-    (gave_then a mid new (version_line ++ lines_text p.ls) (line text) p.read took)
+    (gave_then p.read took)
 
 further : (b n : Bytes) (max room : ℕ) (ls : List Bytes) (text : Bytes)
     → b ≡ lines_text (version_text ∷ (ls ++ text ∷ [])) ++ n
@@ -154,12 +154,12 @@ age b n max ls text f =
     subst (λ (z : Bytes). BeginsAsAge (take max z)) (sym is) (begins (lines_text (ls ++ text ∷ []) ++ n) max f.wide)
 
 -- an end line
-pub path_header : (a mid new : Seen) (max room count : ℕ) (s : State) (text : Bytes) (ss : List StanzaParts)
-    (mac characters : Bytes)
+pub path_header : {a mid new : Seen} {max room count : ℕ} {s : State} {text : Bytes} {ss : List StanzaParts}
+    {mac characters : Bytes}
     → Reached a mid max room count s → Gave (flow mid new) (text ++ 10 ∷ []) → IsLineText text → length text < room
     → s ≡ between ss → ss ≢ [] → text ≡ codes "--- " ++ characters → IsBase64 mac characters → length mac ≡ mac_size
     → ReadsHeader (flow a new) max (Ok (record { stanzas = ss; mac = mac }))
-path_header a mid new max room count s text ss mac characters p took is low at some end h size =
+path_header {a} {mid} {new} {max} {room} {count} {s} {text} {ss} {mac} {characters} p took is low at some end h size =
     answered_header a new (lines_text whole) max (record { stanzas = ss; mac = mac })
     (took_line a mid new max room count s text p took) told
   where
@@ -193,13 +193,13 @@ path_header a mid new max room count s text ss mac characters p took is low at s
         }
 
 -- a line that leads nowhere and is no end line
-pub path_bad : (a mid new : Seen) (max room count : ℕ) (s : State) (text : Bytes)
+pub path_bad : {a mid new : Seen} {max room count : ℕ} {s : State} {text : Bytes}
     → Reached a mid max room count s → Gave (flow mid new) (text ++ 10 ∷ []) → IsLineText text → length text < room
     → ((ss : List StanzaParts) (mac characters : Bytes) → ss ≢ [] → s ≡ between ss → length mac ≡ mac_size
     → text ≡ codes "--- " ++ characters → IsBase64 mac characters → ⊥)
     → ((t : State) → Step s text t → ⊥)
     → ReadsHeader (flow a new) max (Err (BadLine (count + 1)))
-path_bad a mid new max room count s text p took is low end none =
+path_bad {a} {mid} {new} {max} {room} {count} {s} {text} p took is low end none =
     answered a new (lines_text (version_text ∷ ls)) max (BadLine (count + 1))
     (took_line a mid new max room count s text p took) told
   where
@@ -211,7 +211,7 @@ path_bad a mid new max room count s text p took is low end none =
 
     not_header : IsHeader (version_line ++ lines_text ls) → ⊥
     not_header g =
-        let q = head_path g.0 g.1 _ g.2 in
+        let q = head_path g.2 in
         let e : lines_text ls ≡ lines_text (q.lines ++ end_text q.characters ∷ []) =
         append_cancel_left version_line _ _ q.is in
         let same = same_lines ls (q.lines ++ end_text q.characters ∷ []) each q.each e in
@@ -227,7 +227,7 @@ path_bad a mid new max room count s text p took is low end none =
         no_nil : (x : Bytes) → version_line ++ x ≡ [] → ⊥
         no_nil x e = absurd (omega (arith, ap length e, length-append version_line x, length-version_line))
     not_viable (inr v) =
-        let q = prefix_path _ v in
+        let q = prefix_path v in
         let e : lines_text ls ≡ lines_text q.lines = append_cancel_left version_line _ _ q.is in
         let same = same_lines ls q.lines each q.each e in
         let cut = Leads-split (between []) q.state p.ls (text ∷ [])
@@ -250,11 +250,11 @@ path_bad a mid new max room count s text p took is low end none =
         )
 
 -- a line that leads on
-pub path_more : (a mid new : Seen) (max room count : ℕ) (s t : State) (text : Bytes)
+pub path_more : {a mid new : Seen} {max room count : ℕ} {s t : State} (text : Bytes)
     → Reached a mid max room count s → Gave (flow mid new) (text ++ 10 ∷ []) → IsLineText text → length text < room
     → Step s text t
     → Reached a new max (room - (length text + 1)) (count + 1) t
-path_more a mid new max room count s t text p took is low step =
+path_more {a} {new} {s} {t} text p took is low step =
     let moved : (version_line ++ lines_text p.ls) ++ line text ≡ version_line ++ lines_text (p.ls ++ text ∷ []) =
     append_assoc version_line (lines_text p.ls) (line text)
     ∙ ap (λ (z : Bytes). version_line ++ z) (sym (lines_push p.ls text)) in
@@ -265,14 +265,14 @@ path_more a mid new max room count s t text p took is low step =
       ls = p.ls ++ text ∷ [];
       each = Lines-append p.ls (text ∷ []) p.each (is, tt);
       leads = Leads-append (between []) s t p.ls (text ∷ []) p.leads (t, step, refl);
-      read = subst (λ (z : Bytes). Gave (flow a new) z) moved (gave_then a mid new _ (line text) p.read took);
+      read = subst (λ (z : Bytes). Gave (flow a new) z) moved (gave_then p.read took);
       size = omega (arith, p.size);
       lines = omega (arith, p.lines, length-append p.ls (text ∷ []));
     }
 
-pub path_start : (a mid : Seen) (max : ℕ) → version_size ≤ max → Gave (flow a mid) version_line
+pub path_start : {a mid : Seen} {max : ℕ} → version_size ≤ max → Gave (flow a mid) version_line
     → Reached a mid max (max - version_size) 1 (between [])
-path_start a mid max wide took = record {
+path_start {a} {mid} wide took = record {
   ls = [];
   each = tt;
   leads = refl;

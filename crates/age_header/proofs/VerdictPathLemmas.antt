@@ -35,7 +35,7 @@ same_lines [] ls a b e = sym (none ls (e ∙ sym (append-nil (lines_text ls))))
 same_lines (k ∷ ks) [] a b e = none (k ∷ ks) (sym e ∙ sym (append-nil (lines_text (k ∷ ks))))
 same_lines (k ∷ ks) (l ∷ ls) a b e =
     let r : k ++ 10 ∷ lines_text ks ≡ l ++ 10 ∷ lines_text ls = simp append_assoc at e in
-    let cut = line_split k l (lines_text ks) (lines_text ls) a.0 b.0 r in
+    let cut = line_split a.0 b.0 r in
     let tail : ks ≡ ls = same_lines ks ls a.1 b.1 cut.1 in
     let head : k ≡ l = cut.0 in
     cc
@@ -48,7 +48,7 @@ leads_viable ls s h = inr (spells_prefix s (lines_text ls) (leads_spell (between
 pub leads_no_header : (ls : List Bytes) (s : State) → AllByRecursion IsLineText ls → Leads (between []) ls s
     → IsHeader (version_line ++ lines_text ls) → ⊥
 leads_no_header ls s each h k =
-    let p = head_path k.0 k.1 (version_line ++ lines_text ls) k.2 in
+    let p = head_path k.2 in
     let ends : List Bytes = p.lines ++ end_text p.characters ∷ [] in
     let e : lines_text ls ≡ lines_text ends = append_cancel_left version_line (lines_text ls) (lines_text ends) p.is in
     let same : ls ≡ ends = same_lines ls ends each p.each e in

@@ -259,32 +259,26 @@ line_verdict : (b m : Bytes) (max room count : ℕ) (s : State) → Reached (of_
 line_verdict b m max room count s p next text Input rest is took ends = (
   Err Truncated,
   reads_known b (flow (of_told b) (of_told rest)) max (Err Truncated) refl
-      (path_truncated (of_told b) (of_told m) (of_told rest) max room count s text p (gave_told m text rest took) is
-      ends),
+      (path_truncated p (gave_told m text rest took) is ends),
 )
 line_verdict b m max room count s p next text Room rest is took ends = (
   Err TooLarge,
   reads_known b (flow (of_told b) (of_told rest)) max (Err TooLarge) refl
-      (path_too_large (of_told b) (of_told m) (of_told rest) max room count s text p (gave_told m text rest took) is
-      ends),
+      (path_too_large p (gave_told m text rest took) is ends),
 )
 line_verdict b m max room count s p next text Lf rest is took ends = elim (end_of s text) [
   | inl e ↦
       let h = reads_known b (flow (of_told b) (of_told rest)) max (Ok (record { stanzas = e.stanzas; mac = e.mac }))
       refl
-      (path_header (of_told b) (of_told m) (of_told rest) max room count s text e.stanzas e.mac e.characters p
-      (gave_told m (text ++ 10 ∷ []) rest took) is
-      ends e.at e.some e.spelled e.is e.size) in
+      (path_header p (gave_told m (text ++ 10 ∷ []) rest took) is ends e.at e.some e.spelled e.is e.size) in
       (Ok (record { stanzas = e.stanzas; mac = e.mac; text = h.0 }), h.1)
   | inr other ↦ elim (step_of s text) [
     | inl w ↦ next rest (room - (length text + 1)) (count + 1) w.0 (omega arith)
-        (path_more (of_told b) (of_told m) (of_told rest) max room count s w.0 text p
-        (gave_told m (text ++ 10 ∷ []) rest took) is ends w.1)
+        (path_more text p (gave_told m (text ++ 10 ∷ []) rest took) is ends w.1)
     | inr none ↦ (
       Err (BadLine (count + 1)),
       reads_known b (flow (of_told b) (of_told rest)) max (Err (BadLine (count + 1))) refl
-          (path_bad (of_told b) (of_told m) (of_told rest) max room count s text p
-          (gave_told m (text ++ 10 ∷ []) rest took) is ends
+          (path_bad p (gave_told m (text ++ 10 ∷ []) rest took) is ends
           (λ ss mac characters some at size spelled h. other
           (record {
             stanzas = ss;
@@ -320,24 +314,22 @@ begun_verdict : (b : Bytes) (max : ℕ) (text : Bytes) (end : LineEnd) (rest beh
 begun_verdict b max text Input rest behind is took ends prefix = (
   Err Truncated,
   reads_known b (flow (of_told b) (of_told rest)) max (Err Truncated) refl
-      (short_input (of_told b) (of_told rest) text behind max (gave_told b text rest took) is ends prefix),
+      (short_input behind (gave_told b text rest took) is ends prefix),
 )
 begun_verdict b max text Room rest behind is took ends prefix = (
   Err TooLarge,
   reads_known b (flow (of_told b) (of_told rest)) max (Err TooLarge) refl
-      (short_room (of_told b) (of_told rest) text behind max (gave_told b text rest took) is ends prefix),
+      (short_room behind (gave_told b text rest took) is ends prefix),
 )
 begun_verdict b max text Lf rest behind is took ends prefix = elim (nil_or_some behind) [
   | inl none ↦
-      let v = version_read (of_told b) (of_told rest) text behind max (gave_told b (text ++ 10 ∷ []) rest took) ends
-      prefix none in
+      let v = version_read text (gave_told b (text ++ 10 ∷ []) rest took) ends prefix none in
       path_verdict max b rest max (max - version_size) 1 (between []) (omega arith)
-      (path_start (of_told b) (of_told rest) max v.0 v.1)
+      (path_start v.0 v.1)
   | inr some ↦ (
     Err NotAge,
     reads_known b (flow (of_told b) (of_told rest)) max (Err NotAge) refl
-        (short_line (of_told b) (of_told rest) text behind max (gave_told b (text ++ 10 ∷ []) rest took) is ends prefix
-        some),
+        (short_line text max (gave_told b (text ++ 10 ∷ []) rest took) is ends prefix some),
   )
 ]
 
@@ -349,7 +341,6 @@ some_verdict b max =
       | inr none ↦ (
         Err NotAge,
         reads_known b (flow (of_told b) (of_told l.rest)) max (Err NotAge) refl
-            (no_prefix (of_told b) (of_told l.rest) l.text l.end max
-            (gave_told b (line_bytes l.text l.end) l.rest l.took) l.is l.ends none),
+            (no_prefix l.text l.end max (gave_told b (line_bytes l.text l.end) l.rest l.took) l.is l.ends none),
       )
     ]

@@ -124,7 +124,7 @@ lines_split (l ∷ ls) e h = (h.0, lines_split ls e h.1)
 -- a header that begins the text within the limit is found
 pub found_begins : (b : Bytes) (max : ℕ) (x : Found) → BeginsWith b max x → Finds b max x
 found_begins b max x h =
-    let p = head_path x.stanzas x.mac x.text h.head in
+    let p = head_path h.head in
     let end : Bytes = end_text p.characters in
     let ls : List Bytes = p.lines ++ end ∷ [] in
     let whole : List Bytes = version_text ∷ ls in

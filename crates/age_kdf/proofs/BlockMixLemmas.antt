@@ -15,24 +15,24 @@ mixed_next r b i at next is at_is after made =
     made ∙ ap₂ (λ y a. salsa8 (zip2 bit_xor y (take 16 (drop a b)))) is at_is ∙ ap (mixed r b) (sym after)
 
 -- a block written after those that were written before
-pub block_written : (out : Words) {prefix : Words} (x : Words) (at k next : ℕ)
+pub block_written : (out : Words) {prefix : Words} (x : Words) (at k : ℕ) {next : ℕ}
     → take at out ≡ prefix → length x ≡ 16 → next ≡ at + 16
     → at + 16 ≤ length out → take next (put_mid at k out x) ≡ prefix ++ x
-block_written out x at k next is len after room =
+block_written out x at k {next} is len after room =
     take-put_mid at k out x next (omega arith) (omega arith) ∙ ap (λ z. z ++ x) is
 
 -- one more even block
-pub evens_next : (r : ℕ) (b x all : Words) (i : ℕ) → all ≡ evens r b i ++ x → x ≡ mixed r b (2 * i + 1)
+pub evens_next : (r : ℕ) (b : Words) {x all : Words} (i : ℕ) → all ≡ evens r b i ++ x → x ≡ mixed r b (2 * i + 1)
     → all ≡ evens r b (i + 1)
 unfolding evens
-evens_next r b x all i is x-is =
+evens_next r b i is x-is =
     let one : suc i ≡ i + 1 = omega arith in
     is ∙ ap (λ z. evens r b i ++ z) x-is ∙ ap (evens r b) one
 
 -- one more odd block
-pub odds_next : (r : ℕ) (b x all : Words) (i : ℕ) → all ≡ odds r b i ++ x → x ≡ mixed r b (2 * i + 2)
+pub odds_next : (r : ℕ) (b : Words) {x all : Words} (i : ℕ) → all ≡ odds r b i ++ x → x ≡ mixed r b (2 * i + 2)
     → all ≡ odds r b (i + 1)
 unfolding odds
-odds_next r b x all i is x-is =
+odds_next r b i is x-is =
     let one : suc i ≡ i + 1 = omega arith in
     is ∙ ap (λ z. odds r b i ++ z) x-is ∙ ap (odds r b) one

@@ -13,7 +13,8 @@ length-hkdf_blocks prk info (suc n) =
     length-append _ _ ∙ ap₂ ◌+◌ (length-hkdf_blocks prk info n) (length-hmac _ _) ∙ (omega arith)
 
 -- one more block: its bytes, and the output up to it
-pub hkdf_next : (out block prk info : Bytes) {last : Bytes} (i len : ℕ) → last ≡ hkdf_block prk info i
+pub hkdf_next : (out : Bytes) {block : Bytes} (prk info : Bytes) {last : Bytes} (i len : ℕ)
+    → last ≡ hkdf_block prk info i
     → block ≡ hmac prk (last ++ (info ++ (i + 1) ∷ []))
     → take (32 * (i + 1)) out ≡ take len (hkdf_blocks prk info i ++ block)
     → record {
@@ -21,7 +22,7 @@ pub hkdf_next : (out block prk info : Bytes) {last : Bytes} (i len : ℕ) → la
       last : block ≡ hkdf_block prk info (i + 1);
     }
 unfolding hkdf_block hkdf_blocks
-hkdf_next out block prk info {last} i len last_is block-is out-is =
+hkdf_next out {block} prk info {last} i len last_is block-is out-is =
     let next : suc i ≡ i + 1 = omega arith in
     let is : block ≡ hkdf_block prk info (suc i) =
     block-is ∙ ap (λ z. hmac prk (z ++ (info ++ (i + 1) ∷ []))) last_is ∙ ap (hmac prk) (sym (append_assoc _ info _)) in

@@ -5,9 +5,9 @@ use Rattle.std.proofs.lemmas.List.{same_lists, get_or_default, take_all}
 use Rattle.std.proofs.lemmas.Simd.{get_or-zip2, length-zip2}
 
 -- a list whose elements are f of the elements of xs and ys is zip2 f xs ys
-pub zipped : (f : ℕ → ℕ → ℕ) (xs ys out : List ℕ) (n : ℕ) → length xs ≡ n → length ys ≡ n → length out ≡ n
+pub zipped : (f : ℕ → ℕ → ℕ) (xs ys : List ℕ) {out : List ℕ} {n : ℕ} → length xs ≡ n → length ys ≡ n → length out ≡ n
     → ((k : ℕ) → k < n → get_or out k 0 ≡ f (get_or xs k 0) (get_or ys k 0)) → out ≡ zip2 f xs ys
-zipped f xs ys out n len-xs len-ys len-out is =
+zipped f xs ys {out} {n} len-xs len-ys len-out is =
     let len : length (zip2 f xs ys) ≡ n = length-zip2 f xs ys (len-xs ∙ sym len-ys) ∙ len-xs in
     same_lists out (zip2 f xs ys) (len-out ∙ sym len) (λ k d below.
     get_or_default out k d 0 below ∙ is k (omega arith) ∙ sym (get_or-zip2 f xs ys k 0 0 d (omega arith) (omega arith)))

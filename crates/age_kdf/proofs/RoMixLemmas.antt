@@ -50,13 +50,14 @@ index_is r k x pos h =
     ∙ sym (low_word k (block x (2 * r - 1)) h)
 
 -- one turn of the second loop
-pub look_turn : (r k m len n : ℕ) (b x x1 x2 table : Words) → 0 < r → k ≤ 32 → len ≡ 32 * r → n ≡ 2 ^ k
+pub look_turn : {r k : ℕ} (m : ℕ) {len n : ℕ} (b : Words) {x x1 x2 : Words} (table : Words) → 0 < r → k ≤ 32
+    → len ≡ 32 * r → n ≡ 2 ^ k
     → x ≡ romix_after r (2 ^ k) b m
     → ((j : ℕ) → j < 2 ^ k → take (32 * r) (drop (32 * r * j) table) ≡ mixed_times r b j)
     → x1 ≡ zip2 bit_xor x (take len (drop (len * (get_or x (32 * r - 16) 0 % n)) table))
     → x2 ≡ block_mix r x1 → x2 ≡ romix_after r (2 ^ k) b (m + 1)
 unfolding romix_after
-look_turn r k m len n b x x1 x2 table pos low len-is n-is x-is rows x1-is x2-is =
+look_turn {r} {k} m {len} {n} b {x} table pos low len-is n-is x-is rows x1-is x2-is =
     let j = get_or x (32 * r - 16) 0 % 2 ^ k in
     let next : suc m ≡ m + 1 = omega arith in
     let at_j : take len (drop (len * (get_or x (32 * r - 16) 0 % n)) table) ≡ mixed_times r b j =

@@ -99,11 +99,11 @@ three_args a b c = omega (
   length-append c [],
 )
 
-pub pass_header : (pass salt : Bytes) (work : ℕ) (k : FileKey) (mac text : Bytes) → length salt ≡ 16 → length k.0 ≡ 16
+pub pass_header : (pass salt : Bytes) {work : ℕ} (k : FileKey) {mac text : Bytes} → length salt ≡ 16 → length k.0 ≡ 16
     → work ≤ 30
     → Head (pass_stanza pass work salt k ∷ []) mac text → length text ≤ 150
 unfolding pass_stanza
-pass_header pass salt work k mac text salted keyed high h =
+pass_header pass salt {work} k {mac} {text} salted keyed high h =
     let body : length (pass_stanza pass work salt k).body ≡ 32 =
     length-sealed (pass_wrap_key pass salt work) zero_nonce [] k.0 ∙ omega arith in
     let all = header_size (pass_stanza pass work salt k) mac text body h in
@@ -114,10 +114,10 @@ pass_header pass salt work k mac text salted keyed high h =
     three_args (codes "scrypt") (base64_of salt) (decimal work) in
     omega arith
 
-pub key_header : (key salt : Bytes) (k : FileKey) (mac text : Bytes) → length salt ≡ 16 → length k.0 ≡ 16
+pub key_header : (key salt : Bytes) (k : FileKey) {mac text : Bytes} → length salt ≡ 16 → length k.0 ≡ 16
     → Head (keyed_stanza key salt k ∷ []) mac text → length text ≡ 156
 unfolding keyed_stanza
-key_header key salt k mac text salted keyed h =
+key_header key salt k {mac} {text} salted keyed h =
     let body : length (keyed_stanza key salt k).body ≡ 32 = length-sealed (keyed_wrap_key key salt) zero_nonce [] k.0
     ∙ omega arith in
     let all = header_size (keyed_stanza key salt k) mac text body h in

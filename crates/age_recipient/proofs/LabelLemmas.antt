@@ -49,11 +49,11 @@ bytes_eq_sym : (a b : Bytes) → bytes_eq a b ≡ bytes_eq b a
 bytes_eq_sym a b = (lists_equiv nat_eq_equiv).symm a b
 
 -- one text more
-pub one_more : (texts : List (Bor Bytes)) (i : ℕ) (d : Bor Bytes) {bytes : Bytes} (text : Bytes) {old new : Bool}
+pub one_more : (texts : List (Bor Bytes)) {i : ℕ} (d : Bor Bytes) {bytes : Bytes} (text : Bytes) {old new : Bool}
     → i < length texts → bytes ≡ (get_or texts i d).now
     → new ≡ cond (bytes_eq bytes text) true old → old ≡ list_any (λ t. bytes_eq text t.now) (take i texts)
     → new ≡ list_any (λ t. bytes_eq text t.now) (take (i + 1) texts)
-one_more texts i d {bytes} text {old} low is now before =
+one_more texts {i} d {bytes} text {old} low is now before =
     let test : bytes_eq bytes text ≡ bytes_eq text (get_or texts i d).now = bytes_eq_sym bytes text
     ∙ ap (bytes_eq text) is in
     now ∙ or_last (bytes_eq bytes text) old ∙ ap (λ b. b || bytes_eq bytes text) before
@@ -100,11 +100,11 @@ one_fewer first others i l low is =
     ap (incompatible_from first (i + 1)) (drop_more others i l low ∙ ap (λ y. y ∷ drop (i + 1) others) (sym is))
 
 -- the one at index i goes together with the first, so the others decide
-pub passes_over : (first : Labels) (others : List Labels) (i : ℕ) {l : Labels} → i < length others
+pub passes_over : (first : Labels) (others : List Labels) {i : ℕ} {l : Labels} → i < length others
     → l ≡ get_or others i l → go_together first l ≡ true
     → incompatible_from first 1 others ≡ incompatible_from first (i + 1) (drop i others)
     → incompatible_from first 1 others ≡ incompatible_from first (i + 1 + 1) (drop (i + 1) others)
-passes_over first others i {l} low is goes before = before ∙ one_fewer first others i l low is ∙ rw goes refl
+passes_over first others {i} {l} low is goes before = before ∙ one_fewer first others i l low is ∙ rw goes refl
 
 -- the one at index i does not
 pub stops_at : {all : List Labels} {first : Labels} {others : List Labels} (i : ℕ) {l : Labels} → all ≡ first ∷ others

@@ -117,13 +117,13 @@ open_len key max i end n buf after room le opens within =
     (omega arith, λ pos. let some : 0 < length (take n after) = o.some refl pos in omega arith)
 
 -- a last piece that was read, and opens
-pub last_verified : (gave : ℕ → ℕ → Type 0) (layout : Layout) (max last end n : ℕ) (buf after : Bytes)
+pub last_verified : {gave : ℕ → ℕ → Type 0} {layout : Layout} (max last end : ℕ) {n : ℕ} (buf after : Bytes)
     → layout.count ≡ last + 1
     → GaveAt gave (layout.first + sealed_chunk_size * last) (take end buf)
     → outcome layout.key max last true (take end buf) ≡ Ok (take n after)
     → n ≡ chunk_len layout.plain last → IsVerified gave layout (layout.count - 1)
     (take (chunk_len layout.plain (layout.count - 1)) after)
-last_verified gave layout max last end n buf after count read opens len =
+last_verified {gave} {layout} max last end {n} buf after count read opens len =
     let o = outcome_opens layout.key max last true (take end buf) (take n after) opens in
     let at : last ≡ layout.count - 1 = omega arith in
     let is_last : nat_eq (last + 1) layout.count ≡ true = eq-eqb (last + 1) layout.count (sym count) in

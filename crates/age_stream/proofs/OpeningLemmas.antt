@@ -229,7 +229,7 @@ advances_end key max i text text2 from small = record {
   keeps = (refl, refl, (λ e. absurd (cc)), tt);
   ahead = omega arith;
   given = [];
-  gave = gave_none from;
+  gave = gave_none;
   filled = refl;
   opens = (refl, refl);
 }

@@ -27,9 +27,9 @@ cond_ok : {A F : Type 0} (b : Bool) (f : F) (r : Result A F) (t : A) → cond b 
 cond_ok true f r t h = absurd (cc)
 cond_ok false f r t h = (refl, h)
 
-ok_or_ok : {A F : Type 0} (o : Option A) (f : F) (t : A) → ok_or o f ≡ Ok t → o ≡ Some t
-ok_or_ok None f t h = absurd (cc)
-ok_or_ok (Some x) f t h = cc
+ok_or_ok : {A F : Type 0} {o : Option A} (f : F) {t : A} → ok_or o f ≡ Ok t → o ≡ Some t
+ok_or_ok {o = None} f h = absurd (cc)
+ok_or_ok {o = Some x} f h = cc
 
 two_not_one : {A : Type 0} {x y z : A} {zs : List A} → x ∷ y ∷ zs ≡ z ∷ [] → ⊥
 two_not_one h = cc
@@ -51,7 +51,7 @@ outcome_opens key max i last c t h =
     let b = cond_ok (nat_lt (length c) 16) (ChunkShort i) (cond empty (Err (EmptyFinal i)) inner) t a.1 in
     let d = cond_ok empty (EmptyFinal i) inner t b.1 in
     let is : c ≡ sealed key (chunk_nonce i last) [] t =
-    sym ((opened_is key (chunk_nonce i last) [] c t).0 (ok_or_ok _ (BadChunk i) t d.1)) in
+    sym ((opened_is key (chunk_nonce i last) [] c t).0 (ok_or_ok (BadChunk i) d.1)) in
     let len : length c ≡ length t + 16 = ap length is ∙ length-sealed key (chunk_nonce i last) [] t in
     record {
       within = leb-false max i a.0;

@@ -183,25 +183,26 @@ reports_then (Some past) b c xs ys g h =
 -- ---- the next piece
 
 -- what filling the buffer after the byte that was held leaves there
-pub reads_ahead : {E : Type 0} (r : Result ℕ E) (ahead : ℕ) (held carried after : Bytes) (now next : Seen)
+pub reads_ahead : {E : Type 0} (r : Result ℕ E) (ahead : ℕ) {held : Bytes} (carried after : Bytes) (now next : Seen)
     → IfOk r (λ n. Filled ahead n carried after (flow now next))
     → IfOk r (λ n. n < length carried → IsAtEnd next.to_come) → take ahead carried ≡ held → length carried ≡ 65553
     → IfOk r (λ n. ReadsAhead held n after (flow now next))
-reads_ahead (Ok n) ahead held carried after now next f end is size = record {
+reads_ahead (Ok n) ahead carried after now next f end is size = record {
   given = f.piece;
   gave = f.bytes;
   is = f.is ∙ ap (λ t. t ++ f.piece) is;
   room = omega (arith, f.room);
   end = λ low. end (omega arith);
 }
-reads_ahead (Err e) ahead held carried after now next f end is size = tt
+reads_ahead (Err e) ahead carried after now next f end is size = tt
 
 -- the first piece, where no byte follows it
-pub first_last : (key : Bytes) (i n len : ℕ) (bytes piece new rest : Bytes) (saved : Saved) → bytes ≡ piece ++ rest
+pub first_last : (key : Bytes) (i : ℕ) {n len : ℕ} {bytes : Bytes} (piece new rest : Bytes) {saved : Saved}
+    → bytes ≡ piece ++ rest
     → length piece ≡ 65552 → n ≤ 65552 → length new ≡ length piece → len ≡ n - 16
     → part key i true (take n piece) ≡ record { text = take (n - 16) new; saved = saved }
     → first_part key i (take n bytes) ≡ record { text = take len (new ++ rest); saved = saved }
-first_last key i n len bytes piece new rest saved is whole le same wide found =
+first_last key i {n} {bytes} piece new rest {saved} is whole le same wide found =
     let cut : take n bytes ≡ take n piece = ap (take n) is ∙ take-append-le n piece rest (omega arith) in
     let l : length (take n bytes) ≡ n = ap length cut ∙ length-take-le n piece (omega arith) in
     ap (λ b. part key i b (take 65552 (take n bytes))) (le-leb (length (take n bytes)) 65552 (omega arith))
@@ -228,9 +229,9 @@ first_rest bytes piece new rest is whole same =
     drop_at new rest 65552 (omega arith) ∙ sym (ap (drop 65552) is ∙ drop_at piece rest 65552 (omega arith))
 
 -- one more was counted
-pub counted : (s t : Salvaged) (len : ℕ) (saved : Saved) → t ≡ with_part s len saved
+pub counted : (s : Salvaged) {t : Salvaged} (len : ℕ) {saved : Saved} → t ≡ with_part s len saved
     → (t.chunks ≡ s.chunks + 1) × (s.lost ≤ t.lost)
-counted s t len saved is =
+counted s len is =
     let lost = ap (λ (x : Salvaged). x.lost) is in (ap (λ (x : Salvaged). x.chunks) is, omega arith)
 
 -- ---- the parts so far
@@ -253,12 +254,12 @@ pub record Salvaging (key : Bytes) (s : Salvaged) (ahead : Bytes) (from now : Se
   pub read : length given ≡ 65552 * s.chunks + length ahead
   pub short : length ahead ≤ 1
 
-pub salvaging_none : (key : Bytes) (s : Salvaged) (ahead : Bytes) (from : Seen) (old : Known) (before : KnownLosses)
+pub salvaging_none : {key : Bytes} {s : Salvaged} {ahead : Bytes} {from : Seen} {old : Known} {before : KnownLosses}
     → s.bytes ≡ 0 → s.chunks ≡ 0 → s.lost ≡ 0 → ahead ≡ [] → Salvaging key s ahead from from old old before before
-salvaging_none key s ahead from old before bytes chunks lost none = record {
+salvaging_none {key} {ahead} {from} {old} {before} bytes chunks lost none = record {
   front = [];
   given = [];
-  gave = gave_none from;
+  gave = gave_none;
   reads = λ d. ap (λ t. parts key 0 (pieces (t ++ d))) (sym none)
       ∙ ap (λ k. parts key k (pieces (ahead ++ d))) (sym chunks);
   written = Appends-nil old;
@@ -315,12 +316,12 @@ text_next front more y = salvaged_append front (y ∷ more)
 -- ---- the ends
 
 -- there is a piece more than are allowed
-pub saves_many : (key : Bytes) (max : ℕ) (s : Salvaged) (ahead : Bytes) (from now : Seen) (old new : Known)
-    (before after : KnownLosses) → Salvaging key s ahead from now old new before after → s.chunks ≡ max
+pub saves_many : {key : Bytes} {max : ℕ} {s : Salvaged} {ahead : Bytes} {from now : Seen} {old new : Known}
+    {before after : KnownLosses} → Salvaging key s ahead from now old new before after → s.chunks ≡ max
     → OfGiven (flow from now)
     (λ rest. SavesParts max (parts key 0 (pieces rest)) (moved old new) (told before after) (Err TooManyChunks))
-saves_many key max s ahead from now old new before after o full =
-    of_more from now o.given _ o.gave (λ d end.
+saves_many {key} {max} {s} {ahead} {from} {now} {old} {new} {before} {after} o full =
+    of_more o.gave (λ d end.
     let more : List Part = parts key s.chunks (pieces (ahead ++ d)) in
     let some : 0 < length more = parts_some key s.chunks (ahead ++ d) in
     let len : length (parts key 0 (pieces (o.given ++ d))) ≡ length o.front + length more =
@@ -335,15 +336,12 @@ saves_many key max s ahead from now old new before after o full =
     ))
 
 -- a read failed
-pub saves_read : (key : Bytes) (max : ℕ) (s : Salvaged) (ahead : Bytes) (from now next : Seen) (old new : Known)
-    (before after : KnownLosses) → Salvaging key s ahead from now old new before after → GaveSome (flow now next)
+pub saves_read : {key : Bytes} (max : ℕ) {s : Salvaged} {ahead : Bytes} {from now next : Seen} {old new : Known}
+    {before after : KnownLosses} → Salvaging key s ahead from now old new before after → GaveSome (flow now next)
     → OfGiven (flow from next)
     (λ rest. SavesParts max (parts key 0 (pieces rest)) (moved old new) (told before after) (Err Read))
-saves_read key max s ahead from now next old new before after o some =
-    of_then from now next o.given _ _ o.gave
-    (of_any now next
-    (λ d. SavesParts max (parts key 0 (pieces (o.given ++ d))) (moved old new) (told before after) (Err Read)) some so)
-    (λ d h. h)
+saves_read {key} max {s} {ahead} {from} {now} {next} {old} {new} {before} {after} o some =
+    of_then o.gave (of_any some so) (λ d h. h)
   where
     so : (d : Bytes) → SavesParts max (parts key 0 (pieces (o.given ++ d))) (moved old new) (told before after)
         (Err Read)
@@ -359,10 +357,10 @@ saves_read key max s ahead from now next old new before after o some =
         )
 
 -- there the pieces that are allowed were read, and one byte
-pub ends_many : (key : Bytes) (max : ℕ) (s : Salvaged) (ahead : Bytes) (from now : Seen) (old new : Known)
-    (before after : KnownLosses) → Salvaging key s ahead from now old new before after → s.chunks ≡ max
+pub ends_many : {key : Bytes} {max : ℕ} {s : Salvaged} {ahead : Bytes} {from now : Seen} {old new : Known}
+    {before after : KnownLosses} → Salvaging key s ahead from now old new before after → s.chunks ≡ max
     → EndsAt max 0 (flow from now) (moved old new) TooManyChunks
-ends_many key max s ahead from now old new before after o full = record {
+ends_many {s} o full = record {
   piece = s.chunks;
   text = salvaged o.front;
   written = o.written;
@@ -371,11 +369,11 @@ ends_many key max s ahead from now old new before after o full = record {
 }
 
 -- where a write failed, its piece too
-pub ends_write : (key : Bytes) (max : ℕ) (s : Salvaged) (held : Bytes) (n : ℕ) (buf text : Bytes)
-    (from now next : Seen) (old mid new : Known) (before after : KnownLosses)
+pub ends_write : {key : Bytes} {max : ℕ} {s : Salvaged} {held : Bytes} {n : ℕ} {buf : Bytes} (text : Bytes)
+    {from now next : Seen} {old mid new : Known} {before after : KnownLosses}
     → Salvaging key s held from now old mid before after → (r : ReadsAhead held n buf (flow now next))
     → length buf ≡ 65553 → WritesPart (moved mid new) text → EndsAt max 0 (flow from next) (moved old new) Write
-ends_write key max s held n buf text from now next old mid new before after o r size part =
+ends_write {s} {held} {n} {buf} text {from} {now} {next} {old} {mid} {new} o r size part =
     let l : length (held ++ r.given) ≡ n = ap length (sym r.is) ∙ length-take-le n buf (omega (arith, r.room)) in
     record {
       piece = s.chunks;
@@ -385,7 +383,7 @@ ends_write key max s held n buf text from now next old mid new before after o r 
           (refl, omega (arith, o.full, o.bytes, length-append (salvaged o.front) (take part.0 text)));
       gave = (
         o.given ++ r.given,
-        gave_then from now next o.given r.given o.gave r.gave,
+        gave_then o.gave r.gave,
         omega (arith, o.read, r.room, length-append held r.given, length-append o.given r.given),
       );
     }
@@ -402,15 +400,15 @@ whole_piece held n buf now next r size d end =
     ]
 
 -- a write failed
-pub saves_write : (key : Bytes) (max : ℕ) (s : Salvaged) (held : Bytes) (n : ℕ) (buf : Bytes) (y : Part)
-    (from now next : Seen) (old mid new : Known) (before after : KnownLosses)
+pub saves_write : {key : Bytes} (max : ℕ) {s : Salvaged} {held : Bytes} {n : ℕ} {buf : Bytes} {y : Part}
+    {from now next : Seen} {old mid : Known} (new : Known) {before after : KnownLosses}
     → Salvaging key s held from now old mid before after → (r : ReadsAhead held n buf (flow now next))
     → length buf ≡ 65553
     → first_part key s.chunks (take n buf) ≡ y → WritesPart (moved mid new) y.text
     → OfGiven (flow from next)
     (λ rest. SavesParts max (parts key 0 (pieces rest)) (moved old new) (told before after) (Err Write))
-saves_write key max s held n buf y from now next old mid new before after o r size is part =
-    of_more from next (o.given ++ r.given) _ (gave_then from now next o.given r.given o.gave r.gave) (λ d end.
+saves_write {key} max {s} {held} {n} {buf} {y} {from} {now} {next} {old} {mid} new {before} {after} o r size is part =
+    of_more (gave_then o.gave r.gave) (λ d end.
     let c : Bytes = held ++ r.given in
     let p : first_part key s.chunks c ≡ y = ap (first_part key s.chunks) (sym r.is) ∙ is in
     let next_part = parts_first key s.chunks c d (whole_piece held n buf now next r size d end) in
@@ -425,7 +423,7 @@ saves_write key max s held n buf y from now next old mid new before after o r si
     let first : take s.chunks (parts key 0 (pieces ((o.given ++ r.given) ++ d))) ≡ o.front =
     ap (take s.chunks) all ∙ take_at o.front (y ∷ more) s.chunks (omega (arith, o.chunks)) in (
       s.chunks,
-      done_part old mid new _ (y.text ++ salvaged more) y.text (salvaged more)
+      done_part new y.text (salvaged more)
           (record { prefix = salvaged o.front; took = o.written; is = text }) refl part,
       subst (λ x. Reports (told before after) (losses 0 0 x)) (sym first) o.reported,
     ))
@@ -446,8 +444,8 @@ after_part front y s old mid new before now after bytes chunks put more said one
 )
 
 -- the last piece was saved
-pub saves_last : (key : Bytes) (max : ℕ) (s t : Salvaged) (held : Bytes) (n : ℕ) (buf : Bytes) (y : Part)
-    (from now next : Seen) (old mid new : Known) (before said after : KnownLosses) (len : ℕ)
+pub saves_last : {key : Bytes} {max : ℕ} {s t : Salvaged} {held : Bytes} {n : ℕ} {buf : Bytes} {y : Part}
+    {from now next : Seen} {old mid : Known} (new : Known) {before said : KnownLosses} (after : KnownLosses) {len : ℕ}
     → Salvaging key s held from now old mid before said → (r : ReadsAhead held n buf (flow now next))
     → length buf ≡ 65553 → n ≤ 65552 → s.chunks < max → length y.text ≡ len
     → first_part key s.chunks (take n buf) ≡ y → Appends mid new y.text
@@ -455,7 +453,8 @@ pub saves_last : (key : Bytes) (max : ℕ) (s t : Salvaged) (held : Bytes) (n : 
     → t ≡ with_part s len y.saved
     → OfGiven (flow from next)
     (λ rest. SavesParts max (parts key 0 (pieces rest)) (moved old new) (told before after) (Ok t))
-saves_last key max s t held n buf y from now next old mid new before said after len o r size low within wide is put
+saves_last {key} {max} {s} {t} {held} {n} {buf} {y} {from} {now} {next} {old} {mid} new {before} {said} after
+    {len} o r size low within wide is put
     lost sum =
     let one : Reports (told said after)
     (loss y.saved (record { chunk = s.chunks; start = s.bytes; len = length y.text })) = subst
@@ -470,8 +469,7 @@ saves_last key max s t held n buf y from now next old mid new before said after 
     let w = after_part o.front y s old mid new before said after o.bytes o.chunks o.written put o.reported one in
     let whole : take (length (o.front ++ y ∷ [])) (o.front ++ y ∷ []) ≡ o.front ++ y ∷ [] =
     take_all (length (o.front ++ y ∷ [])) (o.front ++ y ∷ []) (omega arith) in
-    of_ended from next (o.given ++ r.given) _ (gave_then from now next o.given r.given o.gave r.gave)
-    (r.end (omega arith))
+    of_ended (gave_then o.gave r.gave) (r.end (omega arith))
     (subst (λ ps. SavesParts max ps (moved old new) (told before after) (Ok t)) (sym all) (
       omega (arith, o.chunks, within),
       (
@@ -482,15 +480,16 @@ saves_last key max s t held n buf y from now next old mid new before said after 
     ))
 
 -- a piece with more after it was saved
-pub salvaging_more : (key : Bytes) (s t : Salvaged) (held ahead : Bytes) (n : ℕ) (buf : Bytes) (y : Part)
-    (from now next : Seen) (old mid new : Known) (before said after : KnownLosses) (len : ℕ)
+pub salvaging_more : {key : Bytes} {s t : Salvaged} {held ahead : Bytes} {n : ℕ} {buf : Bytes} {y : Part}
+    {from now next : Seen} {old mid new : Known} {before said after : KnownLosses} {len : ℕ}
     → Salvaging key s held from now old mid before said → (r : ReadsAhead held n buf (flow now next))
     → length buf ≡ 65553 → 65552 < n → len ≡ 65536 → length y.text ≡ len
     → first_part key s.chunks (take n buf) ≡ y → Appends mid new y.text
     → Reports (told said after) (loss y.saved (record { chunk = s.chunks; start = s.bytes; len = len }))
     → t ≡ with_part s len y.saved → ahead ≡ drop 65552 buf
     → Salvaging key t ahead from next old new before after
-salvaging_more key s t held ahead n buf y from now next old mid new before said after len o r size high whole wide is
+salvaging_more {key} {s} {t} {held} {ahead} {n} {buf} {y} {from} {now} {next} {old} {mid} {new} {before} {said} {after}
+    {len} o r size high whole wide is
     put loses counts rest =
     let one : Reports (told said after)
     (loss y.saved (record { chunk = s.chunks; start = s.bytes; len = length y.text })) = subst
@@ -514,7 +513,7 @@ salvaging_more key s t held ahead n buf y from now next old mid new before said 
     record {
       front = o.front ++ y ∷ [];
       given = o.given ++ r.given;
-      gave = gave_then from now next o.given r.given o.gave r.gave;
+      gave = gave_then o.gave r.gave;
       reads = λ d. ap (λ t. parts key 0 (pieces t)) (append_assoc o.given r.given d) ∙ o.reads (r.given ++ d)
           ∙ ap (λ t. o.front ++ parts key s.chunks (pieces t)) (sym (append_assoc held r.given d))
           ∙ ap (λ t. o.front ++ t) (parts_next key s.chunks c d (omega arith))
@@ -541,19 +540,19 @@ salvaging_more key s t held ahead n buf y from now next old mid new before said 
 -- ---- a payload
 
 -- the nonce is cut short, or was not read
-pub nonce_salvages : (k : FileKey) (max : ℕ) (from mid : Seen) (old : Known) (lost : KnownLosses) (fault : StreamFault)
+pub nonce_salvages : (k : FileKey) (max : ℕ) {from mid : Seen} (old : Known) (lost : KnownLosses) (fault : StreamFault)
     → GivesNonce (flow from mid) (Err fault)
     → Salvages k max (flow from mid) (moved old old) (told lost lost) (Err fault)
-nonce_salvages k max from mid old lost Read h =
-    of_any from mid _ h (λ c. (0, (Appends-nil old, reports_none lost)))
-nonce_salvages k max from mid old lost NonceTruncated h =
-    of_map from mid _ _ h.1 (λ c less. (less, (Appends-nil old, reports_none lost)))
-nonce_salvages k max from mid old lost (ChunkShort i) h = absurd (cc)
-nonce_salvages k max from mid old lost (EmptyFinal i) h = absurd (cc)
-nonce_salvages k max from mid old lost (BadChunk i) h = absurd (cc)
-nonce_salvages k max from mid old lost TooManyChunks h = absurd (cc)
-nonce_salvages k max from mid old lost Write h = absurd (cc)
-nonce_salvages k max from mid old lost Memory h = absurd (cc)
+nonce_salvages k max {from} {mid} old lost Read h =
+    of_any h (λ c. (0, (Appends-nil old, reports_none lost)))
+nonce_salvages k max {from} {mid} old lost NonceTruncated h =
+    of_map h.1 (λ c less. (less, (Appends-nil old, reports_none lost)))
+nonce_salvages k max {from} {mid} old lost (ChunkShort i) h = absurd (cc)
+nonce_salvages k max {from} {mid} old lost (EmptyFinal i) h = absurd (cc)
+nonce_salvages k max {from} {mid} old lost (BadChunk i) h = absurd (cc)
+nonce_salvages k max {from} {mid} old lost TooManyChunks h = absurd (cc)
+nonce_salvages k max {from} {mid} old lost Write h = absurd (cc)
+nonce_salvages k max {from} {mid} old lost Memory h = absurd (cc)
 
 -- what was read with the nonce
 with_nonce : (max : ℕ) (nonce : Bytes) (from mid to : Seen) (old new : Known) (fault : StreamFault)
@@ -569,14 +568,15 @@ with_nonce max nonce from mid to old new fault gave size e =
       gave = (all.0, all.1, omega (arith, all.2));
     }
 
-pub payload_ends : (max : ℕ) (nonce : Bytes) (from mid to : Seen) (old new : Known) (r : Result Salvaged StreamFault)
+pub payload_ends : (max : ℕ) {nonce : Bytes} {from mid : Seen} (to : Seen) (old new : Known)
+    (r : Result Salvaged StreamFault)
     → Gave (flow from mid) nonce → length nonce ≡ 16
     → IfErr r (λ f. (f ≡ Read) ⊎ EndsAt max 0 (flow mid to) (moved old new) f)
     → IfErr r (EndsSaving max (flow from to) (moved old new))
-payload_ends max nonce from mid to old new (Ok s) gave size h = tt
-payload_ends max nonce from mid to old new (Err fault) gave size (inl e) =
+payload_ends max {nonce} {from} {mid} to old new (Ok s) gave size h = tt
+payload_ends max {nonce} {from} {mid} to old new (Err fault) gave size (inl e) =
     subst (EndsSaving max (flow from to) (moved old new)) (sym e) tt
-payload_ends max nonce from mid to old new (Err fault) gave size (inr e) =
+payload_ends max {nonce} {from} {mid} to old new (Err fault) gave size (inr e) =
     saving fault (with_nonce max nonce from mid to old new fault gave size e)
   where
     saving : (f : StreamFault) → EndsAt max 16 (flow from to) (moved old new) f
@@ -598,13 +598,13 @@ nonce_ends max from mid old TooManyChunks h = absurd (cc)
 nonce_ends max from mid old Write h = absurd (cc)
 
 -- the nonce, then the pieces
-pub payload_salvages : (k : FileKey) (max : ℕ) (nonce key : Bytes) (from mid to : Seen) (old new : Known)
+pub payload_salvages : (k : FileKey) (max : ℕ) {nonce key : Bytes} {from mid to : Seen} (old new : Known)
     (before after : KnownLosses) (r : Result Salvaged StreamFault) → Gave (flow from mid) nonce → length nonce ≡ 16
     → key ≡ payload_key k nonce
     → OfGiven (flow mid to) (λ rest. SavesParts max (parts key 0 (pieces rest)) (moved old new) (told before after) r)
     → Salvages k max (flow from to) (moved old new) (told before after) r
-payload_salvages k max nonce key from mid to old new before after r gave size is h =
-    of_then from mid to nonce _ _ gave h (λ c s.
+payload_salvages k max {nonce} {key} {from} {mid} {to} old new before after r gave size is h =
+    of_then gave h (λ c s.
     let l : length (nonce ++ c) ≡ length nonce + length c = length-append nonce c in
     let front : take 16 (nonce ++ c) ≡ nonce = take_at nonce c 16 size in
     let back : drop 16 (nonce ++ c) ≡ c = drop_at nonce c 16 size in

@@ -31,8 +31,8 @@ chunks_full key i held text some full =
     ∙ ap (λ b. sealed key (chunk_nonce i b) [] held ∷ sealed_from key (i + 1) (cut chunk_size text))
     (is_end_cut chunk_size [] text)
 
-pub fed_none : (key : Bytes) (i : ℕ) (held : Bytes) (a : Known) → Fed key i i held [] held (moved a a)
-fed_none key i held a = record {
+pub fed_none : {key : Bytes} {i : ℕ} {held : Bytes} {a : Known} → Fed key i i held [] held (moved a a)
+fed_none {a} = record {
   gone = [];
   count = omega arith;
   size = refl;
@@ -144,8 +144,7 @@ pub stopped_read : (key : Bytes) (max i j : ℕ) (held text : Bytes) {now : Byte
     → Gave (flow from mid) text → GaveSome (flow mid to)
     → Fed key i j held text now (moved a b) → Stopped key max i j held (flow from to) (moved a b) Read
 stopped_read key max i j held text {now} {from} {mid} {to} {a} {b} took lost f = record {
-  stops = of_then from mid to text _ _ took (of_any mid to
-      (λ d. WritesPart (moved a b) (concat (sealed_after key i held (text ++ d)))) lost (λ d. done_part a b b _ _ [] _
+  stops = of_then took (of_any lost (λ d. done_part b [] _
       (done_fed key i j held text now (text ++ d) (sealed_after key j now d) a b f (f.chunks d)) refl
       (0, Appends-nil b)))
       (λ d part. part);
@@ -159,7 +158,7 @@ gave_full : (key : Bytes) (i j : ℕ) (held text now piece full next : Bytes) (f
     → GaveAtMost (chunk_size * (j + 1 - i) + 1 - length held) (flow from to)
 gave_full key i j held text now piece full next from mid to a b h f took more = (
   text ++ piece,
-  gave_then from mid to text piece took more,
+  gave_then took more,
   omega (arith, length-append text piece, f.bytes, f.count, piece_has_len now piece full next h),
 )
 
@@ -171,12 +170,12 @@ pub stopped_write : (key : Bytes) (max i j : ℕ) (held text now piece full next
     → WritesPart (moved b c) (sealed key (chunk_nonce j false) [] full)
     → Stopped key max i j held (flow from to) (moved a c) Write
 stopped_write key max i j held text now piece full next from mid to a b c h took more f part = record {
-  stops = of_more from to (text ++ piece) _ (gave_then from mid to text piece took more) (λ d end.
+  stops = of_more (gave_then took more) (λ d end.
       let chunk : Bytes = sealed key (chunk_nonce j false) [] full in
       let rest : List Bytes = sealed_after key (j + 1) next d in
       let done = done_fed key i j held text now ((text ++ piece) ++ d) (chunk ∷ rest) a b f
       (chunks_after key i j held text now piece full next d a b h f) in
-      done_part a b c _ _ chunk (concat rest) done refl part);
+      done_part c chunk (concat rest) done refl part);
   wrote = wrote_fed key i j held text now (take part.0 (sealed key (chunk_nonce j false) [] full)) a b c f part.1;
   gave = inr (gave_full key i j held text now piece full next from mid to a b h f took more);
 }
@@ -192,7 +191,7 @@ stopped_many key max i j held text now piece full next from mid to a b c h withi
     subst (λ t. Appends a c t) (append-nil (concat f.gone))
     (Appends-trans a b c (concat f.gone) [] f.written none) in
     record {
-      stops = of_more from to (text ++ piece) _ (gave_then from mid to text piece took more) (λ d end.
+      stops = of_more (gave_then took more) (λ d end.
           let all : Bytes = (text ++ piece) ++ d in
           let chunk : Bytes = sealed key (chunk_nonce j false) [] full in
           let rest : List Bytes = sealed_after key (j + 1) next d in
@@ -218,8 +217,8 @@ pub fed_end : (key : Bytes) (i j : ℕ) (held text now piece : Bytes) {from mid 
     → Fed key i j held text now (moved a b) → IsFed key i j held (now ++ piece) (flow from to) (moved a b)
 fed_end key i j held text now piece {from} {mid} {to} {a} {b} fits took more end f = record {
   text = text ++ piece;
-  took = gave_then from mid to text piece took more;
-  all = gave_all from.to_come to.to_come (text ++ piece) (gave_then from mid to text piece took more).consumes end;
+  took = gave_then took more;
+  all = gave_all from.to_come to.to_come (text ++ piece) (gave_then took more).consumes end;
   fed = fed_held key i j held text now piece a b fits f;
 }
 
@@ -255,9 +254,9 @@ full_is held n bytes filled low high le size full_size f =
       fits = omega (arith, length-take-le held bytes (omega arith));
     }
 
-pub first_set : (xs : Bytes) (v : ℕ) → 0 < length xs → take 1 (slice_set xs 0 v) ≡ v ∷ []
-first_set [] v some = absurd (omega arith)
-first_set (x ∷ xs) v some = refl
+pub first_set : (xs : Bytes) {v : ℕ} → 0 < length xs → take 1 (slice_set xs 0 v) ≡ v ∷ []
+first_set [] some = absurd (omega arith)
+first_set (x ∷ xs) some = refl
 
 pub one_taken : (xs : Bytes) (k : ℕ) → k < length xs → take 1 (drop k xs) ≡ slice_index_or xs k 0 ∷ []
 one_taken [] k lt = absurd (omega arith)
@@ -357,7 +356,7 @@ seals_ok s t u from to a b c done none takes finishes =
     let count : s.index + length (cut_into chunk_size s.held fed.text) ≡ t.index + 1 =
     count_all s.key s.index t.index s.held fed.text t.held a b fed.fed in
     let fits : t.index < s.max_chunks = subst (λ m. t.index < m) h.1 h.2.2 in
-    of_ended from to fed.text _ fed.took h.2.4 (
+    of_ended fed.took h.2.4 (
       subst (Appends a c) (sym (answer_all s.key s.index t.index s.held fed.text t.held a b fed.fed))
           (Appends-trans a b c (concat fed.fed.gone) _ fed.fed.written last),
       omega (arith, count, fits),
@@ -380,8 +379,8 @@ seals_last s t u from to a b c fault none takes finishes =
     fed.fed (chunks_all s.key s.index t.index s.held fed.text t.held a b fed.fed) in (
       t.index,
       subst (Stopped s.key s.max_chunks s.index t.index s.held (flow from to) (moved a c)) (sym e.0) (record {
-        stops = of_ended from to fed.text _ fed.took h.2.4
-            (done_part a b c _ _ (concat (sealed_after s.key t.index t.held [])) [] done (sym (append-nil _)) part);
+        stops = of_ended fed.took h.2.4
+            (done_part c (concat (sealed_after s.key t.index t.held [])) [] done (sym (append-nil _)) part);
         wrote = wrote_fed s.key s.index t.index s.held fed.text t.held
             (take part.0 (concat (sealed_after s.key t.index t.held []))) a b c fed.fed part.1;
         gave = inr (fed.text, fed.took, omega (arith, fed.fed.bytes, fed.fed.count, h.2.1));
@@ -432,7 +431,7 @@ filled_seals key max t more from mid to a c r (x, took, is, fits, full, ended) s
     go : (q : Result StreamDone StreamFault)
         → SealsAll (record (at_start key max) { held = x }) (flow mid to) (moved a c) q
         → SealsAll (at_start key max) (flow from to) (moved a c) q
-    go (Ok done) h = of_then from mid to x _ _ took h (λ text q.
+    go (Ok done) h = of_then took h (λ text q.
         let same : cut_into chunk_size [] (x ++ text) ≡ cut_into chunk_size x text = cut_held x text le in (
           subst (λ cs. Appends a c (concat (sealed_from key 0 cs))) (sym same) q.0,
           subst (λ (cs : List Bytes). 0 + length cs ≤ max) (sym same) q.1,
@@ -442,7 +441,7 @@ filled_seals key max t more from mid to a c r (x, took, is, fits, full, ended) s
     go (Err fault) (j, s) = (
       j,
       record {
-        stops = of_then from mid to x _ _ took s.stops (λ text h. stops text fault h);
+        stops = of_then took s.stops (λ text h. stops text fault h);
         wrote = s.wrote;
         gave = gave s.gave;
       },
@@ -464,7 +463,7 @@ filled_seals key max t more from mid to a c r (x, took, is, fits, full, ended) s
         gave (inl e) = inl e
         gave (inr g) = inr (
           x ++ g.0,
-          gave_then from mid to x g.0 took g.1,
+          gave_then took g.1,
           omega (arith, length-append x g.0, g.2, le),
         )
 
@@ -484,7 +483,7 @@ filled_finishes key max t from mid to a c r some (x, took, is, fits, full, ended
 
     go : (q : Result StreamDone StreamFault) → FinishesBy (record (at_start key max) { held = x }) (moved a c) q
         → SealsAll (at_start key max) (flow from to) (moved a c) q
-    go (Ok done) (put, bytes, count) = of_still from mid to (of_ended from mid x _ took (ended refl) (
+    go (Ok done) (put, bytes, count) = of_still from mid to (of_ended took (ended refl) (
       subst (λ cs. Appends a c (concat (sealed_from key 0 cs))) (sym same) put,
       subst (λ (cs : List Bytes). 0 + length cs ≤ max) (sym same) (omega (arith, some)),
       omega (arith, bytes),
@@ -493,10 +492,10 @@ filled_finishes key max t from mid to a c r some (x, took, is, fits, full, ended
     go (Err fault) (write, part) = (
       0,
       record {
-        stops = of_still from mid to (of_ended from mid x _ took (ended refl)
+        stops = of_still from mid to (of_ended took (ended refl)
             (subst (λ f. StopsIn key max 0 [] x (moved a c) f) (sym write)
             (subst (λ cs. WritesPart (moved a c) (concat (sealed_from key 0 cs))) (sym same) part))) still.grew;
         wrote = (_, part.1, omega arith);
-        gave = inr (x ++ [], gave_then from mid to x [] took still, omega (arith, le, length-append x []));
+        gave = inr (x ++ [], gave_then took still, omega (arith, le, length-append x []));
       },
     )

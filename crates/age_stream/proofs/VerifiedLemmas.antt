@@ -31,10 +31,10 @@ verified_text gave s layout i text same at is keeps =
     subst (λ l. IsVerified gave l i text) same (subst (IsVerified gave s.layout i) (sym is) (keeps i at))
 
 -- the last chunk is kept
-pub keeps_last : (gave : ℕ → ℕ → Type 0) (layout : Layout) (opened : ℕ) (items new : Bytes) → items ≡ new
+pub keeps_last : {gave : ℕ → ℕ → Type 0} {layout : Layout} (opened : ℕ) {items new : Bytes} → items ≡ new
     → IsVerified gave layout (layout.count - 1) (take (chunk_len layout.plain (layout.count - 1)) new)
     → KeepsVerified gave (record { layout = layout; index = Some (layout.count - 1); buf = items; opened = opened })
-keeps_last gave layout opened items new same v i e =
+keeps_last {gave} {layout} opened {new} same v i e =
     let at : layout.count - 1 ≡ i = cc in
     subst (λ b. IsVerified gave layout i (take (chunk_len layout.plain i) b)) (sym same)
     (subst (λ j. IsVerified gave layout j (take (chunk_len layout.plain j) new)) at v)

@@ -147,7 +147,7 @@ opened_none s {from} {old} none = record {
   bound = omega arith;
   full = full s.held;
   given = [];
-  gave = gave_none from;
+  gave = gave_none;
   size = size s.held;
   ended = ended s.held;
   reads = λ d fits. (refl, refl);
@@ -193,12 +193,13 @@ at_some : (P : Bytes → Type 0) (held : Known) (h : Bytes) → held ≡ Some h 
 at_some P held h is p = subst (λ (x : Known). IfSome x P) is p
 
 -- one piece more
-step_reads : (key : Bytes) (max i : ℕ) (held left : Known) (h c text front : Bytes) (all : Reading StreamFault)
+step_reads : (key : Bytes) (max i : ℕ) {held : Known} (left : Known) {h : Bytes} (c text front : Bytes)
+    {all : Reading StreamFault}
     → held ≡ Some h
     → OpensNext key max i (left_of held c) left text (Ok true)
     → all ≡ before front (reading_left key max i (left_of held c))
     → all ≡ before (front ++ text) (reading_left key max (i + 1) left)
-step_reads key max i held left h c text front all is opens so =
+step_reads key max i left {h} c text front is opens so =
     let o : OpensNext key max i (Some (h ++ c)) left text (Ok true) =
     subst (λ (x : Known). OpensNext key max i (left_of x c) left text (Ok true)) is opens in
     let first = first_ok key max i (h ++ c) text left o.1 o.2 in
@@ -257,14 +258,14 @@ next_reads s t u n from now next old new o adv d fits =
     ≡ before (o.front ++ u.text) (reading_left s.key s.max_chunks (t.index + 1) (left_of u.held d)))
     × (s.index + length (pieces_left (left_of s.held z)) ≡ t.index + 1 + length (pieces_left (left_of u.held d))))
     (sym (append_assoc o.given g d)) (
-      step_reads s.key s.max_chunks t.index t.held (left_of u.held d) h.0 (g ++ d) u.text o.front _ h.1 opens past.0,
+      step_reads s.key s.max_chunks t.index (left_of u.held d) (g ++ d) u.text o.front h.1 opens past.0,
       omega (arith, past.1, more),
     )
 
 gave_all : (s t u : OpenerState) (n : ℕ) (from now next : Seen) (old new : Known) (r : Result Bool StreamFault)
     (o : Opened s t n from now old new) (adv : Advances t u (flow now next) r)
     → Gave (flow from next) (o.given ++ adv.given)
-gave_all s t u n from now next old new r o adv = gave_then from now next o.given adv.given o.gave adv.gave
+gave_all s t u n from now next old new r o adv = gave_then o.gave adv.gave
 
 gave_len : (s t u : OpenerState) (n : ℕ) (from now next : Seen) (old new : Known) (r : Result Bool StreamFault)
     (o : Opened s t n from now old new) (adv : Advances t u (flow now next) r) → (r ≡ Ok false → ⊥)
@@ -417,8 +418,7 @@ writes_done {s} {t} u {n} {from} {now} {next} {a} {b} done o adv bytes chunks = 
         absurd (false_not_true some.0)
     go None is =
         let none : adv.given ≡ [] = subst (λ (x : Known). IsFilled x adv.given next.to_come) is adv.filled in
-        of_still from now next (of_more from now o.given _ o.gave (writes is))
-        (subst (λ x. Grew (flow now next) x) none adv.gave.grew)
+        of_still from now next (of_more o.gave (writes is)) (subst (λ x. Grew (flow now next) x) none adv.gave.grew)
 
 -- a prefix of a reading was written
 part_of : {all : Reading StreamFault} (rest : Reading StreamFault) (front part : Bytes) (a b c : Known)
@@ -426,7 +426,7 @@ part_of : {all : Reading StreamFault} (rest : Reading StreamFault) (front part :
     → Appends a b front → (more : Bytes) → rest.front ≡ part ++ more → WritesPart (moved b c) part
     → WritesPart (moved a c) all.front
 part_of {all} rest front part a b c is put more cut wrote =
-    done_part a b c all.front rest.front part more
+    done_part c part more
     (record { prefix = front; took = put; is = ap (λ (r : Reading StreamFault). r.front) is }) cut wrote
 
 -- a read failed
@@ -444,9 +444,7 @@ writes_read s t n from now next a b o lost = go t.held refl
     go : (held : Known) → t.held ≡ held → WritesAll s (flow from next) (moved a b) (Err Read)
     go None is = absurd (subst (λ (x : Known). Loses x (flow now next)) is lost)
     go (Some h) is =
-        of_then from now next o.given _ _ o.gave
-        (of_any now next
-        (λ d. WritesPart (moved a b) (reading_left s.key s.max_chunks s.index (left_of s.held (o.given ++ d))).front)
+        of_then o.gave (of_any
         (subst (λ (x : Known). Loses x (flow now next)) is lost) (begins h is)) (λ d part. part)
 
 -- a write failed
@@ -455,7 +453,7 @@ pub writes_write : {s t : OpenerState} (u : OpenerState) {n : ℕ} {from now nex
     → Advances t u (flow now next) (Ok true) → WritesPart (moved b c) u.text
     → WritesAll s (flow from next) (moved a c) (Err Write)
 writes_write {s} {t} u {n} {from} {now} {next} {a} {b} c o adv part =
-    of_more from next (o.given ++ adv.given) _ (gave_all s t u n from now next a b (Ok true) o adv) (λ d end.
+    of_more (gave_all s t u n from now next a b (Ok true) o adv) (λ d end.
     let past = next_reads s t u n from now next a b o adv d (none_map u.held end (ended_next t u now next adv)) in
     let rest = reading_left s.key s.max_chunks (t.index + 1) (left_of u.held d) in
     let all = past.0 ∙ ap (λ f. record { front = f; fault = rest.fault }) (append_assoc o.front u.text rest.front) in
@@ -499,7 +497,7 @@ writes_stop s t u n from now next a b fault o adv =
     under t s.key s.max_chunks (Some (h.0 ++ g)) u.held u.text (Err fault) o.key o.max_chunks
     (subst (λ (x : Known). OpensNext t.key t.max_chunks t.index (left_of x g) u.held u.text (Err fault)) h.1 adv.opens)
     in
-    of_more from next (o.given ++ g) _ (gave_all s t u n from now next a b (Err fault) o adv) (λ d end.
+    of_more (gave_all s t u n from now next a b (Err fault) o adv) (λ d end.
     let past = o.reads (g ++ d) (some_fits (g ++ d ≡ []) t.held h.0 h.1) in
     let same : o.given ++ (g ++ d) ≡ (o.given ++ g) ++ d = sym (append_assoc o.given g d) in
     let stop = stops-on h.0 g d (at-end h.0 g d filled.1 end) met in

@@ -84,8 +84,7 @@ sliced_of : (laws : SlicedLaws) (limits : Bounds) (answers : Answering) (b p : B
 sliced_of laws limits answers b p s given given2 v r =
     let n : ℕ = length r.found.text in
     let reads : payload_reading r.key limits.max_chunks (drop n b) ≡ whole p =
-    with_file_fault_whole p (payload_reading r.key limits.max_chunks (drop n b))
-    (v.is ∙ ap (judged limits answers b)
+    with_file_fault_whole (v.is ∙ ap (judged limits answers b)
     (headers.one_verdict b limits.max_header v.header (Ok r.found) v.header_verdict r.header)
     ∙ ap (read_under limits (drop n b)) r.chosen) in
     let w = whole_is r.key (drop n b) p limits.max_chunks reads in

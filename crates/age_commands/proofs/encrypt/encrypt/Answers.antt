@@ -19,7 +19,7 @@ returns-in-Ok-new-clause-encrypts g c =
 pub returns-in_default-clause-encrypts : goal.returns-in_default-clause-encrypts
 returns-in_default-clause-encrypts g c =
     record {
-      encrypts = of_any _ _ _ (some_none (seen_by g.S.Source.to_come g.S.Source.gave c.args.input.now)) (λ b. tt);
+      encrypts = of_any (some_none (seen_by g.S.Source.to_come g.S.Source.gave c.args.input.now)) (λ b. tt);
       refused = tt;
       took = tt;
     }
@@ -27,7 +27,7 @@ returns-in_default-clause-encrypts g c =
 pub returns-clause-encrypts : goal.returns-clause-encrypts
 returns-clause-encrypts g c =
     record {
-      encrypts = of_any _ _ _ (some_none (seen_by g.S.Source.to_come g.S.Source.gave c.args.input.now)) (λ b. tt);
+      encrypts = of_any (some_none (seen_by g.S.Source.to_come g.S.Source.gave c.args.input.now)) (λ b. tt);
       refused = tt;
       took = tt;
     }

@@ -9,11 +9,11 @@ returns-in-Err c =
     let answer = c.in_ok-unwrap.ensures ∙ ap (λ k. key_unwraps k c.args.stanzas.now) c.new.ensures in
     let low = c.loop-key-test.true in
     sym (c.in-Err.ensures.decides _) ∙ (sym
-    (decided_step _ _ _ c.in_ok-unwrap.field-0 low (get_or_default _ _ [] _ low) answer) ∙ c.loop-key.invariant)
+    (decided_step _ _ _ low (get_or_default _ _ [] _ low) answer) ∙ c.loop-key.invariant)
 
 pub loop-key-preserved : goal.loop-key-preserved
 loop-key-preserved c =
     let answer = c.in_ok-unwrap.ensures ∙ ap (λ k. key_unwraps k c.args.stanzas.now) c.new.ensures in
     let low = c.loop-key-test.true in
     sym (c.in-Ok.ensures.continues _) ∙ (sym
-    (decided_step _ _ _ c.in_ok-unwrap.field-0 low (get_or_default _ _ [] _ low) answer) ∙ c.loop-key.invariant)
+    (decided_step _ _ _ low (get_or_default _ _ [] _ low) answer) ∙ c.loop-key.invariant)

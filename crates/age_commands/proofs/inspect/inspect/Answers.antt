@@ -23,16 +23,14 @@ returns-in_err-show-clause-inspects g c =
 
 pub returns-in-Bad-clause-inspects : goal.returns-in-Bad-clause-inspects
 returns-in-Bad-clause-inspects g c =
-    shown _ _ _ _ c.in-Ok-check_of.check c.limits_of.ensures
-    (subst (λ r. Inspects c.limits_of.result
+    shown _ _ _ _ c.limits_of.ensures (subst (λ r. Inspects c.limits_of.result
     (flow_by g.S.Source.to_come g.S.Source.gave c.args.input.now c.inspect.new.input) r)
     c.in-Ok.is c.inspect.ensures.verdict)
     c.in-Ok-check_of.ensures c.in_ok-show.ensures.shows (ap checked_result (sym c.in-Bad.is))
 
 pub returns : goal.returns
 returns g c = record {
-  inspects = shown _ _ _ _ c.in-Ok-check_of.check c.limits_of.ensures
-      (subst (λ r. Inspects c.limits_of.result
+  inspects = shown _ _ _ _ c.limits_of.ensures (subst (λ r. Inspects c.limits_of.result
       (flow_by g.S.Source.to_come g.S.Source.gave c.args.input.now c.inspect.new.input) r)
       c.in-Ok.is c.inspect.ensures.verdict)
       c.in-Ok-check_of.ensures c.in_ok-show.ensures.shows (search rules);

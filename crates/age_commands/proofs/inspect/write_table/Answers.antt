@@ -3,8 +3,7 @@ use Rattle.age_commands.proofs.inspect.write_table.Goals as goal
 
 pub returns : goal.returns
 returns g c =
-    tabled c.args.header.now c.args.check _ _ _ _ _ _ c.mac_signs.result c.text_len-len.ensures.0 c.text_len-len.result
-    c.write-2.result
+    tabled c.args.check _ _ _ _ _ _ c.mac_signs.result c.write-2.result
     c.text_len-len.ensures.2 c.mac_signs.ensures c.text_len-len.ensures.1
     (rw c.stanzas.ensures.value at c.in_ok-write.ensures.bytes)
     (rw c.stanzas-2.ensures.value at c.in_ok-write_rows.ensures) c.in_ok-write_all.ensures.bytes

@@ -8,7 +8,7 @@ use Rattle.age_commands.proofs.range.range_by.Goals as goal
 
 pub returns-in-Ok-opened_ranges-clause-known : goal.returns-in-Ok-opened_ranges-clause-known
 returns-in-Ok-opened_ranges-clause-known g c =
-    ranged (λ i. (goal.Identity-dyn g (i.vtable, i.value)).meaning i.value) c.in-Ok.identities.items c.args.identity
+    ranged (λ i. (goal.Identity-dyn g (i.vtable, i.value)).meaning i.value) c.args.identity
     c.args.job.now.at c.args.job.now.len _ _ _ _ _ (search rules)
     c.limits_of.ensures c.in-Ok-opened_ranges.ensures.ranges.0
     (rw c.as_slice.ensures.value at c.in-Ok-opened_ranges.ensures.ranges.1) c.write_range-written.ensures.known
@@ -17,8 +17,8 @@ pub returns-in-Ok-opened_ranges-clause-any : goal.returns-in-Ok-opened_ranges-cl
 returns-in-Ok-opened_ranges-clause-any g c =
     let same = c.into_inner-source.ensures.same_reference ∙ c.write_range-written.ensures.same_reference
     ∙ c.in-Ok-opened_ranges.ensures.same_reference in
-    verified.ranged (λ i. (goal.Identity-dyn g (i.vtable, i.value)).meaning i.value) c.in-Ok.identities.items
-    c.args.identity c.args.job.now.at c.args.job.now.len _ (search rules)
+    verified.ranged (λ i. (goal.Identity-dyn g (i.vtable, i.value)).meaning i.value)
+    c.args.identity _ (search rules)
     c.limits_of.ensures (rw c.as_slice.ensures.value at c.in-Ok-opened_ranges.ensures.ranges.2)
     (subst (λ d. WritesAny (g.D.ReadAt.gave d) c.in-Ok-opened_ranges.reader.chunks c.args.job.now.at c.args.job.now.len
     (moved (g.W.Sink.taken c.args.out.now) (g.W.Sink.taken c.write_range-written.new.out)) c.write_range-written.result)
@@ -28,7 +28,7 @@ returns-in-Ok-opened_ranges-clause-any g c =
 pub returns-clause-known : goal.returns-clause-known
 returns-clause-known g c =
     rw c.fault.ensures.fault
-    (unopened (λ i. (goal.Identity-dyn g (i.vtable, i.value)).meaning i.value) c.in-Ok.identities.items c.args.identity
+    (unopened (λ i. (goal.Identity-dyn g (i.vtable, i.value)).meaning i.value) c.args.identity
     c.args.job.now.at c.args.job.now.len _ _ (search rules)
     c.limits_of.ensures (rw c.as_slice.ensures.value at c.in-Err.ensures.refuses.misses))
 
@@ -40,7 +40,7 @@ returns-clause-any g c =
 pub returns-clause-writes : goal.returns-clause-writes
 returns-clause-writes g c =
     rw c.fault.ensures.fault
-    (verified.opens_unwritten (g.W.Sink.failed c.args.out.now) _ c.in-Err.ensures.refuses.named)
+    (verified.opens_unwritten _ c.in-Err.ensures.refuses.named)
 
 pub returns-in-Ok-opened_ranges-clause-reads : goal.returns-in-Ok-opened_ranges-clause-reads
 returns-in-Ok-opened_ranges-clause-reads g c =

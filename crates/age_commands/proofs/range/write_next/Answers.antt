@@ -9,14 +9,14 @@ returns-in-Err-clause-known g c = λ sound.
 
 pub returns-in-Ok-write_all-clause-known : goal.returns-in-Ok-write_all-clause-known
 returns-in-Ok-write_all-clause-known g c = λ sound.
-    written c.args.at c.in-Ok.n c.read_range.new.buf _ (search rules) (c.in-Ok.ensures.reads.filled.1 sound)
+    written c.read_range.new.buf _ (search rules) (c.in-Ok.ensures.reads.filled.1 sound)
     c.in-Ok-write_all.ensures.text
 
 pub returns-in-Err-write_all-clause-known : goal.returns-in-Err-write_all-clause-known
 returns-in-Err-write_all-clause-known g c = λ sound.
     inr (
       inr refl,
-      written_part c.args.at c.in-Ok.n _ c.read_range.new.buf _ (search rules)
+      written_part _ c.read_range.new.buf _ (search rules)
           (c.in-Ok.ensures.reads.filled.1 sound) (search rules) c.in-Err-write_all.ensures.text.1,
     )
 
@@ -26,12 +26,12 @@ returns-in-Err-clause-any g c = λ keeps.
 
 pub returns-in-Ok-write_all-clause-any : goal.returns-in-Ok-write_all-clause-any
 returns-in-Ok-write_all-clause-any g c = λ keeps.
-    verified.written c.args.at c.in-Ok.n c.read_range.new.buf _ (search rules)
+    verified.written c.read_range.new.buf _ (search rules)
     (c.in-Ok.ensures.reads.verified keeps) c.in-Ok-write_all.ensures.text
 
 pub returns-in-Err-write_all-clause-any : goal.returns-in-Err-write_all-clause-any
 returns-in-Err-write_all-clause-any g c = λ keeps. (
   inr (inr refl),
-  verified.written_part c.args.at c.in-Ok.n _ c.read_range.new.buf _ (search rules)
+  verified.written_part _ c.read_range.new.buf _ (search rules)
       (c.in-Ok.ensures.reads.verified keeps) (search rules) c.in-Err-write_all.ensures.text.1,
 )

@@ -20,16 +20,16 @@ returns-in-Ok-new-3-clause-rewraps g c =
 
 pub returns-in_default-clause-rewraps : goal.returns-in_default-clause-rewraps
 returns-in_default-clause-rewraps g c =
-    of_any _ _ _ (some_none (seen_by g.S.Source.to_come g.S.Source.gave c.args.input.now)) (λ b. tt)
+    of_any (some_none (seen_by g.S.Source.to_come g.S.Source.gave c.args.input.now)) (λ b. tt)
 
 pub returns-in_default-new-clause-rewraps : goal.returns-in_default-new-clause-rewraps
 returns-in_default-new-clause-rewraps g c =
-    of_any _ _ _ (some_none (seen_by g.S.Source.to_come g.S.Source.gave c.args.input.now)) (λ b. tt)
+    of_any (some_none (seen_by g.S.Source.to_come g.S.Source.gave c.args.input.now)) (λ b. tt)
 
 pub returns-in_default-new-2-clause-rewraps : goal.returns-in_default-new-2-clause-rewraps
 returns-in_default-new-2-clause-rewraps g c =
-    of_any _ _ _ (some_none (seen_by g.S.Source.to_come g.S.Source.gave c.args.input.now)) (λ b. tt)
+    of_any (some_none (seen_by g.S.Source.to_come g.S.Source.gave c.args.input.now)) (λ b. tt)
 
 pub returns-in-Err-clause-rewraps : goal.returns-in-Err-clause-rewraps
 returns-in-Err-clause-rewraps g c =
-    of_any _ _ _ (some_none (seen_by g.S.Source.to_come g.S.Source.gave c.args.input.now)) (λ b. tt)
+    of_any (some_none (seen_by g.S.Source.to_come g.S.Source.gave c.args.input.now)) (λ b. tt)

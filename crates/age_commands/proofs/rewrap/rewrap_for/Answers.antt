@@ -15,8 +15,8 @@ returns-clause-rewraps g c =
 
 pub returns-in_default-clause-rewraps : goal.returns-in_default-clause-rewraps
 returns-in_default-clause-rewraps g c =
-    of_any _ _ _ (some_none (seen_by g.S.Source.to_come g.S.Source.gave c.args.input.now)) (λ b. tt)
+    of_any (some_none (seen_by g.S.Source.to_come g.S.Source.gave c.args.input.now)) (λ b. tt)
 
 pub returns-in_default-vec-clause-rewraps : goal.returns-in_default-vec-clause-rewraps
 returns-in_default-vec-clause-rewraps g c =
-    of_any _ _ _ (some_none (seen_by g.S.Source.to_come g.S.Source.gave c.args.input.now)) (λ b. tt)
+    of_any (some_none (seen_by g.S.Source.to_come g.S.Source.gave c.args.input.now)) (λ b. tt)

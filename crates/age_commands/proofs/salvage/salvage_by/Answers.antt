@@ -8,11 +8,11 @@ use Rattle.age_commands.proofs.salvage.salvage_by.Goals as goal
 
 pub returns-in-Ok-clause-salvages : goal.returns-in-Ok-clause-salvages
 returns-in-Ok-clause-salvages g c =
-    salvages_alone (λ i. (goal.Identity-dyn g (i.vtable, i.value)).meaning i.value) c.in-Ok.identities.items
-    c.args.identity _ _ _ _ _ _ _ _ (search rules)
+    salvages_alone (λ i. (goal.Identity-dyn g (i.vtable, i.value)).meaning i.value)
+    c.args.identity _ _ _ _ _ (search rules)
     c.limits_of.ensures (rw c.as_slice.ensures.value at c.salvage.ensures.salvages)
 
 pub returns-clause-salvages : goal.returns-clause-salvages
 returns-clause-salvages g c =
-    of_any _ _ _ (some_none (seen_by g.S.Source.to_come g.S.Source.gave c.args.input.now)) (λ b.
+    of_any (some_none (seen_by g.S.Source.to_come g.S.Source.gave c.args.input.now)) (λ b.
     (Appends-nil (g.W.Sink.taken c.args.out.now), reports_none (g.L.Losses.lost c.args.losses.now)))

@@ -14,9 +14,7 @@ loop-copied-preserved g c = record {
 
 pub returns-in-Ok-false-clause-copies : goal.returns-in-Ok-false-clause-copies
 returns-in-Ok-false-clause-copies g c =
-    copied_all _ (seen_by g.S.Source.to_come g.S.Source.gave c.loop-copied.input)
-    (seen_by g.S.Source.to_come g.S.Source.gave c.copy_piece.new.input)
-    (g.W.Sink.taken c.loop-copied.out) _ c.loop-copied.copied c.in-Ok-false.field-0 c.in-Ok-false.field-0-test
+    copied_all _ _ c.in-Ok-false.field-0 c.in-Ok-false.field-0-test
     c.loop-copied.invariant.copied c.in-Ok-false.ensures.copies
 
 pub returns-in-Err-clause-copies : goal.returns-in-Err-clause-copies

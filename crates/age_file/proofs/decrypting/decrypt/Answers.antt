@@ -6,31 +6,25 @@ use Rattle.age_file.proofs.decrypting.decrypt.Goals as goal
 
 pub returns-in-Err-clause-decrypts : goal.returns-in-Err-clause-decrypts
 returns-in-Err-clause-decrypts g c =
-    inspect_decrypts _ _ (seen_by g.S.Source.to_come g.S.Source.gave c.inspect.new.input) _ c.in-Err.fault
-    c.in-Err.ensures.verdict
+    inspect_decrypts _ _ _ c.in-Err.ensures.verdict
 
 pub returns-in-Err-unlock_header-clause-decrypts : goal.returns-in-Err-unlock_header-clause-decrypts
 returns-in-Err-unlock_header-clause-decrypts g c =
-    locked_decrypts _ _ (seen_by g.S.Source.to_come g.S.Source.gave c.inspect.new.input) _ c.in-Err-unlock_header.fault
-    c.in-Ok.ensures.verdict c.in-Err-unlock_header.ensures.key
+    locked_decrypts _ _ _ c.in-Ok.ensures.verdict c.in-Err-unlock_header.ensures.key
 
 pub returns-in-Ok-copy_to-clause-decrypts : goal.returns-in-Ok-copy_to-clause-decrypts
 returns-in-Ok-copy_to-clause-decrypts g c =
-    payload_decrypts _ _ _ (seen_by g.S.Source.to_come g.S.Source.gave c.inspect.new.input) _ _ _ _
-    c.in-Ok-unlock_header.key _
-    (Ok c.in-Ok-copy_to.done) c.in-Ok.ensures.verdict c.in-Ok-unlock_header.ensures.key
-    c.max_chunks.ensures.value (payload_writes _ c.in-Ok-started.reader.opener (g.W.Sink.taken c.args.out.now)
+    payload_decrypts _ _ _ (Ok c.in-Ok-copy_to.done) c.in-Ok.ensures.verdict c.in-Ok-unlock_header.ensures.key
+    c.max_chunks.ensures.value (payload_writes _ (g.W.Sink.taken c.args.out.now)
     (g.W.Sink.taken c.copy_to.new.out) (Ok c.in-Ok-copy_to.done)
     c.in-Ok-started.ensures.starts.0 (search rules))
 
 pub returns-clause-decrypts : goal.returns-clause-decrypts
 returns-clause-decrypts g c =
     rw c.stream_fault-in-Err-copy_to.ensures
-    (payload_decrypts _ _ _ (seen_by g.S.Source.to_come g.S.Source.gave c.inspect.new.input) _ _ _ _
-    c.in-Ok-unlock_header.key _
-    (Err c.in-Err-copy_to.fault) c.in-Ok.ensures.verdict
+    (payload_decrypts _ _ _ (Err c.in-Err-copy_to.fault) c.in-Ok.ensures.verdict
     c.in-Ok-unlock_header.ensures.key c.max_chunks.ensures.value
-    (payload_writes _ c.in-Ok-started.reader.opener (g.W.Sink.taken c.args.out.now)
+    (payload_writes _ (g.W.Sink.taken c.args.out.now)
     (g.W.Sink.taken c.copy_to.new.out) (Err c.in-Err-copy_to.fault)
     c.in-Ok-started.ensures.starts.0 (search rules)))
 
@@ -39,14 +33,13 @@ returns-clause-took g c =
     rw c.stream_fault-in-Err-copy_to.ensures
     (payload_takes (seen_by g.S.Source.to_come g.S.Source.gave c.inspect.new.input) c.in-Err-copy_to.fault
     c.in-Ok.ensures.verdict
-    (payload_ends _ c.in-Ok-started.reader.opener c.in-Err-copy_to.fault
-    (rw c.max_chunks.ensures.value at c.in-Ok-started.ensures.starts.0)
+    (payload_ends _ (rw c.max_chunks.ensures.value at c.in-Ok-started.ensures.starts.0)
     c.in-Ok-started.ensures.starts.1 (search rules)))
 
 pub returns-in-Err-started-clause-decrypts : goal.returns-in-Err-started-clause-decrypts
 returns-in-Err-started-clause-decrypts g c =
     rw c.stream_fault.ensures (rw c.fault.ensures.fault
-    (missed_decrypts g.S.Source.to_come g.S.Source.gave _ c.inspect.new.input _
-    (g.S.Source.failed c.inspect.new.input) (g.S.Source.failed c.in-Err-started.refused.device.now)
-    c.in-Ok-unlock_header.key c.max_chunks.result c.in-Err-started.refused.fault c.in-Ok.ensures.verdict
+    (missed_decrypts g.S.Source.to_come g.S.Source.gave _ _
+    (g.S.Source.failed c.inspect.new.input)
+    (g.S.Source.failed c.in-Err-started.refused.device.now) c.in-Ok.ensures.verdict
     c.in-Ok-unlock_header.ensures.key c.max_chunks.ensures.value (search rules)))

@@ -18,7 +18,7 @@ returns-in_err-header-clause-encrypts g c =
 
 pub returns-in_default-clause-encrypts : goal.returns-in_default-clause-encrypts
 returns-in_default-clause-encrypts g c =
-    of_any _ _ _ (some_none (seen_by g.S.Source.to_come g.S.Source.gave c.args.plain.now)) (λ plain. tt)
+    of_any (some_none (seen_by g.S.Source.to_come g.S.Source.gave c.args.plain.now)) (λ plain. tt)
 
 pub returns-in-Err-clause-encrypts : goal.returns-in-Err-clause-encrypts
 returns-in-Err-clause-encrypts g c =
@@ -27,7 +27,7 @@ returns-in-Err-clause-encrypts g c =
 pub returns-in_default-write_front-clause-encrypts : goal.returns-in_default-write_front-clause-encrypts
 returns-in_default-write_front-clause-encrypts g c =
     let fills = filled c.new-sealer.ensures c.max_chunks.ensures.value c.in-Ok-fill.ensures.fills in
-    encrypts_begun (gave_some _ _ _ fills.1) c.in_ok-header.ensures.ok c.in_default-write_front.ensures.text
+    encrypts_begun (gave_some fills.1) c.in_ok-header.ensures.ok c.in_default-write_front.ensures.text
 
 pub returns-in_default-write_front-clause-took : goal.returns-in_default-write_front-clause-took
 returns-in_default-write_front-clause-took g c =
@@ -57,5 +57,5 @@ pub returns-clause-took : goal.returns-clause-took
 returns-clause-took g c =
     let fills = filled c.new-sealer.ensures c.max_chunks.ensures.value c.in-Ok-fill.ensures.fills in
     let seals = sealed_filled _ _ _ _ c.max_chunks.ensures.range.chunks_low fills c.in-Err-seal_rest.ensures.seals in
-    rw c.stream_fault.ensures (takes_sealed c.args.fresh.now _ c.in-Err-seal_rest.fault
+    rw c.stream_fault.ensures (takes_sealed c.args.fresh.now _
     c.in_ok-header.ensures.ok c.in-Ok-write_front.ensures.text (search rules) seals)

@@ -6,9 +6,8 @@ loop-recipient-init g c = rw c.new-all.ensures.items tt
 
 pub loop-recipient-preserved : goal.loop-recipient-preserved
 loop-recipient-preserved g c =
-    collects _ _ c.loop-recipient.recipient-index c.in_ok-labels_of.field-0 _ c.loop-recipient-test.true
-    c.recipient-item.is
+    collects _ _ _ c.loop-recipient-test.true c.recipient-item.is
     c.in_ok-labels_of.ensures c.in_ok-push.ensures.items c.loop-recipient.invariant
 
 pub returns : goal.returns
-returns g c = collects_all _ _ c.loop-recipient.recipient-index _ c.loop-recipient-test.false c.loop-recipient.invariant
+returns g c = collects_all _ _ _ c.loop-recipient-test.false c.loop-recipient.invariant

@@ -12,13 +12,12 @@ returns-in-Err-Refused g c =
       ap (λ n. Refused c.loop-i.i n) c.in-Err-Refused.code-is,
       sym c.loop-i.invariant
           ∙ ap (preceded_by c.loop-i.all.items)
-          (gathered_step _ _ _ (Err c.in-Err-Refused.code) c.loop-i-test.true c.index-recipients-i.is
+          (gathered_step _ _ _ c.loop-i-test.true c.index-recipients-i.is
           (refusal c.in-Err-Refused.field-0-is c.in-Err-Refused.ensures)),
     )
 
 pub loop-i-preserved : goal.loop-i-preserved
 loop-i-preserved g c =
     let joined : c.append.new.self.items ≡ c.loop-i.all.items ++ c.in-Ok.stanzas.items = search rules in
-    gathered_more _ _ _ c.loop-i.all.items c.in-Ok.stanzas.items c.append.new.self.items c.loop-i-test.true
-    c.index-recipients-i.is
+    gathered_more _ _ _ c.loop-i.all.items c.loop-i-test.true c.index-recipients-i.is
     c.in-Ok.ensures joined c.loop-i.invariant

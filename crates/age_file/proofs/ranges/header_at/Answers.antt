@@ -20,8 +20,7 @@ returns-in-Ok-clause-first g c =
     (sym c.into_parts-dev.ensures.at)
     (subst (λ d. GaveHeader c.args.limits.now (g.D.ReadAt.gave d) c.inspect.new.input.at c.in-Ok.header)
     (sym c.into_parts-dev.ensures.unchanged)
-    (header_gave (λ s. option_map (drop s.at) (g.D.ReadAt.bytes s.dev)) g.D.ReadAt.gave c.args.limits.now _
-    c.inspect.new.input c.in-Ok.header
+    (header_gave (λ s. option_map (drop s.at) (g.D.ReadAt.bytes s.dev)) g.D.ReadAt.gave
     (ap (λ (s : AtState _). s.at) c.new-source.ensures) c.in-Ok.ensures.verdict))
 
 pub returns-in-Err-clause-misses : goal.returns-in-Err-clause-misses

@@ -36,8 +36,8 @@ returns-in-Ok-started-clause-ranges g c =
     c.args.identities.now) in
     let opens = c.in-Ok-started.ensures.opens in (
       opens.1.stay ∙ c.in-Ok.ensures.stay,
-      file_ranges c.args.limits.now answers (g.D.ReadAt.bytes c.args.dev.now) _ c.in-Ok.found.at
-          c.max_chunks.result c.in-Ok.found.header c.in-Ok-unlock_header.key _ c.in-Ok.ensures.stay
+      file_ranges c.args.limits.now answers
+          (g.D.ReadAt.bytes c.args.dev.now) _ c.in-Ok.found.header _ c.in-Ok.ensures.stay
           c.in-Ok.ensures.given c.max_chunks.ensures.value c.in-Ok.ensures.header
           c.in-Ok-unlock_header.ensures.key opens.0 opens.1,
       file_begins c.args.limits.now answers c.in-Ok.found.at c.in-Ok.found.header

@@ -26,7 +26,7 @@ returns-in-Err-unlock_header-clause-rewraps g c =
     let answers = λ (stanzas : List StanzaParts). map
     (λ i. (goal.Identity-dyn g (i.vtable, i.value)).meaning i.value stanzas) c.args.identities.now in
     locked_rewraps c.args.limits.now answers gathered (g.W.Sink.taken c.args.out.now) c.in-Err-unlock_header.fault
-    (headed _ _ _ _ c.in-Ok.ensures.verdict) c.in-Err-unlock_header.ensures.key
+    (headed _ c.in-Ok.ensures.verdict) c.in-Err-unlock_header.ensures.key
 
 pub returns-in-Err-header_for-clause-rewraps : goal.returns-in-Err-header_for-clause-rewraps
 returns-in-Err-header_for-clause-rewraps g c =
@@ -36,7 +36,7 @@ returns-in-Err-header_for-clause-rewraps g c =
     let answers = λ (stanzas : List StanzaParts). map
     (λ i. (goal.Identity-dyn g (i.vtable, i.value)).meaning i.value stanzas) c.args.identities.now in
     heading_rewraps c.args.limits.now answers gathered (g.W.Sink.taken c.args.out.now) c.in-Ok.header
-    c.in-Ok-unlock_header.key c.in-Err-header_for.fault (headed _ _ _ _ c.in-Ok.ensures.verdict)
+    c.in-Ok-unlock_header.key c.in-Err-header_for.fault (headed _ c.in-Ok.ensures.verdict)
     (key_found answers c.in-Ok.header c.in-Ok-unlock_header.ensures.key) c.in-Err-header_for.ensures.err
 
 pub returns-in_default-write_header-clause-rewraps : goal.returns-in_default-write_header-clause-rewraps
@@ -47,10 +47,9 @@ returns-in_default-write_header-clause-rewraps g c =
     let answers = λ (stanzas : List StanzaParts). map
     (λ i. (goal.Identity-dyn g (i.vtable, i.value)).meaning i.value stanzas) c.args.identities.now in
     let wrote = c.in_default-write_header.ensures.text in
-    begun_rewraps c.args.limits.now answers gathered _ _ c.in-Ok.header c.in-Ok-unlock_header.key wrote.0
-    (headed _ _ _ _ c.in-Ok.ensures.verdict)
+    begun_rewraps gathered _ _ (headed _ c.in-Ok.ensures.verdict)
     (key_found answers c.in-Ok.header c.in-Ok-unlock_header.ensures.key)
-    (made _ _ (gathered c.in-Ok-unlock_header.key) _ _ wrote.0 c.in-Ok-header_for.ensures.ok wrote.1) wrote.2
+    (made c.in-Ok-header_for.ensures.ok wrote.1) wrote.2
 
 pub returns-clause-rewraps : goal.returns-clause-rewraps
 returns-clause-rewraps g c =
@@ -60,12 +59,10 @@ returns-clause-rewraps g c =
     let answers = λ (stanzas : List StanzaParts). map
     (λ i. (goal.Identity-dyn g (i.vtable, i.value)).meaning i.value stanzas) c.args.identities.now in
     let wrote = c.in-Ok-write_header.ensures.text in
-    copied_rewraps c.args.limits.now answers gathered (seen_by g.S.Source.to_come g.S.Source.gave c.inspect.new.input) _
-    (g.W.Sink.taken c.write_header.new.out) _ c.in-Ok.header c.in-Ok-unlock_header.key wrote.0
-    c.copy_all.result (headed _ _ _ _ c.in-Ok.ensures.verdict)
+    copied_rewraps answers gathered _ (g.W.Sink.taken c.write_header.new.out) _
+    c.copy_all.result (headed _ c.in-Ok.ensures.verdict)
     (key_found answers c.in-Ok.header c.in-Ok-unlock_header.ensures.key)
-    (made _ _ (gathered c.in-Ok-unlock_header.key) _ _ wrote.0 c.in-Ok-header_for.ensures.ok wrote.1) wrote.2
-    c.copy_all.ensures.copies
+    (made c.in-Ok-header_for.ensures.ok wrote.1) wrote.2 c.copy_all.ensures.copies
 
 pub returns-clause-quiet : goal.returns-clause-quiet
 returns-clause-quiet g c = copies_late _ _ _ _ c.copy_all.result c.copy_all.ensures.copies

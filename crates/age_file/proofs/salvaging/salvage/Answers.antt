@@ -7,35 +7,29 @@ use Rattle.age_file.proofs.salvaging.salvage.Goals as goal
 
 pub returns-in-Err-clause-salvages : goal.returns-in-Err-clause-salvages
 returns-in-Err-clause-salvages g c =
-    inspect_salvages _ _ _ (seen_by g.S.Source.to_come g.S.Source.gave c.inspect.new.input) _ _ c.in-Err.fault
-    c.in-Err.ensures.verdict
+    inspect_salvages _ _ _ _ c.in-Err.ensures.verdict
 
 pub returns-in-Err-unlock_header-clause-salvages : goal.returns-in-Err-unlock_header-clause-salvages
 returns-in-Err-unlock_header-clause-salvages g c =
-    locked_salvages _ _ _ (seen_by g.S.Source.to_come g.S.Source.gave c.inspect.new.input) _ _ _
-    c.in-Err-unlock_header.fault
-    c.in-Ok.ensures.verdict c.in-Err-unlock_header.ensures.key
+    locked_salvages _ _ _ _ c.in-Ok.ensures.verdict c.in-Err-unlock_header.ensures.key
 
 pub returns-in-Ok-salvage_payload-clause-salvages : goal.returns-in-Ok-salvage_payload-clause-salvages
 returns-in-Ok-salvage_payload-clause-salvages g c =
-    payload_salvages _ _ _ (seen_by g.S.Source.to_come g.S.Source.gave c.inspect.new.input) _ _ _ _ _ _
-    c.in-Ok-unlock_header.key _
+    payload_salvages _ _ _ _ _
     (Ok c.in-Ok-salvage_payload.salvaged) c.in-Ok.ensures.verdict c.in-Ok-unlock_header.ensures.key
     c.max_chunks.ensures.value c.in-Ok-salvage_payload.ensures.salvages
 
 pub returns-clause-salvages : goal.returns-clause-salvages
 returns-clause-salvages g c =
     rw c.stream_fault.ensures
-    (payload_salvages _ _ _ (seen_by g.S.Source.to_come g.S.Source.gave c.inspect.new.input) _ _ _ _ _ _
-    c.in-Ok-unlock_header.key _
+    (payload_salvages _ _ _ _ _
     (Err c.in-Err-salvage_payload.fault) c.in-Ok.ensures.verdict c.in-Ok-unlock_header.ensures.key
     c.max_chunks.ensures.value c.in-Err-salvage_payload.ensures.salvages)
 
 pub returns-clause-took : goal.returns-clause-took
 returns-clause-took g c =
     rw c.stream_fault.ensures
-    (salvage_takes _ _ (seen_by g.S.Source.to_come g.S.Source.gave c.inspect.new.input) _ _ _ _ _
-    c.in-Err-salvage_payload.fault c.in-Ok.ensures.verdict c.max_chunks.ensures.value
+    (salvage_takes _ _ _ c.in-Err-salvage_payload.fault c.in-Ok.ensures.verdict c.max_chunks.ensures.value
     c.in-Err-salvage_payload.ensures.took)
 
 pub returns-clause-quiet : goal.returns-clause-quiet
@@ -47,4 +41,4 @@ pub returns-clause-reads : goal.returns-clause-reads
 returns-clause-reads g c =
     rw c.stream_fault.ensures
     (rw c.in-Ok.ensures.reads at
-    (reads_file _ _ c.in-Err-salvage_payload.fault c.in-Err-salvage_payload.ensures.reads))
+    (reads_file _ c.in-Err-salvage_payload.fault c.in-Err-salvage_payload.ensures.reads))

@@ -13,7 +13,7 @@ returns-in-Ok-clause-some c =
 
 pub returns-in-Err-DecodeError-clause-none : goal.returns-in-Err-DecodeError-clause-none
 returns-in-Err-DecodeError-clause-none c b h =
-    let is = IsBase64-only b c.args.text.now h in
+    let is = IsBase64-only b h in
     let plain = encode_of_unpadded c.args.engine.now b c.requires.unpadded c.requires.characters in
     let read = (c.decode.ensures.strict c.requires.strict b (IsBase64-bytes b c.args.text.now h)).1 (is ∙ sym plain) in
     let failed = rw c.in-Err-DecodeError.field-0-is at c.in-Err-DecodeError.ensures.err in

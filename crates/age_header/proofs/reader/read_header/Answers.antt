@@ -14,7 +14,7 @@ pub lines-init : goal.lines-init
 lines-init g c = record {
   count = c.in_ok-read_version.ensures.count;
   path = rw c.new-progress.ensures
-      (path_start _ _ c.args.max c.in_ok-read_version.ensures.ok.0 c.in_ok-read_version.ensures.ok.1);
+      (path_start c.in_ok-read_version.ensures.ok.0 c.in_ok-read_version.ensures.ok.1);
 }
 
 pub returns-in_err-text-clause-verdict : goal.returns-in_err-text-clause-verdict
@@ -25,27 +25,25 @@ returns-in_err-text-clause-verdict g c =
 
 pub returns-in-Err-clause-verdict : goal.returns-in-Err-clause-verdict
 returns-in-Err-clause-verdict g c =
-    of_any _ _ _ (some_then c.lines.invariant.path.read (gave_some _ _ _ c.in_ok-text.ensures.bytes)) (λ b. tt)
+    of_any (some_then c.lines.invariant.path.read (gave_some c.in_ok-text.ensures.bytes)) (λ b. tt)
 
 pub returns-in-Err-step-clause-verdict : goal.returns-in-Err-step-clause-verdict
 returns-in-Err-step-clause-verdict g c =
-    of_any _ _ _ (some_then c.lines.invariant.path.read (gave_some _ _ _ c.in_ok-text.ensures.bytes)) (λ b. tt)
+    of_any (some_then c.lines.invariant.path.read (gave_some c.in_ok-text.ensures.bytes)) (λ b. tt)
 
 pub returns-in-Input-clause-verdict : goal.returns-in-Input-clause-verdict
 returns-in-Input-clause-verdict g c =
     let text : Bytes = c.in_ok-text.text.items in
     let bytes = rw c.in-Input.is at c.in_ok-text.ensures.bytes in
     let end = rw c.in-Input.is at c.in_ok-text.ensures.end in
-    path_truncated _ _ _ c.args.max c.lines.room c.lines.lines c.lines.progress text c.lines.invariant.path bytes
-    c.in_ok-text.ensures.text end
+    path_truncated c.lines.invariant.path bytes c.in_ok-text.ensures.text end
 
 pub returns-in-Room-clause-verdict : goal.returns-in-Room-clause-verdict
 returns-in-Room-clause-verdict g c =
     let text : Bytes = c.in_ok-text.text.items in
     let bytes = rw c.in-Room.is at c.in_ok-text.ensures.bytes in
     let end = rw c.in-Room.is at c.in_ok-text.ensures.end in
-    path_too_large _ _ _ c.args.max c.lines.room c.lines.lines c.lines.progress text c.lines.invariant.path bytes
-    c.in_ok-text.ensures.text end
+    path_too_large c.lines.invariant.path bytes c.in_ok-text.ensures.text end
 
 pub overflow_add-lines : goal.overflow_add-lines
 overflow_add-lines g c =
@@ -60,8 +58,7 @@ returns-in-Ok-Some-clause-verdict g c =
     let end = rw c.in-Ok-Some.field-0-is at c.in-Ok-Some.ensures.some in
     let whole = c.is_whole.ensures.0 c.if-is_whole.true in
     let same : c.finish.result.stanzas ≡ whole.0 = cc (c.finish.ensures.stanzas, whole.2) in
-    path_header _ _ _ c.args.max c.lines.room c.lines.lines c.lines.progress text c.finish.result.stanzas
-    c.finish.result.mac end.0
+    path_header
     c.lines.invariant.path bytes c.in_ok-text.ensures.text low c.finish.ensures.stanzas (λ e. whole.1 (sym same ∙ e))
     (sym c.as_slice.ensures.value ∙ end.2) (subst (λ (x : Bytes). IsBase64 x end.0) (sym c.finish.ensures.mac) end.3)
     (ap length c.finish.ensures.mac ∙ end.1)
@@ -72,8 +69,7 @@ returns-in-Ok-None-step-clause-verdict g c =
     let bytes = rw c.in-Lf.is at c.in_ok-text.ensures.bytes in
     let low = rw c.in-Lf.is at c.in_ok-text.ensures.end in
     let none = rw c.in-Ok-None-step.field-0-is at c.in-Ok-None-step.ensures.none in
-    path_bad _ _ _ c.args.max c.lines.room c.lines.lines c.lines.progress text
-    c.lines.invariant.path bytes c.in_ok-text.ensures.text low
+    path_bad c.lines.invariant.path bytes c.in_ok-text.ensures.text low
     (λ ss mac characters some at n is h. elim c.if-is_whole.branch [
       | then-is_whole+in-Ok-None w ↦
           let end = rw w.in-Ok-None.field-0-is at w.in-Ok-None.ensures.none in
@@ -91,6 +87,5 @@ lines-preserved g c =
     let step = subst (λ (x : Bytes). Step c.lines.progress x c.in-Ok-Some-step.next) c.as_slice-in-lines.ensures.value
     some in
     let size : length text ≡ c.len.result = grind (arith, common_steps) in
-    let more = path_more _ _ _ c.args.max c.lines.room c.lines.lines c.lines.progress c.in-Ok-Some-step.next text
-    c.lines.invariant.path bytes c.in_ok-text.ensures.text low step in
+    let more = path_more text c.lines.invariant.path bytes c.in_ok-text.ensures.text low step in
     record { count = c.in_ok-text.ensures.count ∙ c.lines.invariant.count; path = rw (← size) more }

@@ -17,7 +17,7 @@ unfolding version_text
 returns-in_default-clause-err g c =
     let first : Bytes = c.in_ok-first.first.items in
     let end = rw c.min.ensures at c.in_ok-first.ensures.end in
-    no_prefix _ _ first c.in_ok-first.end c.args.max c.in_ok-first.ensures.bytes c.in_ok-first.ensures.text end
+    no_prefix first c.in_ok-first.end c.args.max c.in_ok-first.ensures.bytes c.in_ok-first.ensures.text end
     (λ x e. c.in_default.ensures x (e ∙ ap (λ (z : Bytes). z ++ x) (sym c.as_slice.ensures.value)))
 
 pub returns-in-Input-clause-err : goal.returns-in-Input-clause-err
@@ -27,7 +27,7 @@ returns-in-Input-clause-err g c =
     let bytes = rw c.in-Input.is at c.in_ok-first.ensures.bytes in
     let end = rw (c.in-Input.is, c.min.ensures) at c.in_ok-first.ensures.end in
     let is = rw c.as_slice.ensures.value at c.in-Some.ensures in
-    short_input _ _ first c.in-Some.rest.now c.args.max bytes c.in_ok-first.ensures.text end is
+    short_input c.in-Some.rest.now bytes c.in_ok-first.ensures.text end is
 
 pub returns-in-Room-clause-err : goal.returns-in-Room-clause-err
 unfolding version_text
@@ -36,7 +36,7 @@ returns-in-Room-clause-err g c =
     let bytes = rw c.in-Room.is at c.in_ok-first.ensures.bytes in
     let end = rw (c.in-Room.is, c.min.ensures) at c.in_ok-first.ensures.end in
     let is = rw c.as_slice.ensures.value at c.in-Some.ensures in
-    short_room _ _ first c.in-Some.rest.now c.args.max bytes c.in_ok-first.ensures.text end is
+    short_room c.in-Some.rest.now bytes c.in_ok-first.ensures.text end is
 
 pub returns-then-not-is_empty-clause-err : goal.returns-then-not-is_empty-clause-err
 unfolding version_text
@@ -45,7 +45,7 @@ returns-then-not-is_empty-clause-err g c =
     let bytes = rw c.in-Lf.is at c.in_ok-first.ensures.bytes in
     let end = rw (c.in-Lf.is, c.min.ensures) at c.in_ok-first.ensures.end in
     let is = rw c.as_slice.ensures.value at c.in-Some.ensures in
-    short_line _ _ first c.in-Some.rest.now c.args.max bytes c.in_ok-first.ensures.text end is
+    short_line first c.args.max bytes c.in_ok-first.ensures.text end is
     (λ e. let n : length c.in-Some.rest.now ≡ 0 = ap length e in grind (arith, common_steps))
 
 pub returns-clause-ok : goal.returns-clause-ok
@@ -55,5 +55,4 @@ returns-clause-ok g c =
     let bytes = rw c.in-Lf.is at c.in_ok-first.ensures.bytes in
     let end = rw (c.in-Lf.is, c.min.ensures) at c.in_ok-first.ensures.end in
     let is = rw c.as_slice.ensures.value at c.in-Some.ensures in
-    version_read _ _ first c.in-Some.rest.now c.args.max bytes end is
-    (nil_from_length c.in-Some.rest.now (grind (arith, common_steps)))
+    version_read first bytes end is (nil_from_length c.in-Some.rest.now (grind (arith, common_steps)))

@@ -8,6 +8,5 @@ returns-clause-text g c =
     let size = encoded_size_plain c.args.engine.now (length c.args.bytes.now) c.requires.plain in
     let len : c.in-Ok.len ≡ encoded_size_of c.args.engine.now (length c.args.bytes.now) =
     cc (c.in-Ok.ensures.fits (omega (arith, c.requires.short))) in
-    let same = encoded c.args.engine.now c.args.bytes.now _ c.encode_slice.new.output c.in-Ok.len c.requires.plain
-    c.in-Ok.ensures.written len in
+    let same = encoded c.args.bytes.now _ c.requires.plain c.in-Ok.ensures.written len in
     rw (← same) c.write_all.ensures.text

@@ -11,7 +11,7 @@ returns-in_err-write_base64-clause-text g c =
     let step = body_step c.loop-rest.rest.now c.split_at.result.0.now c.split_at.result.1.now (omega arith)
     c.split_at.ensures.front c.split_at.ensures.back in
     rw (err_from_is_err_and c.from_residual.result c.from_residual.ensures.1).1
-    (done_part _ _ _ _ _ (base64_of c.split_at.result.0.now) _ c.loop-rest.invariant.written step
+    (done_part _ (base64_of c.split_at.result.0.now) _ c.loop-rest.invariant.written step
     c.in_err-write_base64.ensures.text)
 
 pub returns-in_err-write_all-clause-text : goal.returns-in_err-write_all-clause-text
@@ -20,7 +20,7 @@ returns-in_err-write_all-clause-text g c =
     c.split_at.ensures.front c.split_at.ensures.back in
     let one = done_more _ c.loop-rest.invariant.written step c.in_ok-write_base64.ensures.text in
     rw (err_from_is_err_and c.from_residual-in_err-write_all.result c.from_residual-in_err-write_all.ensures.1).1
-    (done_part _ _ _ _ _ (10 ∷ []) (body_text c.split_at.result.1.now) one refl c.in_err-write_all.ensures.text)
+    (done_part _ (10 ∷ []) (body_text c.split_at.result.1.now) one refl c.in_err-write_all.ensures.text)
 
 pub loop-rest-preserved : goal.loop-rest-preserved
 loop-rest-preserved g c =
@@ -37,11 +37,11 @@ returns-in_err-write_base64-2-clause-text g c =
     let end = body_end c.loop-rest.rest.now (omega arith) in
     rw
     (err_from_is_err_and c.from_residual-in_err-write_base64-2.result c.from_residual-in_err-write_base64-2.ensures.1).1
-    (done_part _ _ _ _ _ (base64_of c.loop-rest.rest.now) (10 ∷ []) c.loop-rest.invariant.written end
+    (done_part _ (base64_of c.loop-rest.rest.now) (10 ∷ []) c.loop-rest.invariant.written end
     c.in_err-write_base64-2.ensures.text)
 
 pub returns-clause-text : goal.returns-clause-text
 returns-clause-text g c =
     let end = body_end c.loop-rest.rest.now (omega arith) in
     let one = done_more _ c.loop-rest.invariant.written end c.in_ok-write_base64-2.ensures.text in
-    writes_last _ c.write_all-2.result _ (10 ∷ []) one c.write_all-2.ensures.text
+    writes_last _ c.write_all-2.result one c.write_all-2.ensures.text

@@ -17,7 +17,7 @@ returns-in_err-write_signed-clause-text g c =
       text,
       head,
       rw (err_from_is_err_and c.from_residual.result c.from_residual.ensures.1).1
-          (done_part _ _ _ text text (signed ss) (mac_end mac) (done_start text) refl failed),
+          (done_part _ (signed ss) (mac_end mac) (done_start text) refl failed),
     )
 
 pub returns-clause-text : goal.returns-clause-text
@@ -29,4 +29,4 @@ returns-clause-text g c =
     let prefix = rw c.stanzas.ensures.value at c.in_ok-write_signed.ensures.text in
     let one = done_more (signed ss) (done_start text) refl prefix in
     let last = rw c.mac.ensures at c.write_mac.ensures.text in
-    (text, head, writes_last _ c.write_mac.result text (mac_end mac) one last)
+    (text, head, writes_last _ c.write_mac.result one last)

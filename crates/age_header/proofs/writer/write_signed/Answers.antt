@@ -14,7 +14,7 @@ returns-in_err-write_all-clause-text g c =
     let ss = c.args.stanzas.now in
     let rest : Bytes = flat_map stanza_text ss ++ codes "---" in
     rw (err_from_is_err_and c.from_residual.result c.from_residual.ensures.1).1
-    (done_part _ _ _ (signed ss) (signed ss) version_line rest (done_start (signed ss))
+    (done_part _ version_line rest (done_start (signed ss))
     (append_assoc version_line (flat_map stanza_text ss) (codes "---")) c.in_err-write_all.ensures.text)
 
 pub loop-stanza-init : goal.loop-stanza-init
@@ -34,7 +34,7 @@ returns-in_err-write_args-clause-text g c =
     let step = stanza_step c.args.stanzas.now c.loop-stanza.stanza-index s c.loop-stanza-test.true c.stanza-item.is in
     let failed = rw c.args-in-loop-stanza.ensures.value at c.in_err-write_args.ensures.text in
     rw (err_from_is_err_and c.from_residual-in_err-write_args.result c.from_residual-in_err-write_args.ensures.1).1
-    (done_part _ _ _ _ _ (argument_line s.args) _ c.loop-stanza.invariant.written step failed)
+    (done_part _ (argument_line s.args) _ c.loop-stanza.invariant.written step failed)
 
 pub returns-in_err-write_body-clause-text : goal.returns-in_err-write_body-clause-text
 returns-in_err-write_body-clause-text g c =
@@ -44,7 +44,7 @@ returns-in_err-write_body-clause-text g c =
     let one = done_more (argument_line s.args) c.loop-stanza.invariant.written step wrote in
     let failed = rw c.body.ensures.value at c.in_err-write_body.ensures.text in
     rw (err_from_is_err_and c.from_residual-in_err-write_body.result c.from_residual-in_err-write_body.ensures.1).1
-    (done_part _ _ _ _ _ (body_text s.body) _ one refl failed)
+    (done_part _ (body_text s.body) _ one refl failed)
 
 pub loop-stanza-preserved : goal.loop-stanza-preserved
 loop-stanza-preserved g c =
@@ -62,4 +62,4 @@ pub returns-clause-text : goal.returns-clause-text
 returns-clause-text g c =
     let none = drop_all c.loop-stanza.stanza-index c.args.stanzas.now c.loop-stanza-test.false in
     let done = rw none at c.loop-stanza.invariant.written in
-    writes_last _ c.write_all-2.result _ (codes "---") done c.write_all-2.ensures.text
+    writes_last _ c.write_all-2.result done c.write_all-2.ensures.text

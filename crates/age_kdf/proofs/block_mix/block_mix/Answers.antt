@@ -27,12 +27,10 @@ pairs-preserved c =
     let two : 2 * i + 2 ≡ 2 * (i + 1) = omega arith in
     record {
       x = second ∙ ap (mixed r b) two;
-      even = evens_next r b c.copy_from_slice-in-pairs.new.self _ i
-          (block_written _ _ (16 * i) _ (16 * (i + 1)) c.pairs.invariant.even (search rules)
+      even = evens_next r b i (block_written _ _ (16 * i) _ c.pairs.invariant.even (search rules)
           (omega arith) (omega (arith, c.pairs.auto.even, c.split_at_mut-even.ensures.front_len)))
           (c.copy_from_slice-in-pairs.ensures.after ∙ first);
-      odd = odds_next r b c.copy_from_slice-in-pairs-2.new.self _ i
-          (block_written _ _ (16 * i) _ (16 * (i + 1)) c.pairs.invariant.odd (search rules)
+      odd = odds_next r b i (block_written _ _ (16 * i) _ c.pairs.invariant.odd (search rules)
           (omega arith) (omega (arith, c.pairs.auto.odd, c.split_at_mut-even.ensures.back_len)))
           (c.copy_from_slice-in-pairs-2.ensures.after ∙ second);
     }

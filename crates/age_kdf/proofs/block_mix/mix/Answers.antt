@@ -8,7 +8,7 @@ pub returns : goal.returns
 returns c =
     let x = c.args.x.now in
     c.salsa8.ensures
-    ∙ ap salsa8 (zipped bit_xor x _ c.words.x 16 c.told-x (length-chunk c.args.at 16 c.args.from.now c.requires)
+    ∙ ap salsa8 (zipped bit_xor x _ c.told-x (length-chunk c.args.at 16 c.args.from.now c.requires)
     c.words.invariant.long
     (λ k h. c.words.invariant.done k (omega arith)
     ∙ ap (bit_xor (get_or x k 0)) (sym (get_or-chunk c.args.at 16 c.args.from.now k 0 h))))

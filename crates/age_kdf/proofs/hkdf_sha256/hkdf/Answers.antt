@@ -18,7 +18,7 @@ each_block-preserved c =
     c.hmac.ensures ∙ ap (hmac c.args.salt.now) (append-nil c.args.ikm.now) in
     let P : Bytes → Type 0 = λ k. IsFed c.new-extracted.result k [] in
     let fed = subst P prk-is c.new-extracted.ensures in
-    let turn = hkdf_next c.put_block.new.out c.tag_with-block.result _ _ c.each_block.i (length c.each_block.out)
+    let turn = hkdf_next c.put_block.new.out _ _ c.each_block.i (length c.each_block.out)
     c.each_block.invariant.last (c.tag_with-block.ensures _ _ fed)
     (c.put_block.ensures _ (length-hkdf_blocks _ _ _) c.each_block.invariant.out) in
     record {

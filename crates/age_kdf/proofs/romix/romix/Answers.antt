@@ -30,8 +30,7 @@ pub look-preserved : goal.look-preserved
 look-preserved c =
     let long : length c.look.x ≡ 32 * c.args.r = c.look.auto.x ∙ c.fill.auto.x ∙ c.requires.x in
     let end : c.fill.i ≡ 2 ^ c.args.log_n = omega (arith, c.row_count-n.ensures.value) in
-    look_turn c.args.r c.args.log_n c.look._turn (length c.look.x) c.row_count-n.result c.args.x.now c.look.x
-    c.xor_row.new.x _ c.fill.table
+    look_turn c.look._turn c.args.x.now c.fill.table
     c.requires.r.0 (omega (arith, c.requires.log_n)) long c.row_count-n.ensures.value c.look.invariant
     (λ j h. c.fill.invariant.table j (rw end h))
     c.xor_row.ensures

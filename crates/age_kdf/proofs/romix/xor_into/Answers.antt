@@ -4,5 +4,5 @@ use Rattle.age_kdf.proofs.romix.xor_into.Goals as goal
 
 pub returns : goal.returns
 returns c =
-    zipped bit_xor c.args.x.now c.args.row.now c.words.x (length c.args.x.now) refl c.requires c.words.auto.x
+    zipped bit_xor c.args.x.now c.args.row.now refl c.requires c.words.auto.x
     (λ j h. c.words.invariant.done j (omega arith))

@@ -2,4 +2,4 @@ use Rattle.age_kdf.proofs.DiagonalLemmas.{columns_spread}
 use Rattle.age_kdf.proofs.salsa.columns.Goals as goal
 
 pub returns : goal.returns
-returns c = columns_spread _ _ _ _ _ _ _ _ c.quarter.ensures
+returns c = search (columns_spread, c.quarter.ensures)

@@ -9,7 +9,7 @@ returns-then-not-go_together c =
 
 pub loop-i-preserved : goal.loop-i-preserved
 loop-i-preserved c =
-    passes_over _ _ c.loop-i.i c.loop-i-test.true c.index-others-i.is
+    passes_over _ _ c.loop-i-test.true c.index-others-i.is
     (sym c.go_together.ensures ∙ c.if-not-go_together.false) c.loop-i.invariant
 
 pub returns : goal.returns

@@ -87,6 +87,5 @@ returns-in-Ok-clause-verified g c =
     c.in-Ok.ensures.text.0 c.in-Ok.ensures.text.1 in
     let is : n + 16 ≡ end = len.0 in
     let text : n ≡ chunk_len (chunk_size * last + n) last = omega (arith, is, short) in
-    last_verified (g.D.ReadAt.gave c.read_full.new.dev) _ c.args.max last end n c.read_full.new.buf
-    c.open_chunk.new.bytes refl
+    last_verified c.args.max last end c.read_full.new.buf c.open_chunk.new.bytes refl
     (OnTrue_at c.in-Ok-true.field-0-test c.in-Ok-true.ensures.read) c.in-Ok.ensures.text.0 text

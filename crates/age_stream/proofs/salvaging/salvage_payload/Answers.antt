@@ -5,12 +5,11 @@ use Rattle.age_stream.proofs.salvaging.salvage_payload.Goals as goal
 
 pub returns-in-Err-clause-salvages : goal.returns-in-Err-clause-salvages
 returns-in-Err-clause-salvages g c =
-    nonce_salvages c.args.key.now c.args.max_chunks _ _ _ _ c.in-Err.fault c.in-Err.ensures.nonce
+    nonce_salvages c.args.key.now c.args.max_chunks _ _ c.in-Err.fault c.in-Err.ensures.nonce
 
 pub returns-clause-salvages : goal.returns-clause-salvages
 returns-clause-salvages g c =
-    payload_salvages c.args.key.now c.args.max_chunks c.in-Ok-read_nonce.nonce c.payload_key-key.result _
-    (seen_by g.S.Source.to_come g.S.Source.gave c.read_nonce.new.source) _ _ _ _ _ c.save_pieces.result
+    payload_salvages c.args.key.now c.args.max_chunks _ _ _ _ c.save_pieces.result
     c.in-Ok-read_nonce.ensures.nonce (search rules) c.payload_key-key.ensures c.save_pieces.ensures.saves
 
 pub returns-in-Err-clause-took : goal.returns-in-Err-clause-took
@@ -18,6 +17,5 @@ returns-in-Err-clause-took g c = nonce_ends c.args.max_chunks _ _ _ c.in-Err.fau
 
 pub returns-clause-took : goal.returns-clause-took
 returns-clause-took g c =
-    payload_ends c.args.max_chunks c.in-Ok-read_nonce.nonce _
-    (seen_by g.S.Source.to_come g.S.Source.gave c.read_nonce.new.source) _ _ _ c.save_pieces.result
+    payload_ends c.args.max_chunks _ _ _ c.save_pieces.result
     c.in-Ok-read_nonce.ensures.nonce (search rules) c.save_pieces.ensures.ends

@@ -5,8 +5,8 @@ use Rattle.age_stream.proofs.salvaging.save_first.Goals as goal
 pub returns-then-n-le-SEALED_CHUNK_SIZE-clause-part : goal.returns-then-n-le-SEALED_CHUNK_SIZE-clause-part
 returns-then-n-le-SEALED_CHUNK_SIZE-clause-part c =
     let s = c.split_at_mut-piece.ensures in
-    first_last c.args.key.now c.args.i c.args.n _ c.args.bytes.now c.split_at_mut-piece.result.0.now
-    c.save_piece.new.bytes c.split_at_mut-piece.result.1.now c.save_piece.result s.value s.front_len (omega arith)
+    first_last c.args.key.now c.args.i c.split_at_mut-piece.result.0.now
+    c.save_piece.new.bytes c.split_at_mut-piece.result.1.now s.value s.front_len (omega arith)
     c.save_piece.ensures.len c.saturating_sub.ensures c.save_piece.ensures.part
 
 pub returns-then-n-le-SEALED_CHUNK_SIZE-clause-rest : goal.returns-then-n-le-SEALED_CHUNK_SIZE-clause-rest

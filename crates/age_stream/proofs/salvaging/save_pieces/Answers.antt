@@ -9,7 +9,7 @@ loop-done-init g c = record {
   size = c.requires.size;
   ahead = omega arith;
   within = omega arith;
-  saved = salvaging_none c.args.key.now _ [] _ _ _ refl refl refl refl;
+  saved = salvaging_none refl refl refl refl;
   silent = λ none. refl;
   reads = refl;
   writes = refl;
@@ -17,33 +17,30 @@ loop-done-init g c = record {
 
 pub returns-then-done-max-clause-saves : goal.returns-then-done-max-clause-saves
 returns-then-done-max-clause-saves g c =
-    saves_many _ _ c.loop-done.done _ _ _ _ _ _ _ c.loop-done.invariant.saved
-    (omega (arith, c.loop-done.invariant.within))
+    saves_many c.loop-done.invariant.saved (omega (arith, c.loop-done.invariant.within))
 
 pub returns-then-done-max-clause-ends : goal.returns-then-done-max-clause-ends
 returns-then-done-max-clause-ends g c =
-    inr (ends_many _ _ c.loop-done.done _ _ _ _ _ _ _ c.loop-done.invariant.saved
-    (omega (arith, c.loop-done.invariant.within)))
+    inr (ends_many c.loop-done.invariant.saved (omega (arith, c.loop-done.invariant.within)))
 
 pub returns-in_default-clause-saves : goal.returns-in_default-clause-saves
 returns-in_default-clause-saves g c =
-    saves_read _ c.args.max c.loop-done.done _ _ _ _ _ _ _ _ c.loop-done.invariant.saved c.in_default.ensures.lost
+    saves_read c.args.max c.loop-done.invariant.saved c.in_default.ensures.lost
 
 pub returns-in-Err-clause-saves : goal.returns-in-Err-clause-saves
 returns-in-Err-clause-saves g c =
     let saved = c.save_first-len.ensures in
-    saves_write _ c.args.max c.loop-done.done _ c.in-Ok.n c.read_piece.new.bytes _ _ _ _ _ _ _ _ _
+    saves_write c.args.max _
     c.loop-done.invariant.saved c.in-Ok.ensures.reads c.read_piece.ensures.len saved.part c.in-Err.ensures.text
 
 pub returns-in-Err-clause-ends : goal.returns-in-Err-clause-ends
 returns-in-Err-clause-ends g c =
-    inr (ends_write _ c.args.max c.loop-done.done _ c.in-Ok.n c.read_piece.new.bytes _ _ _ _ _ _ _ _ _
+    inr (ends_write _
     c.loop-done.invariant.saved c.in-Ok.ensures.reads c.read_piece.ensures.len c.in-Err.ensures.text)
 
 pub returns-then-n-le-SEALED_CHUNK_SIZE-clause-saves : goal.returns-then-n-le-SEALED_CHUNK_SIZE-clause-saves
 returns-then-n-le-SEALED_CHUNK_SIZE-clause-saves g c =
-    saves_last _ _ c.loop-done.done c.note.new.done _ c.in-Ok.n c.read_piece.new.bytes _ _ _ _ _ _ _ _ _ _
-    c.save_first-len.result.0 c.loop-done.invariant.saved
+    saves_last _ _ c.loop-done.invariant.saved
     c.in-Ok.ensures.reads c.read_piece.ensures.len (omega arith) (omega arith)
     (length-take-le c.save_first-len.result.0 c.save_first-len.new.bytes (omega (
       arith,
@@ -55,13 +52,12 @@ returns-then-n-le-SEALED_CHUNK_SIZE-clause-saves g c =
 pub loop-done-preserved : goal.loop-done-preserved
 loop-done-preserved g c =
     let bytes = c.save_first-len.new.bytes in
-    let more = counted c.loop-done.done c.note.new.done _ _ c.note.ensures.counts in
+    let more = counted c.loop-done.done _ c.note.ensures.counts in
     record {
       size = c.save_first-len.ensures.len;
       ahead = omega arith;
       within = omega (arith, more.0);
-      saved = salvaging_more _ c.loop-done.done c.note.new.done _ _ c.in-Ok.n c.read_piece.new.bytes _ _ _ _ _ _ _ _ _ _
-          c.save_first-len.result.0 c.loop-done.invariant.saved
+      saved = salvaging_more c.loop-done.invariant.saved
           c.in-Ok.ensures.reads c.read_piece.ensures.len (omega arith) (c.save_first-len.ensures.full (omega arith))
           (length-take-le c.save_first-len.result.0 c.save_first-len.new.bytes (omega (
             arith,

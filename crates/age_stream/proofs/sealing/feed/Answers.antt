@@ -13,7 +13,7 @@ loop-n-init g c = record {
   within = c.requires.within;
   reads = refl;
   writes = refl;
-  fed = ([], gave_none _, fed_none c.args.key.now c.args.index.now (take c.args.len c.args.bytes.now) _);
+  fed = ([], gave_none, fed_none);
 }
 
 pub returns-in-Err-clause-fed : goal.returns-in-Err-clause-fed
@@ -61,7 +61,7 @@ loop-n-preserved g c =
       writes = c.in_default.ensures.writes ∙ c.loop-n.invariant.writes;
       fed = (
         inv.0 ++ f.piece,
-        gave_then _ _ _ inv.0 f.piece inv.1 f.bytes,
+        gave_then inv.1 f.bytes,
         fed_next c.args.key.now c.args.index.now c.loop-n.index c.put_full.new.index (take c.args.len c.args.bytes.now)
             inv.0 (take c.loop-n.held c.loop-n.bytes) f.piece
             (take chunk_size filled) (take 1 (drop chunk_size filled))

@@ -32,5 +32,6 @@ returns-in-Ok-clause-gave g c =
     (λ (x : AtState _). Grows (flow_by (λ (s : AtState _). option_map (drop s.at) (g.D.ReadAt.bytes s.dev))
     (λ (s : AtState _). GaveFirst (g.D.ReadAt.gave s.dev) s.at) x
     (record { dev = c.read_at-read.new.self; at = next })) r buf) c.self.view_is
-    (grows_on g.D.ReadAt.bytes g.D.ReadAt.gave (record { dev = c.self.inside.dev.now; at = c.self.inside.at }) _
-    c.in-Ok.n buf r c.in-Ok.is le sum c.read_at-read.ensures.stays_given c.read_at-read.ensures.read)
+    (grows_on g.D.ReadAt.bytes g.D.ReadAt.gave
+    (record { dev = c.self.inside.dev.now; at = c.self.inside.at }) buf c.in-Ok.is le sum
+    c.read_at-read.ensures.stays_given c.read_at-read.ensures.read)

@@ -11,7 +11,7 @@ pub loop-text-preserved : goal.loop-text-preserved
 loop-text-preserved c = (
   c.in_ok-insert.ensures.ordered,
   λ text.
-      one_more c.args.texts.now c.loop-text.text-index _ text c.loop-text-test.true c.in_ok-name.ensures.ok
+      one_more c.args.texts.now _ text c.loop-text-test.true c.in_ok-name.ensures.ok
       (btree_set_updates_text (string_bytes c.in_ok-name.name) _ _ _ c.in_ok-insert.ensures.updates text)
       (c.loop-text.invariant.1 text),
 )

@@ -51,8 +51,7 @@ returns-in-Ok-load_last-clause-verified g c =
     let new = c.load_last.new.buf in
     let same : length new ≡ length c.into_bytes-buf.result.items = search rules in
     let len : c.into_bytes-buf.result.len ≡ length c.into_bytes-buf.result.items = search rules in
-    keeps_last (g.D.ReadAt.gave c.load_last.new.dev) c.in-Ok-load_last.layout 1 _ new
-    (written_all new c.into_bytes-buf.result.items c.into_bytes-buf.result.len same len)
+    keeps_last 1 (written_all new c.into_bytes-buf.result.items c.into_bytes-buf.result.len same len)
     c.in-Ok-load_last.ensures.verified
 
 pub returns-in-Ok-load_last-clause-begins : goal.returns-in-Ok-load_last-clause-begins
