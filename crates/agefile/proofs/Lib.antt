@@ -1,11 +1,6 @@
-mod AnyFront
-mod ShortFront
 mod DecryptingLemmas
 mod FrontLemmas
 mod HeaderLemmas
-mod ListLemmas
-mod PlainSizes
-mod RangeFront
 pub mod RangeLemmas
 mod OpensRunLemmas
 mod NewFileLemmas
@@ -18,5 +13,4 @@ mod SealsRunLemmas
 mod HeadingLemmas
 mod WrapLemmas
 mod GroupLemmas
-mod OpeningLaws
 mod OpenGroupLemmas

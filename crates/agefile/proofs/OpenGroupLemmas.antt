@@ -1,5 +1,5 @@
 -- What calls on a payload and on its parts open.
-use Rattle.std.proofs.Common.{◌≡◌, ℕ, ◌+◌, Bool, true, false, nat_lt, List, [], ◌∷◌, ◌++◌, length, take, drop, sym, ◌∙◌, ap, refl, subst, arith, inl, inr, append_assoc, length-append, None, Result, Ok, Err}
+use Rattle.std.proofs.Common.{◌≡◌, ℕ, ◌+◌, Bool, true, false, nat_lt, List, [], ◌∷◌, ◌++◌, length, take, drop, sym, ◌∙◌, ap, ap₂, refl, subst, arith, inl, inr, append_assoc, length-append, None, Option, Result, Ok, Err}
 use Rattle.std.specs.Prelude.{option_map}
 use Rattle.std.proofs.lemmas.List.{append-nil}
 use Rattle.std.proofs.Math.Seq.{take-append_seam}
@@ -8,7 +8,7 @@ use Rattle.age_stream.specs.declared.fault.StreamFault.{StreamFault}
 use Rattle.age_stream.specs.Payload.{is_end, pieces}
 use Rattle.age_stream.specs.Reading.{Reading, first_fault, front, outcome, outcomes, reading_from, whole}
 use Rattle.age_file.specs.declared.fault.Fault.{Fault}
-use Rattle.age_file.specs.Verdict.{Answering, IsVerdict, stream_fault}
+use Rattle.age_file.specs.Verdict.{Answering, IsVerdict, stream_fault, with_file_fault}
 use Rattle.agefile.specs.declared.part.Part.{Part}
 use Rattle.agefile.specs.declared.payload.Payload.{Payload}
 use Rattle.agefile.specs.declared.report.Report.{Report}
@@ -20,10 +20,10 @@ use Rattle.agefile.specs.Part as part
 use Rattle.agefile.specs.Payload.{OpensNext, may_open}
 use Rattle.agefile.specs.Report.{report_of}
 use Rattle.agefile.proofs.FrontLemmas.{whole_start}
-use Rattle.agefile.proofs.GroupLemmas.{fitting}
+use Rattle.agefile.proofs.GroupLemmas.{fitting, is_end_on}
 use Rattle.agefile.proofs.OpensRunLemmas.{some_code}
 use Rattle.agefile.proofs.StartLemmas.{opened_start}
-use Rattle.agefile.proofs.StepsReadLemmas.{IsVerdictFrom, verdict_from}
+use Rattle.agefile.proofs.StepsReadLemmas.{verdict_from}
 
 -- ---- one piece
 
@@ -123,10 +123,6 @@ groups_open old new (cs ∷ more) text (mid, mine, rest, joined, some, on) =
 
 -- ---- with what follows
 
-is_end_on : (cs ds : List Bytes) (d : Bytes) → is_end (cs ++ d ∷ ds) ≡ false
-is_end_on [] ds d = refl
-is_end_on (c ∷ cs) ds d = refl
-
 -- what the outcomes are, where these pieces open and more follow
 abbrev GoesOn : Bytes → ℕ → List Bytes → Bytes → List Bytes → Type 0
 GoesOn key i cs text ds =
@@ -161,19 +157,13 @@ goes_on key i (c ∷ cs) text d ds (t, rest, is, joined, on) =
 -- the verdict, where the payload was opened
 by_payload : (answers : Answering) (b : Bytes) (p : Payload) (report : Report) (v : Reading Fault)
     → Opens answers (take front_size b) p report 0 → IsVerdict limits answers b v
-    → v ≡ record {
-      front = (reading_from p.key limits.max_chunks p.number (drop report.len b)).front;
-      fault = option_map stream_fault (reading_from p.key limits.max_chunks p.number (drop report.len b)).fault;
-    }
+    → v ≡ with_file_fault (reading_from p.key limits.max_chunks p.number (drop report.len b))
 by_payload answers b p report v opens h =
     let (start, is, at) = opened_start answers (take front_size b) p report opens in
-    let from : IsVerdictFrom b v (Ok start) =
-    verdict_from answers b (Ok start) v (whole_start answers b (Ok start) is) h in
-    let of : Payload → Report → Reading Fault = λ q r. record {
-      front = (reading_from q.key limits.max_chunks q.number (drop r.len b)).front;
-      fault = option_map stream_fault (reading_from q.key limits.max_chunks q.number (drop r.len b)).fault;
-    } in
-    from ∙ ap (λ q. of q (report_of start.first None)) (sym at.2) ∙ ap (of p) (sym at.1)
+    let of : Payload → Report → Reading Fault =
+    λ q r. with_file_fault (reading_from q.key limits.max_chunks q.number (drop r.len b)) in
+    verdict_from answers b (Ok start) v (whole_start answers b (Ok start) is) h
+    ∙ ap (λ q. of q (report_of start.first None)) (sym at.2) ∙ ap (of p) (sym at.1)
 
 pub opened_so_far : (answers : Answering) (b : Bytes) (p new : Payload) (report : Report) (groups : List (List Bytes))
     (text next : Bytes) (more : List Bytes) (v : Reading Fault)
@@ -208,14 +198,9 @@ opened_whole answers b p mid new report last_report groups text last after v ope
     let fault_is : first_fault (outcomes p.key limits.max_chunks n (last ∷ [])) ≡ None =
     ap (λ x. first_fault (x ∷ [])) o in
     by_payload answers b p report v opens h
-    ∙ ap (λ cs. record {
-      front = front (outcomes p.key limits.max_chunks p.number cs);
-      fault =
-          option_map stream_fault (first_fault (outcomes p.key limits.max_chunks p.number cs));
-    }) cut
-    ∙ ap (λ f. record {
-      front = front (outcomes p.key limits.max_chunks p.number (all_of groups ++ last ∷ []));
-      fault =
-          option_map stream_fault f;
-    }) (on.1 ∙ fault_is)
-    ∙ ap (λ t. record { front = t; fault = None }) (on.0 ∙ ap (λ t. text ++ t) front_is)
+    ∙ ap (λ cs. read_as (front (outcomes p.key limits.max_chunks p.number cs))
+    (first_fault (outcomes p.key limits.max_chunks p.number cs))) cut
+    ∙ ap₂ read_as (on.0 ∙ ap (λ t. text ++ t) front_is) (on.1 ∙ fault_is)
+  where
+    read_as : Bytes → Option StreamFault → Reading Fault
+    read_as t f = record { front = t; fault = option_map stream_fault f }

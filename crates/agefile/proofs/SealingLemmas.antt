@@ -2,7 +2,7 @@
 use Rattle.std.proofs.Common.{◌≡◌, ◌⊎◌, ℕ, ◌+◌, ◌-◌, ◌*◌, ◌<◌, ◌≤◌, [], ◌++◌, length, take, drop, min, nat_le, true, false, sym, ◌∙◌, ap, refl, subst, arith, inl, inr, append_assoc, length-append, length-drop, ◌^◌, Vec, None, Ok}
 use Rattle.std.specs.Global.{Global}
 use Rattle.std.specs.List.{concat}
-use Rattle.std.proofs.lemmas.Bool.{cases_lt, le-leb, lt-leb}
+use Rattle.std.proofs.lemmas.Bool.{le-leb, lt-leb}
 use Rattle.std.proofs.lemmas.List.{drop-drop, length-take-le, nil_from_length, take_all, take_at}
 use Rattle.age_kdf.specs.Bytes.{Bytes}
 use Rattle.age_cipher.specs.Sealing.{sealed}
@@ -19,16 +19,9 @@ use Rattle.agefile.specs.Limits.{limits}
 use Rattle.agefile.specs.Report.{report_of}
 use Rattle.agefile.specs.Sizes.{chunk_count, file_len}
 use Rattle.agefile.proofs.NewFileLemmas.{size_of}
-use Rattle.agefile.proofs.SizeLemmas.{chunks_size}
+use Rattle.agefile.proofs.SizeLemmas.{chunks_size, first_cut}
 
 -- ---- one chunk
-
--- the first chunk, by as many bytes as it has
-pub first_text : (size : ℕ) (left : Bytes) → size ≡ min (length left) chunk_size → take size left ≡ take chunk_size left
-first_text size left sized = elim (cases_lt chunk_size (length left)) [
-  | inl lt ↦ let full : size ≡ chunk_size = omega (arith, sized, lt) in ap (λ n. take n left) full
-  | inr le ↦ take_all size left (omega (arith, sized, le)) ∙ sym (take_all chunk_size left le)
-]
 
 -- the first chunk is sealed at the start of the room
 abbrev pub SealsFirst : (key : Bytes) (number : ℕ) (left room new : Bytes) → Type 0
@@ -45,7 +38,7 @@ pub first_sealed : (key : Bytes) (number size : ℕ) (left : Bytes) {text : Byte
 first_sealed key number size left front back {rest} room sized is copied tag sealed_so behind =
     let same : take (length (front ++ back) - 16) (front ++ back) ≡ take chunk_size left =
     take_at front back (length (front ++ back) - 16) (omega (arith, tag, length-append front back)) ∙ copied ∙ is
-    ∙ first_text size left sized in
+    ∙ first_cut chunk_size size left sized in
     ap (λ c. c ++ rest) (sealed_so ∙ ap (sealed key (chunk_nonce number (nat_le (length left) chunk_size)) []) same)
     ∙ ap (λ r. sealed key (chunk_nonce number (nat_le (length left) chunk_size)) [] (take chunk_size left) ++ r)
     (behind ∙ ap (λ n. drop (n + 16) room) sized)
@@ -53,7 +46,7 @@ first_sealed key number size left front back {rest} room sized is copied tag sea
 -- ---- one chunk after another
 
 -- the same of what is left, and of the room
-pub sealed_there : (key plain out left room mid : Bytes) (at done number : ℕ) → left ≡ drop at plain
+sealed_there : (key plain out left room mid : Bytes) (at done number : ℕ) → left ≡ drop at plain
     → room ≡ drop done out → SealsFirst key number left room mid
     → SealsFirst key number (drop at plain) (drop done out) mid
 sealed_there key plain out left room mid at done number left_is room_is is =
@@ -68,17 +61,6 @@ pub record IsSealedTo (key plain out : Bytes) (at done number : ℕ) : Type 0 wh
   pub size : length out ≡ length plain + 16 * chunk_count (length plain)
   pub seals : concat (sealed_from key 0 (chunks plain))
       ≡ take done out ++ concat (sealed_from key number (chunks (drop at plain)))
-
-pub seal_start : (key plain out : Bytes) → length out ≡ length plain + 16 * chunk_count (length plain)
-    → IsSealedTo key plain out 0 0 0
-seal_start key plain out size = record { place = refl; sealed_so = refl; some = inl refl; size = size; seals = refl }
-
-pub plain_within : (key plain out : Bytes) (at done number : ℕ) → IsSealedTo key plain out at done number
-    → at ≤ length plain
-plain_within key plain out at done number r = elim r.some [
-  | inl zero ↦ omega (arith, r.place, zero)
-  | inr lt ↦ omega (arith, lt)
-]
 
 -- the next sealed chunk has room
 pub chunk_fits : (key plain out : Bytes) (at done number : ℕ) → IsSealedTo key plain out at done number
@@ -100,13 +82,13 @@ last_fills key plain out at done number r last =
       | inr lt ↦ omega (arith, lt, left, r.place, r.sealed_so, r.size, last)
     ]
 
-pub seals_end : {key plain : Bytes} (out mid : Bytes) {new : Bytes} (at done number : ℕ)
-    → IsSealedTo key plain out at done number
-    → length (drop at plain) ≤ chunk_size
-    → SealsFirst key number (drop at plain) (drop done out) mid → new ≡ take done out ++ mid
+pub seals_end : {key plain from room : Bytes} (out mid : Bytes) {new : Bytes} (at done number : ℕ)
+    → IsSealedTo key plain out at done number → from ≡ drop at plain → room ≡ drop done out
+    → length (drop at plain) ≤ chunk_size → SealsFirst key number from room mid → new ≡ take done out ++ mid
     → new ≡ concat (sealed_from key 0 (chunks plain))
-seals_end {key} {plain} out mid at done number r last is joined =
+seals_end {key} {plain} {from} {room} out mid at done number r from_is room_is last sealed_so joined =
     let left : Bytes = drop at plain in
+    let is = sealed_there key plain out from room mid at done number from_is room_is sealed_so in
     let fills = last_fills key plain out at done number r last in
     let none : drop (min (length left) chunk_size + 16) (drop done out) ≡ [] =
     nil_from_length _ (omega (
@@ -124,13 +106,13 @@ seals_end {key} {plain} out mid at done number r last is joined =
     ap (λ cs. concat (sealed_from key number cs)) (cut_last chunk_size left last) in
     joined ∙ ap (λ m. take done out ++ m) (one ∙ sym rest) ∙ sym r.seals
 
-pub seals_more : {key plain : Bytes} (out mid : Bytes) {new : Bytes} (at done number : ℕ)
-    → IsSealedTo key plain out at done number
-    → chunk_size < length (drop at plain)
-    → SealsFirst key number (drop at plain) (drop done out) mid → new ≡ take done out ++ mid
+pub seals_more : {key plain from room : Bytes} (out mid : Bytes) {new : Bytes} (at done number : ℕ)
+    → IsSealedTo key plain out at done number → from ≡ drop at plain → room ≡ drop done out
+    → chunk_size < length (drop at plain) → SealsFirst key number from room mid → new ≡ take done out ++ mid
     → IsSealedTo key plain new (at + chunk_size) (done + sealed_chunk_size) (number + 1)
-seals_more {key} {plain} out mid {new} at done number r more is joined =
+seals_more {key} {plain} {from} {room} out mid {new} at done number r from_is room_is more sealed_so joined =
     let left : Bytes = drop at plain in
+    let is = sealed_there key plain out from room mid at done number from_is room_is sealed_so in
     let text : Bytes = take chunk_size left in
     let one : Bytes = sealed key (chunk_nonce number false) [] text in
     let fits = chunk_fits key plain out at done number r in

@@ -1,17 +1,16 @@
 -- What a run of calls that seal gives is the file.
-use Rattle.std.proofs.Common.{◌≡◌, ◌≢◌, ◌⊎◌, ℕ, ◌+◌, ◌-◌, ◌<◌, ◌≤◌, List, [], ◌∷◌, ◌++◌, length, take, replicate, nat_eq, Bool, true, false, sym, ◌∙◌, ap, refl, subst, arith, inl, inr, append_assoc, length-append, Ok, Err}
+use Rattle.std.proofs.Common.{◌≡◌, ◌≢◌, ◌⊎◌, ℕ, ◌+◌, ◌<◌, ◌≤◌, List, [], ◌∷◌, ◌++◌, length, take, replicate, nat_eq, Bool, true, false, sym, ◌∙◌, ap, ap₂, subst, arith, inl, inr, append_assoc, length-append, Ok, Err}
 use Rattle.std.specs.Prelude.{◌&&◌, ◌||◌}
 use Rattle.std.specs.Bool.{OnTrue}
 use Rattle.std.specs.List.{concat}
-use Rattle.std.proofs.lemmas.Bool.{cases_lt, le-leb, lt-ltb}
+use Rattle.std.proofs.lemmas.Bool.{le-leb, lt-ltb}
 use Rattle.std.proofs.Math.Seq.{take-append_seam}
 use Rattle.age_kdf.specs.Bytes.{Bytes}
 use Rattle.age_cipher.specs.Sealing.{sealed}
 use Rattle.age_header.specs.declared.file_key.FileKey.{FileKey}
-use Rattle.age_stream.specs.Cutting.{IsFilled}
 use Rattle.age_stream.specs.Payload.{chunks, is_end, payload, payload_key, chunk_nonce, sealed_from}
 use Rattle.age_stream.specs.Sizes.{chunk_size, sealed_chunk_size}
-use Rattle.age_stream.proofs.CuttingLemmas.{is_cut}
+use Rattle.age_stream.proofs.PayloadLemmas.{Sized, at_most_chunks}
 use Rattle.agefile.specs.declared.payload.Payload.{Payload}
 use Rattle.agefile.specs.declared.report.Report.{Report}
 use Rattle.agefile.specs.Chunk.{SealsAs, has_text}
@@ -27,41 +26,18 @@ use Rattle.agefile.proofs.OpensRunLemmas.{some_code}
 abbrev pub writing_at : Bytes → ℕ → Payload
 writing_at key i = record { key = key; number = i; state = 2; spare = replicate 2 0 }
 
--- the sizes of the chunks of a plaintext from number i on
-abbrev pub AreChunks : ℕ → List Bytes → Type 0
-AreChunks i [] = ⊥
-AreChunks i (c ∷ []) = (length c ≤ chunk_size) × ((0 < length c) ⊎ (i ≡ 0))
-AreChunks i (c ∷ d ∷ more) = (length c ≡ chunk_size) × AreChunks (i + 1) (d ∷ more)
-
-filled_are_chunks : (i : ℕ) (cs : List Bytes) → IsFilled chunk_size cs → AreChunks i cs
-filled_are_chunks i [] h = h
-filled_are_chunks i (c ∷ []) h = (h.1, inl h.0)
-filled_are_chunks i (c ∷ d ∷ more) h = (h.0, filled_are_chunks (i + 1) (d ∷ more) h.1)
-
-plain_chunks : (plain : Bytes) → AreChunks 0 (chunks plain)
-plain_chunks plain = elim (is_cut chunk_size plain (omega arith)).sizes [
-  | inl one ↦ subst (AreChunks 0) (sym one) (omega arith, inr refl)
-  | inr filled ↦ filled_are_chunks 0 (chunks plain) filled
-]
-
 -- ---- one step
 
 some_text : (i n : ℕ) → 0 < n → has_text i (n + 16) ≡ true
 some_text i n pos = ap (λ t. t || (nat_eq (n + 16) 16 && nat_eq i 0)) (lt-ltb 16 (n + 16) (omega arith))
 
-text_there : (i n : ℕ) → (0 < n) ⊎ (i ≡ 0) → has_text i (n + 16) ≡ true
-text_there i n (inl pos) = some_text i n pos
-text_there i n (inr zero) = elim (cases_lt 0 n) [
-  | inl pos ↦ some_text i n pos
-  | inr none ↦ let empty : n ≡ 0 = omega arith in
-      ap (λ k. has_text k (n + 16)) zero ∙ ap (λ m. has_text 0 (m + 16)) empty
-]
-
-last_fits : (key : Bytes) (i : ℕ) (c : Bytes) → length c ≤ chunk_size → (0 < length c) ⊎ (i ≡ 0)
+last_fits : (key : Bytes) (i : ℕ) (c : Bytes) → Sized i (c ∷ [])
     → may_seal (writing_at key i) (length c + 16) true ≡ true
-last_fits key i c le some =
+last_fits key i c (inl (is, zero)) = let none : c ≡ [] = cc in
+    ap₂ (λ k n. may_seal (writing_at key k) (n + 16) true) zero (ap length none)
+last_fits key i c (inr (pos, le)) =
     ap (λ t. t && has_text i (length c + 16)) (le-leb (length c + 16) sealed_chunk_size (omega arith))
-    ∙ text_there i (length c) some
+    ∙ some_text i (length c) pos
 
 full_fits : (key : Bytes) (i : ℕ) (c : Bytes) → length c ≡ chunk_size
     → may_seal (writing_at key i) (length c + 16) false ≡ true
@@ -130,15 +106,17 @@ write_more key i c d more rest out code joined (inl (zero, (is, fits))) =
     inl (zero, (joined ∙ ap (λ r. sealed key (chunk_nonce i false) [] c ++ r) is, omega (arith, fits)))
 write_more key i c d more rest out code joined (inr (is, many)) = inr (is, omega (arith, many))
 
-run_writes : (key : Bytes) (i : ℕ) (cs : List Bytes) (out : Bytes) (code : ℕ) → AreChunks i cs
+run_writes : (key : Bytes) (i : ℕ) (cs : List Bytes) (out : Bytes) (code : ℕ) → Sized i cs
     → SealsRun (writing_at key i) cs out code → AreSealed key i cs out code
-run_writes key i [] out code sizes run = absurd sizes
+run_writes key i [] out code (inl e) run = absurd (cc (e.0))
+run_writes key i [] out code (inr sizes) run = absurd sizes
 run_writes key i (c ∷ []) out code sizes run =
-    write_last key i c out code (write_first key i c [] out code (last_fits key i c sizes.0 sizes.1) run)
-run_writes key i (c ∷ d ∷ more) out code sizes run =
+    write_last key i c out code (write_first key i c [] out code (last_fits key i c sizes) run)
+run_writes key i (c ∷ d ∷ more) out code (inl e) run = absurd (cc (e.0))
+run_writes key i (c ∷ d ∷ more) out code (inr sizes) run =
     elim (write_first key i c (d ∷ more) out code (full_fits key i c sizes.0) run) [
       | inl (few, (rest, joined, on)) ↦ write_more key i c d more rest out code joined
-          (run_writes key (i + 1) (d ∷ more) rest code sizes.1 on)
+          (run_writes key (i + 1) (d ∷ more) rest code (inr sizes.1) on)
       | inr (many, is) ↦ inr (is, omega arith)
     ]
 
@@ -166,7 +144,7 @@ steps_write stanzas file_key nonce plain old new p report out code (inr (Ok head
     let front : take report.len new ≡ header.items ++ nonce =
     ap (λ (x : Report). take x.len new) fits.reported ∙ ap (take (length (header.items ++ nonce))) fits.buffer
     ∙ take-append_seam (header.items ++ nonce) _ in
-    elim (run_writes key 0 (chunks plain) out code (plain_chunks plain)
+    elim (run_writes key 0 (chunks plain) out code (at_most_chunks plain)
     (subst (λ w. SealsRun w (chunks plain) out code) state run)) [
       | inr (is, many) ↦ inr (is, omega (arith, many))
       | inl (zero, (is, few)) ↦

@@ -13,7 +13,7 @@ use Rattle.age_file.proofs.DecryptLemmas.{err_err}
 use Rattle.age_header.proofs.VerdictUniqueLemmas.{begins_found}
 use Rattle.agefile.specs.declared.unlocking.Unlocked.{Unlocked}
 use Rattle.agefile.specs.Unlock.{FindsKey, with_len}
-use Rattle.agefile.proofs.UnlockLemmas.{key_within, ok_ok}
+use Rattle.agefile.proofs.UnlockLemmas.{found_key, ok_ok}
 use Rattle.agefile.specs.declared.payload.Payload.{Payload}
 use Rattle.agefile.specs.declared.report.Report.{Report}
 use Rattle.agefile.specs.declared.start.Start.{Start}
@@ -41,25 +41,21 @@ start_failed answers b fault (inr (Ok found, verdict, is)) =
 pub start_after : (answers : Answering) (b : Bytes) (found : Unlocked) (start : Result Start Fault)
     → FindsKey answers b (Ok found)
     → start ≡ start_under found.header_len (drop found.header_len b) (Ok found.key) → FindsStart answers b start
-start_after answers b found start (inl memory) is = absurd (cc)
-start_after answers b found start (inr (Err e, verdict, opens)) is = absurd (cc)
-start_after answers b found start (inr (Ok head, verdict, opens)) is =
-    let k = key_within (length head.text) found (unlocked answers (parts_of head)) opens in
+start_after answers b found start finds is =
+    let (head, verdict, key, len) = found_key answers b found finds in
     inr (
       Ok head,
       verdict,
-      is ∙ ap (λ n. start_under n (drop n b) (Ok found.key)) k.1
-          ∙ ap (start_under (length head.text) (drop (length head.text) b)) (sym k.0),
+      is ∙ ap (λ n. start_under n (drop n b) (Ok found.key)) len
+          ∙ ap (start_under (length head.text) (drop (length head.text) b)) (sym key),
     )
 
 pub key_in_front : (answers : Answering) (b : Bytes) (found : Unlocked) → FindsKey answers b (Ok found)
     → found.header_len ≤ length b
-key_in_front answers b found (inl memory) = absurd (cc)
-key_in_front answers b found (inr (Err e, verdict, opens)) = absurd (cc)
-key_in_front answers b found (inr (Ok head, verdict, opens)) =
-    let k = key_within (length head.text) found (unlocked answers (parts_of head)) opens in
+key_in_front answers b found finds =
+    let (head, verdict, key, len) = found_key answers b found finds in
     let w = begins_found b limits.max_header head verdict in
-    omega (arith, k.1, ap length w.prefix, length-append head.text w.rest)
+    omega (arith, len, ap length w.prefix, length-append head.text w.rest)
 
 pub start_cut : (answers : Answering) {b rest : Bytes} (found : Unlocked) → FindsKey answers b (Ok found)
     → rest ≡ drop found.header_len b → length rest < 16 → FindsStart answers b (Err NonceTruncated)

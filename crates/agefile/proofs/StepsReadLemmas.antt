@@ -1,6 +1,5 @@
--- What the calls on a file give is its verdict.
-use Rattle.std.proofs.Common.{◌≡◌, ◌≢◌, ℕ, ◌+◌, [], length, take, drop, nat_lt, Bool, true, false, cond, sym, ◌∙◌, ap, refl, subst, Result, Ok, Err}
-use Rattle.std.specs.Prelude.{option_map}
+-- What the calls on a file give is its verdict: those of a payload, and those of ranges.
+use Rattle.std.proofs.Common.{◌≡◌, ◌≢◌, ℕ, ◌+◌, [], length, take, drop, nat_lt, Bool, true, false, cond, sym, ◌∙◌, ap, subst, Result, Ok, Err, ◌-◌, arith, inl, inr}
 use Rattle.std.proofs.lemmas.List.{drop-drop}
 use Rattle.age_kdf.specs.Bytes.{Bytes}
 use Rattle.age_header.specs.declared.file_key.FileKey.{FileKey}
@@ -8,9 +7,8 @@ use Rattle.age_stream.specs.declared.fault.StreamFault.TheVariants as stream
 use Rattle.age_stream.specs.Payload.{payload_key, pieces}
 use Rattle.age_stream.specs.Reading.{Reading, reading_from, stops}
 use Rattle.age_file.specs.declared.fault.Fault.{Fault}
-use Rattle.age_file.specs.declared.fault.Fault.TheVariants.{NonceTruncated}
-use Rattle.age_file.specs.Verdict.{Answering, IsVerdict, judged, header_fault, parts_of, read_under, stream_fault, unlocked, with_file_fault}
-use Rattle.age_file.proofs.FileLemmas.{one_verdict}
+use Rattle.age_file.specs.declared.fault.Fault.TheVariants.{NonceTruncated, OutOfMemory}
+use Rattle.age_file.specs.Verdict.{Answering, IsVerdict, parts_of, read_under, unlocked, with_file_fault}
 use Rattle.agefile.specs.declared.payload.Payload.{Payload}
 use Rattle.agefile.specs.declared.report.Report.{Report}
 use Rattle.agefile.specs.declared.start.Start.{Start}
@@ -22,19 +20,19 @@ use Rattle.agefile.specs.Report.{report_of}
 use Rattle.agefile.specs.Runs.{OpensRun}
 use Rattle.agefile.specs.Start.{IsStart, start_under}
 use Rattle.agefile.proofs.FrontLemmas.{whole_start}
-use Rattle.agefile.proofs.OpensRunLemmas.{payload_reads}
-use Rattle.agefile.proofs.StartLemmas.{found_start, opened_start}
-use Rattle.agefile.proofs.UnlockLemmas.{refusal}
+use Rattle.agefile.proofs.OpensRunLemmas.{payload_reads, some_code}
+use Rattle.agefile.proofs.StartLemmas.{found_start, opened_start, start_within}
+use Rattle.agefile.proofs.UnlockLemmas.{judged_is, refusal}
+use Rattle.agefile.specs.declared.ranges.Ranges.{Ranges}
+use Rattle.agefile.specs.Ranges.{OpensAt, OpensRanges}
 
 -- ---- the verdict, by the start
 
 -- what the verdict is, where the start is known
 abbrev pub IsVerdictFrom : Bytes → Reading Fault → Result Start Fault → Type 0
 IsVerdictFrom b v (Err fault) = v ≡ stops fault
-IsVerdictFrom b v (Ok start) = v ≡ record {
-  front = (reading_from start.key limits.max_chunks 0 (drop start.first b)).front;
-  fault = option_map stream_fault (reading_from start.key limits.max_chunks 0 (drop start.first b)).fault;
-}
+IsVerdictFrom b v (Ok start) =
+    v ≡ with_file_fault (reading_from start.key limits.max_chunks 0 (drop start.first b))
 
 payload_from : (b : Bytes) (n : ℕ) (k : FileKey) (v : Reading Fault) (t : Bool)
     → v ≡ with_file_fault (cond t (stops stream.NonceTruncated)
@@ -53,12 +51,10 @@ under_from b n v (Ok k) is = payload_from b n k v (nat_lt (length (drop n b)) 16
 pub verdict_from : (answers : Answering) (b : Bytes) (start : Result Start Fault) (v : Reading Fault)
     → IsStart answers b start → IsVerdict limits answers b v → IsVerdictFrom b v start
 verdict_from answers b start v (Err e, verdict, is) h =
-    subst (IsVerdictFrom b v) (sym is) (one_verdict limits answers b v (stops (header_fault e)) h
-    (record { header = Err e; header_verdict = verdict; is = refl }))
+    subst (IsVerdictFrom b v) (sym is) (judged_is answers b v (Err e) verdict h)
 verdict_from answers b start v (Ok found, verdict, is) h =
-    let w = judged limits answers b (Ok found) in
-    subst (IsVerdictFrom b v) (sym is) (under_from b (length found.text) v (unlocked answers (parts_of found))
-    (one_verdict limits answers b v w h (record { header = Ok found; header_verdict = verdict; is = refl })))
+    subst (IsVerdictFrom b v) (sym is)
+    (under_from b (length found.text) v (unlocked answers (parts_of found)) (judged_is answers b v (Ok found) verdict h))
 
 -- ---- the laws
 
@@ -94,3 +90,36 @@ steps_read answers b p report text code place v opens run h =
         ap (λ (r : Reading Fault). (report_of 0 r.fault).place) from ∙ sym reads.1.1,
       ),
     )
+
+-- ---- ranges
+
+-- what was opened is the file's own payload
+pub opened_range : (answers : Answering) (b : Bytes) (r : Ranges) (report : Report)
+    → OpensRanges answers (take front_size b) (length b) r report 0
+    → IsStart answers b (Ok (record { first = r.first; key = r.key })) × (length b ≡ r.first + r.sealed_len)
+opened_range answers b r report (Err fault, is, opens) = absurd (some_code fault (sym opens.returned))
+opened_range answers b r report (Ok start, inl memory, opens) = absurd (cc)
+opened_range answers b r report (Ok start, inr is, inl (lt, closed)) = absurd (cc (closed.returned))
+opened_range answers b r report (Ok start, inr is, inr (le, returned, new, place)) =
+    let first : r.first ≡ start.first = ap (λ (x : Ranges). x.first) new in
+    let sealed : r.sealed_len ≡ length b - start.first = ap (λ (x : Ranges). x.sealed_len) new in (
+      subst (λ (x : Ranges). IsStart answers b (Ok (record { first = x.first; key = x.key }))) (sym new)
+          (whole_start answers b (Ok start) is),
+      omega (arith, first, sealed, le),
+    )
+
+-- a fault of the opening is the verdict's
+pub refused_range : (answers : Answering) (b : Bytes) (r : Ranges) (report : Report) (code : ℕ) (v : Reading Fault)
+    → OpensRanges answers (take front_size b) (length b) r report code
+    → IsVerdict limits answers b v → code ≢ 0 → code ≢ 17
+    → (v.front ≡ []) × (code_of v.fault ≡ code) × (report ≡ report_of 0 v.fault)
+refused_range answers b r report code v (start, inl memory, opens) h some other =
+    let refused : OpensAt (length b) (Err OutOfMemory) r report code =
+    subst (λ s. OpensAt (length b) s r report code) memory opens in
+    absurd (other refused.returned)
+refused_range answers b r report code v (Err fault, inr is, opens) h some other =
+    refusal fault v opens (verdict_from answers b (Err fault) v (whole_start answers b (Err fault) is) h)
+refused_range answers b r report code v (Ok start, inr is, inl (lt, closed)) h some other =
+    absurd (omega (arith, lt, start_within answers b start (inr (whole_start answers b (Ok start) is))))
+refused_range answers b r report code v (Ok start, inr is, inr (le, returned, new, place)) h some other =
+    absurd (some returned)

@@ -1,21 +1,21 @@
 -- Finding a file key, from what its parts return; and the verdict, by the file key.
-use Rattle.std.proofs.Common.{◌≡◌, ◌≢◌, ◌⊎◌, ℕ, ◌+◌, ◌-◌, List, [], ◌∷◌, ◌++◌, map, length, take, drop, sym, ◌∙◌, ap, refl, subst, arith, inl, inr, length-append, Result, Ok, Err}
+use Rattle.std.proofs.Common.{◌≡◌, ◌≢◌, ◌⊎◌, ℕ, ◌+◌, ◌-◌, List, [], ◌∷◌, ◌++◌, map, length, take, drop, sym, ◌∙◌, ap, refl, subst, arith, inl, inr, length-append, Result, Ok, Err, Bool, true, false, cond}
 use Rattle.age_kdf.specs.Bytes.{Bytes}
 use Rattle.age_header.specs.Device.{CountsFaultIf, Seen, flow}
 use Rattle.age_header.proofs.DeviceLemmas.{of_told}
 use Rattle.age_header.specs.declared.fault.HeaderFault.{HeaderFault}
 use Rattle.age_header.specs.declared.fault.HeaderFault.TheVariants as header
 use Rattle.age_header.specs.Header.{StanzaParts, HeaderParts}
-use Rattle.age_header.specs.Verdict.{HeaderVerdict}
+use Rattle.age_header.specs.Verdict.{Found, HeaderVerdict}
 use Rattle.age_header.proofs.ReaderLemmas.{reads_known}
 use Rattle.age_header.specs.declared.file_key.FileKey.{FileKey}
 use Rattle.age_recipient.specs.declared.unwrapped.Unwrapped.{Unwrapped}
 use Rattle.age_stream.specs.Reading.{Reading, stops}
 use Rattle.age_file.specs.declared.fault.Fault.{Fault}
-use Rattle.age_file.specs.declared.fault.Fault.TheVariants.{OutOfMemory, Read}
+use Rattle.age_file.specs.declared.fault.Fault.TheVariants.{OutOfMemory, Read, BadMac, MixedPassphrase}
 use Rattle.age_file.specs.Device.{is_read}
 use Rattle.age_file.specs.Inspect.{Inspects}
-use Rattle.age_file.specs.Verdict.{Answering, IsVerdict, header_fault, judged, parts_of, read_under, unlocked}
+use Rattle.age_file.specs.Verdict.{Answering, IsVerdict, header_fault, judged, parts_of, read_under, unlocked, checked}
 use Rattle.age_file.proofs.DecryptLemmas.{err_err}
 use Rattle.age_file.proofs.FileLemmas.{one_verdict}
 use Rattle.agefile.specs.declared.report.Report.{Report}
@@ -25,7 +25,14 @@ use Rattle.agefile.specs.Giving.{alone}
 use Rattle.agefile.specs.Limits.{limits, front_size}
 use Rattle.agefile.specs.Report.{Refuses, report_of}
 use Rattle.agefile.specs.Unlock.{FindsKey, GivesKey, IsKey, Unlocks, with_len}
-use Rattle.agefile.proofs.FrontLemmas.{whole_verdict}
+use Rattle.agefile.proofs.HeaderLemmas.{whole_verdict}
+use Rattle.std.specs.Str.{bytes_eq}
+use Rattle.age_header.specs.Mac.{header_mac}
+use Rattle.age_recipient.specs.declared.choice.UnlockFault.{UnlockFault}
+use Rattle.age_recipient.specs.Choice.{choice}
+use Rattle.age_file.specs.AgeFile.{is_mixed}
+use Rattle.agefile.specs.Opening.{by_file_key}
+use Rattle.agefile.proofs.OpensRunLemmas.{some_code}
 
 pub ok_ok : {A : Type 0} (x y : A) → ◌≡◌ {A = Result A Fault} (Ok x) (Ok y) → x ≡ y
 ok_ok x y e = cc
@@ -44,12 +51,21 @@ fronts {b} {rest} {h} (Ok parts, is, reads) =
     subst (Fronts b rest) (sym (ok_ok h parts is)) (record { text = r.0; verdict = r.1; front = r.2.consumes })
 
 -- a header's length and its file key are those that were found
-pub key_within : (n : ℕ) (found : Unlocked) (r : Result FileKey Fault) → Ok found ≡ with_len n r
+key_within : (n : ℕ) (found : Unlocked) (r : Result FileKey Fault) → Ok found ≡ with_len n r
     → (r ≡ Ok found.key) × (found.header_len ≡ n)
 key_within n found (Err fault) e = absurd (cc)
 key_within n found (Ok k) e =
     let same = ok_ok found (record { header_len = n; key = k }) e in
     (ap (λ (u : Unlocked). Ok u.key) (sym same), ap (λ (u : Unlocked). u.header_len) same)
+
+-- a file key that was found is that of a header
+pub found_key : (answers : Answering) (b : Bytes) (found : Unlocked) → FindsKey answers b (Ok found)
+    → (head : Found) × HeaderVerdict b limits.max_header (Ok head)
+    × (unlocked answers (parts_of head) ≡ Ok found.key) × (found.header_len ≡ length head.text)
+found_key answers b found (inl memory) = absurd (cc)
+found_key answers b found (inr (Err e, verdict, is)) = absurd (cc)
+found_key answers b found (inr (Ok head, verdict, is)) =
+    let k = key_within (length head.text) found (unlocked answers (parts_of head)) is in (head, verdict, k.0, k.1)
 
 -- no header was read
 faulty : (answers : Answering) (b : Bytes) (fault : Fault) (g : HeaderFault)
@@ -129,16 +145,19 @@ under_key : (b : Bytes) (n : ℕ) (v : Reading Fault) (key : Result FileKey Faul
 under_key b n v (Err fault) is = is
 under_key b n v (Ok k) is = is
 
+-- the verdict is judged by the header verdict
+pub judged_is : (answers : Answering) (b : Bytes) (v : Reading Fault) (header : Result Found HeaderFault)
+    → HeaderVerdict b limits.max_header header → IsVerdict limits answers b v → v ≡ judged limits answers b header
+judged_is answers b v header verdict h = one_verdict limits answers b v (judged limits answers b header) h
+    (record { header = header; header_verdict = verdict; is = refl })
+
 verdict_under : (answers : Answering) (b : Bytes) (key : Result Unlocked Fault) (v : Reading Fault)
     → IsKey answers b key → IsVerdict limits answers b v → IsVerdictUnder b v key
 verdict_under answers b key v (Err e, verdict, is) h =
-    subst (IsVerdictUnder b v) (sym is)
-    (one_verdict limits answers b v (stops (header_fault e)) h
-    (record { header = Err e; header_verdict = verdict; is = refl }))
+    subst (IsVerdictUnder b v) (sym is) (judged_is answers b v (Err e) verdict h)
 verdict_under answers b key v (Ok found, verdict, is) h =
-    let w = judged limits answers b (Ok found) in
-    subst (IsVerdictUnder b v) (sym is) (under_key b (length found.text) v (unlocked answers (parts_of found))
-    (one_verdict limits answers b v w h (record { header = Ok found; header_verdict = verdict; is = refl })))
+    subst (IsVerdictUnder b v) (sym is)
+    (under_key b (length found.text) v (unlocked answers (parts_of found)) (judged_is answers b v (Ok found) verdict h))
 
 -- a fault before any plaintext is the verdict's
 pub refusal : {S : Type 0} {old new : S} {report : Report} {code : ℕ} (fault : Fault) (v : Reading Fault)
@@ -167,3 +186,41 @@ unlocking_refused answers b old new report code v (key, inl memory, gives) h som
     absurd (other refused.returned)
 unlocking_refused answers b old new report code v (key, inr is, gives) h some other =
     refused_by b old new report code v key gives (verdict_under answers b key v is h) some
+
+-- ---- opening by the file key that was found
+
+same_key : (t : Bool) (j k : FileKey) → ◌≡◌ {A = Result FileKey Fault} (cond t (Ok j) (Err BadMac)) (Ok k) → j ≡ k
+same_key true j k e = ok_ok j k e
+same_key false j k e = absurd (cc)
+
+-- where a key was chosen and its MAC verified, it is so of this key
+key_checked : (p : HeaderParts) (k : FileKey) (picked : Result FileKey UnlockFault) → checked p picked ≡ Ok k
+    → checked p (Ok k) ≡ Ok k
+key_checked p k (Err fault) e = absurd (cc)
+key_checked p k (Ok j) e = subst (λ x. checked p (Ok x) ≡ Ok k)
+    (same_key (bytes_eq p.mac (header_mac j.0 p.stanzas)) j k e) e
+
+unmixed_again : (t : Bool) (p : HeaderParts) (k : FileKey) (picked : Result FileKey UnlockFault)
+    → cond t (Err MixedPassphrase) (checked p picked) ≡ Ok k
+    → cond t (Err MixedPassphrase) (checked p (Ok k)) ≡ Ok k
+unmixed_again true p k picked e = absurd (cc)
+unmixed_again false p k picked e = key_checked p k picked e
+
+key_again : (answers : Answering) (p : HeaderParts) (k : FileKey) → unlocked answers p ≡ Ok k
+    → unlocked (by_file_key k.0) p ≡ Ok k
+key_again answers p k e = unmixed_again (is_mixed p.stanzas) p k (choice (answers p.stanzas)) e
+
+pub opens_unlocked : (answers : Answering) (b old new : Bytes) (report : Report) (v : Reading Fault)
+    → Unlocks answers b old new report 0 → IsVerdict limits answers b v
+    → IsVerdict limits (by_file_key new) b v
+opens_unlocked answers b old new report v (Err fault, is, gives) h = absurd (some_code fault (sym gives.returned))
+opens_unlocked answers b old new report v (Ok found, finds, gives) h =
+    let (head, verdict, mine, len) = found_key answers b found finds in
+    subst (λ x. IsVerdict limits (by_file_key x) b v) (sym gives.2)
+    (record {
+      header = Ok head;
+      header_verdict = verdict;
+      is = judged_is answers b v (Ok head) verdict h
+          ∙ ap (read_under limits (drop (length head.text) b))
+          (mine ∙ sym (key_again answers (parts_of head) found.key mine));
+    })
