@@ -6,7 +6,7 @@ use Rattle.age_kdf.specs.Bytes.{Bytes}
 use Rattle.age_header.specs.declared.fault.HeaderFault.{HeaderFault}
 use Rattle.age_header.specs.Header.{AreStanzas, Head, IsStanza, StanzaParts}
 use Rattle.age_header.specs.Verdict.{Found, HeaderVerdict}
-use Rattle.age_header.proofs.VerdictUniqueLemmas as headers
+use Rattle.age_header.proofs.HeaderLemmas.{reading}
 use Rattle.age_header.specs.declared.file_key.FileKey.{FileKey}
 use Rattle.age_recipient.specs.KeyedStanza.{keyed_stanza}
 use Rattle.age_recipient.specs.PassphraseStanza.{pass_stanza}
@@ -22,13 +22,12 @@ use Rattle.agefile.proofs.SizeLemmas.{payload_size}
 
 -- ---- any stanzas
 
-file_of : (stanzas file_key nonce plain file : Bytes) (header : Vec ℕ Global) → length nonce ≡ 16
-    → MakesHeader stanzas (record { 0 = file_key }) (Ok header)
-    → file ≡ header.items ++ payload (record { 0 = file_key }) nonce plain → length (chunks plain) ≤ limits.max_chunks
+pub new_file : (stanzas file_key nonce plain file : Bytes) → length nonce ≡ 16
+    → IsNewFile stanzas file_key nonce plain file
     → (ss : List StanzaParts) × AgeFile limits (record { 0 = file_key }) ss plain file × Reads stanzas ss
-file_of stanzas file_key nonce plain file header len (inl memory) spelled few = absurd (cc)
-file_of stanzas file_key nonce plain file header len (inr (Err fault, has, is)) spelled few = absurd (cc)
-file_of stanzas file_key nonce plain file header len (inr (Ok ss, has, heading)) spelled few = (
+new_file stanzas file_key nonce plain file len (header, inl memory, spelled, few) = absurd (cc)
+new_file stanzas file_key nonce plain file len (header, inr (Err fault, has, is), spelled, few) = absurd (cc)
+new_file stanzas file_key nonce plain file len (header, inr (Ok ss, has, heading), spelled, few) = (
   ss,
   record {
     header = header.items;
@@ -43,30 +42,11 @@ file_of stanzas file_key nonce plain file header len (inr (Ok ss, has, heading))
   read_of stanzas ss has,
 )
 
-pub new_file : (stanzas file_key nonce plain file : Bytes) → length nonce ≡ 16
-    → IsNewFile stanzas file_key nonce plain file
-    → (ss : List StanzaParts) × AgeFile limits (record { 0 = file_key }) ss plain file × Reads stanzas ss
-new_file stanzas file_key nonce plain file len (header, made, spelled, few) =
-    file_of stanzas file_key nonce plain file header len made spelled few
-
 -- ---- one stanza
-
-abbrev stanzas_of : Result Found HeaderFault → List StanzaParts
-stanzas_of (Ok found) = found.stanzas
-stanzas_of (Err fault) = []
 
 -- two headers of one text have the same stanzas
 same_stanzas : (text m n : Bytes) (ss ts : List StanzaParts) → Head ss m text → Head ts n text → ss ≡ ts
-same_stanzas text m n ss ts h k =
-    let one : Found = record { stanzas = ss; mac = m; text = text } in
-    let two : Found = record { stanzas = ts; mac = n; text = text } in
-    let first : HeaderVerdict text (length text) (Ok one) =
-    headers.found_begins text (length text) one
-    (record { rest = []; head = h; prefix = sym (append-nil text); fits = omega arith }) in
-    let second : HeaderVerdict text (length text) (Ok two) =
-    headers.found_begins text (length text) two
-    (record { rest = []; head = k; prefix = sym (append-nil text); fits = omega arith }) in
-    ap stanzas_of (headers.one_verdict text (length text) (Ok one) (Ok two) first second)
+same_stanzas text m n ss ts h k = (reading ss ts m n text [] h (subst (Head ts n) (sym (append-nil text)) k)).1
 
 -- a text of one stanza is read as this stanza
 alone_of : (text : Bytes) (s : StanzaParts) (ss : List StanzaParts) → IsStanza s text → Reads text ss → ss ≡ s ∷ []

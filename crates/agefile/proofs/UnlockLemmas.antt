@@ -1,8 +1,8 @@
 -- Finding a file key, from what its parts return; and the verdict, by the file key.
-use Rattle.std.proofs.Common.{◌≡◌, ◌≢◌, ◌⊎◌, ℕ, ◌+◌, ◌-◌, List, [], ◌∷◌, ◌++◌, map, length, take, drop, sym, ◌∙◌, ap, refl, subst, arith, inl, inr, length-append, Result, Ok, Err, Bool, true, false, cond}
+use Rattle.std.proofs.Common.{◌≡◌, ◌≢◌, ◌⊎◌, ℕ, ◌+◌, ◌-◌, List, [], ◌∷◌, ◌++◌, map, length, take, drop, sym, ◌∙◌, ap, refl, subst, arith, inl, inr, length-append, Some, Result, Ok, Err, Bool, true, false, cond}
+use Rattle.std.specs.Io.KnownBytes.{Consumes}
 use Rattle.age_kdf.specs.Bytes.{Bytes}
-use Rattle.age_header.specs.Device.{CountsFaultIf, Seen, flow}
-use Rattle.age_header.proofs.DeviceLemmas.{of_told}
+use Rattle.age_header.specs.Device.{Flow}
 use Rattle.age_header.specs.declared.fault.HeaderFault.{HeaderFault}
 use Rattle.age_header.specs.declared.fault.HeaderFault.TheVariants as header
 use Rattle.age_header.specs.Header.{StanzaParts, HeaderParts}
@@ -12,8 +12,7 @@ use Rattle.age_header.specs.declared.file_key.FileKey.{FileKey}
 use Rattle.age_recipient.specs.declared.unwrapped.Unwrapped.{Unwrapped}
 use Rattle.age_stream.specs.Reading.{Reading, stops}
 use Rattle.age_file.specs.declared.fault.Fault.{Fault}
-use Rattle.age_file.specs.declared.fault.Fault.TheVariants.{OutOfMemory, Read, BadMac, MixedPassphrase}
-use Rattle.age_file.specs.Device.{is_read}
+use Rattle.age_file.specs.declared.fault.Fault.TheVariants.{OutOfMemory, BadMac, MixedPassphrase}
 use Rattle.age_file.specs.Inspect.{Inspects}
 use Rattle.age_file.specs.Verdict.{Answering, IsVerdict, header_fault, judged, parts_of, read_under, unlocked, checked}
 use Rattle.age_file.proofs.DecryptLemmas.{err_err}
@@ -22,6 +21,7 @@ use Rattle.agefile.specs.declared.report.Report.{Report}
 use Rattle.agefile.specs.declared.unlocking.Unlocked.{Unlocked}
 use Rattle.agefile.specs.Codes.{code_of}
 use Rattle.agefile.specs.Giving.{alone}
+use Rattle.agefile.specs.Inspect.{HeaderOf}
 use Rattle.agefile.specs.Limits.{limits, front_size}
 use Rattle.agefile.specs.Report.{Refuses, report_of}
 use Rattle.agefile.specs.Unlock.{FindsKey, GivesKey, IsKey, Unlocks, with_len}
@@ -30,7 +30,7 @@ use Rattle.std.specs.Str.{bytes_eq}
 use Rattle.age_header.specs.Mac.{header_mac}
 use Rattle.age_recipient.specs.declared.choice.UnlockFault.{UnlockFault}
 use Rattle.age_recipient.specs.Choice.{choice}
-use Rattle.age_file.specs.AgeFile.{is_mixed}
+use Rattle.age_file.specs.AgeFile.{Bounds, is_mixed}
 use Rattle.agefile.specs.Opening.{by_file_key}
 use Rattle.agefile.proofs.OpensRunLemmas.{some_code}
 
@@ -43,12 +43,18 @@ pub record Fronts (b rest : Bytes) (h : HeaderParts) : Type 0 where
   pub verdict : HeaderVerdict b limits.max_header (Ok (record { stanzas = h.stanzas; mac = h.mac; text = text }))
   pub front : b ≡ text ++ rest
 
-pub fronts : {b rest : Bytes} {h : HeaderParts} → Inspects limits (flow (of_told b) (of_told rest)) (Ok h)
-    → Fronts b rest h
-fronts (Err g, is, _) = absurd (cc)
-fronts {b} {rest} {h} (Ok parts, is, reads) =
-    let r = reads_known b (flow (of_told b) (of_told rest)) limits.max_header (Ok parts) refl reads in
-    subst (Fronts b rest) (sym (ok_ok h parts is)) (record { text = r.0; verdict = r.1; front = r.2.consumes })
+pub fronts : {l : Bounds} {source : Flow} {b rest : Bytes} {h : HeaderParts} → l ≡ limits
+    → source.before.to_come ≡ Some b → source.after.to_come ≡ Some rest → Inspects l source (Ok h) → Fronts b rest h
+fronts at come left (Err g, is, _) = absurd (cc)
+fronts {l} {source} {b} {rest} {h} at come left (Ok parts, is, reads) =
+    let r = reads_known b source l.max_header (Ok parts) come reads in
+    subst (Fronts b rest) (sym (ok_ok h parts is)) (record {
+      text = r.0;
+      verdict = subst (λ (k : Bounds). HeaderVerdict b k.max_header
+          (Ok (record { stanzas = parts.stanzas; mac = parts.mac; text = r.0 }))) at r.1;
+      front = subst (λ x. Consumes x (Some rest) r.0) come
+          (subst (λ x. Consumes source.before.to_come x r.0) left r.2.consumes);
+    })
 
 -- a header's length and its file key are those that were found
 key_within : (n : ℕ) (found : Unlocked) (r : Result FileKey Fault) → Ok found ≡ with_len n r
@@ -68,40 +74,22 @@ found_key answers b found (inr (Ok head, verdict, is)) =
     let k = key_within (length head.text) found (unlocked answers (parts_of head)) is in (head, verdict, k.0, k.1)
 
 -- no header was read
-faulty : (answers : Answering) (b : Bytes) (fault : Fault) (g : HeaderFault)
-    → ◌≡◌ {A = Result HeaderParts Fault} (Err fault) (Err (header_fault g)) → HeaderVerdict b limits.max_header (Err g)
-    → FindsKey answers b (Err fault)
-faulty answers b fault g is verdict = inr (Err g, verdict, ap Err (err_err {A = HeaderParts} fault (header_fault g) is))
+pub key_none : (answers : Answering) (b : Bytes) (fault : Fault) → HeaderOf b (Err fault) → FindsKey answers b (Err fault)
+key_none answers b fault (inl memory) = inl (ap Err memory)
+key_none answers b fault (inr (g, verdict, is)) = inr (Err g, verdict, ap Err is)
 
-pub key_none : (answers : Answering) {b : Bytes} (mid : Seen) {fault : Fault}
-    → Inspects limits (flow (of_told b) mid) (Err fault)
-    → CountsFaultIf is_read 0 0 fault → FindsKey answers b (Err fault)
-key_none answers mid (Ok parts, is, h) count = absurd (cc)
-key_none answers mid {fault} (Err header.Read, is, h) count =
-    let read_count : CountsFaultIf is_read 0 0 Read =
-    subst (λ f. CountsFaultIf is_read 0 0 f) (err_err {A = HeaderParts} fault Read is) count in
-    absurd (omega (arith, read_count))
-key_none answers mid {fault} (Err header.Memory, is, h) count =
-    inl (ap Err (err_err {A = HeaderParts} fault OutOfMemory is))
-key_none answers {b} mid {fault} (Err g, is, h) count =
-    faulty answers b fault g is (reads_known b (flow (of_told b) mid) limits.max_header (Err g) refl h)
-
-pub key_locked : (answers : Answering) {b rest : Bytes} {h : HeaderParts} {fault : Fault}
-    → Inspects limits (flow (of_told b) (of_told rest)) (Ok h)
+pub key_locked : (answers : Answering) {b rest : Bytes} {h : HeaderParts} {fault : Fault} → Fronts b rest h
     → (◌≡◌ {A = Result FileKey Fault} (Err fault) (Err OutOfMemory)) ⊎ (Err fault ≡ unlocked answers h)
     → FindsKey answers b (Err fault)
-key_locked answers {fault} i (inl memory) = inl (ap Err (err_err {A = FileKey} fault OutOfMemory memory))
-key_locked answers {b} {rest} {h} i (inr is) =
-    let f = fronts i in
+key_locked answers {fault} f (inl memory) = inl (ap Err (err_err {A = FileKey} fault OutOfMemory memory))
+key_locked answers {h} f (inr is) =
     inr (Ok (record { stanzas = h.stanzas; mac = h.mac; text = f.text }), f.verdict, ap (with_len (length f.text)) is)
 
-pub key_found : (answers : Answering) {b : Bytes} (rest : Bytes) {h : HeaderParts} (k : FileKey)
-    → Inspects limits (flow (of_told b) (of_told rest)) (Ok h)
+pub key_found : (answers : Answering) {b : Bytes} (rest : Bytes) {h : HeaderParts} (k : FileKey) → Fronts b rest h
     → (◌≡◌ {A = Result FileKey Fault} (Ok k) (Err OutOfMemory)) ⊎ (Ok k ≡ unlocked answers h)
     → FindsKey answers b (Ok (record { header_len = length b - length rest; key = k }))
-key_found answers rest k i (inl memory) = absurd (cc)
-key_found answers {b} rest {h} k i (inr is) =
-    let f = fronts i in
+key_found answers rest k f (inl memory) = absurd (cc)
+key_found answers {b} rest {h} k f (inr is) =
     let size : length b ≡ length f.text + length rest = ap length f.front ∙ length-append f.text rest in
     let len : length b - length rest ≡ length f.text = omega (arith, size) in
     inr (
