@@ -21,7 +21,7 @@ use Rattle.agefile.specs.Report.{report_of}
 use Rattle.agefile.specs.Sizes.{opened_len}
 use Rattle.agefile.specs.Start.{FindsStart}
 use Rattle.agefile.proofs.SizeLemmas.{first_cut}
-use Rattle.agefile.proofs.StepsReadLemmas.{IsVerdictFrom, verdict_from}
+use Rattle.agefile.proofs.VerdictLemmas.{IsVerdictFrom, verdict_from}
 
 -- ---- one chunk
 

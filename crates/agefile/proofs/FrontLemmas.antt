@@ -25,7 +25,7 @@ use Rattle.agefile.specs.Limits.{limits, front_size}
 use Rattle.agefile.specs.Opening.{Opens, StartsAt}
 use Rattle.agefile.specs.Start.{IsStart, start_of, start_under}
 use Rattle.agefile.proofs.HeaderLemmas.{whole_verdict}
-use Rattle.agefile.proofs.StartLemmas.{found_start, opened_start, under}
+use Rattle.agefile.proofs.UnlockLemmas.{found_start, opened_start, under}
 
 -- ---- the bytes after the header
 

@@ -1,12 +1,11 @@
 -- A header that is made of a text of stanzas.
-use Rattle.std.proofs.Common.{◌≡◌, ◌≢◌, ℕ, ◌+◌, ◌-◌, ◌<◌, ◌≤◌, Bool, true, false, List, [], ◌∷◌, ◌++◌, length, take, drop, replicate, codes, nat_lt, cond, sym, ◌∙◌, ap, refl, subst, arith, inl, inr, length-append, append_assoc, Vec, Result, Ok, Err}
+use Rattle.std.proofs.Common.{◌≡◌, ◌≢◌, ℕ, ◌+◌, ◌-◌, ◌<◌, ◌≤◌, Bool, true, false, List, [], ◌∷◌, ◌++◌, length, take, replicate, codes, nat_lt, cond, sym, ◌∙◌, ap, refl, subst, arith, inl, inr, length-append, append_assoc, Vec, Result, Ok, Err}
 use Rattle.std.specs.Prelude.{String, IfOk, slice_index}
 use Rattle.std.specs.Global.{Global}
 use Rattle.std.specs.String.{string_bytes}
 use Rattle.std.proofs.lemmas.Bool.{cases_lt, le-ltb, lt-ltb, cond-false, cond-true}
 use Rattle.std.proofs.lemmas.List.{append-nil, append_cancel_left, nil_from_length, take_at}
 use Rattle.age_kdf.specs.Bytes.{Bytes}
-use Rattle.age_header.specs.declared.fault.HeaderFault.{HeaderFault}
 use Rattle.age_header.specs.Base64.{IsBase64, base64_of}
 use Rattle.age_header.specs.Header.{AreStanzas, Head, HeaderParts, StanzaParts, line, version_line}
 use Rattle.age_header.specs.Mac.{header_mac}

@@ -2,15 +2,12 @@ mod DecryptingLemmas
 mod FrontLemmas
 mod HeaderLemmas
 pub mod RangeLemmas
-mod OpensRunLemmas
+mod RunLemmas
 mod NewFileLemmas
 pub mod SizeLemmas
-mod StartLemmas
-mod StepsReadLemmas
+mod VerdictLemmas
 mod UnlockLemmas
 mod SealingLemmas
-mod SealsRunLemmas
 mod HeadingLemmas
 mod WrapLemmas
 mod GroupLemmas
-mod OpenGroupLemmas

@@ -1,19 +1,16 @@
 -- What a new file is, of whose header the stanzas are known.
-use Rattle.std.proofs.Common.{◌≡◌, ℕ, ◌<◌, ◌≤◌, List, [], ◌∷◌, ◌++◌, length, sym, ◌∙◌, ap, refl, subst, arith, inl, inr, length-append, Vec, Result, Ok, Err}
-use Rattle.std.specs.Global.{Global}
+use Rattle.std.proofs.Common.{◌≡◌, ℕ, ◌<◌, ◌≤◌, List, [], ◌∷◌, ◌++◌, length, sym, ◌∙◌, ap, refl, subst, arith, inl, inr, length-append, Ok, Err}
 use Rattle.std.proofs.lemmas.List.{append-nil}
 use Rattle.age_kdf.specs.Bytes.{Bytes}
-use Rattle.age_header.specs.declared.fault.HeaderFault.{HeaderFault}
 use Rattle.age_header.specs.Header.{AreStanzas, Head, IsStanza, StanzaParts}
-use Rattle.age_header.specs.Verdict.{Found, HeaderVerdict}
 use Rattle.age_header.proofs.HeaderLemmas.{reading}
 use Rattle.age_header.specs.declared.file_key.FileKey.{FileKey}
 use Rattle.age_recipient.specs.KeyedStanza.{keyed_stanza}
 use Rattle.age_recipient.specs.PassphraseStanza.{pass_stanza}
-use Rattle.age_stream.specs.Payload.{chunks, payload}
+use Rattle.age_stream.specs.Payload.{payload}
 use Rattle.age_file.specs.AgeFile.{AgeFile}
 use Rattle.agefile.specs.Encrypting.{IsNewFile}
-use Rattle.agefile.specs.Heading.{MakesHeader, probe}
+use Rattle.agefile.specs.Heading.{probe}
 use Rattle.agefile.specs.Limits.{limits}
 use Rattle.agefile.specs.Sizes.{file_len, sealed_len}
 use Rattle.agefile.proofs.HeadingLemmas.{Reads, read_of, same_body}

@@ -1,5 +1,5 @@
 -- Sealing the chunks of a plaintext into a buffer.
-use Rattle.std.proofs.Common.{◌≡◌, ◌⊎◌, ℕ, ◌+◌, ◌-◌, ◌*◌, ◌<◌, ◌≤◌, [], ◌++◌, length, take, drop, min, nat_le, true, false, sym, ◌∙◌, ap, refl, subst, arith, inl, inr, append_assoc, length-append, length-drop, ◌^◌, Vec, None, Ok}
+use Rattle.std.proofs.Common.{◌≡◌, ◌⊎◌, ℕ, ◌+◌, ◌-◌, ◌*◌, ◌<◌, ◌≤◌, [], ◌++◌, length, take, drop, min, nat_le, true, false, sym, ◌∙◌, ap, ap₂, refl, subst, arith, inl, inr, append_assoc, length-append, length-drop, ◌^◌, Vec, None, Ok}
 use Rattle.std.specs.Global.{Global}
 use Rattle.std.specs.List.{concat}
 use Rattle.std.proofs.lemmas.Bool.{le-leb, lt-leb}
@@ -14,8 +14,8 @@ use Rattle.age_stream.proofs.CuttingLemmas.{cut_last}
 use Rattle.age_stream.proofs.ReadingLemmas.{cut_step, is_end_cut}
 use Rattle.agefile.specs.declared.report.Report.{Report}
 use Rattle.agefile.specs.Encrypting.{Encrypts}
+use Rattle.agefile.specs.Giving.{Exceeds, Fits}
 use Rattle.agefile.specs.Heading.{MakesHeader}
-use Rattle.agefile.specs.Limits.{limits}
 use Rattle.agefile.specs.Report.{report_of}
 use Rattle.agefile.specs.Sizes.{chunk_count, file_len}
 use Rattle.agefile.proofs.NewFileLemmas.{size_of}
@@ -161,9 +161,6 @@ seals_more {key} {plain} {from} {room} out mid {new} at done number r from_is ro
 
 -- ---- the whole file
 
-few_chunks : (plain : Bytes) → length plain < 2 ^ 63 → length (chunks plain) ≤ limits.max_chunks
-few_chunks plain low = omega (arith, low, chunks_size plain)
-
 -- how long the file is
 pub file_size : (k : FileKey) (header nonce plain : Bytes) (size : ℕ) → length nonce ≡ 16 → length header < 2 ^ 62
     → length plain < 2 ^ 63
@@ -176,21 +173,10 @@ pub encrypts_exceeds : {stanzas file_key nonce plain old : Bytes} (header : Vec 
     → length plain < 2 ^ 63 → size ≡ length (header.items ++ payload (record { 0 = file_key }) nonce plain)
     → report ≡ report_of size None → length old < size
     → Encrypts stanzas file_key nonce plain old old report 21
-encrypts_exceeds {plain} header size made low is reported more =
-    inr (
-      Ok header,
-      made,
-      (
-        few_chunks plain low,
-        inr (record {
-          exceeds = omega (arith, is, more);
-          returned = refl;
-          reported = reported
-              ∙ ap (λ n. report_of n None) is;
-          buffer = refl;
-        }),
-      ),
-    )
+encrypts_exceeds {file_key} {nonce} {plain} {old} header {report} size made low is reported more =
+    let gives : Exceeds (length (header.items ++ payload (record { 0 = file_key }) nonce plain)) old old report 21 =
+    record { exceeds = omega (arith, is, more); returned = refl; reported = rw is at reported; buffer = refl } in
+    inr (Ok header, made, (omega (arith, low, chunks_size plain), inr gives))
 
 pub encrypts_whole : {stanzas file_key nonce plain old : Bytes} (file : Bytes) {rest : Bytes} (header : Vec ℕ Global)
     {report : Report} (size : ℕ) → MakesHeader stanzas (record { 0 = file_key }) (Ok header)
@@ -198,19 +184,13 @@ pub encrypts_whole : {stanzas file_key nonce plain old : Bytes} (file : Bytes) {
     → report ≡ report_of size None → size ≤ length old
     → file ≡ header.items ++ payload (record { 0 = file_key }) nonce plain → rest ≡ drop size old
     → Encrypts stanzas file_key nonce plain old (file ++ rest) report 0
-encrypts_whole {file_key} {nonce} {plain} {old} file {rest} header size made low is reported fits written behind =
-    inr (
-      Ok header,
-      made,
-      (
-        few_chunks plain low,
-        inl (record {
-          fits = omega (arith, is, fits);
-          returned = refl;
-          reported = reported ∙ ap (λ n. report_of n None) is;
-          buffer = ap (λ f. f ++ rest) written
-              ∙ ap (λ r. (header.items ++ payload (record { 0 = file_key }) nonce plain) ++ r)
-              (behind ∙ ap (λ n. drop n old) is);
-        }),
-      ),
-    )
+encrypts_whole {file_key} {nonce} {plain} {old} file {rest} header {report} size made low is reported fits written
+    behind =
+    let text : Bytes = header.items ++ payload (record { 0 = file_key }) nonce plain in
+    let gives : Fits text None old (file ++ rest) report 0 = record {
+      fits = omega (arith, is, fits);
+      returned = refl;
+      reported = rw is at reported;
+      buffer = ap₂ ◌++◌ written (behind ∙ ap (λ n. drop n old) is);
+    } in
+    inr (Ok header, made, (omega (arith, low, chunks_size plain), inl gives))

@@ -5,7 +5,7 @@ use Rattle.agefile.specs.Opening.{by_file_key}
 use Rattle.agefile.specs.Report.{report_of}
 use Rattle.agefile.specs.Codes.{code_of}
 use Rattle.agefile.proofs.DecryptingLemmas.{decrypts_opened, no_room}
-use Rattle.agefile.proofs.StartLemmas.{start_within}
+use Rattle.agefile.proofs.UnlockLemmas.{start_within}
 use Rattle.agefile.proofs.decrypting.agefile_decrypt.Goals as goal
 
 pub split_at-requires : goal.split_at-requires
