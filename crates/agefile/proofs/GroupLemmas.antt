@@ -12,7 +12,7 @@ use Rattle.agefile.specs.declared.report.Report.{Report}
 use Rattle.agefile.specs.Groups.{PartSeals, SealsGroups, SealsSome, all_of, sealed_open}
 use Rattle.agefile.specs.Part as part
 use Rattle.agefile.specs.Payload.{SealsNext, may_seal}
-use Rattle.agefile.specs.Steps.{Steps}
+use Rattle.agefile.specs.Report.{Steps}
 
 pub text_of : (text room : Bytes) → length room ≡ 16 → take (length (text ++ room) - 16) (text ++ room) ≡ text
 text_of text room len = take_at text room (length (text ++ room) - 16) (omega (arith, len, length-append text room))

@@ -20,7 +20,7 @@ use Rattle.agefile.specs.Limits.{limits}
 use Rattle.agefile.specs.Report.{report_of}
 use Rattle.agefile.specs.Payload.{after_chunk, may_open, may_seal}
 use Rattle.agefile.specs.Chunk.{Opened, OpensAs, SealsAs, has_text}
-use Rattle.agefile.specs.Runs.{OpensRun, SealsRun}
+use Rattle.agefile.specs.Groups.{OpensRun, SealsRun}
 use Rattle.std.specs.List.{concat}
 use Rattle.age_cipher.specs.Sealing.{sealed}
 use Rattle.age_header.specs.declared.file_key.FileKey.{FileKey}

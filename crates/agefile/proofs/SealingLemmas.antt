@@ -55,56 +55,45 @@ sealed_there key plain out left room mid at done number left_is room_is is =
 
 -- so many chunks were sealed, and are at the start of the buffer
 pub record IsSealedTo (key plain out : Bytes) (at done number : ℕ) : Type 0 where
+  pub text : Bytes
+  pub begins : take done out ≡ text
   pub place : at ≡ chunk_size * number
   pub sealed_so : done ≡ sealed_chunk_size * number
+  pub count : length text ≡ done
   pub some : (number ≡ 0) ⊎ (at < length plain)
-  pub size : length out ≡ length plain + 16 * chunk_count (length plain)
   pub seals : concat (sealed_from key 0 (chunks plain))
-      ≡ take done out ++ concat (sealed_from key number (chunks (drop at plain)))
-
--- the next sealed chunk has room
-pub chunk_fits : (key plain out : Bytes) (at done number : ℕ) → IsSealedTo key plain out at done number
-    → done + (min (length (drop at plain)) chunk_size + 16) ≤ length out
-chunk_fits key plain out at done number r =
-    let left : length (drop at plain) ≡ length plain - at = length-drop at plain in
-    elim r.some [
-      | inl zero ↦ omega (arith, zero, left, r.place, r.sealed_so, r.size)
-      | inr lt ↦ omega (arith, lt, left, r.place, r.sealed_so, r.size)
-    ]
+      ≡ text ++ concat (sealed_from key number (chunks (drop at plain)))
 
 -- the last one fills the buffer
 last_fills : (key plain out : Bytes) (at done number : ℕ) → IsSealedTo key plain out at done number
-    → length (drop at plain) ≤ chunk_size → length out ≡ done + (length (drop at plain) + 16)
-last_fills key plain out at done number r last =
+    → length out ≡ length plain + 16 * chunk_count (length plain) → length (drop at plain) ≤ chunk_size
+    → length out ≡ done + (length (drop at plain) + 16)
+last_fills key plain out at done number r size last =
     let left : length (drop at plain) ≡ length plain - at = length-drop at plain in
     elim r.some [
-      | inl zero ↦ omega (arith, zero, left, r.place, r.sealed_so, r.size, last)
-      | inr lt ↦ omega (arith, lt, left, r.place, r.sealed_so, r.size, last)
+      | inl zero ↦ omega (arith, zero, left, r.place, r.sealed_so, size, last)
+      | inr lt ↦ omega (arith, lt, left, r.place, r.sealed_so, size, last)
     ]
 
 pub seals_end : {key plain from room : Bytes} (out mid : Bytes) {new : Bytes} (at done number : ℕ)
-    → IsSealedTo key plain out at done number → from ≡ drop at plain → room ≡ drop done out
-    → length (drop at plain) ≤ chunk_size → SealsFirst key number from room mid → new ≡ take done out ++ mid
+    → IsSealedTo key plain out at done number → length out ≡ length plain + 16 * chunk_count (length plain)
+    → from ≡ drop at plain → room ≡ drop done out → length (drop at plain) ≤ chunk_size
+    → SealsFirst key number from room mid → new ≡ take done out ++ mid
     → new ≡ concat (sealed_from key 0 (chunks plain))
-seals_end {key} {plain} {from} {room} out mid at done number r from_is room_is last sealed_so joined =
+seals_end {key} {plain} {from} {room} out mid at done number r size from_is room_is last sealed_so joined =
     let left : Bytes = drop at plain in
-    let is = sealed_there key plain out from room mid at done number from_is room_is sealed_so in
-    let fills = last_fills key plain out at done number r last in
-    let none : drop (min (length left) chunk_size + 16) (drop done out) ≡ [] =
-    nil_from_length _ (omega (
-      arith,
-      fills,
-      last,
-      length-drop done out,
-      length-drop (min (length left) chunk_size + 16) (drop done out),
-    )) in
+    let fills = last_fills key plain out at done number r size last in
+    let skip : ℕ = min (length left) chunk_size + 16 in
+    let none : drop skip (drop done out) ≡ [] =
+    nil_from_length _ (omega (arith, fills, last, length-drop done out, length-drop skip (drop done out))) in
     let one : mid ≡ sealed key (chunk_nonce number true) [] left ++ [] =
-    is ∙ ap (λ d. sealed key (chunk_nonce number (nat_le (length left) chunk_size)) [] (take chunk_size left) ++ d) none
+    sealed_there key plain out from room mid at done number from_is room_is sealed_so
+    ∙ ap (λ d. sealed key (chunk_nonce number (nat_le (length left) chunk_size)) [] (take chunk_size left) ++ d) none
     ∙ ap (λ b. sealed key (chunk_nonce number b) [] (take chunk_size left) ++ []) (le-leb (length left) chunk_size last)
     ∙ ap (λ t. sealed key (chunk_nonce number true) [] t ++ []) (take_all chunk_size left last) in
     let rest : concat (sealed_from key number (chunks left)) ≡ sealed key (chunk_nonce number true) [] left ++ [] =
     ap (λ cs. concat (sealed_from key number cs)) (cut_last chunk_size left last) in
-    joined ∙ ap (λ m. take done out ++ m) (one ∙ sym rest) ∙ sym r.seals
+    joined ∙ ap₂ ◌++◌ r.begins (one ∙ sym rest) ∙ sym r.seals
 
 pub seals_more : {key plain from room : Bytes} (out mid : Bytes) {new : Bytes} (at done number : ℕ)
     → IsSealedTo key plain out at done number → from ≡ drop at plain → room ≡ drop done out
@@ -112,50 +101,32 @@ pub seals_more : {key plain from room : Bytes} (out mid : Bytes) {new : Bytes} (
     → IsSealedTo key plain new (at + chunk_size) (done + sealed_chunk_size) (number + 1)
 seals_more {key} {plain} {from} {room} out mid {new} at done number r from_is room_is more sealed_so joined =
     let left : Bytes = drop at plain in
-    let is = sealed_there key plain out from room mid at done number from_is room_is sealed_so in
+    let next : Bytes = drop chunk_size left in
     let text : Bytes = take chunk_size left in
     let one : Bytes = sealed key (chunk_nonce number false) [] text in
-    let fits = chunk_fits key plain out at done number r in
-    let full : length text ≡ chunk_size = length-take-le chunk_size left (omega (arith, more)) in
-    let long : length one ≡ sealed_chunk_size =
-    length-sealed key (chunk_nonce number false) [] text ∙ omega (arith, full) in
-    let begun : length (take done out) ≡ done = length-take-le done out (omega (arith, fits)) in
     let after : Bytes = drop (min (length left) chunk_size + 16) (drop done out) in
-    let put : mid ≡ one ++ after = is ∙ ap (λ b. sealed key (chunk_nonce number b) [] text ++ after)
-    (lt-leb (length left) chunk_size more) in
-    let all : new ≡ (take done out ++ one) ++ after = joined ∙ ap (λ m. take done out ++ m) put
-    ∙ sym (append_assoc (take done out) one after) in
-    let front : take (done + sealed_chunk_size) new ≡ take done out ++ one = ap (take (done + sealed_chunk_size)) all
-    ∙ take_at (take done out ++ one) after (done + sealed_chunk_size)
-    (omega (arith, begun, long, length-append (take done out) one)) in
+    let full : length text ≡ chunk_size = length-take-le chunk_size left (omega (arith, more)) in
+    let long : length one ≡ length text + 16 = length-sealed key (chunk_nonce number false) [] text in
+    let count : length (r.text ++ one) ≡ done + sealed_chunk_size =
+    omega (arith, full, long, r.count, length-append r.text one) in
+    let put : mid ≡ one ++ after = sealed_there key plain out from room mid at done number from_is room_is sealed_so
+    ∙ ap (λ b. sealed key (chunk_nonce number b) [] text ++ after) (lt-leb (length left) chunk_size more) in
     let rest : concat (sealed_from key number (chunks left))
-    ≡ one ++ concat (sealed_from key (number + 1) (chunks (drop chunk_size left))) =
+    ≡ one ++ concat (sealed_from key (number + 1) (chunks next)) =
     ap (λ cs. concat (sealed_from key number cs)) (cut_step chunk_size left (omega arith) more)
-    ∙ ap (λ b. sealed key (chunk_nonce number b) [] text
-    ++ concat (sealed_from key (number + 1) (chunks (drop chunk_size left))))
-    (is_end_cut chunk_size [] (drop chunk_size left)) in
+    ∙ ap (λ b. sealed key (chunk_nonce number b) [] text ++ concat (sealed_from key (number + 1) (chunks next)))
+    (is_end_cut chunk_size [] next) in
     record {
+      text = r.text ++ one;
+      begins = ap (take (done + sealed_chunk_size))
+          (joined ∙ ap₂ ◌++◌ r.begins put ∙ sym (append_assoc r.text one after))
+          ∙ take_at (r.text ++ one) after (done + sealed_chunk_size) count;
       place = omega (arith, r.place);
       sealed_so = omega (arith, r.sealed_so);
+      count = count;
       some = inr (omega (arith, more, length-drop at plain));
-      size = omega (
-        arith,
-        ap length all,
-        length-append (take done out ++ one) after,
-        length-append (take done out) one,
-        begun,
-        long,
-        fits,
-        more,
-        r.size,
-        length-drop done out,
-        length-drop (min (length left) chunk_size + 16) (drop done out),
-      );
-      seals = r.seals ∙ ap (λ t. take done out ++ t) rest
-          ∙ sym
-          (append_assoc (take done out) one (concat (sealed_from key (number + 1) (chunks (drop chunk_size left)))))
-          ∙ ap (λ t. t ++ concat (sealed_from key (number + 1) (chunks (drop chunk_size left)))) (sym front)
-          ∙ ap (λ c. take (done + sealed_chunk_size) new ++ concat (sealed_from key (number + 1) (chunks c)))
+      seals = r.seals ∙ ap (λ t. r.text ++ t) rest ∙ sym (append_assoc r.text one _)
+          ∙ ap (λ c. (r.text ++ one) ++ concat (sealed_from key (number + 1) (chunks c)))
           (drop-drop chunk_size at plain);
     }
 

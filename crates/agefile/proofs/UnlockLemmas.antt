@@ -30,14 +30,13 @@ use Rattle.age_header.specs.Mac.{header_mac}
 use Rattle.age_recipient.specs.declared.choice.UnlockFault.{UnlockFault}
 use Rattle.age_recipient.specs.Choice.{choice}
 use Rattle.age_file.specs.AgeFile.{Bounds, is_mixed}
-use Rattle.agefile.specs.Opening.{by_file_key, Opens, StartsAt}
+use Rattle.agefile.specs.Start.{FindsStart, IsStart, Opens, StartsAt, by_file_key, start_under}
 use Rattle.agefile.proofs.RunLemmas.{some_code}
 use Rattle.std.proofs.lemmas.Bool.{cases_lt, le-ltb, lt-ltb, cond-false, cond-true}
 use Rattle.age_stream.specs.Payload.{payload_key}
 use Rattle.age_header.proofs.VerdictUniqueLemmas.{begins_found}
 use Rattle.agefile.specs.declared.payload.Payload.{Payload}
 use Rattle.agefile.specs.declared.start.Start.{Start}
-use Rattle.agefile.specs.Start.{FindsStart, IsStart, start_under}
 
 pub ok_ok : {A : Type 0} (x y : A) → ◌≡◌ {A = Result A Fault} (Ok x) (Ok y) → x ≡ y
 ok_ok x y e = cc

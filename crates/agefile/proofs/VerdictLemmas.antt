@@ -14,11 +14,10 @@ use Rattle.agefile.specs.declared.report.Report.{Report}
 use Rattle.agefile.specs.declared.start.Start.{Start}
 use Rattle.agefile.specs.Codes.{code_of}
 use Rattle.agefile.specs.Limits.{limits, front_size}
-use Rattle.agefile.specs.Opening.{Opens, StartsAt}
+use Rattle.agefile.specs.Start.{IsStart, Opens, StartsAt, start_under}
 use Rattle.agefile.specs.Payload.{before_first, OpensNext, may_open}
 use Rattle.agefile.specs.Report.{report_of}
-use Rattle.agefile.specs.Runs.{OpensRun}
-use Rattle.agefile.specs.Start.{IsStart, start_under}
+use Rattle.agefile.specs.Groups.{OpensGroups, OpensRun, OpensSome, PartOpens, all_of}
 use Rattle.agefile.proofs.FrontLemmas.{whole_start}
 use Rattle.agefile.proofs.RunLemmas.{payload_reads, some_code}
 use Rattle.agefile.proofs.UnlockLemmas.{found_start, judged_is, opened_start, refusal, start_within}
@@ -29,7 +28,6 @@ use Rattle.std.proofs.Math.Seq.{take-append_seam}
 use Rattle.age_stream.specs.declared.fault.StreamFault.{StreamFault}
 use Rattle.agefile.specs.declared.part.Part.{Part}
 use Rattle.agefile.specs.Chunk.{Opened}
-use Rattle.agefile.specs.Groups.{OpensGroups, OpensSome, PartOpens, all_of}
 use Rattle.agefile.specs.Part as part
 use Rattle.agefile.proofs.GroupLemmas.{fitting, is_end_on}
 
