@@ -1,7 +1,7 @@
 -- Opening the sealed chunks of a payload into a buffer.
-use Rattle.std.proofs.Common.{◌≡◌, ◌⊎◌, ℕ, ◌+◌, ◌-◌, ◌*◌, ◌/◌, ◌<◌, ◌≤◌, [], ◌++◌, length, take, drop, min, nat_le, sym, ◌∙◌, ap, ap₂, refl, subst, arith, inl, inr, append_assoc, length-append, length-drop, Option, Some, None, Result, Ok, Err}
+use Rattle.std.proofs.Common.{◌≡◌, ◌⊎◌, ℕ, ◌+◌, ◌-◌, ◌*◌, ◌<◌, ◌≤◌, [], ◌++◌, length, take, drop, min, nat_le, sym, ◌∙◌, ap, ap₂, refl, subst, arith, inl, inr, append_assoc, length-append, length-drop, Option, Some, None, Result, Ok, Err}
 use Rattle.std.specs.Prelude.{option_map}
-use Rattle.std.proofs.lemmas.Bool.{cases_lt, le-leb, lt-leb, cond-false, cond-true}
+use Rattle.std.proofs.lemmas.Bool.{le-leb, lt-leb, cond-false, cond-true}
 use Rattle.std.proofs.lemmas.List.{append-nil, drop-drop, drop_at, length-take-le, take-append-drop, take_all, take_at}
 use Rattle.age_kdf.specs.Bytes.{Bytes}
 use Rattle.age_stream.specs.declared.fault.StreamFault.{StreamFault}
@@ -62,31 +62,6 @@ pub record IsReadTo (key sealed old out : Bytes) (at len number : ℕ) : Type 0 
   pub is : out ≡ text ++ drop (length text) old
   pub reads : reading_from key limits.max_chunks 0 sealed
       ≡ before text (reading_from key limits.max_chunks number (drop at sealed))
-
-pub within : (key sealed old out : Bytes) (at len number : ℕ) → IsReadTo key sealed old out at len number
-    → at ≤ length sealed
-within key sealed old out at len number r = elim r.some [
-  | inl zero ↦ omega (arith, r.place, zero)
-  | inr lt ↦ omega (arith, lt)
-]
-
-room_of : (n i : ℕ) → sealed_chunk_size * i ≤ n
-    → chunk_size * i + (min (n - sealed_chunk_size * i) sealed_chunk_size - 16) ≤ opened_len n
-room_of n i le = elim (cases_lt i (n / sealed_chunk_size)) [
-  | inl lt ↦ omega (arith, lt)
-  | inr ge ↦ omega (arith, ge, le)
-]
-
--- the next text has room
-pub text_fits : (key sealed old out : Bytes) (at len number : ℕ) → IsReadTo key sealed old out at len number
-    → len + (min (length (drop at sealed)) sealed_chunk_size - 16) ≤ length out
-text_fits key sealed old out at len number r =
-    let low : at ≤ length sealed = within key sealed old out at len number r in
-    let left : length (drop at sealed) ≡ length sealed - at = length-drop at sealed in
-    let most = room_of (length sealed) number (omega (arith, low, r.place)) in
-    let size : length out ≡ length r.text + (length old - length r.text) =
-    ap length r.is ∙ length-append r.text _ ∙ ap (λ n. length r.text + n) (length-drop (length r.text) old) in
-    omega (arith, low, left, most, size, r.place, r.size, r.count, r.room)
 
 -- the same of the bytes that are left, and of the room for their text
 first_there : (key sealed out left room mid : Bytes) (at len number : ℕ) (r : Result ℕ StreamFault)
@@ -195,15 +170,6 @@ read_more {key} {sealed} {old} {left} {room} out at len number n mid {new} r lef
 
 -- ---- the whole file
 
--- there is no room
-pub decrypts_exceeds : (answers : Answering) (b old new : Bytes) (report : Report) (code room : ℕ) (start : Start)
-    → FindsStart answers b (Ok start)
-    → room ≡ opened_len (length b - start.first) → Exceeds room old new report code
-    → Decrypts answers b old new report code
-decrypts_exceeds answers b old new report code room start (inl memory) is exceeds = absurd (cc)
-decrypts_exceeds answers b old new report code room start (inr at) is exceeds =
-    inr (Ok start, at, inl (subst (λ n. Exceeds n old new report code) is exceeds))
-
 -- the chunks were opened
 reading_fits : (reading : Reading StreamFault) (v : Reading Fault) (old new : Bytes) (report : Report) (code len : ℕ)
     (fault : Option StreamFault)
@@ -255,7 +221,13 @@ pub no_room : (answers : Answering) {b : Bytes} (rest : Bytes) {old : Bytes} {re
     (start : Start) → FindsStart answers b (Ok start) → rest ≡ drop start.first b
     → room ≡ opened_len (length rest) → report ≡ report_of room None → length old < room
     → Decrypts answers b old old report 21
-no_room answers {b} rest {old} {report} room start found back is reported more =
-    decrypts_exceeds answers b old old report 21 room start found
-    (is ∙ ap opened_len (ap length back ∙ length-drop start.first b))
-    (record { exceeds = more; returned = refl; reported = reported; buffer = refl })
+no_room answers rest room start (inl memory) back is reported more = absurd (cc)
+no_room answers {b} rest {old} {report} room start (inr at) back is reported more =
+    let exceeds : Exceeds room old old report 21 =
+    record { exceeds = more; returned = refl; reported = reported; buffer = refl } in
+    inr (
+      Ok start,
+      at,
+      inl (subst (λ n. Exceeds n old old report 21)
+          (is ∙ ap opened_len (ap length back ∙ length-drop start.first b)) exceeds),
+    )

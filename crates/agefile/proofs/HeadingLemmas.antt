@@ -84,7 +84,8 @@ pub header_none : {text : Bytes} {k : FileKey} (fault : Fault) → text ≢ [] �
     → MakesHeader text k (Err fault)
 header_none fault some (inl memory) = inl (ap Err (err_err {A = Bytes} fault OutOfMemory memory))
 header_none fault some (inr (Ok ss, reads, is)) = absurd (cc)
-header_none fault some (inr (Err f, reads, is)) = inr (Err f, inr (some, reads), ap Err (err_err {A = Bytes} fault f is))
+header_none fault some (inr (Err f, reads, is)) =
+    inr (Err f, inr (some, reads), ap Err (err_err {A = Bytes} fault f is))
 
 unmixed : (b : Bool) (xs ss : List StanzaParts)
     → ◌≡◌ {A = Result (List StanzaParts) Fault} (cond b (Err MixedPassphrase) (Ok xs)) (Ok ss) → (b ≡ false) × (xs ≡ ss)

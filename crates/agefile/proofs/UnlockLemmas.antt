@@ -78,7 +78,8 @@ found_key answers b found (inr (Ok head, verdict, is)) =
     let k = key_within (length head.text) found (unlocked answers (parts_of head)) is in (head, verdict, k.0, k.1)
 
 -- no header was read
-pub key_none : (answers : Answering) (b : Bytes) (fault : Fault) → HeaderOf b (Err fault) → FindsKey answers b (Err fault)
+pub key_none : (answers : Answering) (b : Bytes) (fault : Fault) → HeaderOf b (Err fault)
+    → FindsKey answers b (Err fault)
 key_none answers b fault (inl memory) = inl (ap Err memory)
 key_none answers b fault (inr (g, verdict, is)) = inr (Err g, verdict, ap Err is)
 

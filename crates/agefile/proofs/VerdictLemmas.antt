@@ -59,7 +59,8 @@ verdict_from answers b start v (Err e, verdict, is) h =
     subst (IsVerdictFrom b v) (sym is) (judged_is answers b v (Err e) verdict h)
 verdict_from answers b start v (Ok found, verdict, is) h =
     subst (IsVerdictFrom b v) (sym is)
-    (under_from b (length found.text) v (unlocked answers (parts_of found)) (judged_is answers b v (Ok found) verdict h))
+    (under_from b (length found.text) v (unlocked answers (parts_of found))
+    (judged_is answers b v (Ok found) verdict h))
 
 -- ---- the laws
 

@@ -1,6 +1,6 @@
--- What calls on a payload and on its parts give, in the order of the chunks: one call after another,
--- or in groups. The calls share no struct, so those on different parts may come in any order, and
--- at once.
+-- What calls on a payload and on its parts give, in the order of the chunks: one call after
+-- another, or in groups. The calls share no struct, so those on different parts may come in any
+-- order, and at once.
 use Rattle.std.specs.Prelude.{◌≡◌, ◌⊎◌, ◌++◌, ◌+◌, ℕ, false, List, [], ◌∷◌, length, take, ◌≢◌}
 use Rattle.age_kdf.specs.Bytes.{Bytes}
 use Rattle.age_cipher.specs.Sealing.{sealed}

@@ -13,7 +13,8 @@ returns-in-Err c stanzas is =
 pub returns-then-rest-gt0 : goal.returns-then-rest-gt0
 returns-then-rest-gt0 c stanzas is =
     mac_early stanzas c.rest-rest.result.now c.split_at.result.0.now c.in-Ok.header _
-    (fronts c.limits.ensures (c.new-source.ensures ∙ ap Some is) c.rest-rest.ensures c.in-Ok.ensures.verdict) c.if-rest-gt0.true
+    (fronts c.limits.ensures (c.new-source.ensures ∙ ap Some is) c.rest-rest.ensures c.in-Ok.ensures.verdict)
+    c.if-rest-gt0.true
     (subst (λ b. c.split_at.result.0.now ≡ take (length b - length c.rest-rest.result.now) b) is
     c.split_at.ensures.front)
     (c.in_text-then-rest-gt0.ensures ∙ ap (λ n. BadLine (n - 1)) c.lines_in.ensures)
@@ -21,12 +22,14 @@ returns-then-rest-gt0 c stanzas is =
 pub returns-then-is_mixed : goal.returns-then-is_mixed
 returns-then-is_mixed c stanzas is =
     mac_mixed stanzas c.rest-rest.result.now c.in-Ok.header _
-    (fronts c.limits.ensures (c.new-source.ensures ∙ ap Some is) c.rest-rest.ensures c.in-Ok.ensures.verdict) (omega (arith, c.if-rest-gt0.false))
+    (fronts c.limits.ensures (c.new-source.ensures ∙ ap Some is) c.rest-rest.ensures c.in-Ok.ensures.verdict)
+    (omega (arith, c.if-rest-gt0.false))
     (rw c.stanzas.ensures.value at (sym c.is_mixed.ensures ∙ c.if-is_mixed.true))
 
 pub returns-in-Ok-mac_of : goal.returns-in-Ok-mac_of
 returns-in-Ok-mac_of c stanzas is =
     mac_made stanzas c.rest-rest.result.now c.in-Ok.header _
-    (fronts c.limits.ensures (c.new-source.ensures ∙ ap Some is) c.rest-rest.ensures c.in-Ok.ensures.verdict) (omega (arith, c.if-rest-gt0.false))
+    (fronts c.limits.ensures (c.new-source.ensures ∙ ap Some is) c.rest-rest.ensures c.in-Ok.ensures.verdict)
+    (omega (arith, c.if-rest-gt0.false))
     (rw c.stanzas.ensures.value at (sym c.is_mixed.ensures ∙ c.if-is_mixed.false))
     (rw c.stanzas-2.ensures.value at c.in-Ok-mac_of.ensures)

@@ -15,7 +15,8 @@ pub returns-in-Err-unlock_header : goal.returns-in-Err-unlock_header
 returns-in-Err-unlock_header g c =
     key_locked
     (λ (s : List StanzaParts). map (λ i. (goal.Identity-dyn g (i.vtable, i.value)).meaning i.value s)
-    c.args.identities.now) (fronts {rest = c.inspect.new.input.rest.now} c.limits.ensures c.new-source.ensures refl c.in-Ok.ensures.verdict)
+    c.args.identities.now)
+    (fronts {rest = c.inspect.new.input.rest.now} c.limits.ensures c.new-source.ensures refl c.in-Ok.ensures.verdict)
     c.in-Err-unlock_header.ensures.key
 
 pub returns : goal.returns
