@@ -19,7 +19,7 @@ use Rattle.agefile.specs.Giving.{Exceeds, Fits}
 use Rattle.agefile.specs.Limits.{limits}
 use Rattle.agefile.specs.Report.{report_of}
 use Rattle.agefile.specs.Sizes.{opened_len}
-use Rattle.agefile.specs.Start.{FindsStart}
+use Rattle.agefile.specs.Unlock.{FindsStart}
 use Rattle.agefile.proofs.SizeLemmas.{first_cut}
 use Rattle.agefile.proofs.VerdictLemmas.{IsVerdictFrom, verdict_from}
 

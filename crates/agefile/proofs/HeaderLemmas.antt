@@ -26,9 +26,8 @@ use Rattle.agefile.specs.declared.inspecting.Summary.{Summary}
 use Rattle.agefile.specs.declared.report.Report.{Report}
 use Rattle.agefile.specs.Codes.{fault_code}
 use Rattle.agefile.specs.Report.{Refuses, Returns, report_of}
-use Rattle.agefile.specs.Inspect.{HeaderOf, Inspected, joined}
+use Rattle.agefile.specs.Inspect.{GivesStanzas, HeaderOf, Inspected, InspectsStanzas, joined}
 use Rattle.agefile.specs.Limits.{limits, front_size}
-use Rattle.agefile.specs.Listing.{GivesStanzas, InspectsStanzas}
 
 -- what a reader returned
 of_answer : (b : Bytes) (source : Flow) (r : Result HeaderParts Fault) (answer : Result HeaderParts HeaderFault)

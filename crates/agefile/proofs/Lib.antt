@@ -3,7 +3,6 @@ mod FrontLemmas
 mod HeaderLemmas
 pub mod RangeLemmas
 mod RunLemmas
-mod NewFileLemmas
 pub mod SizeLemmas
 mod VerdictLemmas
 mod UnlockLemmas

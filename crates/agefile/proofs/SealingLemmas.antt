@@ -18,7 +18,7 @@ use Rattle.agefile.specs.Giving.{Exceeds, Fits}
 use Rattle.agefile.specs.Heading.{MakesHeader}
 use Rattle.agefile.specs.Report.{report_of}
 use Rattle.agefile.specs.Sizes.{chunk_count, file_len}
-use Rattle.agefile.proofs.NewFileLemmas.{size_of}
+use Rattle.agefile.proofs.HeadingLemmas.{size_of}
 use Rattle.agefile.proofs.SizeLemmas.{chunks_size, first_cut}
 
 -- ---- one chunk

@@ -23,14 +23,13 @@ use Rattle.agefile.specs.Giving.{alone}
 use Rattle.agefile.specs.Inspect.{HeaderOf}
 use Rattle.agefile.specs.Limits.{limits, front_size}
 use Rattle.agefile.specs.Report.{Refuses, report_of}
-use Rattle.agefile.specs.Unlock.{FindsKey, GivesKey, IsKey, Unlocks, with_len}
+use Rattle.agefile.specs.Unlock.{FindsKey, FindsStart, GivesKey, IsKey, IsStart, Opens, StartsAt, Unlocks, by_file_key, start_under, with_len}
 use Rattle.agefile.proofs.HeaderLemmas.{whole_verdict}
 use Rattle.std.specs.Str.{bytes_eq}
 use Rattle.age_header.specs.Mac.{header_mac}
 use Rattle.age_recipient.specs.declared.choice.UnlockFault.{UnlockFault}
 use Rattle.age_recipient.specs.Choice.{choice}
 use Rattle.age_file.specs.AgeFile.{Bounds, is_mixed}
-use Rattle.agefile.specs.Start.{FindsStart, IsStart, Opens, StartsAt, by_file_key, start_under}
 use Rattle.agefile.proofs.RunLemmas.{some_code}
 use Rattle.std.proofs.lemmas.Bool.{cases_lt, le-ltb, lt-ltb, cond-false, cond-true}
 use Rattle.age_stream.specs.Payload.{payload_key}

@@ -14,7 +14,7 @@ use Rattle.agefile.specs.declared.report.Report.{Report}
 use Rattle.agefile.specs.declared.start.Start.{Start}
 use Rattle.agefile.specs.Codes.{code_of}
 use Rattle.agefile.specs.Limits.{limits, front_size}
-use Rattle.agefile.specs.Start.{IsStart, Opens, StartsAt, start_under}
+use Rattle.agefile.specs.Unlock.{IsStart, Opens, StartsAt, start_under}
 use Rattle.agefile.specs.Payload.{before_first, OpensNext, may_open}
 use Rattle.agefile.specs.Report.{report_of}
 use Rattle.agefile.specs.Groups.{OpensGroups, OpensRun, OpensSome, PartOpens, all_of}

@@ -1,7 +1,7 @@
 use Rattle.std.proofs.Common.{◌∙◌, ap, subst}
 use denote.Param.Object.{read_made}
 use Rattle.agefile.specs.Giving.{alone}
-use Rattle.agefile.specs.Start.{FindsStart, gives_key}
+use Rattle.agefile.specs.Unlock.{FindsStart, gives_key}
 use Rattle.agefile.proofs.opening.start_under.Goals as goal
 use Rattle.agefile.proofs.opening.start_under.OwnLists.{own-1, entry-1-1, at-1-1, same-1-1}
 
