@@ -15,14 +15,14 @@ use Rattle.age_stream.specs.Offsets.{StaysGiven}
 use Rattle.age_stream.specs.Ranges.{IsVerifiedByte, RangeState, Stops, range_len}
 use Rattle.age_stream.specs.Sizes.{chunk_size}
 use Rattle.age_file.specs.declared.fault.Fault.{Fault}
+use Rattle.age_file.specs.declared.fault.Fault.TheVariants.{Write}
 use Rattle.age_file.specs.AgeFile.{Bounds}
-use Rattle.age_file.specs.Ranges.{BeginsFile, IsOpenFault, IsOpenStage}
-use Rattle.age_file.specs.Stage.{Stage, stage_of, at_header, at_key, at_nonce, at_chunk, at_read, at_write, at_memory, at_recipient}
+use Rattle.age_file.specs.Ranges.{BeginsFile, IsOpenFault}
 use Rattle.age_file.specs.Verdict.{Answering, stream_fault}
 use Rattle.age_commands.specs.Range.{IsPartFault, RangingAny, WritesAny, WritesVerified}
 use Rattle.age_commands.specs.Secret.{answers_of, limits_of}
 use Rattle.age_commands.specs.Task.{RangesUnseen}
-use Rattle.age_file.specs.Device.{IsLate, IsQuiet, is_at_write, is_write}
+use Rattle.age_file.specs.Device.{IsLate, IsQuiet, is_write}
 use Rattle.age_job.specs.declared.job.Job.{Job}
 use Rattle.age_job.specs.declared.secret.Secret.{Secret}
 
@@ -210,17 +210,7 @@ pub quiet_part : {W : Type 0} (gave : ℕ → ℕ → Type 0) (s : RangeState) (
 quiet_part gave s at len sink old new (Ok u) h = tt
 quiet_part gave s at len sink old new (Err fault) h = inl (part_is_late s at len fault h.0)
 
-unwritten_at : (stage : Stage) (n : ℕ) → IsOpenStage stage
-    → n ≡ (if is_at_write stage then min (n + 1) (2 ^ 64 - 1) else n)
-unwritten_at at_header n is = refl
-unwritten_at at_key n is = refl
-unwritten_at at_nonce n is = refl
-unwritten_at at_chunk n is = refl
-unwritten_at at_read n is = refl
-unwritten_at at_write n is = absurd is
-unwritten_at at_memory n is = refl
-unwritten_at at_recipient n is = refl
-
 -- a fault of opening is no failed write
 pub opens_unwritten : {n : ℕ} (fault : Fault) → IsOpenFault fault → CountsFaultIf is_write n n fault
-opens_unwritten {n} fault is = unwritten_at (stage_of fault) n is
+opens_unwritten Write is = absurd is
+opens_unwritten fault is = refl

@@ -13,6 +13,7 @@ use age_file::{
     TAG_SIZE, inspect,
 };
 use age_job::{Bytes, Command, Job, MOST_HEADER, MOST_WORK, Watched};
+use age_recipient::{KEYED_TYPE, SCRYPT_TYPE};
 use std::alloc::Global;
 use std::fmt;
 use std::fmt::Write;
@@ -242,9 +243,9 @@ fn write_stanzas<W: fmt::Write>(stanzas: &[Stanza], f: &mut fmt::Formatter<W>) -
         f.write_str(name)?;
         count = count.saturating_add(1);
     }
-    f.write_str(if has_type(stanzas, "scrypt") {
+    f.write_str(if has_type(stanzas, SCRYPT_TYPE) {
         "; -p opens it"
-    } else if has_type(stanzas, "example.org/key") {
+    } else if has_type(stanzas, KEYED_TYPE) {
         "; -k opens it"
     } else {
         "; another tool opens it"

@@ -7,7 +7,6 @@ pub mod NewFile
 pub mod Ranges
 pub mod Rewrap
 pub mod Salvage
-pub mod Stage
 pub mod States
 pub mod Verdict
 pub mod Words

@@ -10,10 +10,9 @@ use Rattle.age_stream.specs.Offsets.{GaveAt}
 use Rattle.age_stream.specs.Ranges.{BeginsAt, IsOpened, KeepsVerified, RangeState}
 use Rattle.age_stream.specs.Slice.{last_piece, range_outcome}
 use Rattle.age_file.specs.declared.fault.Fault.{Fault}
-use Rattle.age_file.specs.declared.fault.Fault.TheVariants.{OutOfMemory, Read}
+use Rattle.age_file.specs.declared.fault.Fault.TheVariants.{IncompatibleRecipients, NoRecipients, OutOfMemory, Read, Refused, Write}
 use Rattle.age_file.specs.AgeFile.{Bounds}
 use Rattle.age_file.specs.Device.{is_read}
-use Rattle.age_file.specs.Stage.{Stage, stage_of, at_header, at_key, at_nonce, at_chunk, at_read, at_write, at_memory, at_recipient}
 use Rattle.age_file.specs.Verdict.{Answering, found_in, header_fault, parts_of, stream_fault, unlocked}
 use Rattle.age_stream.specs.Sizes.{nonce_size}
 
@@ -30,20 +29,13 @@ GaveFirst gave at bytes = (at ≡ min (length bytes) (2 ^ 64 - 1)) × GaveAt gav
 abbrev pub IsWithin : (told : Known) (at : ℕ) → Type 0
 IsWithin told at = IfSome told (λ bytes. at ≤ length bytes)
 
--- a stage at which opening a file for ranges may end
-abbrev pub IsOpenStage : Stage → Type 0
-IsOpenStage at_header = ⊤
-IsOpenStage at_key = ⊤
-IsOpenStage at_nonce = ⊤
-IsOpenStage at_chunk = ⊤
-IsOpenStage at_read = ⊤
-IsOpenStage at_write = ⊥
-IsOpenStage at_memory = ⊤
-IsOpenStage at_recipient = ⊥
-
--- a fault with which opening a file for ranges may end
+-- a fault with which opening a file for ranges may end: not of a write, nor of recipients
 abbrev pub IsOpenFault : Fault → Type 0
-IsOpenFault fault = IsOpenStage (stage_of fault)
+IsOpenFault Write = ⊥
+IsOpenFault NoRecipients = ⊥
+IsOpenFault (Refused i code) = ⊥
+IsOpenFault (IncompatibleRecipients i) = ⊥
+IsOpenFault _ = ⊤
 
 -- the known bytes begin with this header, which is `at` bytes long
 abbrev pub HasHeader : (limits : Bounds) (told : Known) (at : ℕ) (h : HeaderParts) → Type 0

@@ -9,7 +9,7 @@ ghost use Rattle.age_file.specs.Verdict.{answers_by, checked, unlocked};
 use crate::fault::Fault;
 use crate::fault_conversions::unlock_fault;
 use age_header::{Header, Stanza, mac_of};
-use age_recipient::{FileKey, Identity, UnlockFault, unlock};
+use age_recipient::{FileKey, Identity, SCRYPT_TYPE, UnlockFault, unlock};
 use std::alloc::Global;
 
 /// Finds the file key of a header by these identities, tried in order, and verifies the header's
@@ -83,7 +83,7 @@ fn is_scrypt(stanza: &Stanza) -> bool
     ensures { result ≡ is_scrypt stanza.now.args }
 {
     match stanza.args().split_first() {
-        Some((kind, _)) => kind.as_str() == "scrypt",
+        Some((kind, _)) => kind.as_str() == SCRYPT_TYPE,
         None => false,
     }
 }

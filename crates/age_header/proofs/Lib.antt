@@ -4,13 +4,13 @@ pub mod DeviceLemmas
 mod FillingLemmas
 pub mod HeaderLemmas
 pub mod LengthLemmas
-mod LinesLemmas
+pub mod LinesLemmas
 pub mod ReaderLemmas
 mod StanzaLemmas
 mod StepsLemmas
 pub mod TextLemmas
-mod VerdictFirstLineLemmas
+pub mod VerdictFirstLineLemmas
 mod VerdictLaterLinesLemmas
-mod VerdictPathLemmas
+pub mod VerdictPathLemmas
 pub mod VerdictTotalLemmas
 pub mod VerdictUniqueLemmas

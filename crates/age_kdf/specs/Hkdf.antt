@@ -13,13 +13,10 @@ unfoldable pub hkdf_blocks : (prk info : Bytes) (n : ℕ) → Bytes
 hkdf_blocks prk info zero = []
 hkdf_blocks prk info (suc n) = hkdf_blocks prk info n ++ hkdf_block prk info (suc n)
 
--- HKDF-Expand: the first len bytes of the blocks, of which there are len / 32, rounded up
-abbrev pub hkdf_expand : (prk info : Bytes) (len : ℕ) → Bytes
-hkdf_expand prk info len = take len (hkdf_blocks prk info ((len + 31) / 32))
-
--- HKDF-Expand of the key that HKDF-Extract makes: HMAC(salt, IKM) (section 2.2)
+-- HKDF-Expand of the key that HKDF-Extract makes, HMAC(salt, IKM): the first len bytes of the
+-- blocks, of which there are len / 32, rounded up (sections 2.2 and 2.3)
 unfoldable pub hkdf : (ikm salt info : Bytes) (len : ℕ) → Bytes
-hkdf ikm salt info len = hkdf_expand (hmac salt ikm) info len
+hkdf ikm salt info len = take len (hkdf_blocks (hmac salt ikm) info ((len + 31) / 32))
 
 -- the longest output: 255 blocks of 32 bytes (section 2.3)
 abbrev pub longest_output : ℕ

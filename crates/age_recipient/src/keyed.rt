@@ -7,3 +7,4 @@ mod stanza;
 
 pub use pair::KeyPair;
 pub use recipient::{KeyIdentity, KeyRecipient};
+pub use stanza::KEYED_TYPE;

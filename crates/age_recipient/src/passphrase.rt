@@ -8,3 +8,4 @@ mod work;
 
 pub use pair::PassPair;
 pub use recipient::{PassError, PassIdentity, PassRecipient};
+pub use stanza::SCRYPT_TYPE;

@@ -1,85 +1,259 @@
--- What is found in a file's front of 65,552 bytes is what is found in the file.
-use Rattle.std.proofs.Common.{◌≡◌, ℕ, ◌+◌, ◌-◌, ◌<◌, ◌≤◌, length, take, drop, nat_lt, cond, sym, ◌∙◌, ap, refl, subst, arith, inl, inr, length-take, length-drop, Result, Ok, Err}
-use Rattle.std.proofs.lemmas.Bool.{cases_lt, lt-ltb, le-ltb}
-use Rattle.std.proofs.lemmas.List.{take-take, drop-take}
+-- What is found in a beginning of a file: in one that holds its header and its nonce, as its first 65,552 bytes do, and
+-- in one that ends within them.
+use Rattle.std.proofs.Common.{◌≡◌, ◌≢◌, ◌⊎◌, ℕ, ◌+◌, ◌-◌, ◌<◌, ◌≤◌, List, ◌++◌, length, take, drop, min, nat_lt, sym, ◌∙◌, ap, refl, subst, arith, inl, inr, append_assoc, length-append, length-drop, length-take, take-append-drop, codes, Result, Ok, Err}
+use Rattle.std.proofs.lemmas.Bool.{cases_lt, le-ltb, lt-ltb, cond-false, cond-true}
+use Rattle.std.proofs.lemmas.List.{drop-take, take-append-le, take-take, take_all}
 use Rattle.age_kdf.specs.Bytes.{Bytes}
-use Rattle.age_header.specs.declared.fault.HeaderFault.{HeaderFault}
-use Rattle.age_header.specs.declared.fault.HeaderFault.TheVariants as header
-use Rattle.age_header.specs.Verdict.{BeginsAsAge, Decides, Found, HeaderVerdict, IsUndecided}
-use Rattle.age_header.proofs.VerdictUniqueLemmas.{begins_found}
+use Rattle.age_header.specs.declared.fault.HeaderFault.TheVariants.{Truncated}
+use Rattle.age_header.specs.Header.{line, version_line, version_size}
+use Rattle.age_header.specs.Verdict.{AreLines, BeginsAsAge, Found, Finds, HeaderVerdict, lines_text}
+use Rattle.age_header.proofs.LengthLemmas.{length-version_line}
+use Rattle.age_header.proofs.LinesLemmas.{lines_prefix}
+use Rattle.age_header.proofs.VerdictFirstLineLemmas.{cap_prefix}
+use Rattle.age_header.proofs.VerdictPathLemmas.{both, take_past}
+use Rattle.age_header.proofs.VerdictUniqueLemmas as headers
 use Rattle.age_header.specs.declared.file_key.FileKey.{FileKey}
 use Rattle.age_stream.specs.Payload.{payload_key}
 use Rattle.age_file.specs.declared.fault.Fault.{Fault}
-use Rattle.age_file.specs.declared.fault.Fault.TheVariants.{NonceTruncated}
-use Rattle.age_file.specs.Verdict.{parts_of}
-use Rattle.age_file.specs.Verdict.{Answering, unlocked}
+use Rattle.age_file.specs.declared.fault.Fault.TheVariants.{HeaderTruncated, NonceTruncated}
+use Rattle.age_file.specs.Verdict.{Answering, parts_of, unlocked}
+use Rattle.agefile.specs.declared.payload.Payload.{Payload}
+use Rattle.agefile.specs.declared.report.Report.{Report}
 use Rattle.agefile.specs.declared.start.Start.{Start}
+use Rattle.agefile.specs.Codes.{fault_code}
 use Rattle.agefile.specs.Limits.{limits, front_size}
-use Rattle.agefile.specs.Start.{IsStart, start_under}
+use Rattle.agefile.specs.Unlock.{IsStart, Opens, StartsAt, start_of, start_under}
+use Rattle.agefile.proofs.HeaderLemmas.{whole_verdict}
+use Rattle.agefile.proofs.UnlockLemmas.{found_start, opened_start, under}
 
--- the first 65,552 bytes of a file have its header verdict
-cut_front : (b : Bytes) → take limits.max_header (take front_size b) ≡ take limits.max_header b
-cut_front b = take-take limits.max_header front_size b (omega arith)
+-- ---- the bytes after the header
 
-pub whole_verdict : (b : Bytes) (r : Result Found HeaderFault) → HeaderVerdict (take front_size b) limits.max_header r
-    → HeaderVerdict b limits.max_header r
-whole_verdict b (Ok found) h = record {
-  lines = h.lines;
-  begun = subst BeginsAsAge (cut_front b) h.begun;
-  decides = subst (Decides h.lines) (cut_front b) h.decides;
-  is = h.is;
-  head = h.head;
-}
-whole_verdict b (Err header.NotAge) h = λ begins. h (subst BeginsAsAge (sym (cut_front b)) begins)
-whole_verdict b (Err (header.BadLine n)) h =
-    (subst BeginsAsAge (cut_front b) h.0, (h.1.0, h.1.1, subst (Decides h.1.0) (cut_front b) h.1.2, h.1.3))
-whole_verdict b (Err header.Truncated) h =
-    let short : length (take front_size b) < limits.max_header = h.2 in (
-      subst BeginsAsAge (cut_front b) h.0,
-      subst IsUndecided (cut_front b) h.1,
-      omega (arith, short, length-take front_size b),
-    )
-whole_verdict b (Err header.TooLarge) h =
-    let long : limits.max_header ≤ length (take front_size b) = h.2 in (
-      subst BeginsAsAge (cut_front b) h.0,
-      subst IsUndecided (cut_front b) h.1,
-      omega (arith, long, length-take front_size b),
-    )
-whole_verdict b (Err header.Read) h = absurd h
-whole_verdict b (Err header.Memory) h = absurd h
+start_there : (len : ℕ) (rest : Bytes) (k : FileKey) → 16 ≤ length rest
+    → start_under len rest (Ok k) ≡ Ok (record { first = len + 16; key = payload_key k (take 16 rest) })
+start_there len rest k ge = cond-false (nat_lt (length rest) 16) _ _ (le-ltb (length rest) 16 ge)
 
--- sixteen bytes after the header
-nonce_front : (b : Bytes) (n : ℕ) → n ≤ limits.max_header → take 16 (drop n (take front_size b)) ≡ take 16 (drop n b)
-nonce_front b n le =
-    let whole : n + (front_size - n) ≡ front_size = omega arith in
-    ap (λ k. take 16 (drop n (take k b))) (sym whole) ∙ ap (take 16) (drop-take n (front_size - n) b)
-    ∙ take-take 16 (front_size - n) (drop n b) (omega arith)
+-- the first sixteen say where the chunks start
+start_in : (len m : ℕ) (rest : Bytes) (key : Result FileKey Fault) → 16 ≤ m
+    → start_under len (take m rest) key ≡ start_under len rest key
+start_in len m rest (Err fault) le = refl
+start_in len m rest (Ok k) le = elim (cases_lt (length rest) 16) [
+  | inl lt ↦ ap (λ r. start_under len r (Ok k)) (take_all m rest (omega arith))
+  | inr ge ↦ start_there len (take m rest) k (omega (arith, length-take m rest))
+      ∙ ap (λ n. Ok (record { first = len + 16; key = payload_key k n })) (take-take 16 m rest le)
+      ∙ sym (start_there len rest k ge)
+]
 
-nonce_there : (b : Bytes) (n : ℕ) → n ≤ limits.max_header
-    → nat_lt (length (drop n (take front_size b))) 16 ≡ nat_lt (length (drop n b)) 16
-nonce_there b n le =
-    let front : length (drop n (take front_size b)) ≡ length (take front_size b) - n =
-    length-drop n (take front_size b) in
-    let all : length (drop n b) ≡ length b - n = length-drop n b in
-    elim (cases_lt (length (drop n b)) 16) [
-      | inl lt ↦ lt-ltb _ 16 (omega (arith, lt, front, all, length-take front_size b)) ∙ sym (lt-ltb _ 16 lt)
-      | inr ge ↦ le-ltb _ 16 (omega (arith, ge, front, all, length-take front_size b)) ∙ sym (le-ltb _ 16 ge)
-    ]
+-- the same of a beginning of a file
+start_behind : (len n : ℕ) (b : Bytes) (key : Result FileKey Fault) → len + 16 ≤ n
+    → start_under len (drop len (take n b)) key ≡ start_under len (drop len b) key
+start_behind len n b key le =
+    let split : n ≡ len + (n - len) = omega arith in
+    ap (λ k. start_under len (drop len (take k b)) key) split
+    ∙ ap (λ r. start_under len r key) (drop-take len (n - len) b)
+    ∙ start_in len (n - len) (drop len b) key (omega arith)
 
-start_under_front : (b : Bytes) (n : ℕ) (key : Result FileKey Fault) → n ≤ limits.max_header
-    → start_under n (drop n (take front_size b)) key ≡ start_under n (drop n b) key
-start_under_front b n (Err fault) le = refl
-start_under_front b n (Ok k) le =
-    ap (λ t. cond t (Err NonceTruncated)
-    (Ok (record { first = n + 16; key = payload_key k (take 16 (drop n (take front_size b))) }))) (nonce_there b n le)
-    ∙ ap (λ x. cond (nat_lt (length (drop n b)) 16) (Err NonceTruncated)
-    (Ok (record { first = n + 16; key = payload_key k x }))) (nonce_front b n le)
+first_of : (len : ℕ) (rest : Bytes) (key : Result FileKey Fault) (s : Start) → Ok s ≡ start_under len rest key
+    → s.first ≡ len + 16
+first_of len rest key s is = ap (λ (x : Start). x.first) (under len rest key s is).is
 
+-- ---- a beginning that holds header and nonce
+
+-- the first 65,552 bytes of a file have its start
 pub whole_start : (answers : Answering) (b : Bytes) (start : Result Start Fault)
     → IsStart answers (take front_size b) start
     → IsStart answers b start
 whole_start answers b start (Err e, verdict, is) = (Err e, whole_verdict b (Err e) verdict, is)
 whole_start answers b start (Ok found, verdict, is) =
     let there = whole_verdict b (Ok found) verdict in
-    let fits : length found.text ≤ limits.max_header = (begins_found b limits.max_header found there).fits in
-    (Ok found, there, is ∙ start_under_front b (length found.text) (unlocked answers (parts_of found)) fits)
+    let fits : length found.text ≤ limits.max_header = (headers.begins_found b limits.max_header found there).fits in
+    let key = unlocked answers (parts_of found) in
+    (Ok found, there, is ∙ start_behind (length found.text) front_size b key (omega arith))
+
+longer : (answers : Answering) (n : ℕ) (b : Bytes) (s : Start) → IsStart answers (take n b) (Ok s)
+    → IsStart answers b (Ok s)
+longer answers n b s (Err e, verdict, is) = absurd (cc)
+longer answers n b s (Ok found, verdict, is) =
+    let w = headers.begins_found (take n b) limits.max_header found verdict in
+    let len : ℕ = length found.text in
+    let key = unlocked answers (parts_of found) in
+    let long = (under len (drop len (take n b)) key s is).long in (
+      Ok found,
+      headers.found_begins b limits.max_header found (record {
+        rest = w.rest ++ drop n b;
+        head = w.head;
+        prefix = sym (take-append-drop n b) ∙ ap (λ t. t ++ drop n b) w.prefix
+            ∙ append_assoc found.text w.rest (drop n b);
+        fits = w.fits;
+      }),
+      is ∙ start_behind len n b key (omega (arith, long, length-drop len (take n b), length-take n b)),
+    )
+
+-- a beginning that holds a header has it
+found_within : (n : ℕ) (b : Bytes) (found : Found) → Finds b limits.max_header found → length found.text ≤ n
+    → Finds (take n b) limits.max_header found
+found_within n b found h le =
+    let w = headers.begins_found b limits.max_header found h in
+    headers.found_begins (take n b) limits.max_header found (record {
+      rest = take (n - length found.text) w.rest;
+      head = w.head;
+      prefix = ap (take n) w.prefix ∙ take_past found.text w.rest n le;
+      fits = w.fits;
+    })
+
+shorter : (answers : Answering) (n : ℕ) (b : Bytes) (s : Start) → s.first ≤ n → IsStart answers b (Ok s)
+    → IsStart answers (take n b) (Ok s)
+shorter answers n b s within (Err e, verdict, is) = absurd (cc)
+shorter answers n b s within (Ok found, verdict, is) =
+    let len : ℕ = length found.text in
+    let key = unlocked answers (parts_of found) in
+    let first = first_of len (drop len b) key s is in
+    (Ok found, found_within n b found verdict (omega arith), is ∙ sym (start_behind len n b key (omega arith)))
+
+-- bytes have one start
+pub one_start : (answers : Answering) (b : Bytes) (r s : Result Start Fault) → IsStart answers b r → IsStart answers b s
+    → r ≡ s
+one_start answers b r s (h, first, is) (k, second, so) = is
+    ∙ ap (start_of answers b) (headers.one_verdict b limits.max_header h k first second) ∙ sym so
+
+-- what a call gave, by its start
+gave : (s : Start) (p q : Payload) (report r : Report) (code : ℕ) (start : Result Start Fault)
+    → StartsAt (Ok s) p report 0 → start ≡ Ok s → StartsAt start q r code
+    → (code ≡ 0) × ((q ≡ p) × (r ≡ report))
+gave s p q report r code start first same second =
+    let h : StartsAt (Ok s) q r code = subst (λ x. StartsAt x q r code) same second in
+    (h.0, (h.2 ∙ sym first.2, h.1 ∙ sym first.1))
+
+-- what a beginning opened, the file opens
+pub front_opens : (answers : Answering) (n : ℕ) (b : Bytes) (p q : Payload) (report r : Report) (code : ℕ)
+    → Opens answers (take n b) p report 0
+    → Opens answers b q r code → code ≢ 17 → (code ≡ 0) × ((q ≡ p) × (r ≡ report))
+front_opens answers n b p q report r code first second other =
+    let (s, is, at) = opened_start answers (take n b) p report first in
+    let (start, there, gives) = found_start answers b q r code second other in
+    gave s p q report r code start at (one_start answers b start (Ok s) there (longer answers n b s is)) gives
+
+-- what the file opened, a beginning opens that holds header and nonce
+pub file_opens : (answers : Answering) (n : ℕ) (b : Bytes) (p q : Payload) (report r : Report) (code : ℕ)
+    → Opens answers b p report 0 → report.len ≤ n
+    → Opens answers (take n b) q r code → code ≢ 17 → (code ≡ 0) × ((q ≡ p) × (r ≡ report))
+file_opens answers n b p q report r code first within second other =
+    let (s, is, at) = opened_start answers b p report first in
+    let (start, there, gives) = found_start answers (take n b) q r code second other in
+    let low : s.first ≤ n = subst (λ (x : Report). x.len ≤ n) at.1 within in
+    gave s p q report r code start at (one_start answers (take n b) start (Ok s) there (shorter answers n b s low is))
+    gives
+
+-- ---- a beginning of a header
+
+-- what begins with the version line begins so wherever it is cut
+begun : (n : ℕ) (x : Bytes) → BeginsAsAge (take n (version_line ++ x))
+begun n x =
+    let low : min n version_size ≤ length version_line = omega (arith, length-version_line) in
+    let same : take version_size (take n (version_line ++ x)) ≡ take (min n version_size) version_line =
+    cap_prefix (version_line ++ x) n ∙ take-append-le (min n version_size) version_line x low in
+    let size : length (take version_size (take n (version_line ++ x))) ≡ min n version_size = ap length same
+    ∙ length-take (min n version_size) version_line ∙ omega (arith, length-version_line) in
+    ap (λ (k : ℕ). take k version_line) size ∙ sym same
+
+-- fewer bytes than whole lines have are fewer lines
+fewer_lines : (ks ls : List Bytes) (p b : Bytes) (d : AreLines ks p) (e : AreLines ls b) (rest : Bytes)
+    → b ≡ p ++ rest → length p < length (lines_text ls) → length ks < length ls
+fewer_lines ks ls p b d e rest is short = elim (cases_lt (length ks) (length ls)) [
+  | inl lt ↦ lt
+  | inr ge ↦
+      let (more, front, on) = lines_prefix ls ks e.rest (d.rest ++ rest) e.each d.each
+      (sym e.prefix ∙ is ∙ ap (λ (z : Bytes). z ++ rest) d.prefix ∙ append_assoc (lines_text ks) d.rest rest) ge in
+      absurd (omega (
+        arith,
+        short,
+        ap length is,
+        length-append p rest,
+        ap length e.prefix,
+        length-append (lines_text ls) e.rest,
+        ap length on,
+        length-append (lines_text more) (d.rest ++ rest),
+        length-append d.rest rest,
+      ))
+]
+
+-- a header that is cut within its text is cut short
+cut_short : (b : Bytes) (max n : ℕ) (x : Found) → Finds b max x → n < length x.text
+    → HeaderVerdict (take n b) max (Err Truncated)
+cut_short b max n x h short =
+    let w = headers.begins_found b max x h in
+    let p : Bytes = take n b in
+    let fits : length x.text ≤ max = w.fits in
+    let low : length p < max = omega (arith, length-take n b, short, fits) in
+    let same : take max p ≡ p = take_all max p (omega (arith, low)) in
+    let behind : Bytes = drop n (take max b) in
+    let front : take max b ≡ p ++ behind = sym (take-append-drop n (take max b))
+    ∙ ap (λ (z : Bytes). z ++ behind) (take-take n max b (omega (arith, short, fits))) in
+    let version : b ≡ version_line ++ (w.head.body ++ (line (codes "--- " ++ w.head.characters) ++ w.rest)) =
+    w.prefix ∙ ap (λ (z : Bytes). z ++ w.rest) w.head.spelled
+    ∙ append_assoc (version_line ++ w.head.body) (line (codes "--- " ++ w.head.characters)) w.rest
+    ∙ append_assoc version_line w.head.body (line (codes "--- " ++ w.head.characters) ++ w.rest) in
+    let age : BeginsAsAge p = subst (λ (z : Bytes). BeginsAsAge (take n z)) (sym version)
+    (begun n (w.head.body ++ (line (codes "--- " ++ w.head.characters) ++ w.rest))) in
+    let few : length p < length (lines_text h.lines) = omega (arith, length-take n b, short, ap length h.is) in (
+      subst (λ (z : Bytes). BeginsAsAge z) (sym same) age,
+      λ ks d.
+          let lines : AreLines ks p = subst (AreLines ks) same d.lines in
+          let there : AreLines ks (take max b) = record {
+            rest = lines.rest ++ behind;
+            each = lines.each;
+            prefix =
+                front ∙ ap (λ (z : Bytes). z ++ behind) lines.prefix
+                ∙ append_assoc (lines_text ks) lines.rest behind;
+          } in
+          let f = h.decides.first ks there
+          (fewer_lines ks h.lines p (take max b) lines h.decides.lines behind front few) in
+          both d.decided f.0 f.1,
+      low,
+    )
+
+-- what a shorter beginning gives: its header is cut short, or its nonce is
+abbrev ShortStart : (answers : Answering) (p : Bytes) → Type 0
+ShortStart answers p = IsStart answers p (Err HeaderTruncated) ⊎ IsStart answers p (Err NonceTruncated)
+
+short_start : (answers : Answering) (n : ℕ) (b : Bytes) (s : Start) → n < s.first → IsStart answers b (Ok s)
+    → ShortStart answers (take n b)
+short_start answers n b s low (Err e, verdict, is) = absurd (cc)
+short_start answers n b s low (Ok found, verdict, is) =
+    let len : ℕ = length found.text in
+    let rest : Bytes = drop len (take n b) in
+    let u = under len (drop len b) (unlocked answers (parts_of found)) s is in
+    let first = first_of len (drop len b) (unlocked answers (parts_of found)) s is in
+    elim (cases_lt n len) [
+      | inl short ↦ inl (Err Truncated, cut_short b limits.max_header n found verdict short, refl)
+      | inr ge ↦
+          let few : length rest < 16 = omega (arith, length-drop len (take n b), length-take n b) in
+          inr (
+            Ok found,
+            found_within n b found verdict ge,
+            sym (cond-true (nat_lt (length rest) 16) _ _ (lt-ltb (length rest) 16 few))
+                ∙ ap (start_under len rest) (sym u.unlocks),
+          )
+    ]
+
+-- what a call gave for it
+gave_short : (answers : Answering) (p : Bytes) (q : Payload) (r : Report) (code : ℕ) (start : Result Start Fault)
+    → IsStart answers p start → StartsAt start q r code → ShortStart answers p
+    → (code ≡ fault_code HeaderTruncated) ⊎ (code ≡ fault_code NonceTruncated)
+gave_short answers p q r code start there second (inl header) =
+    let h : StartsAt (Err HeaderTruncated) q r code =
+    subst (λ x. StartsAt x q r code) (one_start answers p start (Err HeaderTruncated) there header) second in
+    inl h.returned
+gave_short answers p q r code start there second (inr nonce) =
+    let h : StartsAt (Err NonceTruncated) q r code =
+    subst (λ x. StartsAt x q r code) (one_start answers p start (Err NonceTruncated) there nonce) second in
+    inr h.returned
+
+pub short_fronts : (answers : Answering) (n : ℕ) (b : Bytes) (p q : Payload) (report r : Report) (code : ℕ)
+    → Opens answers b p report 0 → n < report.len
+    → Opens answers (take n b) q r code → code ≢ 17
+    → (code ≡ fault_code HeaderTruncated) ⊎ (code ≡ fault_code NonceTruncated)
+short_fronts answers n b p q report r code first low second other =
+    let (s, is, at) = opened_start answers b p report first in
+    let (start, there, gives) = found_start answers (take n b) q r code second other in
+    let below : n < s.first = subst (λ (x : Report). n < x.len) at.1 low in
+    gave_short answers (take n b) q r code start there gives (short_start answers n b s below is)

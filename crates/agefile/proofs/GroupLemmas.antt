@@ -1,17 +1,18 @@
 -- What calls on a payload and on its parts seal.
-use Rattle.std.proofs.Common.{◌≡◌, ℕ, ◌+◌, ◌-◌, Bool, true, false, nat_lt, List, [], ◌∷◌, ◌++◌, length, take, sym, ◌∙◌, ap, refl, subst, arith, inl, inr, append_assoc, length-append}
+use Rattle.std.proofs.Common.{◌≡◌, ℕ, ◌+◌, ◌-◌, Bool, true, false, nat_lt, List, [], ◌∷◌, ◌++◌, length, take, sym, ◌∙◌, ap, refl, subst, arith, inl, inr, length-append}
 use Rattle.std.specs.List.{concat}
 use Rattle.std.proofs.lemmas.List.{append-nil, take_at}
 use Rattle.age_kdf.specs.Bytes.{Bytes}
 use Rattle.age_cipher.specs.Sealing.{sealed}
 use Rattle.age_stream.specs.Payload.{chunk_nonce, is_end, sealed_from}
+use Rattle.age_stream.proofs.CuttingLemmas.{concat-append}
 use Rattle.agefile.specs.declared.part.Part.{Part}
 use Rattle.agefile.specs.declared.payload.Payload.{Payload}
 use Rattle.agefile.specs.declared.report.Report.{Report}
 use Rattle.agefile.specs.Groups.{PartSeals, SealsGroups, SealsSome, all_of, sealed_open}
 use Rattle.agefile.specs.Part as part
 use Rattle.agefile.specs.Payload.{SealsNext, may_seal}
-use Rattle.agefile.specs.Steps.{Steps}
+use Rattle.agefile.specs.Report.{Steps}
 
 pub text_of : (text room : Bytes) → length room ≡ 16 → take (length (text ++ room) - 16) (text ++ room) ≡ text
 text_of text room len = take_at text room (length (text ++ room) - 16) (omega (arith, len, length-append text room))
@@ -73,10 +74,6 @@ some_seals old new texts out (inr (given, report, inr (_, inr taken), run)) = (
   (ap (λ (q : Payload). q.key) taken.payload, ap (λ (q : Payload). q.number) taken.payload),
 )
 
-concat_append : (xs ys : List Bytes) → concat (xs ++ ys) ≡ concat xs ++ concat ys
-concat_append [] ys = refl
-concat_append (x ∷ xs) ys = ap (λ t. x ++ t) (concat_append xs ys) ∙ sym (append_assoc x (concat xs) (concat ys))
-
 open_append : (key : Bytes) (i : ℕ) (xs ys : List Bytes)
     → sealed_open key i (xs ++ ys) ≡ sealed_open key i xs ++ sealed_open key (i + length xs) ys
 open_append key i [] ys = ap (λ n. sealed_open key n ys) (omega arith)
@@ -97,16 +94,16 @@ groups_seal old new (texts ∷ more) out (mid, mine, rest, joined, some, on) =
     ∙ ap (λ n. concat (sealed_open old.key n (all_of more))) s.1.1 in
     let all : out ≡ concat (sealed_open old.key old.number (texts ++ all_of more)) =
     joined ∙ ap (λ m. m ++ rest) s.0 ∙ ap (λ r. concat (sealed_open old.key old.number texts) ++ r) tail
-    ∙ sym (concat_append (sealed_open old.key old.number texts)
+    ∙ sym (concat-append (sealed_open old.key old.number texts)
     (sealed_open old.key (old.number + length texts) (all_of more)))
     ∙ ap concat (sym (open_append old.key old.number texts (all_of more))) in
     (all, (g.1.0 ∙ s.1.0, omega (arith, g.1.1, s.1.1, length-append texts (all_of more))))
 
 -- ---- with the last chunk
 
-is_end_more : (cs : List Bytes) (text : Bytes) → is_end (cs ++ text ∷ []) ≡ false
-is_end_more [] text = refl
-is_end_more (c ∷ cs) text = refl
+pub is_end_on : (cs ds : List Bytes) (d : Bytes) → is_end (cs ++ d ∷ ds) ≡ false
+is_end_on [] ds d = refl
+is_end_on (c ∷ cs) ds d = refl
 
 with_last : (key : Bytes) (i : ℕ) (cs : List Bytes) (text : Bytes)
     → sealed_from key i (cs ++ text ∷ [])
@@ -114,7 +111,7 @@ with_last : (key : Bytes) (i : ℕ) (cs : List Bytes) (text : Bytes)
 with_last key i [] text = ap (λ n. sealed key (chunk_nonce n true) [] text ∷ []) (omega arith)
 with_last key i (c ∷ cs) text =
     let next : i + 1 + length cs ≡ i + length (c ∷ cs) = omega arith in
-    ap (λ b. sealed key (chunk_nonce i b) [] c ∷ sealed_from key (i + 1) (cs ++ text ∷ [])) (is_end_more cs text)
+    ap (λ b. sealed key (chunk_nonce i b) [] c ∷ sealed_from key (i + 1) (cs ++ text ∷ [])) (is_end_on cs [] text)
     ∙ ap (λ t. sealed key (chunk_nonce i false) [] c ∷ t)
     (with_last key (i + 1) cs text ∙ ap
     (λ n. sealed_open key (i + 1) cs ++ (sealed key (chunk_nonce n true) [] text ∷ [])) next)
@@ -131,5 +128,5 @@ groups_end old mid new groups out text room after report run len step =
     ∙ ap (λ n. sealed old.key (chunk_nonce n true) [] text) g.1.1 in
     ap (λ o. o ++ after) g.0 ∙ ap (λ a. concat (sealed_open old.key old.number (all_of groups)) ++ a)
     (last ∙ sym (append-nil end))
-    ∙ sym (concat_append (sealed_open old.key old.number (all_of groups)) (end ∷ []))
+    ∙ sym (concat-append (sealed_open old.key old.number (all_of groups)) (end ∷ []))
     ∙ ap concat (sym (with_last old.key old.number (all_of groups) text))

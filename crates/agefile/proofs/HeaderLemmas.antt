@@ -1,6 +1,7 @@
 -- The header in front of bytes that lie in memory.
-use Rattle.std.proofs.Common.{◌≡◌, ℕ, ◌≤◌, ◌-◌, ◌^◌, List, [], ◌∷◌, ◌++◌, length, take, map, flat_map, min, ◌∙◌, sym, ap, refl, subst, inl, inr, arith, Some, None, Result, Ok, Err}
+use Rattle.std.proofs.Common.{◌≡◌, ◌⊎◌, ℕ, ◌<◌, ◌≤◌, ◌-◌, ◌^◌, List, [], ◌∷◌, ◌++◌, length, length-take, take, map, flat_map, min, ◌∙◌, sym, ap, refl, subst, inl, inr, arith, Some, None, Result, Ok, Err}
 use Rattle.std.specs.Prelude.{String, IfOk}
+use Rattle.std.proofs.lemmas.List.{take-take}
 use Rattle.std.specs.Global.{Global}
 use Rattle.std.specs.String.{string_bytes}
 use Rattle.std.specs.List.{join_by}
@@ -9,22 +10,24 @@ use Rattle.age_header.specs.Device.{CountsIf, Flow}
 use Rattle.age_header.specs.declared.fault.HeaderFault.{HeaderFault}
 use Rattle.age_header.specs.declared.fault.HeaderFault.TheVariants as header
 use Rattle.age_header.specs.Header.{Head, HeaderParts, StanzaParts}
-use Rattle.age_header.specs.Verdict.{HeaderVerdict}
+use Rattle.age_header.specs.Verdict.{BeginsAsAge, Decides, Found, HeaderVerdict, IsUndecided}
 use Rattle.age_header.specs.Reader.{ReadsHeaderOf}
 use Rattle.age_header.proofs.HeaderLemmas.{one_text}
 use Rattle.age_header.proofs.VerdictUniqueLemmas.{begins_found}
 use Rattle.age_header.proofs.ReaderLemmas.{reads_known}
 use Rattle.age_file.specs.declared.fault.Fault.{Fault}
+use Rattle.age_file.specs.declared.fault.Fault.TheVariants.{OutOfMemory}
 use Rattle.age_file.specs.AgeFile.{Bounds}
 use Rattle.age_file.specs.Device.{is_read}
 use Rattle.age_file.specs.Inspect.{Inspects, file_result}
+use Rattle.age_file.specs.Verdict.{header_fault}
+use Rattle.agefile.specs.declared.inspecting.StanzaSummary.{StanzaSummary}
 use Rattle.agefile.specs.declared.inspecting.Summary.{Summary}
 use Rattle.agefile.specs.declared.report.Report.{Report}
 use Rattle.agefile.specs.Codes.{fault_code}
-use Rattle.agefile.specs.Report.{report_of}
-use Rattle.agefile.specs.Inspect.{HeaderOf, Inspected, joined}
+use Rattle.agefile.specs.Report.{Refuses, Returns, report_of}
+use Rattle.agefile.specs.Inspect.{GivesStanzas, HeaderOf, Inspected, InspectsStanzas, joined}
 use Rattle.agefile.specs.Limits.{limits, front_size}
-use Rattle.agefile.proofs.FrontLemmas.{whole_verdict}
 
 -- what a reader returned
 of_answer : (b : Bytes) (source : Flow) (r : Result HeaderParts Fault) (answer : Result HeaderParts HeaderFault)
@@ -44,7 +47,34 @@ header_found {b} {source} {r} at come count h =
     of_answer b source r inspects.0 inspects.1 count
     (reads_known b source limits.max_header inspects.0 come inspects.2)
 
--- the first 65,552 bytes of a file have its header
+-- ---- a front of 65,552 bytes
+
+-- it has the header verdict of its file
+cut_front : (b : Bytes) → take limits.max_header (take front_size b) ≡ take limits.max_header b
+cut_front b = take-take limits.max_header front_size b (omega arith)
+
+pub whole_verdict : (b : Bytes) (r : Result Found HeaderFault) → HeaderVerdict (take front_size b) limits.max_header r
+    → HeaderVerdict b limits.max_header r
+whole_verdict b (Ok found) h = record {
+  lines = h.lines;
+  begun = subst BeginsAsAge (cut_front b) h.begun;
+  decides = subst (Decides h.lines) (cut_front b) h.decides;
+  is = h.is;
+  head = h.head;
+}
+whole_verdict b (Err header.NotAge) h = λ begins. h (subst BeginsAsAge (sym (cut_front b)) begins)
+whole_verdict b (Err (header.BadLine n)) h =
+    (subst BeginsAsAge (cut_front b) h.0, (h.1.0, h.1.1, subst (Decides h.1.0) (cut_front b) h.1.2, h.1.3))
+whole_verdict b (Err header.Truncated) h =
+    let short : length (take front_size b) < limits.max_header = h.2 in
+    (subst BeginsAsAge (cut_front b) h.0, subst IsUndecided (cut_front b) h.1, omega (arith, length-take front_size b))
+whole_verdict b (Err header.TooLarge) h =
+    let long : limits.max_header ≤ length (take front_size b) = h.2 in
+    (subst BeginsAsAge (cut_front b) h.0, subst IsUndecided (cut_front b) h.1, omega (arith, length-take front_size b))
+whole_verdict b (Err header.Read) h = absurd h
+whole_verdict b (Err header.Memory) h = absurd h
+
+-- and its header
 whole_of : (b : Bytes) (r : Result HeaderParts Fault) → HeaderOf (take front_size b) r → HeaderOf b r
 whole_of b (Ok h) (text, found) = (
   text,
@@ -81,25 +111,25 @@ inspected b {h} header {len} {stanzas} {mac} (text, found) none head is count sa
       (refl, none, rw (found_len b text h header.stanzas header.mac len found head is, count, same) refl),
     )
 
+-- a fault is returned, which is this one; or it is that of a refused allocation
+pub refused_as : {S : Type 0} {old : S} {report : Report} {code : ℕ} {fault : Fault} (other : Fault)
+    → report ≡ report_of 0 (Some fault) → code ≡ fault_code fault → fault ≡ other → Refuses other old old report code
+refused_as other place returned is = record {
+  returned = returned ∙ ap fault_code is;
+  reported = place ∙ ap (λ f. report_of 0 (Some f)) is;
+  same = refl;
+}
+
+pub refused_up : {S : Type 0} {old new : S} {report : Report} {code : ℕ} → Refuses OutOfMemory old new report code
+    → Returns 17 None old new report code
+refused_up up = record { returned = up.returned; reported = up.reported; same = up.same }
+
 pub inspected_fault : (b : Bytes) {old : Summary} {report : Report} {code : ℕ} (fault : Fault) → HeaderOf b (Err fault)
     → report ≡ report_of 0 (Some fault) → code ≡ fault_code fault
     → Inspected b old old report code
-inspected_fault b fault (inl memory) place returned =
-    inl (record {
-      returned = returned ∙ ap fault_code memory;
-      reported = place ∙ ap (λ f. report_of 0 (Some f)) memory;
-      same = refl;
-    })
+inspected_fault b fault (inl memory) place returned = inl (refused_up (refused_as OutOfMemory place returned memory))
 inspected_fault b fault (inr (reason, found, same)) place returned =
-    inr (
-      Err reason,
-      found,
-      record {
-        returned = returned ∙ ap fault_code same;
-        reported = place ∙ ap (λ f. report_of 0 (Some f)) same;
-        same = refl;
-      },
-    )
+    inr (Err reason, found, refused_as (header_fault reason) place returned same)
 
 join_map : {X : Type 0} (f : X → Bytes) (xs : List X)
     → flat_map (λ x. 32 ∷ [] ++ f x) xs ≡ flat_map (λ a. 32 ∷ [] ++ a) (map f xs)
@@ -115,3 +145,22 @@ pub joined_text : {X E : Type 0} (f : X → Bytes) (xs : List X) {args : List By
     → IfOk r (λ t. string_bytes t ≡ join_by f (32 ∷ []) xs) → IfOk r (λ t. string_bytes t ≡ joined args)
 joined_text f xs (Ok t) same h = h ∙ joined_map f xs ∙ ap joined same
 joined_text f xs (Err e) same h = tt
+
+-- ---- the stanzas of a header
+
+pub list_fault : (b : Bytes) {before : List StanzaSummary} {old : Bytes} {report : Report} {code : ℕ} (fault : Fault)
+    → HeaderOf b (Err fault) → report ≡ report_of 0 (Some fault)
+    → code ≡ fault_code fault → InspectsStanzas b before before old old report code
+list_fault b fault (inl memory) place returned =
+    inl (refused_up (refused_as OutOfMemory place returned memory), refl)
+list_fault b fault (inr (reason, found, same)) place returned =
+    inr (Err reason, found, (refused_as (header_fault reason) place returned same, refl))
+
+pub list_found : (b : Bytes) (header : HeaderParts) {before after : List StanzaSummary} {old new : Bytes}
+    {report : Report} {code : ℕ} → HeaderOf b (Ok header)
+    → (Returns 17 None before after report code × (new ≡ old))
+    ⊎ GivesStanzas header.stanzas before after old new report code
+    → InspectsStanzas b before after old new report code
+list_found b header of (inl up) = inl up
+list_found b header (text, found) (inr gives) =
+    inr (Ok (record { stanzas = header.stanzas; mac = header.mac; text = text }), found, gives)

@@ -1,14 +1,13 @@
--- A header that is made of a text of stanzas.
-use Rattle.std.proofs.Common.{◌≡◌, ◌≢◌, ℕ, ◌+◌, ◌-◌, ◌<◌, ◌≤◌, Bool, true, false, List, [], ◌∷◌, ◌++◌, length, take, drop, replicate, codes, nat_lt, cond, sym, ◌∙◌, ap, refl, subst, arith, inl, inr, length-append, append_assoc, Vec, Result, Ok, Err}
+-- A header that is made of a text of stanzas, and a new file that begins with it.
+use Rattle.std.proofs.Common.{◌≡◌, ◌≢◌, ℕ, ◌+◌, ◌-◌, ◌<◌, ◌≤◌, Bool, true, false, List, [], ◌∷◌, ◌++◌, length, take, replicate, codes, nat_lt, cond, sym, ◌∙◌, ap, refl, subst, arith, inl, inr, length-append, append_assoc, Vec, Result, Ok, Err}
 use Rattle.std.specs.Prelude.{String, IfOk, slice_index}
 use Rattle.std.specs.Global.{Global}
 use Rattle.std.specs.String.{string_bytes}
 use Rattle.std.proofs.lemmas.Bool.{cases_lt, le-ltb, lt-ltb, cond-false, cond-true}
-use Rattle.std.proofs.lemmas.List.{append-nil, drop_at, nil_from_length, take_at}
+use Rattle.std.proofs.lemmas.List.{append-nil, append_cancel_left, nil_from_length, take_at}
 use Rattle.age_kdf.specs.Bytes.{Bytes}
-use Rattle.age_header.specs.declared.fault.HeaderFault.{HeaderFault}
 use Rattle.age_header.specs.Base64.{IsBase64, base64_of}
-use Rattle.age_header.specs.Header.{AreStanzas, Head, HeaderParts, StanzaParts, line, version_line}
+use Rattle.age_header.specs.Header.{AreStanzas, Head, HeaderParts, StanzaParts, line, version_line, IsStanza}
 use Rattle.age_header.specs.Mac.{header_mac}
 use Rattle.age_header.specs.Verdict.{Found, HeaderVerdict}
 use Rattle.age_header.proofs.LengthLemmas.{length-line, length-version_line}
@@ -17,21 +16,30 @@ use Rattle.age_header.proofs.TextLemmas.{characters_are}
 use Rattle.age_header.specs.declared.file_key.FileKey.{FileKey}
 use Rattle.age_file.specs.declared.fault.Fault.{Fault}
 use Rattle.age_file.specs.declared.fault.Fault.TheVariants.{BadLine, MixedPassphrase, OutOfMemory}
-use Rattle.age_file.specs.AgeFile.{is_mixed}
+use Rattle.age_file.specs.AgeFile.{is_mixed, AgeFile}
+use Rattle.age_file.specs.Verdict.{header_fault}
 use Rattle.age_file.specs.NewFile.{IsHeading}
 use Rattle.age_file.proofs.DecryptLemmas.{err_err}
-use Rattle.agefile.specs.Heading.{FindsMac, HasStanzas, IsMac, MakesHeader, framed, given, in_text, lines_in, probe, stanzas_in, unless_mixed}
+use Rattle.agefile.specs.Heading.{FindsMac, HasStanzas, MakesHeader, ReadsAs, framed, given, in_text, lines_in, probe, stanzas_in, unless_mixed}
 use Rattle.agefile.specs.Inspect.{HeaderOf}
 use Rattle.agefile.specs.Limits.{limits}
-use Rattle.age_recipient.proofs.HeaderSizeLemmas.{b64_size}
+use Rattle.age_recipient.proofs.HeaderSizeLemmas.{b64_size, key_header, pass_header}
 use Rattle.agefile.proofs.UnlockLemmas.{Fronts, ok_ok}
+use Rattle.age_header.proofs.HeaderLemmas.{reading}
+use Rattle.age_recipient.specs.KeyedStanza.{keyed_stanza}
+use Rattle.age_recipient.specs.PassphraseStanza.{pass_stanza}
+use Rattle.age_stream.specs.Payload.{payload}
+use Rattle.agefile.specs.Encrypting.{IsNewFile}
+use Rattle.agefile.specs.Sizes.{file_len, sealed_len}
+use Rattle.agefile.proofs.SizeLemmas.{payload_size}
 
 -- ---- the MAC
 
 pub mac_none : (text : Bytes) (k : FileKey) (fault : Fault) {other : Fault} → other ≡ in_text fault
     → HeaderOf (probe text) (Err fault) → FindsMac text k (Err other)
 mac_none text k fault is (inl memory) = inl (ap Err (is ∙ ap in_text memory))
-mac_none text k fault is (inr (reason, h, same)) = inr (Err reason, h, ap Err (is ∙ ap in_text same))
+mac_none text k fault is (inr (reason, h, same)) =
+    inr (Err (in_text (header_fault reason)), (Err reason, h, refl), ap Err (is ∙ ap in_text same))
 
 abbrev found_of : (b rest : Bytes) (h : HeaderParts) → Fronts b rest h → Found
 found_of b rest h f = record { stanzas = h.stanzas; mac = h.mac; text = f.text }
@@ -49,55 +57,42 @@ mac_early text rest front h k {fault} f some is count =
     let early : stanzas_in text (Ok (found_of (probe text) rest h f)) ≡ Err (BadLine (lines_in f.text - 1)) =
     cond-true (nat_lt (length f.text) (length (probe text))) _ _ (lt-ltb _ _ less) in
     inr (
-      Ok (found_of (probe text) rest h f),
-      f.verdict,
-      subst (λ s. IsMac k (unless_mixed s) (Err fault)) (sym early)
-          (ap Err (count ∙ ap (λ x. BadLine (lines_in x - 1)) same)),
+      Err (BadLine (lines_in f.text - 1)),
+      (Ok (found_of (probe text) rest h f), f.verdict, ap unless_mixed (sym early)),
+      ap Err (count ∙ ap (λ x. BadLine (lines_in x - 1)) same),
     )
 
-whole_text : (text rest : Bytes) (h : HeaderParts) (f : Fronts (probe text) rest h) → length rest ≡ 0
-    → stanzas_in text (Ok (found_of (probe text) rest h f)) ≡ Ok h.stanzas
-whole_text text rest h f none =
+-- the whole probe is the header
+whole_text : (text rest : Bytes) (h : HeaderParts) (s : Result (List StanzaParts) Fault) → Fronts (probe text) rest h
+    → length rest ≡ 0 → s ≡ unless_mixed (Ok h.stanzas) → ReadsAs text s
+whole_text text rest h s f none is =
     let size : length (probe text) ≡ length f.text + length rest = ap length f.front ∙ length-append f.text rest in
-    cond-false (nat_lt (length f.text) (length (probe text))) _ _ (le-ltb _ _ (omega (arith, size, none)))
+    let whole : stanzas_in text (Ok (found_of (probe text) rest h f)) ≡ Ok h.stanzas =
+    cond-false (nat_lt (length f.text) (length (probe text))) _ _ (le-ltb _ _ (omega (arith, size, none))) in
+    (Ok (found_of (probe text) rest h f), f.verdict, is ∙ ap unless_mixed (sym whole))
 
 pub mac_mixed : (text rest : Bytes) (h : HeaderParts) (k : FileKey) → Fronts (probe text) rest h → length rest ≡ 0
     → is_mixed h.stanzas ≡ true → FindsMac text k (Err MixedPassphrase)
 mac_mixed text rest h k f none mixed =
-    inr (
-      Ok (found_of (probe text) rest h f),
-      f.verdict,
-      subst (λ s. IsMac k (unless_mixed s) (Err MixedPassphrase)) (sym (whole_text text rest h f none))
-          (subst (λ s. IsMac k s (Err MixedPassphrase)) (sym (cond-true (is_mixed h.stanzas) _ _ mixed)) refl),
-    )
+    let one : Result (List StanzaParts) Fault = Err MixedPassphrase in
+    inr (one, whole_text text rest h one f none (sym (cond-true (is_mixed h.stanzas) _ _ mixed)), refl)
 
 pub mac_made : (text rest : Bytes) {mac : Bytes} (h : HeaderParts) (k : FileKey)
     → Fronts (probe text) rest h → length rest ≡ 0
     → is_mixed h.stanzas ≡ false → mac ≡ header_mac k.0 h.stanzas
     → FindsMac text k (Ok mac)
-mac_made text rest {mac} h k f none mixed is =
-    inr (
-      Ok (found_of (probe text) rest h f),
-      f.verdict,
-      subst (λ s. IsMac k (unless_mixed s) (Ok mac)) (sym (whole_text text rest h f none))
-          (subst (λ s. IsMac k s (Ok mac)) (sym (cond-false (is_mixed h.stanzas) _ _ mixed)) (ap Ok is)),
-    )
+mac_made text rest h k f none mixed is =
+    let one : Result (List StanzaParts) Fault = Ok h.stanzas in
+    inr (one, whole_text text rest h one f none (sym (cond-false (is_mixed h.stanzas) _ _ mixed)), ap Ok is)
 
 -- ---- the header
-
-none_of : (text : Bytes) (k : FileKey) (fault : Fault) (verdict : Result Found HeaderFault)
-    (s : Result (List StanzaParts) Fault) → text ≢ []
-    → HeaderVerdict (probe text) limits.max_header verdict → s ≡ unless_mixed (stanzas_in text verdict)
-    → IsMac k s (Err fault) → MakesHeader text k (Err fault)
-none_of text k fault verdict (Ok ss) some h eq is = absurd (cc)
-none_of text k fault verdict (Err f) some h eq is =
-    inr (Err f, inr (some, (verdict, h, eq)), ap Err (err_err {A = Bytes} fault f is))
 
 pub header_none : {text : Bytes} {k : FileKey} (fault : Fault) → text ≢ [] → FindsMac text k (Err fault)
     → MakesHeader text k (Err fault)
 header_none fault some (inl memory) = inl (ap Err (err_err {A = Bytes} fault OutOfMemory memory))
-header_none {text} {k} fault some (inr (verdict, h, is)) =
-    none_of text k fault verdict (unless_mixed (stanzas_in text verdict)) some h refl is
+header_none fault some (inr (Ok ss, reads, is)) = absurd (cc)
+header_none fault some (inr (Err f, reads, is)) =
+    inr (Err f, inr (some, reads), ap Err (err_err {A = Bytes} fault f is))
 
 unmixed : (b : Bool) (xs ss : List StanzaParts)
     → ◌≡◌ {A = Result (List StanzaParts) Fault} (cond b (Err MixedPassphrase) (Ok xs)) (Ok ss) → (b ≡ false) × (xs ≡ ss)
@@ -131,11 +126,9 @@ read_whole text found ss h ge eq =
       fits = omega (arith, size, ge, b.fits);
     }
 
-reads : (text : Bytes) (verdict : Result Found HeaderFault) (ss : List StanzaParts)
-    → HeaderVerdict (probe text) limits.max_header verdict → Ok ss ≡ unless_mixed (stanzas_in text verdict)
-    → Reads text ss
-reads text (Err reason) ss h eq = absurd (cc)
-reads text (Ok found) ss h eq = elim (cases_lt (length found.text) (length (probe text))) [
+reads : (text : Bytes) (ss : List StanzaParts) → ReadsAs text (Ok ss) → Reads text ss
+reads text ss (Err reason, h, eq) = absurd (cc)
+reads text ss (Ok found, h, eq) = elim (cases_lt (length found.text) (length (probe text))) [
   | inl lt ↦
       let early : stanzas_in text (Ok found) ≡ Err (BadLine (lines_in found.text - 1)) =
       cond-true (nat_lt (length found.text) (length (probe text))) _ _ (lt-ltb _ _ lt) in
@@ -147,7 +140,7 @@ reads text (Ok found) ss h eq = elim (cases_lt (length found.text) (length (prob
 
 pub read_of : (text : Bytes) (ss : List StanzaParts) → HasStanzas text (Ok ss) → Reads text ss
 read_of text ss (inl (none, is)) = absurd (cc)
-read_of text ss (inr (some, (verdict, h, eq))) = reads text verdict ss h eq
+read_of text ss (inr (some, h)) = reads text ss h
 
 same_front : {a : Bytes} (b : Bytes) {c : Bytes} (d : Bytes) → a ++ b ≡ c ++ d → length b ≡ length d → a ≡ c
 same_front {a} b {c} d e len =
@@ -174,8 +167,7 @@ same_body text mac ss h =
     let theirs : length (line (codes "--- " ++ h.characters)) ≡ 48 =
     omega (arith, sized, length-line (codes "--- " ++ h.characters), length-append (codes "--- ") h.characters) in
     let front : version_line ++ text ≡ version_line ++ h.body = same_front _ _ h.spelled (mine ∙ sym theirs) in
-    sym (drop_at version_line text 22 length-version_line) ∙ ap (drop 22) front
-    ∙ drop_at version_line h.body 22 length-version_line
+    append_cancel_left version_line text h.body front
 
 -- the same text with the right MAC is the header
 heading_of : (text mac characters : Bytes) (k : FileKey) (ss : List StanzaParts) → Reads text ss
@@ -200,27 +192,18 @@ heading_of text mac characters k ss r is bytes len =
       fits = omega (arith, framed_size text characters sized, framed_size text (replicate 43 65) refl, fits);
     }
 
-made_of : (text mac characters : Bytes) (k : FileKey) (made : Vec ℕ Global) (verdict : Result Found HeaderFault)
-    (s : Result (List StanzaParts) Fault) → text ≢ []
-    → HeaderVerdict (probe text) limits.max_header verdict → s ≡ unless_mixed (stanzas_in text verdict)
-    → IsMac k s (Ok mac) → made.items ≡ framed text characters
-    → IsBase64 mac characters → length mac ≡ 32 → MakesHeader text k (Ok made)
-made_of text mac characters k made verdict (Err f) some h eq is spelled bytes len = absurd (cc)
-made_of text mac characters k made verdict (Ok ss) some h eq is spelled bytes len =
-    inr (
-      Ok ss,
-      inr (some, (verdict, h, eq)),
-      subst (IsHeading limits k (given ss) ss) (sym spelled)
-          (heading_of text mac characters k ss (reads text verdict ss h eq) (ok_ok mac (header_mac k.0 ss) is) bytes
-          len),
-    )
-
 pub header_made : {text : Bytes} (mac characters : Bytes) {k : FileKey} {made : Vec ℕ Global} → text ≢ []
     → FindsMac text k (Ok mac) → IsBase64 mac characters → length mac ≡ 32
     → made.items ≡ framed text characters → MakesHeader text k (Ok made)
 header_made mac characters some (inl memory) bytes len spelled = absurd (cc)
-header_made {text} mac characters {k} {made} some (inr (verdict, h, is)) bytes len spelled =
-    made_of text mac characters k made verdict (unless_mixed (stanzas_in text verdict)) some h refl is spelled bytes len
+header_made mac characters some (inr (Err f, h, is)) bytes len spelled = absurd (cc)
+header_made {text} mac characters {k} some (inr (Ok ss, h, is)) bytes len spelled =
+    inr (
+      Ok ss,
+      inr (some, h),
+      subst (IsHeading limits k (given ss) ss) (sym spelled)
+          (heading_of text mac characters k ss (reads text ss h) (ok_ok mac (header_mac k.0 ss) is) bytes len),
+    )
 
 pub characters_known : {E : Type 0} (mac : Bytes) (r : Result (String Global) E) → ((i : ℕ) → slice_index mac i < 256)
     → IfOk r (λ t. string_bytes t ≡ base64_of mac)
@@ -235,3 +218,85 @@ framed_text first text characters same is =
     is ∙ ap (λ x. (((x ++ text) ++ codes "--- ") ++ characters) ++ 10 ∷ []) same
     ∙ ap (λ x. x ++ 10 ∷ []) (append_assoc (version_line ++ text) (codes "--- ") characters)
     ∙ append_assoc (version_line ++ text) (codes "--- " ++ characters) (10 ∷ [])
+
+-- ---- a new file
+
+-- ---- any stanzas
+
+pub new_file : (stanzas file_key nonce plain file : Bytes) → length nonce ≡ 16
+    → IsNewFile stanzas file_key nonce plain file
+    → (ss : List StanzaParts) × AgeFile limits (record { 0 = file_key }) ss plain file × Reads stanzas ss
+new_file stanzas file_key nonce plain file len (header, inl memory, spelled, few) = absurd (cc)
+new_file stanzas file_key nonce plain file len (header, inr (Err fault, has, is), spelled, few) = absurd (cc)
+new_file stanzas file_key nonce plain file len (header, inr (Ok ss, has, heading), spelled, few) = (
+  ss,
+  record {
+    header = header.items;
+    nonce = nonce;
+    head = heading.head;
+    nonce_len = len;
+    spelled = spelled;
+    header_fits = heading.fits;
+    chunks_fit = few;
+    unmixed = heading.unmixed;
+  },
+  read_of stanzas ss has,
+)
+
+-- ---- one stanza
+
+-- two headers of one text have the same stanzas
+same_stanzas : (text m n : Bytes) (ss ts : List StanzaParts) → Head ss m text → Head ts n text → ss ≡ ts
+same_stanzas text m n ss ts h k = (reading ss ts m n text [] h (subst (Head ts n) (sym (append-nil text)) k)).1
+
+-- a text of one stanza is read as this stanza
+alone_of : (text : Bytes) (s : StanzaParts) (ss : List StanzaParts) → IsStanza s text → Reads text ss → ss ≡ s ∷ []
+alone_of text s ss is r =
+    let mine : AreStanzas (s ∷ []) text = (text, [], is, refl, sym (append-nil text)) in
+    same_stanzas (probe text) r.mac r.mac ss (s ∷ []) r.head
+    (record {
+      body = r.head.body;
+      characters = r.head.characters;
+      some = λ e. absurd (cc);
+      stanza_text = subst (AreStanzas (s ∷ [])) (same_body text r.mac ss r.head) mine;
+      mac_len = r.head.mac_len;
+      mac_text = r.head.mac_text;
+      spelled = r.head.spelled;
+    })
+
+pub one_file : (stanza : StanzaParts) (text file_key nonce plain file : Bytes) → length nonce ≡ 16
+    → IsStanza stanza text → IsNewFile text file_key nonce plain file
+    → AgeFile limits (record { 0 = file_key }) (stanza ∷ []) plain file
+one_file stanza text file_key nonce plain file len is new =
+    let f = new_file text file_key nonce plain file len new in
+    subst (λ ss. AgeFile limits (record { 0 = file_key }) ss plain file) (alone_of text stanza f.0 is f.2) f.1
+
+-- ---- sizes
+
+pub size_of : (k : FileKey) (header nonce plain : Bytes) → length nonce ≡ 16
+    → length (header ++ payload k nonce plain) ≡ file_len (length header) (length plain)
+size_of k header nonce plain len = omega
+    (arith, len, length-append header (payload k nonce plain), payload_size k nonce plain)
+
+file_size : {k : FileKey} {ss : List StanzaParts} (plain file : Bytes) (f : AgeFile limits k ss plain file)
+    → length file ≡ file_len (length f.header) (length plain)
+file_size {k} plain file f = ap length f.spelled ∙ size_of k f.header f.nonce plain f.nonce_len
+
+pub key_file : (key salt stanza file_key nonce plain file : Bytes) → length salt ≡ 16 → length file_key ≡ 16
+    → length nonce ≡ 16
+    → IsStanza (keyed_stanza key salt (record { 0 = file_key })) stanza → IsNewFile stanza file_key nonce plain file
+    → length file ≡ sealed_len (length plain)
+key_file key salt stanza file_key nonce plain file salted keyed len is new =
+    let f = one_file (keyed_stanza key salt (record { 0 = file_key })) stanza file_key nonce plain file len is new in
+    let head : length f.header ≡ 156 = key_header key salt (record { 0 = file_key }) salted keyed f.head in
+    file_size plain file f ∙ ap (λ n. file_len n (length plain)) head
+
+pub pass_file : (pass salt stanza file_key nonce plain file : Bytes) (work : ℕ) → length salt ≡ 16
+    → length file_key ≡ 16 → length nonce ≡ 16 → work ≤ 30
+    → IsStanza (pass_stanza pass work salt (record { 0 = file_key })) stanza
+    → IsNewFile stanza file_key nonce plain file → length file < sealed_len (length plain)
+pass_file pass salt stanza file_key nonce plain file work salted keyed len high is new =
+    let f = one_file (pass_stanza pass work salt (record { 0 = file_key })) stanza file_key nonce plain file len is
+    new in
+    let head : length f.header ≤ 150 = pass_header pass salt (record { 0 = file_key }) salted keyed high f.head in
+    omega (arith, head, file_size plain file f)

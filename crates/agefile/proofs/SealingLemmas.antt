@@ -1,8 +1,8 @@
 -- Sealing the chunks of a plaintext into a buffer.
-use Rattle.std.proofs.Common.{◌≡◌, ◌⊎◌, ℕ, ◌+◌, ◌-◌, ◌*◌, ◌<◌, ◌≤◌, [], ◌++◌, length, take, drop, min, nat_le, true, false, sym, ◌∙◌, ap, refl, subst, arith, inl, inr, append_assoc, length-append, length-drop, ◌^◌, Vec, None, Ok}
+use Rattle.std.proofs.Common.{◌≡◌, ◌⊎◌, ℕ, ◌+◌, ◌-◌, ◌*◌, ◌<◌, ◌≤◌, [], ◌++◌, length, take, drop, min, nat_le, true, false, sym, ◌∙◌, ap, ap₂, refl, subst, arith, inl, inr, append_assoc, length-append, length-drop, ◌^◌, Vec, None, Ok}
 use Rattle.std.specs.Global.{Global}
 use Rattle.std.specs.List.{concat}
-use Rattle.std.proofs.lemmas.Bool.{cases_lt, le-leb, lt-leb}
+use Rattle.std.proofs.lemmas.Bool.{le-leb, lt-leb}
 use Rattle.std.proofs.lemmas.List.{drop-drop, length-take-le, nil_from_length, take_all, take_at}
 use Rattle.age_kdf.specs.Bytes.{Bytes}
 use Rattle.age_cipher.specs.Sealing.{sealed}
@@ -14,21 +14,14 @@ use Rattle.age_stream.proofs.CuttingLemmas.{cut_last}
 use Rattle.age_stream.proofs.ReadingLemmas.{cut_step, is_end_cut}
 use Rattle.agefile.specs.declared.report.Report.{Report}
 use Rattle.agefile.specs.Encrypting.{Encrypts}
+use Rattle.agefile.specs.Giving.{Exceeds, Fits}
 use Rattle.agefile.specs.Heading.{MakesHeader}
-use Rattle.agefile.specs.Limits.{limits}
 use Rattle.agefile.specs.Report.{report_of}
 use Rattle.agefile.specs.Sizes.{chunk_count, file_len}
-use Rattle.agefile.proofs.NewFileLemmas.{size_of}
-use Rattle.agefile.proofs.SizeLemmas.{chunks_size}
+use Rattle.agefile.proofs.HeadingLemmas.{size_of}
+use Rattle.agefile.proofs.SizeLemmas.{chunks_size, first_cut}
 
 -- ---- one chunk
-
--- the first chunk, by as many bytes as it has
-pub first_text : (size : ℕ) (left : Bytes) → size ≡ min (length left) chunk_size → take size left ≡ take chunk_size left
-first_text size left sized = elim (cases_lt chunk_size (length left)) [
-  | inl lt ↦ let full : size ≡ chunk_size = omega (arith, sized, lt) in ap (λ n. take n left) full
-  | inr le ↦ take_all size left (omega (arith, sized, le)) ∙ sym (take_all chunk_size left le)
-]
 
 -- the first chunk is sealed at the start of the room
 abbrev pub SealsFirst : (key : Bytes) (number : ℕ) (left room new : Bytes) → Type 0
@@ -45,7 +38,7 @@ pub first_sealed : (key : Bytes) (number size : ℕ) (left : Bytes) {text : Byte
 first_sealed key number size left front back {rest} room sized is copied tag sealed_so behind =
     let same : take (length (front ++ back) - 16) (front ++ back) ≡ take chunk_size left =
     take_at front back (length (front ++ back) - 16) (omega (arith, tag, length-append front back)) ∙ copied ∙ is
-    ∙ first_text size left sized in
+    ∙ first_cut chunk_size size left sized in
     ap (λ c. c ++ rest) (sealed_so ∙ ap (sealed key (chunk_nonce number (nat_le (length left) chunk_size)) []) same)
     ∙ ap (λ r. sealed key (chunk_nonce number (nat_le (length left) chunk_size)) [] (take chunk_size left) ++ r)
     (behind ∙ ap (λ n. drop (n + 16) room) sized)
@@ -53,7 +46,7 @@ first_sealed key number size left front back {rest} room sized is copied tag sea
 -- ---- one chunk after another
 
 -- the same of what is left, and of the room
-pub sealed_there : (key plain out left room mid : Bytes) (at done number : ℕ) → left ≡ drop at plain
+sealed_there : (key plain out left room mid : Bytes) (at done number : ℕ) → left ≡ drop at plain
     → room ≡ drop done out → SealsFirst key number left room mid
     → SealsFirst key number (drop at plain) (drop done out) mid
 sealed_there key plain out left room mid at done number left_is room_is is =
@@ -62,125 +55,82 @@ sealed_there key plain out left room mid at done number left_is room_is is =
 
 -- so many chunks were sealed, and are at the start of the buffer
 pub record IsSealedTo (key plain out : Bytes) (at done number : ℕ) : Type 0 where
+  pub text : Bytes
+  pub begins : take done out ≡ text
   pub place : at ≡ chunk_size * number
   pub sealed_so : done ≡ sealed_chunk_size * number
+  pub count : length text ≡ done
   pub some : (number ≡ 0) ⊎ (at < length plain)
-  pub size : length out ≡ length plain + 16 * chunk_count (length plain)
   pub seals : concat (sealed_from key 0 (chunks plain))
-      ≡ take done out ++ concat (sealed_from key number (chunks (drop at plain)))
-
-pub seal_start : (key plain out : Bytes) → length out ≡ length plain + 16 * chunk_count (length plain)
-    → IsSealedTo key plain out 0 0 0
-seal_start key plain out size = record { place = refl; sealed_so = refl; some = inl refl; size = size; seals = refl }
-
-pub plain_within : (key plain out : Bytes) (at done number : ℕ) → IsSealedTo key plain out at done number
-    → at ≤ length plain
-plain_within key plain out at done number r = elim r.some [
-  | inl zero ↦ omega (arith, r.place, zero)
-  | inr lt ↦ omega (arith, lt)
-]
-
--- the next sealed chunk has room
-pub chunk_fits : (key plain out : Bytes) (at done number : ℕ) → IsSealedTo key plain out at done number
-    → done + (min (length (drop at plain)) chunk_size + 16) ≤ length out
-chunk_fits key plain out at done number r =
-    let left : length (drop at plain) ≡ length plain - at = length-drop at plain in
-    elim r.some [
-      | inl zero ↦ omega (arith, zero, left, r.place, r.sealed_so, r.size)
-      | inr lt ↦ omega (arith, lt, left, r.place, r.sealed_so, r.size)
-    ]
+      ≡ text ++ concat (sealed_from key number (chunks (drop at plain)))
 
 -- the last one fills the buffer
 last_fills : (key plain out : Bytes) (at done number : ℕ) → IsSealedTo key plain out at done number
-    → length (drop at plain) ≤ chunk_size → length out ≡ done + (length (drop at plain) + 16)
-last_fills key plain out at done number r last =
+    → length out ≡ length plain + 16 * chunk_count (length plain) → length (drop at plain) ≤ chunk_size
+    → length out ≡ done + (length (drop at plain) + 16)
+last_fills key plain out at done number r size last =
     let left : length (drop at plain) ≡ length plain - at = length-drop at plain in
     elim r.some [
-      | inl zero ↦ omega (arith, zero, left, r.place, r.sealed_so, r.size, last)
-      | inr lt ↦ omega (arith, lt, left, r.place, r.sealed_so, r.size, last)
+      | inl zero ↦ omega (arith, zero, left, r.place, r.sealed_so, size, last)
+      | inr lt ↦ omega (arith, lt, left, r.place, r.sealed_so, size, last)
     ]
 
-pub seals_end : {key plain : Bytes} (out mid : Bytes) {new : Bytes} (at done number : ℕ)
-    → IsSealedTo key plain out at done number
-    → length (drop at plain) ≤ chunk_size
-    → SealsFirst key number (drop at plain) (drop done out) mid → new ≡ take done out ++ mid
+pub seals_end : {key plain from room : Bytes} (out mid : Bytes) {new : Bytes} (at done number : ℕ)
+    → IsSealedTo key plain out at done number → length out ≡ length plain + 16 * chunk_count (length plain)
+    → from ≡ drop at plain → room ≡ drop done out → length (drop at plain) ≤ chunk_size
+    → SealsFirst key number from room mid → new ≡ take done out ++ mid
     → new ≡ concat (sealed_from key 0 (chunks plain))
-seals_end {key} {plain} out mid at done number r last is joined =
+seals_end {key} {plain} {from} {room} out mid at done number r size from_is room_is last sealed_so joined =
     let left : Bytes = drop at plain in
-    let fills = last_fills key plain out at done number r last in
-    let none : drop (min (length left) chunk_size + 16) (drop done out) ≡ [] =
-    nil_from_length _ (omega (
-      arith,
-      fills,
-      last,
-      length-drop done out,
-      length-drop (min (length left) chunk_size + 16) (drop done out),
-    )) in
+    let fills = last_fills key plain out at done number r size last in
+    let skip : ℕ = min (length left) chunk_size + 16 in
+    let none : drop skip (drop done out) ≡ [] =
+    nil_from_length _ (omega (arith, fills, last, length-drop done out, length-drop skip (drop done out))) in
     let one : mid ≡ sealed key (chunk_nonce number true) [] left ++ [] =
-    is ∙ ap (λ d. sealed key (chunk_nonce number (nat_le (length left) chunk_size)) [] (take chunk_size left) ++ d) none
+    sealed_there key plain out from room mid at done number from_is room_is sealed_so
+    ∙ ap (λ d. sealed key (chunk_nonce number (nat_le (length left) chunk_size)) [] (take chunk_size left) ++ d) none
     ∙ ap (λ b. sealed key (chunk_nonce number b) [] (take chunk_size left) ++ []) (le-leb (length left) chunk_size last)
     ∙ ap (λ t. sealed key (chunk_nonce number true) [] t ++ []) (take_all chunk_size left last) in
     let rest : concat (sealed_from key number (chunks left)) ≡ sealed key (chunk_nonce number true) [] left ++ [] =
     ap (λ cs. concat (sealed_from key number cs)) (cut_last chunk_size left last) in
-    joined ∙ ap (λ m. take done out ++ m) (one ∙ sym rest) ∙ sym r.seals
+    joined ∙ ap₂ ◌++◌ r.begins (one ∙ sym rest) ∙ sym r.seals
 
-pub seals_more : {key plain : Bytes} (out mid : Bytes) {new : Bytes} (at done number : ℕ)
-    → IsSealedTo key plain out at done number
-    → chunk_size < length (drop at plain)
-    → SealsFirst key number (drop at plain) (drop done out) mid → new ≡ take done out ++ mid
+pub seals_more : {key plain from room : Bytes} (out mid : Bytes) {new : Bytes} (at done number : ℕ)
+    → IsSealedTo key plain out at done number → from ≡ drop at plain → room ≡ drop done out
+    → chunk_size < length (drop at plain) → SealsFirst key number from room mid → new ≡ take done out ++ mid
     → IsSealedTo key plain new (at + chunk_size) (done + sealed_chunk_size) (number + 1)
-seals_more {key} {plain} out mid {new} at done number r more is joined =
+seals_more {key} {plain} {from} {room} out mid {new} at done number r from_is room_is more sealed_so joined =
     let left : Bytes = drop at plain in
+    let next : Bytes = drop chunk_size left in
     let text : Bytes = take chunk_size left in
     let one : Bytes = sealed key (chunk_nonce number false) [] text in
-    let fits = chunk_fits key plain out at done number r in
-    let full : length text ≡ chunk_size = length-take-le chunk_size left (omega (arith, more)) in
-    let long : length one ≡ sealed_chunk_size =
-    length-sealed key (chunk_nonce number false) [] text ∙ omega (arith, full) in
-    let begun : length (take done out) ≡ done = length-take-le done out (omega (arith, fits)) in
     let after : Bytes = drop (min (length left) chunk_size + 16) (drop done out) in
-    let put : mid ≡ one ++ after = is ∙ ap (λ b. sealed key (chunk_nonce number b) [] text ++ after)
-    (lt-leb (length left) chunk_size more) in
-    let all : new ≡ (take done out ++ one) ++ after = joined ∙ ap (λ m. take done out ++ m) put
-    ∙ sym (append_assoc (take done out) one after) in
-    let front : take (done + sealed_chunk_size) new ≡ take done out ++ one = ap (take (done + sealed_chunk_size)) all
-    ∙ take_at (take done out ++ one) after (done + sealed_chunk_size)
-    (omega (arith, begun, long, length-append (take done out) one)) in
+    let full : length text ≡ chunk_size = length-take-le chunk_size left (omega (arith, more)) in
+    let long : length one ≡ length text + 16 = length-sealed key (chunk_nonce number false) [] text in
+    let count : length (r.text ++ one) ≡ done + sealed_chunk_size =
+    omega (arith, full, long, r.count, length-append r.text one) in
+    let put : mid ≡ one ++ after = sealed_there key plain out from room mid at done number from_is room_is sealed_so
+    ∙ ap (λ b. sealed key (chunk_nonce number b) [] text ++ after) (lt-leb (length left) chunk_size more) in
     let rest : concat (sealed_from key number (chunks left))
-    ≡ one ++ concat (sealed_from key (number + 1) (chunks (drop chunk_size left))) =
+    ≡ one ++ concat (sealed_from key (number + 1) (chunks next)) =
     ap (λ cs. concat (sealed_from key number cs)) (cut_step chunk_size left (omega arith) more)
-    ∙ ap (λ b. sealed key (chunk_nonce number b) [] text
-    ++ concat (sealed_from key (number + 1) (chunks (drop chunk_size left))))
-    (is_end_cut chunk_size [] (drop chunk_size left)) in
+    ∙ ap (λ b. sealed key (chunk_nonce number b) [] text ++ concat (sealed_from key (number + 1) (chunks next)))
+    (is_end_cut chunk_size [] next) in
     record {
+      text = r.text ++ one;
+      begins = ap (take (done + sealed_chunk_size))
+          (joined ∙ ap₂ ◌++◌ r.begins put ∙ sym (append_assoc r.text one after))
+          ∙ take_at (r.text ++ one) after (done + sealed_chunk_size) count;
       place = omega (arith, r.place);
       sealed_so = omega (arith, r.sealed_so);
+      count = count;
       some = inr (omega (arith, more, length-drop at plain));
-      size = omega (
-        arith,
-        ap length all,
-        length-append (take done out ++ one) after,
-        length-append (take done out) one,
-        begun,
-        long,
-        fits,
-        more,
-        r.size,
-        length-drop done out,
-        length-drop (min (length left) chunk_size + 16) (drop done out),
-      );
-      seals = r.seals ∙ ap (λ t. take done out ++ t) rest
-          ∙ sym
-          (append_assoc (take done out) one (concat (sealed_from key (number + 1) (chunks (drop chunk_size left)))))
-          ∙ ap (λ t. t ++ concat (sealed_from key (number + 1) (chunks (drop chunk_size left)))) (sym front)
-          ∙ ap (λ c. take (done + sealed_chunk_size) new ++ concat (sealed_from key (number + 1) (chunks c)))
+      seals = r.seals ∙ ap (λ t. r.text ++ t) rest ∙ sym (append_assoc r.text one _)
+          ∙ ap (λ c. (r.text ++ one) ++ concat (sealed_from key (number + 1) (chunks c)))
           (drop-drop chunk_size at plain);
     }
 
 -- ---- the whole file
-
-few_chunks : (plain : Bytes) → length plain < 2 ^ 63 → length (chunks plain) ≤ limits.max_chunks
-few_chunks plain low = omega (arith, low, chunks_size plain)
 
 -- how long the file is
 pub file_size : (k : FileKey) (header nonce plain : Bytes) (size : ℕ) → length nonce ≡ 16 → length header < 2 ^ 62
@@ -194,21 +144,10 @@ pub encrypts_exceeds : {stanzas file_key nonce plain old : Bytes} (header : Vec 
     → length plain < 2 ^ 63 → size ≡ length (header.items ++ payload (record { 0 = file_key }) nonce plain)
     → report ≡ report_of size None → length old < size
     → Encrypts stanzas file_key nonce plain old old report 21
-encrypts_exceeds {plain} header size made low is reported more =
-    inr (
-      Ok header,
-      made,
-      (
-        few_chunks plain low,
-        inr (record {
-          exceeds = omega (arith, is, more);
-          returned = refl;
-          reported = reported
-              ∙ ap (λ n. report_of n None) is;
-          buffer = refl;
-        }),
-      ),
-    )
+encrypts_exceeds {file_key} {nonce} {plain} {old} header {report} size made low is reported more =
+    let gives : Exceeds (length (header.items ++ payload (record { 0 = file_key }) nonce plain)) old old report 21 =
+    record { exceeds = omega (arith, is, more); returned = refl; reported = rw is at reported; buffer = refl } in
+    inr (Ok header, made, (omega (arith, low, chunks_size plain), inr gives))
 
 pub encrypts_whole : {stanzas file_key nonce plain old : Bytes} (file : Bytes) {rest : Bytes} (header : Vec ℕ Global)
     {report : Report} (size : ℕ) → MakesHeader stanzas (record { 0 = file_key }) (Ok header)
@@ -216,19 +155,13 @@ pub encrypts_whole : {stanzas file_key nonce plain old : Bytes} (file : Bytes) {
     → report ≡ report_of size None → size ≤ length old
     → file ≡ header.items ++ payload (record { 0 = file_key }) nonce plain → rest ≡ drop size old
     → Encrypts stanzas file_key nonce plain old (file ++ rest) report 0
-encrypts_whole {file_key} {nonce} {plain} {old} file {rest} header size made low is reported fits written behind =
-    inr (
-      Ok header,
-      made,
-      (
-        few_chunks plain low,
-        inl (record {
-          fits = omega (arith, is, fits);
-          returned = refl;
-          reported = reported ∙ ap (λ n. report_of n None) is;
-          buffer = ap (λ f. f ++ rest) written
-              ∙ ap (λ r. (header.items ++ payload (record { 0 = file_key }) nonce plain) ++ r)
-              (behind ∙ ap (λ n. drop n old) is);
-        }),
-      ),
-    )
+encrypts_whole {file_key} {nonce} {plain} {old} file {rest} header {report} size made low is reported fits written
+    behind =
+    let text : Bytes = header.items ++ payload (record { 0 = file_key }) nonce plain in
+    let gives : Fits text None old (file ++ rest) report 0 = record {
+      fits = omega (arith, is, fits);
+      returned = refl;
+      reported = rw is at reported;
+      buffer = ap₂ ◌++◌ written (behind ∙ ap (λ n. drop n old) is);
+    } in
+    inr (Ok header, made, (omega (arith, low, chunks_size plain), inl gives))

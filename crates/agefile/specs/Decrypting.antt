@@ -12,7 +12,7 @@ use Rattle.agefile.specs.Giving.{Exceeds, Fits}
 use Rattle.agefile.specs.Limits.{limits}
 use Rattle.agefile.specs.Report.{Refuses, Returns}
 use Rattle.agefile.specs.Sizes.{opened_len}
-use Rattle.agefile.specs.Start.{IsStart}
+use Rattle.agefile.specs.Unlock.{IsStart}
 
 -- The fault before the first chunk is returned. Otherwise the buffer has no room for the plaintext
 -- of sealed chunks of this length; or it has the plaintext of the verdict, and its fault is

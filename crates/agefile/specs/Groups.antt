@@ -1,9 +1,10 @@
--- What calls on a payload and on its parts give, in the order of the chunks. The calls share no
--- struct, so those on different parts may come in any order, and at once.
-use Rattle.std.specs.Prelude.{◌≡◌, ◌⊎◌, ◌++◌, ◌+◌, ℕ, false, List, [], ◌∷◌, length, take}
+-- What calls on a payload and on its parts give, in the order of the chunks: one call after
+-- another, or in groups. The calls share no struct, so those on different parts may come in any
+-- order, and at once.
+use Rattle.std.specs.Prelude.{◌≡◌, ◌⊎◌, ◌++◌, ◌+◌, ℕ, false, List, [], ◌∷◌, length, take, ◌≢◌}
 use Rattle.age_kdf.specs.Bytes.{Bytes}
 use Rattle.age_cipher.specs.Sealing.{sealed}
-use Rattle.age_stream.specs.Payload.{chunk_nonce}
+use Rattle.age_stream.specs.Payload.{chunk_nonce, is_end}
 use Rattle.age_stream.specs.Sizes.{tag_size}
 use Rattle.agefile.specs.declared.part.Part.{Part}
 use Rattle.agefile.specs.declared.payload.Payload.{Payload}
@@ -11,6 +12,30 @@ use Rattle.agefile.specs.declared.report.Report.{Report}
 use Rattle.agefile.specs.Codes.{ok}
 use Rattle.agefile.specs.Part as part
 use Rattle.agefile.specs.Payload.{OpensNext, SealsNext}
+
+-- Calls that open these sealed chunks in order, the last as the last, up to the first that returns
+-- a code: the texts that they gave, joined, and that code and its place; both 0 where there is
+-- none.
+abbrev pub OpensRun : (p : Payload) (pieces : List Bytes) (text : Bytes) (code place : ℕ) → Type 0
+OpensRun p [] text code place = (text ≡ []) × ((code ≡ ok) × (place ≡ 0))
+OpensRun p (chunk ∷ more) text code place =
+    (new : Payload) × (after : Bytes) × (report : Report) × (step_code : ℕ)
+    × OpensNext p new chunk after (is_end more) report step_code
+    × (((step_code ≡ ok)
+    × ((rest : Bytes) × (text ≡ take report.len after ++ rest)
+    × OpensRun new more rest code place))
+    ⊎ ((step_code ≢ ok) × ((text ≡ []) × ((code ≡ step_code) × (place ≡ report.place)))))
+
+-- Calls that seal these texts in order, each followed by 16 bytes, the last as the last, up to the
+-- first that returns a code: the sealed chunks that they gave, joined, and that code, or 0.
+abbrev pub SealsRun : (p : Payload) (chunks : List Bytes) (out : Bytes) (code : ℕ) → Type 0
+SealsRun p [] out code = (out ≡ []) × (code ≡ ok)
+SealsRun p (text ∷ more) out code =
+    (new : Payload) × (room : Bytes) × (length room ≡ tag_size) × (after : Bytes)
+    × (report : Report) × (step_code : ℕ)
+    × SealsNext p new (text ++ room) after (is_end more) report step_code
+    × (((step_code ≡ ok) × ((rest : Bytes) × (out ≡ after ++ rest) × SealsRun new more rest code))
+    ⊎ ((step_code ≢ ok) × ((out ≡ []) × (code ≡ step_code))))
 
 -- chunks, each sealed under its number from number i on, none of them as the last
 abbrev pub sealed_open : (key : Bytes) (i : ℕ) (texts : List Bytes) → List Bytes

@@ -58,13 +58,16 @@ abbrev pub unless_mixed : Result (List StanzaParts) Fault → Result (List Stanz
 unless_mixed (Err fault) = Err fault
 unless_mixed (Ok stanzas) = if is_mixed stanzas then Err MixedPassphrase else Ok stanzas
 
+-- the stanzas of a text that is not empty, of which none is mixed, or its first fault
+abbrev pub ReadsAs : (text : Bytes) (stanzas : Result (List StanzaParts) Fault) → Type 0
+ReadsAs text stanzas =
+    (verdict : Result Found HeaderFault) × HeaderVerdict (probe text) limits.max_header verdict
+    × (stanzas ≡ unless_mixed (stanzas_in text verdict))
+
 -- the stanzas that a text is, or the first fault for which no header is made of it
 abbrev pub HasStanzas : (text : Bytes) (stanzas : Result (List StanzaParts) Fault) → Type 0
 HasStanzas text stanzas =
-    ((text ≡ []) × (stanzas ≡ Err NoRecipients))
-    ⊎ ((text ≢ []) × ((verdict : Result Found HeaderFault)
-    × HeaderVerdict (probe text) limits.max_header verdict
-    × (stanzas ≡ unless_mixed (stanzas_in text verdict))))
+    ((text ≡ []) × (stanzas ≡ Err NoRecipients)) ⊎ ((text ≢ []) × ReadsAs text stanzas)
 
 -- these stanzas are given
 abbrev pub given : List StanzaParts → Gathering
@@ -87,9 +90,7 @@ IsMac k (Err fault) mac = mac ≡ Err fault
 abbrev pub FindsMac : (text : Bytes) (k : FileKey) (mac : Result Bytes Fault) → Type 0
 FindsMac text k mac =
     (mac ≡ Err OutOfMemory)
-    ⊎ ((verdict : Result Found HeaderFault)
-    × HeaderVerdict (probe text) limits.max_header verdict
-    × IsMac k (unless_mixed (stanzas_in text verdict)) mac)
+    ⊎ ((stanzas : Result (List StanzaParts) Fault) × ReadsAs text stanzas × IsMac k stanzas mac)
 
 -- the header of a text of stanzas, its fault, or out of memory
 abbrev pub MakesHeader : (text : Bytes) (k : FileKey) (result : Result (Vec ℕ Global) Fault)

@@ -1,5 +1,5 @@
--- What calls over a header give.
-use Rattle.std.specs.Prelude.{◌≡◌, ◌⊎◌, ℕ, List, [], ◌∷◌, length, None, Result, Ok, Err}
+-- What calls over a header give: what it is summed up as, and its stanzas.
+use Rattle.std.specs.Prelude.{◌≡◌, ◌⊎◌, ℕ, List, [], ◌∷◌, length, None, Result, Ok, Err, ◌<◌, ◌≤◌, ◌++◌, drop, map, flat_map}
 use Rattle.std.specs.List.{join_by}
 use Rattle.age_kdf.specs.Bytes.{Bytes}
 use Rattle.age_header.specs.declared.fault.HeaderFault.{HeaderFault}
@@ -11,7 +11,7 @@ use Rattle.age_file.specs.Verdict.{header_fault}
 use Rattle.agefile.specs.declared.inspecting.StanzaSummary.{StanzaSummary}
 use Rattle.agefile.specs.declared.inspecting.Summary.{Summary}
 use Rattle.agefile.specs.declared.report.Report.{Report}
-use Rattle.agefile.specs.Codes.{ok, out_of_memory}
+use Rattle.agefile.specs.Codes.{ok, out_of_memory, too_small}
 use Rattle.agefile.specs.Limits.{limits}
 use Rattle.agefile.specs.Report.{Refuses, Returns, report_of}
 
@@ -53,3 +53,59 @@ joined args = join_by (λ arg. arg) (32 ∷ []) args
 abbrev pub stanza_summary : StanzaParts → StanzaSummary
 stanza_summary s =
     record { args = length s.args; args_len = length (joined s.args); body_len = length s.body }
+
+-- the text of a list of stanzas: of each its arguments, joined by single spaces, and its body
+abbrev pub listed : List StanzaParts → Bytes
+listed stanzas = flat_map (λ s. joined s.args ++ s.body) stanzas
+
+-- how many bytes this text has, and how many stanzas there are
+abbrev pub report_of_list : (sizes : List StanzaSummary) (text : Bytes) → Report
+report_of_list sizes text = record { len = length text; place = length sizes; detail = 0 }
+
+-- the array begins with the sizes and the buffer with the text, and the rest of both is as it was
+pub record ListFits (sizes before after : List StanzaSummary) (text old new : Bytes)
+    (report : Report) (code : ℕ) : Type 0 where
+  pub sizes_fit : length sizes ≤ length before
+  pub text_fits : length text ≤ length old
+  pub returned : code ≡ ok
+  pub reported : report ≡ report_of_list sizes text
+  pub array : after ≡ sizes ++ drop (length sizes) before
+  pub buffer : new ≡ text ++ drop (length text) old
+
+-- the array or the buffer is too small, and both are as they were; what they need is reported
+pub record ListExceeds (sizes before after : List StanzaSummary) (text old new : Bytes)
+    (report : Report) (code : ℕ) : Type 0 where
+  pub exceeds : (length before < length sizes) ⊎ (length old < length text)
+  pub returned : code ≡ too_small
+  pub reported : report ≡ report_of_list sizes text
+  pub array : after ≡ before
+  pub buffer : new ≡ old
+
+-- sizes and a text are given, if they fit
+abbrev pub GivesList : (sizes before after : List StanzaSummary) (text old new : Bytes)
+    (report : Report) (code : ℕ) → Type 0
+GivesList sizes before after text old new report code =
+    ListFits sizes before after text old new report code
+    ⊎ ListExceeds sizes before after text old new report code
+
+-- these stanzas are summed up, and their text is given
+abbrev pub GivesStanzas : (stanzas : List StanzaParts) (before after : List StanzaSummary)
+    (old new : Bytes) (report : Report) (code : ℕ) → Type 0
+GivesStanzas stanzas before after old new report code =
+    GivesList (map stanza_summary stanzas) before after (listed stanzas) old new report code
+
+-- the stanzas of a header are given; or the header's fault is returned, and nothing is given
+abbrev pub StanzasOf : (verdict : Result Found HeaderFault) (before after : List StanzaSummary)
+    (old new : Bytes) (report : Report) (code : ℕ) → Type 0
+StanzasOf (Ok found) before after old new report code =
+    GivesStanzas found.stanzas before after old new report code
+StanzasOf (Err reason) before after old new report code =
+    Refuses (header_fault reason) before after report code × (new ≡ old)
+
+-- what asking for the stanzas of b's header gives; or out of memory
+abbrev pub InspectsStanzas : (b : Bytes) (before after : List StanzaSummary) (old new : Bytes)
+    (report : Report) (code : ℕ) → Type 0
+InspectsStanzas b before after old new report code =
+    (Returns out_of_memory None before after report code × (new ≡ old))
+    ⊎ ((verdict : Result Found HeaderFault) × HeaderVerdict b limits.max_header verdict
+    × StanzasOf verdict before after old new report code)

@@ -7,16 +7,11 @@ pub mod Groups
 pub mod Heading
 pub mod Inspect
 pub mod Limits
-pub mod Listing
-pub mod Opening
 pub mod Part
 pub mod Payload
 pub mod Phase
 pub mod Ranges
 pub mod Report
-pub mod Runs
 pub mod Sizes
-pub mod Start
-pub mod Steps
 pub mod Unlock
 pub mod Wrapping

@@ -9,8 +9,7 @@ use Rattle.agefile.specs.Codes.{ok, out_of_order}
 use Rattle.agefile.specs.Limits.{limits}
 use Rattle.agefile.specs.Payload as payload
 use Rattle.agefile.specs.Phase.{phase_closed, phase_reading, phase_writing, phase_ended}
-use Rattle.agefile.specs.Report.{Refuses, Returns, report_of}
-use Rattle.agefile.specs.Steps.{Steps}
+use Rattle.agefile.specs.Report.{Refuses, Returns, Steps, report_of}
 
 -- nothing is open
 abbrev pub closed : Part

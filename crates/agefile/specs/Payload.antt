@@ -6,7 +6,7 @@ use Rattle.agefile.specs.declared.report.Report.{Report}
 use Rattle.agefile.specs.Chunk.{OpensAs, SealsAs, has_text, is_chunk_len}
 use Rattle.agefile.specs.Codes.{ok}
 use Rattle.agefile.specs.Phase.{phase_closed, phase_reading, phase_writing, phase_ended, phase_failed}
-use Rattle.agefile.specs.Steps.{Steps}
+use Rattle.agefile.specs.Report.{Steps}
 
 -- nothing is open
 abbrev pub closed : Payload

@@ -12,7 +12,7 @@ use Rattle.agefile.specs.declared.start.Start.{Start}
 use Rattle.agefile.specs.Codes.{ok, out_of_order}
 use Rattle.agefile.specs.Limits.{limits}
 use Rattle.agefile.specs.Report.{Refuses, Returns, report_of}
-use Rattle.agefile.specs.Start.{FindsStart}
+use Rattle.agefile.specs.Unlock.{FindsStart}
 use Rattle.age_stream.specs.Sizes.{tag_size, chunk_size, sealed_chunk_size}
 
 -- nothing was opened

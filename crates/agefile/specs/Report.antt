@@ -1,8 +1,10 @@
--- What a call reports.
-use Rattle.std.specs.Prelude.{ℕ, ◌≡◌, Option, Some, None}
+-- What a call reports, and what the calls on payloads and on parts share.
+use Rattle.std.specs.Prelude.{ℕ, ◌≡◌, Option, Some, None, Bool}
 use Rattle.age_file.specs.declared.fault.Fault.{Fault}
 use Rattle.agefile.specs.declared.report.Report.{Report}
-use Rattle.agefile.specs.Codes.{fault_code, fault_detail, fault_place}
+use Rattle.agefile.specs.Codes.{fault_code, fault_detail, fault_place, out_of_order}
+use Rattle.std.specs.Bool.{OnFalse, OnTrue}
+use Rattle.age_kdf.specs.Bytes.{Bytes}
 
 -- `len` bytes, and the place and the detail of a fault, both 0 where there is none
 abbrev pub report_of : (len : ℕ) (fault : Option Fault) → Report
@@ -21,3 +23,10 @@ pub record Returns {S : Type 0} (expected : ℕ) (fault : Option Fault) (old new
 abbrev pub Refuses : {S : Type 0} (fault : Fault) (old new : S) (report : Report) (code : ℕ)
     → Type 0
 Refuses fault old new report code = Returns (fault_code fault) (Some fault) old new report code
+
+-- one call, which does this where it fits the state; else it changes nothing
+pub record Steps {S : Type 0} (fits : Bool) (does : Type 0) (old new : S) (chunk after : Bytes)
+    (report : Report) (code : ℕ) : Type 0 where
+  pub out_of_order : OnFalse fits
+      (Returns out_of_order None old new report code × (after ≡ chunk))
+  pub done : OnTrue fits does

@@ -17,16 +17,13 @@ ghost use Rattle.agefile.specs.declared.ranges.Ranges.{Ranges};
 ghost use Rattle.agefile.specs.declared.report.Report.{Report};
 ghost use Rattle.agefile.specs.Codes.{code_of, fault_code, ok, out_of_memory, too_many_chunks};
 ghost use Rattle.agefile.specs.Encrypting.{IsNewFile};
-ghost use Rattle.agefile.specs.Groups.{OpensGroups, SealsGroups, all_of, sealed_open};
+ghost use Rattle.agefile.specs.Groups.{OpensGroups, OpensRun, SealsGroups, SealsRun, all_of, sealed_open};
 ghost use Rattle.agefile.specs.Heading.{BeginsFile};
 ghost use Rattle.agefile.specs.Limits.{limits, front_size};
-ghost use Rattle.agefile.specs.Opening.{Opens, by_file_key};
+ghost use Rattle.agefile.specs.Unlock.{IsStart, Opens, Unlocks, by_file_key};
 ghost use Rattle.agefile.specs.Payload.{OpensNext, SealsNext};
 ghost use Rattle.agefile.specs.Ranges.{OpensRanges, gives, last_index, piece_at, plain_of};
 ghost use Rattle.agefile.specs.Report.{report_of};
-ghost use Rattle.agefile.specs.Runs.{OpensRun, SealsRun};
-ghost use Rattle.agefile.specs.Start.{IsStart};
-ghost use Rattle.agefile.specs.Unlock.{Unlocks};
 
 /// Reading a file in steps returns what decrypting it returns. The front of 65,552 bytes of a file
 /// b is enough to open it. A fault of the opening, except out of memory, is the verdict's, before

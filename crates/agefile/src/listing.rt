@@ -2,10 +2,9 @@
 
 ghost use Rattle.std.specs.Prelude.{◌≡◌, ◌⊎◌, ◌++◌, map, take, IfOk, OnOk};
 ghost use Rattle.age_kdf.specs.Bytes.{Bytes};
-ghost use Rattle.agefile.specs.Inspect.{joined, stanza_summary};
+ghost use Rattle.agefile.specs.Inspect.{GivesList, GivesStanzas, InspectsStanzas, joined, listed, stanza_summary};
 ghost use Rattle.agefile.specs.Limits.{front_size};
 ghost use Rattle.agefile.specs.Codes.{out_of_memory};
-ghost use Rattle.agefile.specs.Listing.{GivesList, GivesStanzas, InspectsStanzas, listed};
 ghost use Rattle.agefile.specs.Report.{Returns};
 
 use crate::code::{OK, OUT_OF_MEMORY, TOO_SMALL, fault_code};

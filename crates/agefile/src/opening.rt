@@ -1,8 +1,7 @@
 //! Opening a file by its file key.
 
 ghost use Rattle.std.specs.Prelude.{◌≡◌};
-ghost use Rattle.agefile.specs.Opening.{Opens, StartsAt, by_file_key};
-ghost use Rattle.agefile.specs.Start.{FindsStart};
+ghost use Rattle.agefile.specs.Unlock.{FindsStart, Opens, StartsAt, by_file_key};
 
 use crate::code::{OK, fault_code};
 use crate::payload::Payload;
@@ -36,7 +35,7 @@ impl GivenKey {
 }
 
 impl Identity for GivenKey {
-    ghost use Rattle.agefile.specs.Opening.{gives_key};
+    ghost use Rattle.agefile.specs.Unlock.{gives_key};
 
     ghost meaning = { λ key stanzas. gives_key key stanzas };
 

@@ -1,7 +1,7 @@
 //! The offset of a file's first sealed chunk, and the key of its chunks.
 
 ghost use Rattle.agefile.specs.Giving.{alone};
-ghost use Rattle.agefile.specs.Start.{FindsStart};
+ghost use Rattle.agefile.specs.Unlock.{FindsStart};
 
 use crate::unlocking::key_for;
 use age_file::{Fault, Identity};

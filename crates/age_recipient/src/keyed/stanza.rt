@@ -11,8 +11,8 @@ use age_header::{FileKey, Stanza, base64_no_pad};
 use age_kdf::hkdf;
 use std::alloc::{AllocError, Global};
 
-/// The type of the stanza, its first argument.
-const KEYED_TYPE: &str = "example.org/key";
+/// The type of a key's stanza, its first argument.
+pub const KEYED_TYPE: &str = "example.org/key";
 
 /// The wrap key.
 fn keyed_wrap_key(key: &[u8; 32], salt: &[u8; 16]) -> [u8; 32]

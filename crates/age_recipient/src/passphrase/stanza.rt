@@ -16,8 +16,8 @@ use std::alloc::{AllocError, Global};
 
 const LABEL: &[u8; 28] = b"age-encryption.org/v1/scrypt";
 
-/// The type of the stanza, its first argument.
-const SCRYPT_TYPE: &str = "scrypt";
+/// The type of a passphrase's stanza, its first argument.
+pub const SCRYPT_TYPE: &str = "scrypt";
 
 /// The wrap key.
 fn pass_wrap_key(

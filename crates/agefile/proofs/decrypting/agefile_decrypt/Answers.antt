@@ -1,11 +1,11 @@
 use Rattle.std.proofs.Common.{◌∙◌, ap, arith, sym, Some}
 use Rattle.std.specs.Prelude.{option_map}
 use Rattle.age_file.specs.Verdict.{stream_fault}
-use Rattle.agefile.specs.Opening.{by_file_key}
+use Rattle.agefile.specs.Unlock.{by_file_key}
 use Rattle.agefile.specs.Report.{report_of}
 use Rattle.agefile.specs.Codes.{code_of}
 use Rattle.agefile.proofs.DecryptingLemmas.{decrypts_opened, no_room}
-use Rattle.agefile.proofs.StartLemmas.{start_within}
+use Rattle.agefile.proofs.UnlockLemmas.{start_within}
 use Rattle.agefile.proofs.decrypting.agefile_decrypt.Goals as goal
 
 pub split_at-requires : goal.split_at-requires

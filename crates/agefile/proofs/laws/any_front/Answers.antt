@@ -1,5 +1,4 @@
-use Rattle.agefile.proofs.AnyFront.{file_opens, front_opens}
-use Rattle.agefile.proofs.ShortFront.{short_fronts}
+use Rattle.agefile.proofs.FrontLemmas.{file_opens, front_opens, short_fronts}
 use Rattle.agefile.proofs.laws.any_front.Goals as goal
 
 pub returns : goal.returns

@@ -1,4 +1,4 @@
-use Rattle.agefile.proofs.OpenGroupLemmas.{opened_so_far, opened_whole}
+use Rattle.agefile.proofs.VerdictLemmas.{opened_so_far, opened_whole}
 use Rattle.agefile.proofs.laws.parts_open.Goals as goal
 
 pub returns : goal.returns

@@ -1,4 +1,4 @@
-use Rattle.agefile.proofs.RangeFront.{opened_range, refused_range}
+use Rattle.agefile.proofs.VerdictLemmas.{opened_range, refused_range}
 use Rattle.agefile.proofs.RangeLemmas.{last_there, len_there, slice_there}
 use Rattle.agefile.proofs.laws.ranges_in_steps.Goals as goal
 

@@ -1,4 +1,4 @@
-use Rattle.agefile.proofs.StepsReadLemmas.{opening_refused, steps_read}
+use Rattle.agefile.proofs.VerdictLemmas.{opening_refused, steps_read}
 use Rattle.agefile.proofs.laws.steps_read.Goals as goal
 
 pub returns : goal.returns

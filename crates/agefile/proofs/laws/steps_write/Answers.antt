@@ -1,4 +1,4 @@
-use Rattle.agefile.proofs.SealsRunLemmas.{steps_write}
+use Rattle.agefile.proofs.RunLemmas.{steps_write}
 use Rattle.agefile.proofs.laws.steps_write.Goals as goal
 
 pub returns : goal.returns

@@ -1,5 +1,4 @@
-use Rattle.agefile.proofs.OpeningLaws.{opens_unlocked}
-use Rattle.agefile.proofs.UnlockLemmas.{unlocking_refused}
+use Rattle.agefile.proofs.UnlockLemmas.{opens_unlocked, unlocking_refused}
 use Rattle.agefile.proofs.laws.unlocked_opens.Goals as goal
 
 pub returns : goal.returns

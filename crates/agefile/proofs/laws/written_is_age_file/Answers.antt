@@ -1,4 +1,4 @@
-use Rattle.agefile.proofs.NewFileLemmas.{new_file, one_file}
+use Rattle.agefile.proofs.HeadingLemmas.{new_file, one_file}
 use Rattle.agefile.proofs.laws.written_is_age_file.Goals as goal
 
 pub returns : goal.returns

@@ -1,4 +1,4 @@
-use Rattle.agefile.proofs.ListLemmas.{list_fault, list_found}
+use Rattle.agefile.proofs.HeaderLemmas.{list_fault, list_found}
 use Rattle.agefile.proofs.listing.agefile_stanzas.Goals as goal
 
 pub returns-in-Ok-clause-front : goal.returns-in-Ok-clause-front

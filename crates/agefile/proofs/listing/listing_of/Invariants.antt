@@ -1,6 +1,5 @@
 use Rattle.std.proofs.Common.{◌≡◌, map, take}
-use Rattle.agefile.specs.Inspect.{stanza_summary}
-use Rattle.agefile.specs.Listing.{listed}
+use Rattle.agefile.specs.Inspect.{listed, stanza_summary}
 use Rattle.agefile.proofs.listing.listing_of.Given as goal
 
 abbrev pub invariant-loop-stanza : goal.invariant-loop-stanza

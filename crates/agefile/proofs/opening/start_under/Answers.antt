@@ -1,7 +1,7 @@
-use Rattle.std.proofs.Common.{◌∙◌, ap}
+use Rattle.std.proofs.Common.{◌∙◌, ap, subst}
 use denote.Param.Object.{read_made}
-use Rattle.agefile.specs.Opening.{gives_key}
-use Rattle.agefile.proofs.StartLemmas.{start_meant}
+use Rattle.agefile.specs.Giving.{alone}
+use Rattle.agefile.specs.Unlock.{FindsStart, gives_key}
 use Rattle.agefile.proofs.opening.start_under.Goals as goal
 use Rattle.agefile.proofs.opening.start_under.OwnLists.{own-1, entry-1-1, at-1-1, same-1-1}
 
@@ -9,4 +9,4 @@ pub returns-in-Ok : goal.returns-in-Ok
 returns-in-Ok c =
     let same = read_made own-1 entry-1-1 at-1-1 same-1-1 _ (λ j y. j.1.meaning y) _ _ _ c.into_dyn_box.ensures.1
     ∙ ap gives_key (c.in-Ok.ensures.ok ∙ c.new.ensures) in
-    start_meant same c.start_for.ensures
+    subst (λ m. FindsStart (alone m) c.args.front.now c.start_for.result) same c.start_for.ensures

@@ -1,6 +1,6 @@
 use Rattle.std.proofs.Common.{◌∙◌, ap, length}
 use Rattle.agefile.specs.Sizes.{file_len}
-use Rattle.agefile.proofs.NewFileLemmas.{size_of}
+use Rattle.agefile.proofs.HeadingLemmas.{size_of}
 use Rattle.agefile.proofs.sizes.agefile_file_len.Goals as goal
 
 pub returns-clause-file : goal.returns-clause-file

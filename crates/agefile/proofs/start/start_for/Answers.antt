@@ -1,5 +1,5 @@
 use Rattle.agefile.specs.Giving.{alone}
-use Rattle.agefile.proofs.StartLemmas.{key_in_front, start_cut, start_failed, start_found}
+use Rattle.agefile.proofs.UnlockLemmas.{key_in_front, start_cut, start_failed, start_found}
 use Rattle.agefile.proofs.start.start_for.Goals as goal
 
 pub returns-in-Err : goal.returns-in-Err
