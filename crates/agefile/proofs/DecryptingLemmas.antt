@@ -42,17 +42,18 @@ first_is key i size left piece sized is =
     ] in
     ap (outcome key limits.max_chunks i (nat_le (length left) sealed_chunk_size)) (whole ∙ same)
 
-pub first_given : {o p : Result Bytes StreamFault} (n : ℕ) (after text old : Bytes) {new : Bytes} → p ≡ o
+pub first_given : {o p : Result Bytes StreamFault} {n : ℕ} (after : Bytes) {text : Bytes} (old : Bytes) {new : Bytes}
+    → p ≡ o
     → GivesText p after (Ok n) → text ≡ take n after → new ≡ text ++ drop n old
     → GivesFirst o old new (Ok n)
-first_given n after text old {new} same h is put =
+first_given {n} after {text} old {new} same h is put =
     let len : length text ≡ n = ap length is ∙ length-take-le n after h.1 in
     subst (λ x. GivesFirst x old new (Ok n)) (ap Ok is ∙ sym h.0 ∙ same)
     (ap Ok (sym len), put ∙ ap (λ k. text ++ drop k old) (sym len))
 
-pub first_fault : {o p : Result Bytes StreamFault} (fault : StreamFault) (after old : Bytes) → p ≡ o
+pub first_fault : {o p : Result Bytes StreamFault} {fault : StreamFault} (after old : Bytes) → p ≡ o
     → GivesText p after (Err fault) → GivesFirst o old old (Err fault)
-first_fault fault after old same h = subst (λ x. GivesFirst x old old (Err fault)) (sym h ∙ same) (refl, refl)
+first_fault {fault} after old same h = subst (λ x. GivesFirst x old old (Err fault)) (sym h ∙ same) (refl, refl)
 
 -- ---- one chunk after another
 
@@ -86,9 +87,9 @@ room_of n i le = elim (cases_lt i (n / sealed_chunk_size)) [
 ]
 
 -- the next text has room
-pub text_fits : (key sealed old out : Bytes) (at len number : ℕ) → IsReadTo key sealed old out at len number
+pub text_fits : {key sealed old out : Bytes} {at len number : ℕ} → IsReadTo key sealed old out at len number
     → len + (min (length (drop at sealed)) sealed_chunk_size - 16) ≤ length out
-text_fits key sealed old out at len number r =
+text_fits {key} {sealed} {old} {out} {at} {len} {number} r =
     let low : at ≤ length sealed = within key sealed old out at len number r in
     let left : length (drop at sealed) ≡ length sealed - at = length-drop at sealed in
     let most = room_of (length sealed) number (omega (arith, low, r.place)) in
@@ -108,11 +109,12 @@ given reading old out len fault le front is rest =
     }
 
 -- the same of the bytes that are left, and of the room for their text
-pub first_there : (key sealed out left room mid : Bytes) (at len number : ℕ) (r : Result ℕ StreamFault)
+pub first_there : (key sealed out : Bytes) {left room : Bytes} (mid : Bytes) (at len number : ℕ)
+    (r : Result ℕ StreamFault)
     → left ≡ drop at sealed → room ≡ drop len out
     → GivesFirst (first_outcome key limits.max_chunks number left) room mid r
     → GivesFirst (first_outcome key limits.max_chunks number (drop at sealed)) (drop len out) mid r
-first_there key sealed out left room mid at len number r left_is room_is gives =
+first_there key sealed out {room} mid at len number r left_is room_is gives =
     subst (λ x. GivesFirst (first_outcome key limits.max_chunks number (drop at sealed)) x mid r) room_is
     (subst (λ x. GivesFirst (first_outcome key limits.max_chunks number x) room mid r) left_is gives)
 
@@ -145,8 +147,7 @@ read_stops {key} {sealed} {old} out at len number fault mid {new} r gives joined
     r.reads ∙ ap (before (take len out)) (first_err key limits.max_chunks number (drop at sealed) fault f.0) in
     subst (λ x. GivesReading (reading_from key limits.max_chunks 0 sealed) old x len (Some fault)) (sym same)
     (given (reading_from key limits.max_chunks 0 sealed) old out len (Some fault)
-    (omega (arith, text_fits key sealed old out at len number r))
-    (ap (λ (x : Reading StreamFault). x.front) all ∙ append-nil (take len out))
+    (omega (arith, text_fits r)) (ap (λ (x : Reading StreamFault). x.front) all ∙ append-nil (take len out))
     (ap (λ (x : Reading StreamFault). x.fault) all) r.rest)
 
 -- a chunk opened: the buffer after it
@@ -207,7 +208,7 @@ pub read_more : {key sealed old : Bytes} (out : Bytes) (at len number n : ℕ) (
     → n ≡ min (length (drop at sealed)) sealed_chunk_size - 16
     → IsReadTo key sealed old new (at + sealed_chunk_size) (len + n) (number + 1)
 read_more {key} {sealed} {old} out at len number n mid {new} r gives joined more count =
-    let fits : len + n ≤ length out = omega (arith, count, text_fits key sealed old out at len number r) in
+    let fits : len + n ≤ length out = omega (arith, count, text_fits r) in
     let o = opened (first_outcome key limits.max_chunks number (drop at sealed)) n (drop len out) mid gives in
     let p = put old out mid new o.0 len n fits o.2 o.3 joined r.rest in
     let left : Bytes = drop sealed_chunk_size (drop at sealed) in
@@ -256,13 +257,12 @@ decrypts_exceeds answers b old new report code room start (inr at) is exceeds =
     inr (Ok start, at, inl (subst (λ n. Exceeds n old new report code) is exceeds))
 
 -- the chunks were opened
-reading_fits : (reading : Reading StreamFault) (v : Reading Fault) (old new : Bytes) (report : Report) (code len : ℕ)
-    (fault : Option StreamFault)
-    → v ≡ record { front = reading.front; fault = option_map stream_fault reading.fault }
+reading_fits : {reading : Reading StreamFault} {v : Reading Fault} {old new : Bytes} {report : Report} {code len : ℕ}
+    {fault : Option StreamFault} → v ≡ record { front = reading.front; fault = option_map stream_fault reading.fault }
     → GivesReading reading old new len fault → length new ≡ length old
     → report ≡ report_of len (option_map stream_fault fault) → code ≡ code_of (option_map stream_fault fault)
     → Fits v.front v.fault old new report code
-reading_fits reading v old new report code len fault is gives size reported returned =
+reading_fits {reading} {old} {new} {report} {code} {fault} is gives size reported returned =
     subst (λ (r : Reading Fault). Fits r.front r.fault old new report code) (sym is)
     (record {
       fits = omega (
@@ -299,7 +299,7 @@ decrypts_opened answers {b} rest old new {report} {code} len start fault
     inr (
       Ok start,
       (header, verdict, is),
-      inr (there, (v, judged_so, reading_fits _ v old new report code len fault from mine size reported returned)),
+      inr (there, (v, judged_so, reading_fits from mine size reported returned)),
     )
 
 pub no_room : (answers : Answering) {b : Bytes} (rest : Bytes) {old : Bytes} {report : Report} (room : ℕ)

@@ -69,28 +69,28 @@ found_len b text h ss mac len found head is =
     omega arith
 
 -- what a caller is given of a header
-pub inspected : (b : Bytes) {h : Bytes} (header : HeaderParts) {old : Summary} {report : Report} {len stanzas : ℕ}
+pub inspected : {b : Bytes} {h : Bytes} {header : HeaderParts} {old : Summary} {report : Report} {len stanzas : ℕ}
     {mac : Bytes} → HeaderOf b (Ok header) → report ≡ report_of 0 None
     → Head header.stanzas header.mac h → len ≡ min (length h) (2 ^ 64 - 1) → stanzas ≡ length header.stanzas
     → mac ≡ header.mac
     → Inspected b old (record { header_len = len; stanzas = stanzas; mac = mac }) report 0
-inspected b {h} header {len} {stanzas} {mac} (text, found) none head is count same =
+inspected {b} {h} {header} {len} {stanzas} {mac} (text, found) none head is count same =
     inr (
       Ok (record { stanzas = header.stanzas; mac = header.mac; text = text }),
       found,
       (refl, none, rw (found_len b text h header.stanzas header.mac len found head is, count, same) refl),
     )
 
-pub inspected_fault : (b : Bytes) {old : Summary} {report : Report} {code : ℕ} (fault : Fault) → HeaderOf b (Err fault)
+pub inspected_fault : {b : Bytes} {old : Summary} {report : Report} {code : ℕ} {fault : Fault} → HeaderOf b (Err fault)
     → report ≡ report_of 0 (Some fault) → code ≡ fault_code fault
     → Inspected b old old report code
-inspected_fault b fault (inl memory) place returned =
+inspected_fault (inl memory) place returned =
     inl (record {
       returned = returned ∙ ap fault_code memory;
       reported = place ∙ ap (λ f. report_of 0 (Some f)) memory;
       same = refl;
     })
-inspected_fault b fault (inr (reason, found, same)) place returned =
+inspected_fault (inr (reason, found, same)) place returned =
     inr (
       Err reason,
       found,

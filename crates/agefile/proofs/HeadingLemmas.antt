@@ -28,19 +28,20 @@ use Rattle.agefile.proofs.UnlockLemmas.{Fronts, ok_ok}
 
 -- ---- the MAC
 
-pub mac_none : (text : Bytes) (k : FileKey) (fault : Fault) {other : Fault} → other ≡ in_text fault
+pub mac_none : (text : Bytes) (k : FileKey) {fault : Fault} {other : Fault} → other ≡ in_text fault
     → HeaderOf (probe text) (Err fault) → FindsMac text k (Err other)
-mac_none text k fault is (inl memory) = inl (ap Err (is ∙ ap in_text memory))
-mac_none text k fault is (inr (reason, h, same)) = inr (Err reason, h, ap Err (is ∙ ap in_text same))
+mac_none text k is (inl memory) = inl (ap Err (is ∙ ap in_text memory))
+mac_none text k is (inr (reason, h, same)) = inr (Err reason, h, ap Err (is ∙ ap in_text same))
 
 abbrev found_of : (b rest : Bytes) (h : HeaderParts) → Fronts b rest h → Found
 found_of b rest h f = record { stanzas = h.stanzas; mac = h.mac; text = f.text }
 
-pub mac_early : (text rest front : Bytes) (h : HeaderParts) (k : FileKey) {fault : Fault} → Fronts (probe text) rest h
+pub mac_early : (text : Bytes) {rest front : Bytes} {h : HeaderParts} (k : FileKey) {fault : Fault}
+    → Fronts (probe text) rest h
     → 0 < length rest
     → front ≡ take (length (probe text) - length rest) (probe text) → fault ≡ BadLine (lines_in front - 1)
     → FindsMac text k (Err fault)
-mac_early text rest front h k {fault} f some is count =
+mac_early text {rest} {front} {h} k {fault} f some is count =
     let size : length (probe text) ≡ length f.text + length rest = ap length f.front ∙ length-append f.text rest in
     let len : length (probe text) - length rest ≡ length f.text = omega (arith, size) in
     let same : front ≡ f.text = is ∙ ap (λ n. take n (probe text)) len ∙ ap (take (length f.text)) f.front
@@ -61,9 +62,10 @@ whole_text text rest h f none =
     let size : length (probe text) ≡ length f.text + length rest = ap length f.front ∙ length-append f.text rest in
     cond-false (nat_lt (length f.text) (length (probe text))) _ _ (le-ltb _ _ (omega (arith, size, none)))
 
-pub mac_mixed : (text rest : Bytes) (h : HeaderParts) (k : FileKey) → Fronts (probe text) rest h → length rest ≡ 0
+pub mac_mixed : (text : Bytes) {rest : Bytes} {h : HeaderParts} (k : FileKey) → Fronts (probe text) rest h
+    → length rest ≡ 0
     → is_mixed h.stanzas ≡ true → FindsMac text k (Err MixedPassphrase)
-mac_mixed text rest h k f none mixed =
+mac_mixed text {rest} {h} k f none mixed =
     inr (
       Ok (found_of (probe text) rest h f),
       f.verdict,
@@ -71,11 +73,11 @@ mac_mixed text rest h k f none mixed =
           (subst (λ s. IsMac k s (Err MixedPassphrase)) (sym (cond-true (is_mixed h.stanzas) _ _ mixed)) refl),
     )
 
-pub mac_made : (text rest : Bytes) {mac : Bytes} (h : HeaderParts) (k : FileKey)
+pub mac_made : (text : Bytes) {rest : Bytes} {mac : Bytes} {h : HeaderParts} (k : FileKey)
     → Fronts (probe text) rest h → length rest ≡ 0
     → is_mixed h.stanzas ≡ false → mac ≡ header_mac k.0 h.stanzas
     → FindsMac text k (Ok mac)
-mac_made text rest {mac} h k f none mixed is =
+mac_made text {rest} {mac} {h} k f none mixed is =
     inr (
       Ok (found_of (probe text) rest h f),
       f.verdict,
@@ -102,7 +104,7 @@ header_none {text} {k} fault some (inr (verdict, h, is)) =
 unmixed : (b : Bool) (xs ss : List StanzaParts)
     → ◌≡◌ {A = Result (List StanzaParts) Fault} (cond b (Err MixedPassphrase) (Ok xs)) (Ok ss) → (b ≡ false) × (xs ≡ ss)
 unmixed true xs ss e = absurd (cc)
-unmixed false xs ss e = (refl, ok_ok xs ss e)
+unmixed false xs ss e = (refl, ok_ok e)
 
 -- what is known of a text whose probe was read to its end
 pub record Reads (text : Bytes) (ss : List StanzaParts) : Type 0 where
@@ -211,15 +213,14 @@ made_of text mac characters k made verdict (Ok ss) some h eq is spelled bytes le
       Ok ss,
       inr (some, (verdict, h, eq)),
       subst (IsHeading limits k (given ss) ss) (sym spelled)
-          (heading_of text mac characters k ss (reads text verdict ss h eq) (ok_ok mac (header_mac k.0 ss) is) bytes
-          len),
+          (heading_of text mac characters k ss (reads text verdict ss h eq) (ok_ok is) bytes len),
     )
 
-pub header_made : {text : Bytes} (mac characters : Bytes) {k : FileKey} {made : Vec ℕ Global} → text ≢ []
+pub header_made : {text : Bytes} {mac : Bytes} (characters : Bytes) {k : FileKey} {made : Vec ℕ Global} → text ≢ []
     → FindsMac text k (Ok mac) → IsBase64 mac characters → length mac ≡ 32
     → made.items ≡ framed text characters → MakesHeader text k (Ok made)
-header_made mac characters some (inl memory) bytes len spelled = absurd (cc)
-header_made {text} mac characters {k} {made} some (inr (verdict, h, is)) bytes len spelled =
+header_made {mac} characters some (inl memory) bytes len spelled = absurd (cc)
+header_made {text} {mac} characters {k} {made} some (inr (verdict, h, is)) bytes len spelled =
     made_of text mac characters k made verdict (unless_mixed (stanzas_in text verdict)) some h refl is spelled bytes len
 
 pub characters_known : {E : Type 0} (mac : Bytes) (r : Result (String Global) E) → ((i : ℕ) → slice_index mac i < 256)

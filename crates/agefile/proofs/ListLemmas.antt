@@ -11,10 +11,10 @@ use Rattle.agefile.specs.Inspect.{HeaderOf}
 use Rattle.agefile.specs.Listing.{GivesStanzas, InspectsStanzas}
 
 -- the header's fault
-pub list_fault : (b : Bytes) {before : List StanzaSummary} {old : Bytes} {report : Report} {code : ℕ} (fault : Fault)
+pub list_fault : {b : Bytes} {before : List StanzaSummary} {old : Bytes} {report : Report} {code : ℕ} {fault : Fault}
     → HeaderOf b (Err fault) → report ≡ report_of 0 (Some fault)
     → code ≡ fault_code fault → InspectsStanzas b before before old old report code
-list_fault b fault (inl memory) place returned =
+list_fault (inl memory) place returned =
     inl (
       record {
         returned = returned ∙ ap fault_code memory;
@@ -23,7 +23,7 @@ list_fault b fault (inl memory) place returned =
       },
       refl,
     )
-list_fault b fault (inr (reason, found, same)) place returned =
+list_fault (inr (reason, found, same)) place returned =
     inr (
       Err reason,
       found,
@@ -38,11 +38,11 @@ list_fault b fault (inr (reason, found, same)) place returned =
     )
 
 -- its stanzas
-pub list_found : (b : Bytes) (header : HeaderParts) {before after : List StanzaSummary} {old new : Bytes}
+pub list_found : {b : Bytes} {header : HeaderParts} {before after : List StanzaSummary} {old new : Bytes}
     {report : Report} {code : ℕ} → HeaderOf b (Ok header)
     → (Returns 17 None before after report code × (new ≡ old))
     ⊎ GivesStanzas header.stanzas before after old new report code
     → InspectsStanzas b before after old new report code
-list_found b header of (inl up) = inl up
-list_found b header (text, found) (inr gives) =
+list_found {header} of (inl up) = inl up
+list_found {header} (text, found) (inr gives) =
     inr (Ok (record { stanzas = header.stanzas; mac = header.mac; text = text }), found, gives)

@@ -32,16 +32,17 @@ record IsOpened (o : Result Bytes StreamFault) (after : Bytes) (report : Report)
   is : o ≡ Ok text
   front : take report.len after ≡ text
 
-opened_ok : (chunk after : Bytes) (report : Report) (o : Result Bytes StreamFault) → Opened chunk after report 0 o
+opened_ok : (chunk : Bytes) {after : Bytes} {report : Report} {o : Result Bytes StreamFault}
+    → Opened chunk after report 0 o
     → IsOpened o after report
-opened_ok chunk after report (Ok text) (zero_is, reported, buffer) =
+opened_ok chunk {after} {o = Ok text} (zero_is, reported, buffer) =
     record {
       text = text;
       is = refl;
       front = ap (λ (x : Report). take x.len after) reported
           ∙ ap (take (length text)) buffer ∙ take-append_seam text _;
     }
-opened_ok chunk after report (Err fault) refused = absurd (some_code (stream_fault fault) (sym refused.returned))
+opened_ok chunk {after} {o = Err fault} refused = absurd (some_code (stream_fault fault) (sym refused.returned))
 
 payload_step : (p new : Payload) (piece after : Bytes) (last : Bool) (report : Report)
     → OpensNext p new piece after last report 0
@@ -49,7 +50,7 @@ payload_step : (p new : Payload) (piece after : Bytes) (last : Bool) (report : R
     × ((new.key ≡ p.key) × (new.number ≡ p.number + 1))
 payload_step p new piece after last report step =
     let s = fitting (may_open p (length piece) last) step in
-    (opened_ok piece after report _ s.0, (ap (λ (q : Payload). q.key) s.1, ap (λ (q : Payload). q.number) s.1))
+    (opened_ok piece s.0, (ap (λ (q : Payload). q.key) s.1, ap (λ (q : Payload). q.number) s.1))
 
 part_step : (p new : Part) (piece after : Bytes) (report : Report) → part.OpensNext p new piece after report 0
     → IsOpened (outcome p.key limits.max_chunks p.number false piece) after report

@@ -24,7 +24,7 @@ use Rattle.agefile.proofs.OpensRunLemmas.{some_code}
 use Rattle.agefile.proofs.UnlockLemmas.{key_within, ok_ok}
 
 same_key : (t : Bool) (j k : FileKey) → ◌≡◌ {A = Result FileKey Fault} (cond t (Ok j) (Err BadMac)) (Ok k) → j ≡ k
-same_key true j k e = ok_ok j k e
+same_key true j k e = ok_ok e
 same_key false j k e = absurd (cc)
 
 -- where a key was chosen and its MAC verified, it is so of this key

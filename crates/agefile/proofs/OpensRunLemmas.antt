@@ -38,24 +38,25 @@ RunsBy p last more text code place (Ok t) = (rest : Bytes) × (text ≡ t ++ res
 RunsBy p last more text code place (Err f) = (text ≡ [])
     × ((code ≡ fault_code (stream_fault f)) × (place ≡ fault_place (stream_fault f)))
 
-open_by : (p new : Payload) (chunk after text : Bytes) (more : List Bytes) (last : Bool) (report : Report)
-    (step_code code place : ℕ) (o : Result Bytes StreamFault)
+open_by : (p : Payload) {new : Payload} (chunk after : Bytes) {text : Bytes} (more : List Bytes) (last : Bool)
+    (report : Report)
+    {step_code code place : ℕ} (o : Result Bytes StreamFault)
     → Opened chunk after report step_code o → new ≡ after_chunk p last step_code
     → ((step_code ≡ 0) × ((rest : Bytes) × (text ≡ take report.len after ++ rest) × OpensRun new more rest code place))
     ⊎ ((step_code ≢ 0) × ((text ≡ []) × ((code ≡ step_code) × (place ≡ report.place))))
     → RunsBy p last more text code place o
-open_by p new chunk after text more last report step_code code place (Ok t) (is, reported, buffer) state
+open_by p chunk after more last report {code} {place} (Ok t) (is, reported, buffer) state
     (inl (zero, (rest, joined, run))) = (
       rest,
       joined ∙ ap (λ n. take n after ++ rest) (ap (λ (x : Report). x.len) reported)
           ∙ ap (λ b. take (length t) b ++ rest) buffer ∙ ap (λ x. x ++ rest) (take-append_seam t _),
       subst (λ n. OpensRun n more rest code place) (state ∙ ap (after_chunk p last) is) run,
     )
-open_by p new chunk after text more last report step_code code place (Ok t) (is, reported, buffer) state
+open_by p chunk after more last report {code} {place} (Ok t) (is, reported, buffer) state
     (inr (nonzero, h)) = absurd (nonzero is)
-open_by p new chunk after text more last report step_code code place (Err f) refused state
+open_by p chunk after more last report {code} {place} (Err f) refused state
     (inl (zero, h)) = absurd (some_code (stream_fault f) (sym refused.returned ∙ zero))
-open_by p new chunk after text more last report step_code code place (Err f) refused state
+open_by p chunk after more last report {code} {place} (Err f) refused state
     (inr (nonzero, (none, (codes, places)))) =
     (none, (codes ∙ refused.returned, places ∙ ap (λ (x : Report). x.place) refused.reported))
 
@@ -66,7 +67,7 @@ run_first : (key : Bytes) (i : ℕ) (chunk text : Bytes) (more : List Bytes) (co
 run_first key i chunk text more code place fits (new, after, report, step_code, step, on) =
     let d = subst (λ b. OnTrue b (OpensAs key i (is_end more) chunk after report step_code
     × (new ≡ after_chunk (reading_at key i) (is_end more) step_code))) fits step.done in
-    open_by (reading_at key i) new chunk after text more (is_end more) report step_code code place _ d.0 d.1 on
+    open_by (reading_at key i) chunk after more (is_end more) report _ d.0 d.1 on
 
 -- the reading of pieces from number i on
 abbrev pub IsRead : Bytes → ℕ → List Bytes → Bytes → ℕ → ℕ → Type 0

@@ -55,8 +55,8 @@ front_comes key max i (c ∷ more) all = elim (result_cases (outcome key max i (
       (0, omega arith, omega arith)
 ]
 
-comes_at_most : (n r most : ℕ) → Comes n r → r ≤ most → n ≤ opened_len most
-comes_at_most n r most (m, low, high) le = elim (cases_lt (most / sealed_chunk_size) m) [
+comes_at_most : {n r most : ℕ} → Comes n r → r ≤ most → n ≤ opened_len most
+comes_at_most {most} (m, low, high) le = elim (cases_lt (most / sealed_chunk_size) m) [
   | inl above ↦ omega arith
   | inr within ↦ omega arith
 ]
@@ -71,7 +71,7 @@ payload_at_most k max most text le =
     let comes = front_comes (payload_key k (take 16 text)) max 0 (pieces rest)
     (small (pieces rest) (cut_at_most sealed_chunk_size rest (omega arith))) in
     let opens : length (reading_from (payload_key k (take 16 text)) max 0 rest).front ≤ opened_len most =
-    comes_at_most _ (length (concat (pieces rest))) most comes (omega arith) in
+    comes_at_most comes (omega arith) in
     elim (nat_lt (length text) 16) as (λ t. length
     (cond t (stops NonceTruncated) (reading_from (payload_key k (take 16 text)) max 0 rest)).front
     ≤ opened_len most) [
@@ -79,10 +79,10 @@ payload_at_most k max most text le =
       | false ↦ opens
     ]
 
-under_at_most : (rest : Bytes) (most : ℕ) (key : Result FileKey Fault) → length rest - 16 ≤ most
+under_at_most : (rest : Bytes) {most : ℕ} (key : Result FileKey Fault) → length rest - 16 ≤ most
     → length (read_under limits rest key).front ≤ opened_len most
-under_at_most rest most (Err fault) le = omega arith
-under_at_most rest most (Ok k) le = payload_at_most k limits.max_chunks most rest le
+under_at_most rest {most} (Err fault) le = omega arith
+under_at_most rest {most} (Ok k) le = payload_at_most k limits.max_chunks most rest le
 
 judged_at_most : (answers : Answering) (b : Bytes) (header : Result Found HeaderFault)
     → HeaderVerdict b limits.max_header header
@@ -90,7 +90,7 @@ judged_at_most : (answers : Answering) (b : Bytes) (header : Result Found Header
 judged_at_most answers b (Err fault) h = omega arith
 judged_at_most answers b (Ok found) h =
     let least = least_header found.stanzas found.mac found.text h.head in
-    under_at_most (drop (length found.text) b) (length b - 86) _ (omega (arith, length-drop (length found.text) b))
+    under_at_most (drop (length found.text) b) _ (omega (arith, length-drop (length found.text) b))
 
 pub verdict_at_most : (answers : Answering) (b : Bytes) (verdict : Reading Fault) → IsVerdict limits answers b verdict
     → length verdict.front ≤ plain_len_at_most (length b)

@@ -45,6 +45,6 @@ refused_range answers b r report code v (start, inl memory, opens) h some other 
 refused_range answers b r report code v (Err fault, inr is, opens) h some other =
     refusal fault v opens (verdict_from answers b (Err fault) v (whole_start answers b (Err fault) is) h)
 refused_range answers b r report code v (Ok start, inr is, inl (lt, closed)) h some other =
-    absurd (omega (arith, lt, start_within answers b start (inr (whole_start answers b (Ok start) is))))
+    absurd (omega (arith, lt, start_within answers (inr (whole_start answers b (Ok start) is))))
 refused_range answers b r report code v (Ok start, inr is, inr (le, returned, new, place)) h some other =
     absurd (some returned)

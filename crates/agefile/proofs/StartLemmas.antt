@@ -24,12 +24,12 @@ use Rattle.agefile.specs.Start.{FindsStart, IsStart, start_under}
 use Rattle.agefile.proofs.OpensRunLemmas.{some_code}
 
 -- no file key was found
-pub start_failed : (answers : Answering) (b : Bytes) (fault : Fault) → FindsKey answers b (Err fault)
+pub start_failed : (answers : Answering) {b : Bytes} {fault : Fault} → FindsKey answers b (Err fault)
     → FindsStart answers b (Err fault)
-start_failed answers b fault (inl memory) = inl (ap Err (err_err {A = Unlocked} fault OutOfMemory memory))
-start_failed answers b fault (inr (Err e, verdict, is)) =
+start_failed answers {b} {fault} (inl memory) = inl (ap Err (err_err {A = Unlocked} fault OutOfMemory memory))
+start_failed answers {b} {fault} (inr (Err e, verdict, is)) =
     inr (Err e, verdict, ap Err (err_err {A = Unlocked} fault (header_fault e) is))
-start_failed answers b fault (inr (Ok found, verdict, is)) =
+start_failed answers {b} {fault} (inr (Ok found, verdict, is)) =
     let locked = key_locked_so (length found.text) fault (unlocked answers (parts_of found)) is in
     inr (Ok found, verdict, ap (start_under (length found.text) (drop (length found.text) b)) (sym locked))
   where
@@ -38,12 +38,12 @@ start_failed answers b fault (inr (Ok found, verdict, is)) =
     key_locked_so n fault (Err other) e = ap Err (sym (err_err {A = Unlocked} fault other e))
 
 -- a file key was found: what follows the header says whether there is a start
-pub start_after : (answers : Answering) (b : Bytes) (found : Unlocked) (start : Result Start Fault)
+pub start_after : (answers : Answering) {b : Bytes} {found : Unlocked} {start : Result Start Fault}
     → FindsKey answers b (Ok found)
     → start ≡ start_under found.header_len (drop found.header_len b) (Ok found.key) → FindsStart answers b start
-start_after answers b found start (inl memory) is = absurd (cc)
-start_after answers b found start (inr (Err e, verdict, opens)) is = absurd (cc)
-start_after answers b found start (inr (Ok head, verdict, opens)) is =
+start_after answers {b} {found} (inl memory) is = absurd (cc)
+start_after answers {b} {found} (inr (Err e, verdict, opens)) is = absurd (cc)
+start_after answers {b} {found} (inr (Ok head, verdict, opens)) is =
     let k = key_within (length head.text) found (unlocked answers (parts_of head)) opens in
     inr (
       Ok head,
@@ -52,11 +52,11 @@ start_after answers b found start (inr (Ok head, verdict, opens)) is =
           ∙ ap (start_under (length head.text) (drop (length head.text) b)) (sym k.0),
     )
 
-pub key_in_front : (answers : Answering) (b : Bytes) (found : Unlocked) → FindsKey answers b (Ok found)
+pub key_in_front : (answers : Answering) {b : Bytes} {found : Unlocked} → FindsKey answers b (Ok found)
     → found.header_len ≤ length b
-key_in_front answers b found (inl memory) = absurd (cc)
-key_in_front answers b found (inr (Err e, verdict, opens)) = absurd (cc)
-key_in_front answers b found (inr (Ok head, verdict, opens)) =
+key_in_front answers {b} {found} (inl memory) = absurd (cc)
+key_in_front answers {b} {found} (inr (Err e, verdict, opens)) = absurd (cc)
+key_in_front answers {b} {found} (inr (Ok head, verdict, opens)) =
     let k = key_within (length head.text) found (unlocked answers (parts_of head)) opens in
     let w = begins_found b limits.max_header head verdict in
     omega (arith, k.1, ap length w.prefix, length-append head.text w.rest)
@@ -64,8 +64,7 @@ key_in_front answers b found (inr (Ok head, verdict, opens)) =
 pub start_cut : (answers : Answering) {b rest : Bytes} (found : Unlocked) → FindsKey answers b (Ok found)
     → rest ≡ drop found.header_len b → length rest < 16 → FindsStart answers b (Err NonceTruncated)
 start_cut answers {b} {rest} found finds back short =
-    start_after answers b found (Err NonceTruncated) finds
-    (sym (cond-true (nat_lt (length rest) 16) _ _ (lt-ltb (length rest) 16 short))
+    start_after answers finds (sym (cond-true (nat_lt (length rest) 16) _ _ (lt-ltb (length rest) 16 short))
     ∙ ap (λ r. start_under found.header_len r (Ok found.key)) back)
 
 pub start_found : (answers : Answering) {b rest : Bytes} (nonce : Bytes) {key : Bytes} (found : Unlocked)
@@ -73,10 +72,9 @@ pub start_found : (answers : Answering) {b rest : Bytes} (nonce : Bytes) {key : 
     → key ≡ payload_key found.key nonce
     → FindsStart answers b (Ok (record { first = length b - length rest + 16; key = key }))
 start_found answers {b} {rest} nonce {key} found finds back long nonce_is key_is =
-    let low = key_in_front answers b found finds in
+    let low = key_in_front answers finds in
     let size : length rest ≡ length b - found.header_len = ap length back ∙ length-drop found.header_len b in
-    start_after answers b found _ finds
-    (ap (λ n. Ok (record { first = n; key = key })) (omega (arith, low, size))
+    start_after answers finds (ap (λ n. Ok (record { first = n; key = key })) (omega (arith, low, size))
     ∙ ap (λ x. Ok (record { first = found.header_len + 16; key = x })) (key_is ∙ ap (payload_key found.key) nonce_is)
     ∙ sym (cond-false (nat_lt (length rest) 16) _ _ (le-ltb (length rest) 16 long))
     ∙ ap (λ r. start_under found.header_len r (Ok found.key)) back)
@@ -109,15 +107,15 @@ under len rest (Ok k) s is =
         unlocks = refl;
         long = ge;
         is =
-            ok_ok s _ (is ∙ cond-false (nat_lt (length rest) 16) other found (le-ltb (length rest) 16 ge));
+            ok_ok (is ∙ cond-false (nat_lt (length rest) 16) other found (le-ltb (length rest) 16 ge));
       }
     ]
 
-pub start_within : (answers : Answering) (b : Bytes) (start : Start) → FindsStart answers b (Ok start)
+pub start_within : (answers : Answering) {b : Bytes} {start : Start} → FindsStart answers b (Ok start)
     → start.first ≤ length b
-start_within answers b start (inl memory) = absurd (cc)
-start_within answers b start (inr (Err e, verdict, is)) = absurd (cc)
-start_within answers b start (inr (Ok found, verdict, is)) =
+start_within answers {b} {start} (inl memory) = absurd (cc)
+start_within answers {b} {start} (inr (Err e, verdict, is)) = absurd (cc)
+start_within answers {b} {start} (inr (Ok found, verdict, is)) =
     let u = under (length found.text) (drop (length found.text) b) (unlocked answers (parts_of found)) start is in
     omega (arith, u.long, ap (λ (s : Start). s.first) u.is, length-drop (length found.text) b)
 

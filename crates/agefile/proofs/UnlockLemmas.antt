@@ -27,8 +27,8 @@ use Rattle.agefile.specs.Report.{Refuses, report_of}
 use Rattle.agefile.specs.Unlock.{FindsKey, GivesKey, IsKey, Unlocks, with_len}
 use Rattle.agefile.proofs.FrontLemmas.{whole_verdict}
 
-pub ok_ok : {A : Type 0} (x y : A) → ◌≡◌ {A = Result A Fault} (Ok x) (Ok y) → x ≡ y
-ok_ok x y e = cc
+pub ok_ok : {A : Type 0} {x y : A} → ◌≡◌ {A = Result A Fault} (Ok x) (Ok y) → x ≡ y
+ok_ok e = cc
 
 -- a header that was read, and what follows it
 pub record Fronts (b rest : Bytes) (h : HeaderParts) : Type 0 where
@@ -41,14 +41,14 @@ pub fronts : {b rest : Bytes} {h : HeaderParts} → Inspects limits (flow (of_to
 fronts (Err g, is, _) = absurd (cc)
 fronts {b} {rest} {h} (Ok parts, is, reads) =
     let r = reads_known b (flow (of_told b) (of_told rest)) limits.max_header (Ok parts) refl reads in
-    subst (Fronts b rest) (sym (ok_ok h parts is)) (record { text = r.0; verdict = r.1; front = r.2.consumes })
+    subst (Fronts b rest) (sym (ok_ok is)) (record { text = r.0; verdict = r.1; front = r.2.consumes })
 
 -- a header's length and its file key are those that were found
 pub key_within : (n : ℕ) (found : Unlocked) (r : Result FileKey Fault) → Ok found ≡ with_len n r
     → (r ≡ Ok found.key) × (found.header_len ≡ n)
 key_within n found (Err fault) e = absurd (cc)
 key_within n found (Ok k) e =
-    let same = ok_ok found (record { header_len = n; key = k }) e in
+    let same = ok_ok e in
     (ap (λ (u : Unlocked). Ok u.key) (sym same), ap (λ (u : Unlocked). u.header_len) same)
 
 -- no header was read

@@ -9,7 +9,7 @@ use Rattle.agefile.proofs.StartLemmas.{start_within}
 use Rattle.agefile.proofs.decrypting.agefile_decrypt.Goals as goal
 
 pub split_at-requires : goal.split_at-requires
-split_at-requires c = start_within (by_file_key c.args.file_key.now) _ c.in-Ok.start c.in-Ok.ensures
+split_at-requires c = start_within (by_file_key c.args.file_key.now) c.in-Ok.ensures
 
 pub returns-then-room-out : goal.returns-then-room-out
 returns-then-room-out c =

@@ -18,7 +18,7 @@ returns-in-Err c = header_none c.in-Err.fault
 
 pub returns-in-Ok-framed : goal.returns-in-Ok-framed
 returns-in-Ok-framed c =
-    header_made c.in-Ok-mac_under.mac _
+    header_made _
     (λ e. let none : length c.args.stanzas.now ≡ 0 = ap length e in omega (arith, none, c.if-stanzas-eq0.false))
     (c.in-Ok-mac_under.ensures c.args.stanzas.now (c.as_slice.ensures.value ∙ c.in-Ok.ensures))
     c.in-Ok-characters_of.ensures.base64 c.in-Ok-characters_of.ensures.len

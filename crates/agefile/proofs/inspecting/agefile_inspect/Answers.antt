@@ -4,18 +4,17 @@ use Rattle.agefile.proofs.inspecting.agefile_inspect.Goals as goal
 
 pub returns-in-Ok-clause-front : goal.returns-in-Ok-clause-front
 returns-in-Ok-clause-front c =
-    inspected _ c.in-Ok.header c.in-Ok.ensures.front c.of_len.ensures c.text_len.ensures.1
+    inspected c.in-Ok.ensures.front c.of_len.ensures c.text_len.ensures.1
     c.text_len.ensures.2 (ap length c.stanzas.ensures.value) c.mac.ensures
 
 pub returns-in-Ok-clause-file : goal.returns-in-Ok-clause-file
 returns-in-Ok-clause-file c b same =
-    inspected b c.in-Ok.header (c.in-Ok.ensures.file b same) c.of_len.ensures c.text_len.ensures.1
+    inspected (c.in-Ok.ensures.file b same) c.of_len.ensures c.text_len.ensures.1
     c.text_len.ensures.2 (ap length c.stanzas.ensures.value) c.mac.ensures
 
 pub returns-in-Err-clause-front : goal.returns-in-Err-clause-front
-returns-in-Err-clause-front c = inspected_fault _ c.in-Err.fault c.in-Err.ensures.front c.of_fault.ensures
-    c.fault_code.ensures
+returns-in-Err-clause-front c = inspected_fault c.in-Err.ensures.front c.of_fault.ensures c.fault_code.ensures
 
 pub returns-in-Err-clause-file : goal.returns-in-Err-clause-file
-returns-in-Err-clause-file c b same = inspected_fault b c.in-Err.fault (c.in-Err.ensures.file b same)
+returns-in-Err-clause-file c b same = inspected_fault (c.in-Err.ensures.file b same)
     c.of_fault.ensures c.fault_code.ensures

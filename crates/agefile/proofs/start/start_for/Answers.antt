@@ -5,12 +5,12 @@ use Rattle.agefile.proofs.start.start_for.Goals as goal
 pub returns-in-Err : goal.returns-in-Err
 returns-in-Err g c =
     let of = (goal.Identity-dyn g (c.args.identity.vtable, c.args.identity.value)).meaning c.args.identity.value in
-    start_failed (alone of) _ c.in-Err.fault c.in-Err.ensures
+    start_failed (alone of) c.in-Err.ensures
 
 pub split_at-requires : goal.split_at-requires
 split_at-requires g c =
     let of = (goal.Identity-dyn g (c.args.identity.vtable, c.args.identity.value)).meaning c.args.identity.value in
-    key_in_front (alone of) _ c.in-Ok.found c.in-Ok.ensures
+    key_in_front (alone of) c.in-Ok.ensures
 
 pub returns-then-rest-lt-NONCE_SIZE : goal.returns-then-rest-lt-NONCE_SIZE
 returns-then-rest-lt-NONCE_SIZE g c =
