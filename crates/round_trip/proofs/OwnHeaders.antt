@@ -50,16 +50,16 @@ unrefused limits k stanza meant bounds short HeaderTooLarge h =
     absurd (omega arith)
 unrefused limits k stanza meant bounds short _ h = absurd h
 
-pub pass_unrefused : (limits : Bounds) (k : FileKey) (pass salt : Bytes) (work : ℕ) (meant : Labels) → IsBounds limits
+pub pass_unrefused : {limits : Bounds} {k : FileKey} (pass salt : Bytes) {work : ℕ} (meant : Labels) → IsBounds limits
     → length salt ≡ 16 → IsFileKey k → work ≤ 30 → (fault : Fault)
     → IsRefusal limits k (Gathered (Ok (pass_stanza pass work salt k ∷ []) ∷ []) (meant ∷ [])) fault → ⊥
-pass_unrefused limits k pass salt work meant bounds salted keyed high =
+pass_unrefused {limits} {k} pass salt {work} meant bounds salted keyed high =
     unrefused limits k (pass_stanza pass work salt k) meant bounds
     (λ mac text h. let most = pass_header pass salt k salted keyed.len high h in omega arith)
 
-pub key_unrefused : (limits : Bounds) (k : FileKey) (key salt : Bytes) (meant : Labels) → IsBounds limits
+pub key_unrefused : {limits : Bounds} {k : FileKey} (key salt : Bytes) (meant : Labels) → IsBounds limits
     → length salt ≡ 16 → IsFileKey k → (fault : Fault)
     → IsRefusal limits k (Gathered (Ok (keyed_stanza key salt k ∷ []) ∷ []) (meant ∷ [])) fault → ⊥
-key_unrefused limits k key salt meant bounds salted keyed =
+key_unrefused {limits} {k} key salt meant bounds salted keyed =
     unrefused limits k (keyed_stanza key salt k) meant bounds
     (λ mac text h. let size = key_header key salt k salted keyed.len h in omega arith)

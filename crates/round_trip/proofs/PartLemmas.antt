@@ -118,11 +118,11 @@ parts_more plain rs i r lt is =
     ∙ ap (λ t. parts plain (take i rs) ++ t) (append-nil (part plain (get_or rs i r)))
     ∙ ap (λ x. parts plain (take i rs) ++ part plain x) (sym is)
 
-pub lost_part : {told t2 : Known} {s s2 : RangeState} (plain : Bytes) (range : Range) (old new : Bytes) (fault : Fault)
+pub lost_part : {told t2 : Known} {s s2 : RangeState} {plain : Bytes} (range : Range) (old new : Bytes) {fault : Fault}
     → t2 ≡ told → s2.layout ≡ s.layout
     → (IsSound told s → IsSound told s2) → IsSound told s → IsSliced told s.layout plain
     → (IsSound t2 s2 → AddsPart t2 s2 range.at range.len old new (Err fault)) → (fault ≡ OutOfMemory) ⊎ (fault ≡ Read)
-lost_part {told} {s2} plain range old new fault stay same keeps sound sliced adds =
+lost_part {told} {s2} {plain} range old new {fault} stay same keeps sound sliced adds =
     let at_told = subst (λ t. IsSound t s2 → AddsPart t s2 range.at range.len old new (Err fault)) stay adds in
     elim (at_told (keeps sound)) [
       | inl memory ↦ inl memory
@@ -150,9 +150,9 @@ more_parts {told} {s2} plain rs i {range} {old} {new} stay same keeps sound slic
     a.3 ∙ ap (λ t. t ++ a.0) before ∙ ap (λ t. parts plain (take i rs) ++ t) xs
     ∙ sym (parts_more plain rs i range lt is)
 
-pub all_parts : (plain : Bytes) (rs : List Range) (i : ℕ) (text : Bytes) → length rs ≤ i
+pub all_parts : (plain : Bytes) (rs : List Range) {i : ℕ} {text : Bytes} → length rs ≤ i
     → text ≡ parts plain (take i rs) → text ≡ parts plain rs
-all_parts plain rs i text le is = is ∙ ap (parts plain) (take_all i rs le)
+all_parts plain rs {i} le is = is ∙ ap (parts plain) (take_all i rs le)
 
 -- no read of memory fails
 pub never_read : {A : Type 0} (r : Result A Fault) → IfErr r (λ fault. (fault ≡ OutOfMemory) ⊎ (fault ≡ Read))
@@ -161,11 +161,11 @@ never_read (Ok x) h never = tt
 never_read (Err fault) (inl memory) never = memory
 never_read (Err fault) (inr read) never = absurd (never (ap Err read))
 
-pub unopened : {X : Type 0} (laws : SlicedLaws) (limits : Bounds) (meaning : X → List StanzaParts → Unwrapped)
-    (xs : List X) (x : X) (b plain : Bytes) (bytes : Known) (fault : Fault) → xs ≡ x ∷ [] → bytes ≡ Some b
+pub unopened : {X : Type 0} (laws : SlicedLaws) {limits : Bounds} (meaning : X → List StanzaParts → Unwrapped)
+    {xs : List X} {x : X} {b plain : Bytes} {bytes : Known} {fault : Fault} → xs ≡ x ∷ [] → bytes ≡ Some b
     → CountsFaultIf is_read 0 0 fault → MissesRanges limits (λ s. map (λ i. meaning i s) xs) bytes fault
     → IsVerdict limits (λ s. meaning x s ∷ []) b (whole plain) → fault ≡ OutOfMemory
-unopened laws limits meaning xs x b plain bytes fault list is count misses v =
+unopened laws {limits} meaning {xs} {x} {b} {plain} {fault} list is count misses v =
     elim (laws.opens limits (λ s. meaning x s ∷ []) b plain fault v
     (subst (λ z. MissesRanges limits (λ s. map (λ i. meaning i s) z) (Some b) fault) list
     (subst (λ k. MissesRanges limits (λ s. map (λ i. meaning i s) xs) k fault) is misses))) [
@@ -175,13 +175,13 @@ unopened laws limits meaning xs x b plain bytes fault list is count misses v =
     ]
 
 -- a reader that one identity opened
-pub opened_sliced : {X : Type 0} (laws : SlicedLaws) (limits : Bounds) (meaning : X → List StanzaParts → Unwrapped)
-    (xs : List X) (x : X) (b : Bytes) {bytes told : Known} (s : RangeState) (given given2 : ℕ) → xs ≡ x ∷ []
+pub opened_sliced : {X : Type 0} (laws : SlicedLaws) {limits : Bounds} (meaning : X → List StanzaParts → Unwrapped)
+    {xs : List X} {x : X} {b : Bytes} {bytes told : Known} {s : RangeState} (given given2 : ℕ) → xs ≡ x ∷ []
     → bytes ≡ Some b → told ≡ bytes → IfSome bytes
     (λ c. IsRangesOf limits (λ st. map (λ i. meaning i st) xs) c s given given2)
     → IsSound told s × ((plain : Bytes) → IsVerdict limits (λ st. meaning x st ∷ []) b (whole plain)
     → IsSliced told s.layout plain)
-opened_sliced laws limits meaning xs x b {told} s given given2 list is stay ranges =
+opened_sliced laws {limits} meaning {xs} {x} {b} {told} {s} given given2 list is stay ranges =
     let some : IsRangesOf limits (λ st. map (λ i. meaning i st) xs) b s given given2 =
     subst (λ k. IfSome k (λ c. IsRangesOf limits (λ st. map (λ i. meaning i st) xs) c s given given2)) is ranges in
     let one = subst (λ z. IsRangesOf limits (λ st. map (λ i. meaning i st) z) b s given given2) list some in

@@ -95,16 +95,16 @@ unrewrapped limits answers gathered k stanzas plain b fault old new short file c
     inr (inr (refused_by limits answers gathered k stanzas plain b fault file chosen h))
 
 -- the same where identity and recipient stand alone in their lists
-pub unrewrapped_one : {X Y : Type 0} (limits : Bounds) (meaning : X → List StanzaParts → Unwrapped) (xs : List X)
-    (x : X) (wraps : Y → FileKey → Result (List StanzaParts) ℕ) (labels : Y → Labels) (ys : List Y) (y : Y)
-    (b : Bytes) (fault : Fault) (old new : Known) → length b < 2 ^ 64 → xs ≡ x ∷ [] → ys ≡ y ∷ []
-    → CountsFaultIf is_read 0 0 fault → (source : Flow) → source.before.to_come ≡ Some b
+pub unrewrapped_one : {X Y : Type 0} {limits : Bounds} (meaning : X → List StanzaParts → Unwrapped) {xs : List X}
+    {x : X} (wraps : Y → FileKey → Result (List StanzaParts) ℕ) (labels : Y → Labels) {ys : List Y} {y : Y}
+    {b : Bytes} {fault : Fault} (old new : Known) → length b < 2 ^ 64 → xs ≡ x ∷ [] → ys ≡ y ∷ []
+    → CountsFaultIf is_read 0 0 fault → {source : Flow} → source.before.to_come ≡ Some b
     → Rewraps limits (λ s. map (λ i. meaning i s) xs) (λ key. Gathered (map (λ r. wraps r key) ys) (map labels ys))
     source (moved old new) (Err fault)
     → (stanzas : List StanzaParts) (k : FileKey) (plain : Bytes) → AgeFile limits k stanzas plain b
     → meaning x stanzas ≡ Key k
     → IsUnwritten (IsRefusal limits k (Gathered (wraps y k ∷ []) (labels y ∷ []))) limits plain fault
-unrewrapped_one limits meaning xs x wraps labels ys y b fault old new short list to count source come h =
+unrewrapped_one {limits} meaning {x} wraps labels {ys} {y} {b} {fault} old new short list to count {source} come h =
     λ stanzas k plain file means.
     unrewrapped limits (λ s. meaning x s ∷ []) (λ key. Gathered (wraps y key ∷ []) (labels y ∷ [])) k stanzas plain b
     fault old new short file (ap (λ u. choice (u ∷ [])) means) count
@@ -116,13 +116,13 @@ unrewrapped_one limits meaning xs x wraps labels ys y b fault old new short list
     (λ key. Gathered (map (λ r. wraps r key) ys) (map labels ys)) source (moved old new) (Err fault)) list h)))
 
 -- what was written of one recipient
-pub rewrapped_one : {X Y : Type 0} (limits : Bounds) (meaning : X → List StanzaParts → Unwrapped) (xs : List X) (x : X)
-    (wraps : Y → FileKey → Result (List StanzaParts) ℕ) (labels : Y → Labels) (ys : List Y) (y : Y)
-    (b c : Bytes) → xs ≡ x ∷ [] → ys ≡ y ∷ [] → (source : Flow) → source.before.to_come ≡ Some b
+pub rewrapped_one : {X Y : Type 0} {limits : Bounds} (meaning : X → List StanzaParts → Unwrapped) {xs : List X} {x : X}
+    (wraps : Y → FileKey → Result (List StanzaParts) ℕ) (labels : Y → Labels) {ys : List Y} {y : Y}
+    {b c : Bytes} → xs ≡ x ∷ [] → ys ≡ y ∷ [] → {source : Flow} → source.before.to_come ≡ Some b
     → Rewraps limits (λ s. map (λ i. meaning i s) xs) (λ key. Gathered (map (λ r. wraps r key) ys) (map labels ys))
     source (moved (Some []) (Some c)) (Ok tt)
     → (is : Rewrapped limits (λ s. meaning x s ∷ []) b c) × (wraps y is.key ≡ Ok is.stanzas)
-rewrapped_one limits meaning xs x wraps labels ys y b c list to source come h =
+rewrapped_one {limits} meaning {x} wraps labels {ys} {y} {b} {c} list to {source} come h =
     let t = of_known
     (λ z. RewrapsText limits (λ s. meaning x s ∷ []) (λ key. Gathered (wraps y key ∷ []) (labels y ∷ [])) z
     (moved (Some []) (Some c)) (Ok tt)) source b come

@@ -73,14 +73,13 @@ lost_of_whole limits answers b plain fault old new once is count h =
     absurd (no_fault limits answers b plain fault old new once is h)
 
 -- the same where the identity stands alone in a list
-pub lost_of_one : {X : Type 0} (limits : Bounds) (meaning : X → List StanzaParts → Unwrapped) (xs : List X) (x : X)
-    (b plain : Bytes) (fault : Fault)
-    (old new : Known) → xs ≡ x ∷ [] → IsOnce limits (λ s. meaning x s ∷ []) b
+pub lost_of_one : {X : Type 0} {limits : Bounds} (meaning : X → List StanzaParts → Unwrapped) {xs : List X} {x : X}
+    {b plain : Bytes} {fault : Fault} (old new : Known) → xs ≡ x ∷ [] → IsOnce limits (λ s. meaning x s ∷ []) b
     → IsVerdict limits (λ s. meaning x s ∷ []) b (whole plain)
     → CountsFaultIf is_read 0 0 fault
-    → (source : Flow) → source.before.to_come ≡ Some b
+    → {source : Flow} → source.before.to_come ≡ Some b
     → Decrypts limits (λ s. map (λ i. meaning i s) xs) source (moved old new) (Err fault) → IsMemoryFault fault
-lost_of_one limits meaning xs x b plain fault old new list once is count source come h =
+lost_of_one {limits} meaning {x} {b} {plain} {fault} old new list once is count {source} come h =
     lost_of_whole limits (λ s. meaning x s ∷ []) b plain fault old new once is count
     (of_known (λ z. DecryptsText limits (λ s. meaning x s ∷ []) z (moved old new) (Err fault)) source b come
     (subst (λ z. Decrypts limits (λ s. map (λ i. meaning i s) z) source (moved old new) (Err fault)) list h))
@@ -99,13 +98,13 @@ unwritten limits fresh gathered plain _ old new count refused h = inr (inr refus
 
 -- the same where the recipient stands alone in a list
 pub unwritten_of_one : {X : Type 0} (limits : Bounds) (fresh : Fresh) (wraps : X → Result (List StanzaParts) ℕ)
-    (labels : X → Labels) (xs : List X) (x : X) (plain : Bytes) (fault : Fault)
+    (labels : X → Labels) {xs : List X} {x : X} {plain : Bytes} {fault : Fault}
     (old new : Known) → xs ≡ x ∷ [] → CountsFaultIf is_read 0 0 fault
     → RefusesFirst limits fresh.file_key (Gathered (map wraps xs) (map labels xs)) fault
-    → (source : Flow) → source.before.to_come ≡ Some plain
+    → {source : Flow} → source.before.to_come ≡ Some plain
     → EncryptsGiven limits fresh (Gathered (map wraps xs) (map labels xs)) source (moved old new) (Err fault)
     → IsUnwritten (IsRefusal limits fresh.file_key (Gathered (wraps x ∷ []) (labels x ∷ []))) limits plain fault
-unwritten_of_one limits fresh wraps labels xs x plain fault old new list count refused source come h =
+unwritten_of_one limits fresh wraps labels {x} {plain} {fault} old new list count refused {source} come h =
     unwritten limits fresh (Gathered (wraps x ∷ []) (labels x ∷ [])) plain fault old new count
     (subst (λ z. RefusesFirst limits fresh.file_key (Gathered (map wraps z) (map labels z)) fault) list refused)
     (of_known (λ z. EncryptsText limits fresh (Gathered (wraps x ∷ []) (labels x ∷ [])) z (moved old new) (Err fault))
@@ -114,20 +113,20 @@ unwritten_of_one limits fresh wraps labels xs x plain fault old new list count r
     list h))
 
 -- a loss where no header is refused
-pub no_refusal : (refuses : Fault → Type 0) (limits : Bounds) (plain : Bytes) (fault : Fault)
+pub no_refusal : {refuses : Fault → Type 0} (limits : Bounds) (plain : Bytes) {fault : Fault}
     → ((fault : Fault) → refuses fault → ⊥)
     → IsUnwritten refuses limits plain fault → IsUnwritten none limits plain fault
-no_refusal refuses limits plain fault never (inl memory) = inl memory
-no_refusal refuses limits plain fault never (inr (inl long)) = inr (inl long)
-no_refusal refuses limits plain fault never (inr (inr refused)) = absurd (never fault refused)
+no_refusal limits plain {fault} never (inl memory) = inl memory
+no_refusal limits plain {fault} never (inr (inl long)) = inr (inl long)
+no_refusal limits plain {fault} never (inr (inr refused)) = absurd (never fault refused)
 
 no_loss : (refuses : Fault → Type 0) (limits : Bounds) (plain : Bytes) (lost : Lost)
     → ((fault : Fault) → refuses fault → ⊥)
     → IsLoss refuses limits plain lost → IsLoss none limits plain lost
 no_loss refuses limits plain (Unpaired error) never loss = tt
 no_loss refuses limits plain Memory never loss = tt
-no_loss refuses limits plain (Encrypting fault) never loss = no_refusal refuses limits plain fault never loss
-no_loss refuses limits plain (Rewrapping fault) never loss = no_refusal refuses limits plain fault never loss
+no_loss refuses limits plain (Encrypting fault) never loss = no_refusal limits plain never loss
+no_loss refuses limits plain (Rewrapping fault) never loss = no_refusal limits plain never loss
 no_loss refuses limits plain (Decrypting fault) never loss = loss
 
 pub without_refusal : {A : Type 0} {refuses : Fault → Type 0} (limits : Bounds) (plain : Bytes) (r : Result A Lost)

@@ -16,9 +16,7 @@ pub returns-clause-lost : goal.returns-clause-lost
 returns-clause-lost g c plain is =
     let list : c.as_slice.result.now ≡ c.args.identity ∷ [] = search rules in
     let come : c.new-source.result.rest.now ≡ c.args.file.now = cc (c.new-source.ensures) in
-    lost_of_one c.args.limits.now (λ i. (goal.Identity-dyn g (i.vtable, i.value)).meaning i.value) c.as_slice.result.now
-    c.args.identity
-    c.args.file.now plain c.in-Err.fault
+    lost_of_one (λ i. (goal.Identity-dyn g (i.vtable, i.value)).meaning i.value)
     (Some c.new-text.result.out.items) (Some c.decrypt.new.out.out.items) list
     (c.ok_is_age_file.ensures.one c.args.limits.now _ c.args.file.now)
-    is c.in-Err.ensures.reads _ (ap Some come) c.in-Err.ensures.decrypts
+    is c.in-Err.ensures.reads (ap Some come) c.in-Err.ensures.decrypts

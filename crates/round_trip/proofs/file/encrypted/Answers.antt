@@ -19,7 +19,6 @@ returns-clause-lost g c =
     let come : c.new-source.result.rest.now ≡ c.args.plain.now = cc (c.new-source.ensures) in
     unwritten_of_one c.args.limits.now c.args.fresh.now
     (λ r. (goal.Recipient-dyn g (r.vtable, r.value)).wraps r.value c.args.fresh.now.file_key)
-    (λ r. (goal.Recipient-dyn g (r.vtable, r.value)).the_labels r.value) c.as_slice.result.now c.args.recipient
-    c.args.plain.now c.in-Err.fault
+    (λ r. (goal.Recipient-dyn g (r.vtable, r.value)).the_labels r.value)
     (Some c.new-file.result.out.items) (Some c.encrypt.new.out.out.items) list c.in-Err.ensures.reads
-    c.in-Err.ensures.refused _ (ap Some come) c.in-Err.ensures.encrypts
+    c.in-Err.ensures.refused (ap Some come) c.in-Err.ensures.encrypts

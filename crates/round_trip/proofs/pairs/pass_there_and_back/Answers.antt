@@ -9,6 +9,6 @@ returns-clause-lost c =
     let within : c.args.work ≤ c.args.max = fits.within in
     let top : c.args.max ≤ 30 = fits.top in
     without_refusal c.args.limits.now c.args.plain.now c.there_and_back.result
-    (pass_unrefused c.args.limits.now c.args.fresh.now.file_key c.args.pass.now c.args.salt c.args.work _
+    (pass_unrefused c.args.pass.now c.args.salt _
     c.are_bounds.ensures (search rules) c.has_sixteen_bytes.ensures (omega arith))
     (rw c.in-Ok.ensures.recipient at c.there_and_back.ensures.lost)

@@ -6,8 +6,7 @@ use Rattle.round_trip.proofs.rewrapping.key_rewrapped_and_back.Goals as goal
 
 pub returns-in-Err-clause-lost : goal.returns-in-Err-clause-lost
 returns-in-Err-clause-lost c =
-    no_refusal _ c.args.limits.now c.args.plain.now c.in-Err.fault
-    (key_unrefused c.args.limits.now c.args.fresh.now.file_key c.args.key c.args.salt _ c.are_bounds.ensures
+    no_refusal c.args.limits.now c.args.plain.now (key_unrefused c.args.key c.args.salt _ c.are_bounds.ensures
     (search rules) c.has_sixteen_bytes.ensures)
     (rw c.new-from.ensures.recipient at c.in-Err.ensures.lost)
 
@@ -22,8 +21,7 @@ pub returns-clause-lost : goal.returns-clause-lost
 returns-clause-lost c =
     let file = c.in-Ok.ensures.file in
     without_refusal c.args.limits.now c.args.plain.now c.rewrapped_and_back.result
-    (key_unrefused c.args.limits.now c.args.fresh.now.file_key c.args.new_key c.args.salt _ c.are_bounds.ensures
-    (search rules) c.has_sixteen_bytes.ensures)
+    (key_unrefused c.args.new_key c.args.salt _ c.are_bounds.ensures (search rules) c.has_sixteen_bytes.ensures)
     (if_err c.rewrapped_and_back.result
     (λ lost loss. loss file.0 c.args.fresh.now.file_key c.args.plain.now c.has_sixteen_bytes.ensures
     (rw c.as_slice.ensures.value file.2) file.1)

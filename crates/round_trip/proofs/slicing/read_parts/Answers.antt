@@ -21,12 +21,11 @@ loop-range-preserved g c =
 
 pub returns-clause-parts : goal.returns-clause-parts
 returns-clause-parts g c = λ sound plain sliced.
-    all_parts plain c.args.ranges.now c.loop-range.range-index _ (search rules)
-    (c.loop-range.invariant.text sound plain sliced)
+    all_parts plain c.args.ranges.now (search rules) (c.loop-range.invariant.text sound plain sliced)
 
 pub returns-in_err-read_part-clause-lost : goal.returns-in_err-read_part-clause-lost
 returns-in_err-read_part-clause-lost g c = λ sound plain sliced.
     let inv = c.loop-range.invariant in
     let is : c.from_residual.result ≡ Err c.in_err-read_part.field-0.0 = search rules in
-    rw is (lost_part plain (record { at = 0; len = 0 }) [] [] _ inv.stay inv.same inv.sound sound sliced
+    rw is (lost_part (record { at = 0; len = 0 }) [] [] inv.stay inv.same inv.sound sound sliced
     c.in_err-read_part.ensures.part)

@@ -11,8 +11,7 @@ returns-in-Ok-clause-parts g c =
           c.file_is_sliced.ensures.slice;
     } in
     let list : c.as_slice.result.now ≡ c.args.identity ∷ [] = search rules in
-    let o = opened_sliced laws c.args.limits.now (λ i. (goal.Identity-dyn g (i.vtable, i.value)).meaning i.value)
-    c.as_slice.result.now c.args.identity c.args.file.now c.in-Ok.reader.chunks _ _ list
+    let o = opened_sliced laws (λ i. (goal.Identity-dyn g (i.vtable, i.value)).meaning i.value) _ _ list
     c.new-dev.ensures.bytes c.in-Ok.ensures.ranges.0 c.in-Ok.ensures.ranges.1 in
     ok_inside c.read_parts.result _ (λ plain v. c.read_parts.ensures.parts o.0 plain (o.1 plain v))
 
@@ -25,8 +24,7 @@ returns-in-Ok-clause-lost g c =
           c.file_is_sliced.ensures.slice;
     } in
     let list : c.as_slice.result.now ≡ c.args.identity ∷ [] = search rules in
-    let o = opened_sliced laws c.args.limits.now (λ i. (goal.Identity-dyn g (i.vtable, i.value)).meaning i.value)
-    c.as_slice.result.now c.args.identity c.args.file.now c.in-Ok.reader.chunks _ _ list
+    let o = opened_sliced laws (λ i. (goal.Identity-dyn g (i.vtable, i.value)).meaning i.value) _ _ list
     c.new-dev.ensures.bytes c.in-Ok.ensures.ranges.0 c.in-Ok.ensures.ranges.1 in
     err_inside c.read_parts.result _ (λ plain v. never_read c.read_parts.result
     (c.read_parts.ensures.lost o.0 plain (o.1 plain v))
@@ -41,6 +39,5 @@ returns-clause-lost g c = λ plain v.
           c.file_is_sliced.ensures.slice;
     } in
     let list : c.as_slice.result.now ≡ c.args.identity ∷ [] = search rules in
-    unopened laws c.args.limits.now (λ i. (goal.Identity-dyn g (i.vtable, i.value)).meaning i.value)
-    c.as_slice.result.now c.args.identity c.args.file.now plain _ c.in-Err.fault list c.new-dev.ensures.bytes
+    unopened laws (λ i. (goal.Identity-dyn g (i.vtable, i.value)).meaning i.value) list c.new-dev.ensures.bytes
     c.in-Err.ensures.refuses.1.counted c.in-Err.ensures.refuses.1.misses v

@@ -1,0 +1,99 @@
+-- How long the plaintext of a verdict is at most.
+use Rattle.std.proofs.Common.{◌≡◌, ℕ, ◌+◌, ◌-◌, ◌*◌, ◌/◌, ◌≤◌, List, [], ◌∷◌, ◌++◌, length, length-append, length-drop, drop, take, true, false, nat_lt, cond, sym, ap, subst, inl, inr, arith, ◌∙◌, Result, Ok, Err}
+use Rattle.std.specs.List.{AllByRecursion, concat}
+use Rattle.std.proofs.lemmas.Bool.{cases_lt}
+use Rattle.age_kdf.specs.Bytes.{Bytes}
+use Rattle.age_cipher.proofs.OpeningLemmas.{length-sealed}
+use Rattle.age_header.specs.declared.fault.HeaderFault.{HeaderFault}
+use Rattle.age_header.specs.Verdict.{Found, HeaderVerdict}
+use Rattle.age_header.specs.declared.file_key.FileKey.{FileKey}
+use Rattle.age_stream.specs.declared.fault.StreamFault.{StreamFault}
+use Rattle.age_stream.specs.declared.fault.StreamFault.TheVariants.{NonceTruncated}
+use Rattle.age_stream.specs.Payload.{is_end, payload_key, pieces, chunk_nonce}
+use Rattle.age_stream.specs.Reading.{Reading, front, outcome, outcomes, payload_reading, reading_from, stops}
+use Rattle.age_stream.specs.Sizes.{chunk_size, sealed_chunk_size}
+use Rattle.age_stream.proofs.CuttingLemmas.{AtMost, cut_at_most, concat-cut_into}
+use Rattle.age_stream.proofs.PayloadLemmas.{outcome_opens, result_cases}
+use Rattle.age_file.specs.declared.fault.Fault.{Fault}
+use Rattle.age_file.specs.Verdict.{Answering, IsVerdict, judged, read_under}
+use Rattle.agefile.specs.Limits.{limits}
+use Rattle.agefile.specs.Sizes.{opened_len, plain_len_at_most}
+use Rattle.age_recipient.proofs.HeaderSizeLemmas.{least_header}
+
+-- so many bytes of plaintext come from so many bytes of pieces: some pieces open, each to 65,536 bytes at most and 16
+-- fewer than it has
+abbrev pub Comes : ℕ → ℕ → Type 0
+Comes n r = (m : ℕ) × (n ≤ chunk_size * m) × (n + 16 * m ≤ r)
+
+abbrev pub AreSmall : List Bytes → Type 0
+AreSmall cs = AllByRecursion (λ c. length c ≤ sealed_chunk_size) cs
+
+small : (cs : List Bytes) → AtMost sealed_chunk_size cs → AreSmall cs
+small [] h = absurd h
+small (c ∷ []) h = (h, tt)
+small (c ∷ d ∷ more) h = (let full : length c ≡ sealed_chunk_size = h.0 in omega arith, small (d ∷ more) h.1)
+
+front_comes : (key : Bytes) (max i : ℕ) (cs : List Bytes) → AreSmall cs
+    → Comes (length (front (outcomes key max i cs))) (length (concat cs))
+front_comes key max i [] all = (0, omega arith, omega arith)
+front_comes key max i (c ∷ more) all = elim (result_cases (outcome key max i (is_end more) c)) [
+  | inl some ↦
+      let rest = front_comes key max (i + 1) more all.1 in
+      let size : length c ≤ sealed_chunk_size = all.0 in
+      let len : length c ≡ length some.0 + 16 =
+      ap length (outcome_opens key max i (is_end more) c some.0 some.1).sealed_so
+      ∙ length-sealed key (chunk_nonce i (is_end more)) [] some.0 in
+      let low : length (front (outcomes key max (i + 1) more)) ≤ chunk_size * rest.0 = rest.1 in
+      let high : length (front (outcomes key max (i + 1) more)) + 16 * rest.0 ≤ length (concat more) = rest.2 in
+      let both = length-append some.0 (front (outcomes key max (i + 1) more)) in
+      let sum = length-append c (concat more) in
+      subst (λ (r : Result Bytes StreamFault). Comes (length (front (r ∷ outcomes key max (i + 1) more)))
+      (length (c ++ concat more))) (sym some.1)
+      (rest.0 + 1, omega arith, omega arith)
+  | inr none ↦ subst (λ (r : Result Bytes StreamFault). Comes (length (front (r ∷ outcomes key max (i + 1) more)))
+      (length (c ++ concat more))) (sym none.1)
+      (0, omega arith, omega arith)
+]
+
+comes_at_most : {n r most : ℕ} → Comes n r → r ≤ most → n ≤ opened_len most
+comes_at_most {most} (m, low, high) le = elim (cases_lt (most / sealed_chunk_size) m) [
+  | inl above ↦ omega arith
+  | inr within ↦ omega arith
+]
+
+-- the plaintext of what follows a header
+payload_at_most : (k : FileKey) (max most : ℕ) (text : Bytes) → length text - 16 ≤ most
+    → length (payload_reading k max text).front ≤ opened_len most
+payload_at_most k max most text le =
+    let rest : Bytes = drop 16 text in
+    let join : length (concat (pieces rest)) ≡ length rest = ap length (concat-cut_into sealed_chunk_size [] rest) in
+    let size : length rest ≡ length text - 16 = length-drop 16 text in
+    let comes = front_comes (payload_key k (take 16 text)) max 0 (pieces rest)
+    (small (pieces rest) (cut_at_most sealed_chunk_size rest (omega arith))) in
+    let opens : length (reading_from (payload_key k (take 16 text)) max 0 rest).front ≤ opened_len most =
+    comes_at_most comes (omega arith) in
+    elim (nat_lt (length text) 16) as (λ t. length
+    (cond t (stops NonceTruncated) (reading_from (payload_key k (take 16 text)) max 0 rest)).front
+    ≤ opened_len most) [
+      | true ↦ omega arith
+      | false ↦ opens
+    ]
+
+under_at_most : (rest : Bytes) {most : ℕ} (key : Result FileKey Fault) → length rest - 16 ≤ most
+    → length (read_under limits rest key).front ≤ opened_len most
+under_at_most rest {most} (Err fault) le = omega arith
+under_at_most rest {most} (Ok k) le = payload_at_most k limits.max_chunks most rest le
+
+judged_at_most : (answers : Answering) (b : Bytes) (header : Result Found HeaderFault)
+    → HeaderVerdict b limits.max_header header
+    → length (judged limits answers b header).front ≤ plain_len_at_most (length b)
+judged_at_most answers b (Err fault) h = omega arith
+judged_at_most answers b (Ok found) h =
+    let least = least_header found.stanzas found.mac found.text h.head in
+    under_at_most (drop (length found.text) b) _ (omega (arith, length-drop (length found.text) b))
+
+pub verdict_at_most : (answers : Answering) (b : Bytes) (verdict : Reading Fault) → IsVerdict limits answers b verdict
+    → length verdict.front ≤ plain_len_at_most (length b)
+verdict_at_most answers b verdict is =
+    subst (λ (v : Reading Fault). length v.front ≤ plain_len_at_most (length b)) (sym is.is)
+    (judged_at_most answers b is.header is.header_verdict)
