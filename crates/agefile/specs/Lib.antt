@@ -1,6 +1,4 @@
-pub mod Chunk
 pub mod Codes
-pub mod Decrypting
 pub mod Encrypting
 pub mod Giving
 pub mod Groups
