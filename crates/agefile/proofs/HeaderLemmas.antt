@@ -27,7 +27,7 @@ use Rattle.agefile.specs.declared.report.Report.{Report}
 use Rattle.agefile.specs.Codes.{fault_code}
 use Rattle.agefile.specs.Report.{Refuses, Returns, report_of}
 use Rattle.agefile.specs.Inspect.{GivesStanzas, HeaderOf, Inspected, InspectsStanzas, joined}
-use Rattle.agefile.specs.Limits.{limits, front_size}
+use Rattle.agefile.specs.Sizes.{limits, front_size}
 
 -- what a reader returned
 of_answer : (b : Bytes) (source : Flow) (r : Result HeaderParts Fault) (answer : Result HeaderParts HeaderFault)
@@ -82,7 +82,8 @@ found_whole b (Ok h) same (text, found) =
     (text, whole_verdict b (Ok one) (subst (λ f. HeaderVerdict f limits.max_header (Ok one)) same found))
 found_whole b (Err fault) same (inl memory) = inl memory
 found_whole b (Err fault) same (inr (reason, found, is)) =
-    inr (reason, whole_verdict b (Err reason) (subst (λ f. HeaderVerdict f limits.max_header (Err reason)) same found), is)
+    let front = subst (λ f. HeaderVerdict f limits.max_header (Err reason)) same found in
+    inr (reason, whole_verdict b (Err reason) front, is)
 
 -- the length of a header that was found is that of its text
 pub found_len : (b text h : Bytes) (ss : List StanzaParts) (mac : Bytes) (len : ℕ)

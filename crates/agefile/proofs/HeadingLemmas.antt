@@ -22,7 +22,7 @@ use Rattle.age_file.specs.NewFile.{IsHeading}
 use Rattle.age_file.proofs.DecryptLemmas.{err_err}
 use Rattle.agefile.specs.Heading.{FindsMac, HasStanzas, MakesHeader, ReadsAs, framed, given, in_text, lines_in, probe, stanzas_in, unless_mixed}
 use Rattle.agefile.specs.Inspect.{HeaderOf}
-use Rattle.agefile.specs.Limits.{limits}
+use Rattle.agefile.specs.Sizes.{file_len, limits, sealed_len}
 use Rattle.age_recipient.proofs.HeaderSizeLemmas.{b64_size, key_header, pass_header}
 use Rattle.agefile.proofs.UnlockLemmas.{Fronts, ok_ok}
 use Rattle.age_header.proofs.HeaderLemmas.{reading}
@@ -30,7 +30,6 @@ use Rattle.age_recipient.specs.KeyedStanza.{keyed_stanza}
 use Rattle.age_recipient.specs.PassphraseStanza.{pass_stanza}
 use Rattle.age_stream.specs.Payload.{payload}
 use Rattle.agefile.specs.Encrypting.{IsNewFile}
-use Rattle.agefile.specs.Sizes.{file_len, sealed_len}
 use Rattle.agefile.proofs.SizeLemmas.{payload_size}
 
 -- ---- the MAC

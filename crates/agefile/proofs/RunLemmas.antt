@@ -17,7 +17,7 @@ use Rattle.age_file.specs.Verdict.{stream_fault}
 use Rattle.agefile.specs.declared.payload.Payload.{Payload}
 use Rattle.agefile.specs.declared.report.Report.{Report}
 use Rattle.agefile.specs.Codes.{code_of, fault_code, fault_place}
-use Rattle.agefile.specs.Limits.{limits}
+use Rattle.agefile.specs.Sizes.{limits}
 use Rattle.agefile.specs.Report.{report_of, Steps}
 use Rattle.agefile.specs.Payload.{Opened, OpensAs, SealsAs, SealsNext, after_chunk, has_text, may_open, may_seal}
 use Rattle.agefile.specs.Groups.{OpensRun, SealsRun, PartSeals, SealsGroups, SealsSome, all_of, sealed_open}

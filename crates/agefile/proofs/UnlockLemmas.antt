@@ -21,7 +21,7 @@ use Rattle.agefile.specs.declared.unlocking.Unlocked.{Unlocked}
 use Rattle.agefile.specs.Codes.{code_of}
 use Rattle.agefile.specs.Giving.{alone}
 use Rattle.agefile.specs.Inspect.{HeaderOf}
-use Rattle.agefile.specs.Limits.{limits, front_size}
+use Rattle.agefile.specs.Sizes.{limits, front_size}
 use Rattle.agefile.specs.Report.{Refuses, report_of}
 use Rattle.agefile.specs.Unlock.{FindsKey, FindsStart, GivesKey, IsKey, IsStart, Opens, StartsAt, Unlocks, by_file_key, start_under, with_len}
 use Rattle.agefile.proofs.HeaderLemmas.{whole_verdict}

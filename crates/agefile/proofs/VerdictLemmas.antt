@@ -13,7 +13,7 @@ use Rattle.agefile.specs.declared.payload.Payload.{Payload}
 use Rattle.agefile.specs.declared.report.Report.{Report}
 use Rattle.agefile.specs.declared.start.Start.{Start}
 use Rattle.agefile.specs.Codes.{code_of}
-use Rattle.agefile.specs.Limits.{limits, front_size}
+use Rattle.agefile.specs.Sizes.{limits, front_size}
 use Rattle.agefile.specs.Unlock.{IsStart, Opens, StartsAt, start_under}
 use Rattle.agefile.specs.Payload.{Opened, OpensNext, before_first, may_open}
 use Rattle.agefile.specs.Report.{report_of}

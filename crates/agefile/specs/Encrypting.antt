@@ -9,13 +9,12 @@ use Rattle.agefile.specs.declared.report.Report.{Report}
 use Rattle.agefile.specs.Codes.{out_of_memory}
 use Rattle.agefile.specs.Giving.{Gives, Exceeds, Fits}
 use Rattle.agefile.specs.Heading.{MakesHeader}
-use Rattle.agefile.specs.Limits.{limits}
+use Rattle.agefile.specs.Sizes.{limits, opened_len}
 use Rattle.agefile.specs.Report.{Refuses, Returns}
 use Rattle.age_stream.specs.declared.fault.StreamFault.{StreamFault}
 use Rattle.age_stream.specs.Reading.{Reading}
 use Rattle.age_file.specs.Verdict.{Answering, IsVerdict}
 use Rattle.agefile.specs.declared.start.Start.{Start}
-use Rattle.agefile.specs.Sizes.{opened_len}
 use Rattle.agefile.specs.Unlock.{IsStart}
 
 -- The file of a plaintext that has a header of this text of stanzas, and the payload under this

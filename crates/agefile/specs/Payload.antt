@@ -1,11 +1,10 @@
--- A payload, which its caller holds between two calls, and what the calls do to it: what one chunk
--- gives, by its number.
+-- A payload, which its caller holds between two calls: its phases and those of its parts, by the
+-- numbers of `agefile.h`, what one chunk gives, by its number, and what the calls do.
 use Rattle.std.specs.Prelude.{◌≡◌, ℕ, ◌+◌, ◌&&◌, Bool, length, nat_eq, replicate, if◌then◌else◌, ◌⊎◌, ◌-◌, ◌<◌, ◌≤◌, ◌++◌, ◌||◌, [], take, drop, nat_le, nat_lt, None, Result, Ok, Err}
 use Rattle.age_kdf.specs.Bytes.{Bytes}
 use Rattle.agefile.specs.declared.payload.Payload.{Payload}
 use Rattle.agefile.specs.declared.report.Report.{Report}
 use Rattle.agefile.specs.Codes.{ok}
-use Rattle.agefile.specs.Phase.{phase_closed, phase_reading, phase_writing, phase_ended, phase_failed}
 use Rattle.agefile.specs.Report.{Steps, Refuses, report_of}
 use Rattle.age_cipher.specs.Sealing.{sealed}
 use Rattle.age_stream.specs.declared.fault.StreamFault.{StreamFault}
@@ -14,7 +13,27 @@ use Rattle.age_stream.specs.Reading.{outcome}
 use Rattle.age_stream.specs.Sizes.{tag_size, sealed_chunk_size}
 use Rattle.age_file.specs.declared.fault.Fault.TheVariants.{TooManyChunks}
 use Rattle.age_file.specs.Verdict.{stream_fault}
-use Rattle.agefile.specs.Limits.{limits}
+use Rattle.agefile.specs.Sizes.{limits}
+
+-- nothing was opened
+abbrev pub phase_closed : ℕ
+phase_closed = 0
+
+-- the next sealed chunk is opened
+abbrev pub phase_reading : ℕ
+phase_reading = 1
+
+-- the next chunk is sealed
+abbrev pub phase_writing : ℕ
+phase_writing = 2
+
+-- the last chunk came
+abbrev pub phase_ended : ℕ
+phase_ended = 3
+
+-- a chunk had a fault
+abbrev pub phase_failed : ℕ
+phase_failed = 4
 
 -- the chunk's buffer begins with the text, and its rest is as it was; or its fault is returned, and
 -- all of it is as it was
