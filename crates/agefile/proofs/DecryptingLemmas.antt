@@ -14,11 +14,10 @@ use Rattle.age_file.specs.Verdict.{Answering, IsVerdict, judged, stream_fault}
 use Rattle.agefile.specs.declared.report.Report.{Report}
 use Rattle.agefile.specs.declared.start.Start.{Start}
 use Rattle.agefile.specs.Codes.{code_of}
-use Rattle.agefile.specs.Decrypting.{Decrypts, GivesFirst, GivesReading}
+use Rattle.agefile.specs.Encrypting.{Decrypts, GivesFirst, GivesReading}
 use Rattle.agefile.specs.Giving.{Exceeds, Fits}
-use Rattle.agefile.specs.Limits.{limits}
+use Rattle.agefile.specs.Sizes.{limits, opened_len}
 use Rattle.agefile.specs.Report.{report_of}
-use Rattle.agefile.specs.Sizes.{opened_len}
 use Rattle.agefile.specs.Unlock.{FindsStart}
 use Rattle.agefile.proofs.SizeLemmas.{first_cut}
 use Rattle.agefile.proofs.VerdictLemmas.{IsVerdictFrom, verdict_from}

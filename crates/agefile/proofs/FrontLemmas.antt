@@ -21,7 +21,7 @@ use Rattle.agefile.specs.declared.payload.Payload.{Payload}
 use Rattle.agefile.specs.declared.report.Report.{Report}
 use Rattle.agefile.specs.declared.start.Start.{Start}
 use Rattle.agefile.specs.Codes.{fault_code}
-use Rattle.agefile.specs.Limits.{limits, front_size}
+use Rattle.agefile.specs.Sizes.{limits, front_size}
 use Rattle.agefile.specs.Unlock.{IsStart, Opens, StartsAt, start_of, start_under}
 use Rattle.agefile.proofs.HeaderLemmas.{whole_verdict}
 use Rattle.agefile.proofs.UnlockLemmas.{found_start, opened_start, under}

@@ -27,7 +27,7 @@ use Rattle.agefile.specs.declared.report.Report.{Report}
 use Rattle.agefile.specs.Codes.{fault_code}
 use Rattle.agefile.specs.Report.{Refuses, Returns, report_of}
 use Rattle.agefile.specs.Inspect.{GivesStanzas, HeaderOf, Inspected, InspectsStanzas, joined}
-use Rattle.agefile.specs.Limits.{limits, front_size}
+use Rattle.agefile.specs.Sizes.{limits, front_size}
 
 -- what a reader returned
 of_answer : (b : Bytes) (source : Flow) (r : Result HeaderParts Fault) (answer : Result HeaderParts HeaderFault)
@@ -75,18 +75,15 @@ whole_verdict b (Err header.Read) h = absurd h
 whole_verdict b (Err header.Memory) h = absurd h
 
 -- and its header
-whole_of : (b : Bytes) (r : Result HeaderParts Fault) → HeaderOf (take front_size b) r → HeaderOf b r
-whole_of b (Ok h) (text, found) = (
-  text,
-  whole_verdict b (Ok (record { stanzas = h.stanzas; mac = h.mac; text = text })) found,
-)
-whole_of b (Err fault) (inl memory) = inl memory
-whole_of b (Err fault) (inr (reason, found, is)) = inr (reason, whole_verdict b (Err reason) found, is)
-
-pub found_whole : (b : Bytes) {front : Bytes} (r : Result HeaderParts Fault)
-    → front ≡ take front_size b → HeaderOf front r
-    → HeaderOf b r
-found_whole b r same h = whole_of b r (subst (λ f. HeaderOf f r) same h)
+pub found_whole : (b : Bytes) {front : Bytes} (r : Result HeaderParts Fault) → front ≡ take front_size b
+    → HeaderOf front r → HeaderOf b r
+found_whole b (Ok h) same (text, found) =
+    let one : Found = record { stanzas = h.stanzas; mac = h.mac; text = text } in
+    (text, whole_verdict b (Ok one) (subst (λ f. HeaderVerdict f limits.max_header (Ok one)) same found))
+found_whole b (Err fault) same (inl memory) = inl memory
+found_whole b (Err fault) same (inr (reason, found, is)) =
+    let front = subst (λ f. HeaderVerdict f limits.max_header (Err reason)) same found in
+    inr (reason, whole_verdict b (Err reason) front, is)
 
 -- the length of a header that was found is that of its text
 pub found_len : (b text h : Bytes) (ss : List StanzaParts) (mac : Bytes) (len : ℕ)

@@ -22,7 +22,7 @@ use Rattle.age_file.specs.NewFile.{IsHeading}
 use Rattle.age_file.proofs.DecryptLemmas.{err_err}
 use Rattle.agefile.specs.Heading.{FindsMac, HasStanzas, MakesHeader, ReadsAs, framed, given, in_text, lines_in, probe, stanzas_in, unless_mixed}
 use Rattle.agefile.specs.Inspect.{HeaderOf}
-use Rattle.agefile.specs.Limits.{limits}
+use Rattle.agefile.specs.Sizes.{file_len, limits, sealed_len}
 use Rattle.age_recipient.proofs.HeaderSizeLemmas.{b64_size, key_header, pass_header}
 use Rattle.agefile.proofs.UnlockLemmas.{Fronts, ok_ok}
 use Rattle.age_header.proofs.HeaderLemmas.{reading}
@@ -30,7 +30,6 @@ use Rattle.age_recipient.specs.KeyedStanza.{keyed_stanza}
 use Rattle.age_recipient.specs.PassphraseStanza.{pass_stanza}
 use Rattle.age_stream.specs.Payload.{payload}
 use Rattle.agefile.specs.Encrypting.{IsNewFile}
-use Rattle.agefile.specs.Sizes.{file_len, sealed_len}
 use Rattle.agefile.proofs.SizeLemmas.{payload_size}
 
 -- ---- the MAC
@@ -288,7 +287,7 @@ pub key_file : (key salt stanza file_key nonce plain file : Bytes) → length sa
     → length file ≡ sealed_len (length plain)
 key_file key salt stanza file_key nonce plain file salted keyed len is new =
     let f = one_file (keyed_stanza key salt (record { 0 = file_key })) stanza file_key nonce plain file len is new in
-    let head : length f.header ≡ 156 = key_header key salt (record { 0 = file_key }) salted keyed f.head in
+    let head : length f.header ≡ 156 = key_header key salt (record { 0 = file_key }) _ f.header salted keyed f.head in
     file_size plain file f ∙ ap (λ n. file_len n (length plain)) head
 
 pub pass_file : (pass salt stanza file_key nonce plain file : Bytes) (work : ℕ) → length salt ≡ 16
@@ -298,5 +297,6 @@ pub pass_file : (pass salt stanza file_key nonce plain file : Bytes) (work : ℕ
 pass_file pass salt stanza file_key nonce plain file work salted keyed len high is new =
     let f = one_file (pass_stanza pass work salt (record { 0 = file_key })) stanza file_key nonce plain file len is
     new in
-    let head : length f.header ≤ 150 = pass_header pass salt (record { 0 = file_key }) salted keyed high f.head in
+    let head : length f.header ≤ 150 = pass_header pass salt work (record { 0 = file_key }) _ f.header salted keyed high
+    f.head in
     omega (arith, head, file_size plain file f)

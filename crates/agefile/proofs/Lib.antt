@@ -9,4 +9,3 @@ mod UnlockLemmas
 mod SealingLemmas
 mod HeadingLemmas
 mod WrapLemmas
-mod GroupLemmas

@@ -11,7 +11,7 @@ use Rattle.age_stream.proofs.JudgesLastLemmas.{last_is, piece_count, some_or_non
 use Rattle.age_stream.proofs.PayloadLemmas.{outcome_opens}
 use Rattle.age_stream.proofs.SliceLemmas.{opening_at, plain_count, slice_on}
 use Rattle.agefile.specs.declared.ranges.Ranges.{Ranges}
-use Rattle.agefile.specs.Limits.{limits}
+use Rattle.agefile.specs.Sizes.{limits}
 use Rattle.agefile.specs.Ranges.{gives, last_index, piece_at, piece_len, plain_of}
 
 -- how many bytes are left from the first sealed chunk on

@@ -9,7 +9,7 @@ use Rattle.age_header.specs.declared.file_key.FileKey.{FileKey}
 use Rattle.age_stream.proofs.CuttingLemmas.{is_cut, AtMost, cut_at_most, concat-cut_into}
 use Rattle.age_stream.proofs.ReadingLemmas.{cut_count}
 use Rattle.age_cipher.specs.Sealing.{sealed}
-use Rattle.agefile.specs.Sizes.{chunk_count, opened_len, plain_len_at_most}
+use Rattle.agefile.specs.Sizes.{chunk_count, limits, opened_len, plain_len_at_most}
 use Rattle.age_stream.specs.Payload.{chunks, is_end, payload, payload_key, chunk_nonce, sealed_from, pieces}
 use Rattle.age_stream.specs.Sizes.{chunk_size, sealed_chunk_size}
 use Rattle.age_header.specs.declared.fault.HeaderFault.{HeaderFault}
@@ -20,7 +20,6 @@ use Rattle.age_stream.specs.Reading.{Reading, front, outcome, outcomes, payload_
 use Rattle.age_stream.proofs.PayloadLemmas.{outcome_opens, result_cases}
 use Rattle.age_file.specs.declared.fault.Fault.{Fault}
 use Rattle.age_file.specs.Verdict.{Answering, IsVerdict, judged, read_under}
-use Rattle.agefile.specs.Limits.{limits}
 use Rattle.age_recipient.proofs.HeaderSizeLemmas.{least_header}
 
 -- the first of the pieces of this size, by as many bytes as it has

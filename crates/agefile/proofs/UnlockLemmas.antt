@@ -21,7 +21,7 @@ use Rattle.agefile.specs.declared.unlocking.Unlocked.{Unlocked}
 use Rattle.agefile.specs.Codes.{code_of}
 use Rattle.agefile.specs.Giving.{alone}
 use Rattle.agefile.specs.Inspect.{HeaderOf}
-use Rattle.agefile.specs.Limits.{limits, front_size}
+use Rattle.agefile.specs.Sizes.{limits, front_size}
 use Rattle.agefile.specs.Report.{Refuses, report_of}
 use Rattle.agefile.specs.Unlock.{FindsKey, FindsStart, GivesKey, IsKey, IsStart, Opens, StartsAt, Unlocks, by_file_key, start_under, with_len}
 use Rattle.agefile.proofs.HeaderLemmas.{whole_verdict}
@@ -114,16 +114,13 @@ pub key_meant : {f g : List StanzaParts → Unwrapped} {b : Bytes} {key : Result
 key_meant {b} {key} same h = subst (λ m. FindsKey (alone m) b key) same h
 
 -- the first 65,552 bytes of a file have its file key
-whole_key : (answers : Answering) (b : Bytes) (key : Result Unlocked Fault) → FindsKey answers (take front_size b) key
-    → FindsKey answers b key
-whole_key answers b key (inl memory) = inl memory
-whole_key answers b key (inr (header, verdict, is)) = inr (header, whole_verdict b header verdict, is)
-
 pub whole_unlocks : (answers : Answering) (b : Bytes) {front old new : Bytes} {report : Report} {code : ℕ}
     (key : Result Unlocked Fault) → front ≡ take front_size b
     → FindsKey answers front key → GivesKey key old new report code → Unlocks answers b old new report code
-whole_unlocks answers b key same finds gives =
-    (key, whole_key answers b key (subst (λ f. FindsKey answers f key) same finds), gives)
+whole_unlocks answers b key same (inl memory) gives = (key, inl memory, gives)
+whole_unlocks answers b key same (inr (header, verdict, is)) gives =
+    let whole = whole_verdict b header (subst (λ f. HeaderVerdict f limits.max_header header) same verdict) in
+    (key, inr (header, whole, is), gives)
 
 -- ---- the verdict, by the file key
 

@@ -13,13 +13,13 @@ use Rattle.agefile.specs.declared.payload.Payload.{Payload}
 use Rattle.agefile.specs.declared.report.Report.{Report}
 use Rattle.agefile.specs.declared.start.Start.{Start}
 use Rattle.agefile.specs.Codes.{code_of}
-use Rattle.agefile.specs.Limits.{limits, front_size}
+use Rattle.agefile.specs.Sizes.{limits, front_size}
 use Rattle.agefile.specs.Unlock.{IsStart, Opens, StartsAt, start_under}
-use Rattle.agefile.specs.Payload.{before_first, OpensNext, may_open}
+use Rattle.agefile.specs.Payload.{Opened, OpensNext, before_first, may_open}
 use Rattle.agefile.specs.Report.{report_of}
 use Rattle.agefile.specs.Groups.{OpensGroups, OpensRun, OpensSome, PartOpens, all_of}
 use Rattle.agefile.proofs.FrontLemmas.{whole_start}
-use Rattle.agefile.proofs.RunLemmas.{payload_reads, some_code}
+use Rattle.agefile.proofs.RunLemmas.{fitting, is_end_on, payload_reads, some_code}
 use Rattle.agefile.proofs.UnlockLemmas.{found_start, judged_is, opened_start, refusal, start_within}
 use Rattle.agefile.specs.declared.ranges.Ranges.{Ranges}
 use Rattle.agefile.specs.Ranges.{OpensAt, OpensRanges}
@@ -27,9 +27,7 @@ use Rattle.std.specs.Prelude.{option_map}
 use Rattle.std.proofs.Math.Seq.{take-append_seam}
 use Rattle.age_stream.specs.declared.fault.StreamFault.{StreamFault}
 use Rattle.agefile.specs.declared.part.Part.{Part}
-use Rattle.agefile.specs.Chunk.{Opened}
 use Rattle.agefile.specs.Part as part
-use Rattle.agefile.proofs.GroupLemmas.{fitting, is_end_on}
 
 -- ---- the verdict, by the start
 

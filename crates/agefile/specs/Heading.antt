@@ -18,9 +18,8 @@ use Rattle.agefile.specs.declared.payload.Payload.{Payload}
 use Rattle.agefile.specs.declared.report.Report.{Report}
 use Rattle.agefile.specs.Codes.{out_of_memory}
 use Rattle.agefile.specs.Giving.{Exceeds, Fits, Gives}
-use Rattle.agefile.specs.Limits.{limits}
-use Rattle.agefile.specs.Payload.{before_first, closed}
-use Rattle.agefile.specs.Phase.{phase_writing}
+use Rattle.agefile.specs.Sizes.{limits}
+use Rattle.agefile.specs.Payload.{before_first, closed, phase_writing}
 use Rattle.agefile.specs.Report.{Refuses, Returns}
 
 -- a text between the version line and an end line with these characters

@@ -12,7 +12,7 @@ use Rattle.agefile.specs.declared.inspecting.StanzaSummary.{StanzaSummary}
 use Rattle.agefile.specs.declared.inspecting.Summary.{Summary}
 use Rattle.agefile.specs.declared.report.Report.{Report}
 use Rattle.agefile.specs.Codes.{ok, out_of_memory, too_small}
-use Rattle.agefile.specs.Limits.{limits}
+use Rattle.agefile.specs.Sizes.{limits}
 use Rattle.agefile.specs.Report.{Refuses, Returns, report_of}
 
 -- the header at the start of b, or its fault, or out of memory

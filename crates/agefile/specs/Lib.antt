@@ -1,15 +1,11 @@
-pub mod Chunk
 pub mod Codes
-pub mod Decrypting
 pub mod Encrypting
 pub mod Giving
 pub mod Groups
 pub mod Heading
 pub mod Inspect
-pub mod Limits
 pub mod Part
 pub mod Payload
-pub mod Phase
 pub mod Ranges
 pub mod Report
 pub mod Sizes

@@ -6,9 +6,9 @@ use Rattle.agefile.specs.declared.part.Part.{Part}
 use Rattle.agefile.specs.declared.payload.Payload.{Payload}
 use Rattle.agefile.specs.declared.report.Report.{Report}
 use Rattle.agefile.specs.Codes.{ok, out_of_order}
-use Rattle.agefile.specs.Limits.{limits}
+use Rattle.agefile.specs.Sizes.{limits}
 use Rattle.agefile.specs.Payload as payload
-use Rattle.agefile.specs.Phase.{phase_closed, phase_reading, phase_writing, phase_ended}
+use Rattle.agefile.specs.Payload.{phase_closed, phase_reading, phase_writing, phase_ended}
 use Rattle.agefile.specs.Report.{Refuses, Returns, Steps, report_of}
 
 -- nothing is open

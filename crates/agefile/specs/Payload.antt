@@ -1,12 +1,72 @@
--- A payload, which its caller holds between two calls, and what the calls do to it.
-use Rattle.std.specs.Prelude.{◌≡◌, ℕ, ◌+◌, ◌&&◌, Bool, length, nat_eq, replicate, if◌then◌else◌}
+-- A payload, which its caller holds between two calls: its phases and those of its parts, by the
+-- numbers of `agefile.h`, what one chunk gives, by its number, and what the calls do.
+use Rattle.std.specs.Prelude.{◌≡◌, ℕ, ◌+◌, ◌&&◌, Bool, length, nat_eq, replicate, if◌then◌else◌, ◌⊎◌, ◌-◌, ◌<◌, ◌≤◌, ◌++◌, ◌||◌, [], take, drop, nat_le, nat_lt, None, Result, Ok, Err}
 use Rattle.age_kdf.specs.Bytes.{Bytes}
 use Rattle.agefile.specs.declared.payload.Payload.{Payload}
 use Rattle.agefile.specs.declared.report.Report.{Report}
-use Rattle.agefile.specs.Chunk.{OpensAs, SealsAs, has_text, is_chunk_len}
 use Rattle.agefile.specs.Codes.{ok}
-use Rattle.agefile.specs.Phase.{phase_closed, phase_reading, phase_writing, phase_ended, phase_failed}
-use Rattle.agefile.specs.Report.{Steps}
+use Rattle.agefile.specs.Report.{Steps, Refuses, report_of}
+use Rattle.age_cipher.specs.Sealing.{sealed}
+use Rattle.age_stream.specs.declared.fault.StreamFault.{StreamFault}
+use Rattle.age_stream.specs.Payload.{chunk_nonce}
+use Rattle.age_stream.specs.Reading.{outcome}
+use Rattle.age_stream.specs.Sizes.{tag_size, sealed_chunk_size}
+use Rattle.age_file.specs.declared.fault.Fault.TheVariants.{TooManyChunks}
+use Rattle.age_file.specs.Verdict.{stream_fault}
+use Rattle.agefile.specs.Sizes.{limits}
+
+-- nothing was opened
+abbrev pub phase_closed : ℕ
+phase_closed = 0
+
+-- the next sealed chunk is opened
+abbrev pub phase_reading : ℕ
+phase_reading = 1
+
+-- the next chunk is sealed
+abbrev pub phase_writing : ℕ
+phase_writing = 2
+
+-- the last chunk came
+abbrev pub phase_ended : ℕ
+phase_ended = 3
+
+-- a chunk had a fault
+abbrev pub phase_failed : ℕ
+phase_failed = 4
+
+-- the chunk's buffer begins with the text, and its rest is as it was; or its fault is returned, and
+-- all of it is as it was
+abbrev pub Opened : (chunk after : Bytes) (report : Report) (code : ℕ)
+    (piece_outcome : Result Bytes StreamFault) → Type 0
+Opened chunk after report code (Ok text) =
+    (code ≡ ok) × (report ≡ report_of (length text) None)
+    × (after ≡ text ++ drop (length text) chunk)
+Opened chunk after report code (Err fault) =
+    Refuses (stream_fault fault) chunk after report code
+
+-- a chunk is opened under its number
+abbrev pub OpensAs : (key : Bytes) (number : ℕ) (last : Bool) (chunk after : Bytes)
+    (report : Report) (code : ℕ) → Type 0
+OpensAs key number last chunk after report code =
+    Opened chunk after report code (outcome key limits.max_chunks number last chunk)
+
+-- a chunk's text, all but the last 16 bytes, is sealed under its number; or the number is beyond
+-- the greatest, and the chunk is as it was
+abbrev pub SealsAs : (key : Bytes) (number : ℕ) (last : Bool) (chunk after : Bytes)
+    (report : Report) (code : ℕ) → Type 0
+SealsAs key number last chunk after report code =
+    ((number < limits.max_chunks) × (code ≡ ok) × (report ≡ report_of (length chunk) None)
+    × (after ≡ sealed key (chunk_nonce number last) [] (take (length chunk - tag_size) chunk)))
+    ⊎ ((limits.max_chunks ≤ number) × Refuses TooManyChunks chunk after report code)
+
+-- a full chunk, or the last and no longer
+abbrev pub is_chunk_len : (len : ℕ) (last : Bool) → Bool
+is_chunk_len len last = if last then nat_le len sealed_chunk_size else nat_eq len sealed_chunk_size
+
+-- a chunk of this length has a tag and some text; chunk 0 may be a tag alone
+abbrev pub has_text : (number len : ℕ) → Bool
+has_text number len = nat_lt tag_size len || (nat_eq len tag_size && nat_eq number 0)
 
 -- nothing is open
 abbrev pub closed : Payload

@@ -11,7 +11,7 @@ use Rattle.age_file.specs.Verdict.{Answering, header_fault, parts_of, unlocked}
 use Rattle.agefile.specs.declared.report.Report.{Report}
 use Rattle.agefile.specs.declared.unlocking.Unlocked.{Unlocked}
 use Rattle.agefile.specs.Codes.{ok}
-use Rattle.agefile.specs.Limits.{limits}
+use Rattle.agefile.specs.Sizes.{limits}
 use Rattle.agefile.specs.Report.{Refuses, report_of}
 use Rattle.age_stream.specs.Payload.{payload_key}
 use Rattle.agefile.specs.declared.start.Start.{Start}
@@ -21,8 +21,7 @@ use Rattle.age_recipient.specs.declared.unwrapped.Unwrapped.{Unwrapped}
 use Rattle.age_recipient.specs.declared.unwrapped.Unwrapped.TheVariants.{Key}
 use Rattle.agefile.specs.declared.payload.Payload.{Payload}
 use Rattle.agefile.specs.Giving.{alone}
-use Rattle.agefile.specs.Payload.{before_first, closed}
-use Rattle.agefile.specs.Phase.{phase_reading}
+use Rattle.agefile.specs.Payload.{before_first, closed, phase_reading}
 
 -- a file key with the length of its header
 abbrev pub with_len : (len : ℕ) (key : Result FileKey Fault) → Result Unlocked Fault

@@ -2,9 +2,9 @@
 
 ghost use Rattle.std.specs.Prelude.{◌≡◌, ◌<◌, ◌≤◌, length};
 ghost use Rattle.age_stream.specs.Sizes.{sealed_chunk_size, tag_size};
-ghost use Rattle.agefile.specs.Chunk.{OpensAs, SealsAs, has_text, is_chunk_len};
+ghost use Rattle.agefile.specs.Payload.{OpensAs, SealsAs, has_text, is_chunk_len};
 ghost use Rattle.agefile.specs.Codes.{ok};
-ghost use Rattle.agefile.specs.Limits.{limits};
+ghost use Rattle.agefile.specs.Sizes.{limits};
 
 use crate::code::{OK, fault_code};
 use crate::limits::MAX_CHUNKS;

@@ -4,7 +4,7 @@ ghost use Rattle.std.specs.Prelude.{◌≡◌, take, IfOk};
 ghost use Rattle.std.specs.String.{string_bytes};
 ghost use Rattle.age_kdf.specs.Bytes.{Bytes};
 ghost use Rattle.agefile.specs.Inspect.{HeaderOf, Inspected, joined, stanza_summary};
-ghost use Rattle.agefile.specs.Limits.{front_size};
+ghost use Rattle.agefile.specs.Sizes.{front_size};
 
 use crate::code::{OK, fault_code};
 use crate::limits::limits;

@@ -19,7 +19,7 @@ ghost use Rattle.agefile.specs.Codes.{code_of, fault_code, ok, out_of_memory, to
 ghost use Rattle.agefile.specs.Encrypting.{IsNewFile};
 ghost use Rattle.agefile.specs.Groups.{OpensGroups, OpensRun, SealsGroups, SealsRun, all_of, sealed_open};
 ghost use Rattle.agefile.specs.Heading.{BeginsFile};
-ghost use Rattle.agefile.specs.Limits.{limits, front_size};
+ghost use Rattle.agefile.specs.Sizes.{limits, front_size};
 ghost use Rattle.agefile.specs.Unlock.{IsStart, Opens, Unlocks, by_file_key};
 ghost use Rattle.agefile.specs.Payload.{OpensNext, SealsNext};
 ghost use Rattle.agefile.specs.Ranges.{OpensRanges, gives, last_index, piece_at, plain_of};

@@ -1,7 +1,7 @@
 //! The limits of all calls.
 
 ghost use Rattle.std.specs.Prelude.{◌≡◌};
-ghost use Rattle.agefile.specs.Limits.{limits};
+ghost use Rattle.agefile.specs.Sizes.{limits};
 
 use age_file::Limits;
 

@@ -3,7 +3,7 @@
 ghost use Rattle.std.specs.Prelude.{◌≡◌, ◌⊎◌, ◌++◌, map, take, IfOk, OnOk};
 ghost use Rattle.age_kdf.specs.Bytes.{Bytes};
 ghost use Rattle.agefile.specs.Inspect.{GivesList, GivesStanzas, InspectsStanzas, joined, listed, stanza_summary};
-ghost use Rattle.agefile.specs.Limits.{front_size};
+ghost use Rattle.agefile.specs.Sizes.{front_size};
 ghost use Rattle.agefile.specs.Codes.{out_of_memory};
 ghost use Rattle.agefile.specs.Report.{Returns};
 

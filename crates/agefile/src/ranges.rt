@@ -3,7 +3,7 @@
 ghost use Rattle.std.specs.Prelude.{◌≡◌, ◌≤◌, ◌/◌, None, true};
 ghost use Rattle.std.specs.Bool.{OnFalse, OnTrue};
 ghost use Rattle.age_stream.specs.Reading.{outcome};
-ghost use Rattle.agefile.specs.Limits.{limits};
+ghost use Rattle.agefile.specs.Sizes.{limits};
 ghost use Rattle.agefile.specs.Unlock.{by_file_key};
 ghost use Rattle.agefile.specs.Ranges.{GivesFrom, OpensAt, OpensRanges, Verified, closed, gives, has_byte, last_index, may_open, may_verify, piece_len, piece_report, plain_of};
 ghost use Rattle.agefile.specs.Report.{Returns, report_of};

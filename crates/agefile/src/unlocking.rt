@@ -6,7 +6,7 @@ ghost use Rattle.age_recipient.specs.KeyedHolders.{key_unwraps};
 ghost use Rattle.age_recipient.specs.PassphraseHolders.{WorkFits, pass_unwraps};
 ghost use Rattle.agefile.specs.Codes.{bad_work_factor};
 ghost use Rattle.agefile.specs.Giving.{alone};
-ghost use Rattle.agefile.specs.Limits.{front_size};
+ghost use Rattle.agefile.specs.Sizes.{front_size};
 ghost use Rattle.agefile.specs.Report.{Returns};
 ghost use Rattle.agefile.specs.Unlock.{FindsKey, GivesKey, Unlocks};
 

@@ -1,4 +1,4 @@
-use Rattle.agefile.proofs.GroupLemmas.{groups_end, groups_seal}
+use Rattle.agefile.proofs.RunLemmas.{groups_end, groups_seal}
 use Rattle.agefile.proofs.laws.parts_seal.Goals as goal
 
 pub returns : goal.returns
