@@ -287,7 +287,7 @@ pub key_file : (key salt stanza file_key nonce plain file : Bytes) → length sa
     → length file ≡ sealed_len (length plain)
 key_file key salt stanza file_key nonce plain file salted keyed len is new =
     let f = one_file (keyed_stanza key salt (record { 0 = file_key })) stanza file_key nonce plain file len is new in
-    let head : length f.header ≡ 156 = key_header key salt (record { 0 = file_key }) _ f.header salted keyed f.head in
+    let head : length f.header ≡ 156 = key_header key salt (record { 0 = file_key }) salted keyed f.head in
     file_size plain file f ∙ ap (λ n. file_len n (length plain)) head
 
 pub pass_file : (pass salt stanza file_key nonce plain file : Bytes) (work : ℕ) → length salt ≡ 16
@@ -297,6 +297,5 @@ pub pass_file : (pass salt stanza file_key nonce plain file : Bytes) (work : ℕ
 pass_file pass salt stanza file_key nonce plain file work salted keyed len high is new =
     let f = one_file (pass_stanza pass work salt (record { 0 = file_key })) stanza file_key nonce plain file len is
     new in
-    let head : length f.header ≤ 150 = pass_header pass salt work (record { 0 = file_key }) _ f.header salted keyed high
-    f.head in
+    let head : length f.header ≤ 150 = pass_header pass salt (record { 0 = file_key }) salted keyed high f.head in
     omega (arith, head, file_size plain file f)
