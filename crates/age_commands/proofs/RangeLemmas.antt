@@ -5,7 +5,7 @@ use Rattle.std.proofs.KnownBytes.{Appends-nil, Appends-trans, Keeps-refl}
 use Rattle.std.proofs.lemmas.List.{length-append, length-take, length-take-le, take-append-le, get_or-take, get_or_append_left, get_or-append-add}
 use Rattle.std.proofs.lemmas.Bool.{cases_lt}
 use Rattle.std.specs.Io.KnownBytes.{Appends}
-use Rattle.age_header.specs.Device.{Bytes, Known, moved}
+use Rattle.age_header.specs.Device.{Bytes, Known, Moved, moved}
 use Rattle.age_header.specs.Header.{StanzaParts}
 use Rattle.age_recipient.specs.declared.unwrapped.Unwrapped.{Unwrapped}
 use Rattle.age_stream.specs.declared.fault.StreamFault.{StreamFault}
@@ -201,13 +201,13 @@ failed_on {told} {again} {s} {t} begin len at left {old} {mid} {new} et el end l
 
 -- a source that was opened, by one identity in a list
 pub ranged : {X : Type 0} (m : X → List StanzaParts → Unwrapped) {items : List X} (x : X) {l limits : Bounds}
-    (at len : ℕ) {told again : Known} {s : RangeState} (given given2 : ℕ) (old new : Known) (r : Result ⊤ Fault)
+    (at len : ℕ) {told again : Known} {s : RangeState} (given given2 : ℕ) (sink : Moved) (r : Result ⊤ Fault)
     → items ≡ x ∷ [] → l ≡ limits → again ≡ told
     → IfSome told (λ b. IsRangesOf l (λ stanzas. map (λ i. m i stanzas) items) b s given given2)
-    → (IsSound again s → WritesRange again s at len (moved old new) r)
-    → Ranging limits (λ stanzas. m x stanzas ∷ []) at len told (moved old new) r
-ranged m x at len {told = None} given given2 old new r one is et opens writes = tt
-ranged m x {l} {limits} at len {told = Some b} {s} given given2 old new r one is et opens writes =
+    → (IsSound again s → WritesRange again s at len sink r)
+    → Ranging limits (λ stanzas. m x stanzas ∷ []) at len told sink r
+ranged m x at len {told = None} given given2 sink r one is et opens writes = tt
+ranged m x {l} {limits} at len {told = Some b} {s} given given2 sink r one is et opens writes =
     let opened : IsRangesOf limits (λ stanzas. m x stanzas ∷ []) b s given given2 =
     subst (λ (k : Bounds). IsRangesOf k (λ stanzas. m x stanzas ∷ []) b s given given2) is
     (subst (λ xs. IsRangesOf l (λ stanzas. map (λ i. m i stanzas) xs) b s given given2) one opens) in
@@ -216,7 +216,7 @@ ranged m x {l} {limits} at len {told = Some b} {s} given given2 old new r one is
       given = given;
       given2 = given2;
       opened = opened;
-      writes = subst (λ (k : Known). WritesRange k s at len (moved old new) r) et
+      writes = subst (λ (k : Known). WritesRange k s at len sink r) et
           (writes (subst (λ (k : Known). IsSound k s) (sym et) opened.opened.sound));
     })
 
@@ -232,10 +232,3 @@ unopened m x {l} at len (Some b) old {fault} one is misses =
           (subst (λ xs. MissesRanges l (λ stanzas. map (λ i. m i stanzas) xs) (Some b) fault) one misses),
       Keeps-refl old,
     )
-
-pub ranging_meant : {f g : List StanzaParts → Unwrapped} (limits : Bounds) (at len : ℕ) (told old new : Known)
-    (r : Result ⊤ Fault) → f ≡ g
-    → Ranging limits (λ s. f s ∷ []) at len told (moved old new) r
-    → Ranging limits (λ s. g s ∷ []) at len told (moved old new) r
-ranging_meant limits at len told old new r same h =
-    subst (λ (m : List StanzaParts → Unwrapped). Ranging limits (λ s. m s ∷ []) at len told (moved old new) r) same h

@@ -3,7 +3,7 @@ use Rattle.std.proofs.Common.{◌≡◌, ◌∙◌, ◌+◌, ◌<◌, ◌++◌, 
 use Rattle.std.proofs.KnownBytes.{Appends-nil}
 use Rattle.std.proofs.lemmas.List.{map_push, take_more}
 use Rattle.std.specs.Prelude.{⊤, ℕ}
-use Rattle.age_header.specs.Device.{Bytes, Flow, Known, Seen, flow, moved}
+use Rattle.age_header.specs.Device.{Bytes, Flow, Known, Moved, Seen, flow, moved}
 use Rattle.age_header.specs.Header.{StanzaParts}
 use Rattle.age_header.specs.declared.file_key.FileKey.{FileKey}
 use Rattle.age_recipient.specs.declared.labels.Labels.{Labels}
@@ -11,7 +11,7 @@ use Rattle.age_recipient.specs.declared.unwrapped.Unwrapped.{Unwrapped}
 use Rattle.age_header.proofs.DeviceLemmas.{of_any, some_none}
 use Rattle.age_stream.specs.declared.done.Done.{Done}
 use Rattle.age_stream.specs.declared.salvaged.Salvaged.{Salvaged}
-use Rattle.age_stream.specs.Salvage.{KnownLosses, told}
+use Rattle.age_stream.specs.Salvage.{Told}
 use Rattle.age_stream.proofs.SalvageLemmas.{reports_none}
 use Rattle.age_file.specs.declared.fault.Fault.{Fault}
 use Rattle.age_file.specs.declared.limits.Fresh.{Fresh}
@@ -40,21 +40,21 @@ decrypting_meant limits {source} old new r same h =
     subst (λ (m : List StanzaParts → Unwrapped). Decrypts limits (λ s. m s ∷ []) source (moved old new) r) same h
 
 pub salvages_alone : {X : Type 0} (m : X → List StanzaParts → Unwrapped) {items : List X} (x : X) {l limits : Bounds}
-    {source : Flow} (old new : Known) (before after : KnownLosses) (r : Result Salvaged Fault)
+    {source : Flow} (sink : Moved) (losses : Told) (r : Result Salvaged Fault)
     → items ≡ x ∷ [] → l ≡ limits
-    → SalvagesFile l (λ s. map (λ i. m i s) items) source (moved old new) (told before after) r
-    → SalvagesFile limits (λ s. m x s ∷ []) source (moved old new) (told before after) r
-salvages_alone m x {l} {source} old new before after r one is h =
-    subst (λ b. SalvagesFile b (λ s. m x s ∷ []) source (moved old new) (told before after) r) is
-    (subst (λ xs. SalvagesFile l (λ s. map (λ i. m i s) xs) source (moved old new) (told before after) r) one h)
+    → SalvagesFile l (λ s. map (λ i. m i s) items) source sink losses r
+    → SalvagesFile limits (λ s. m x s ∷ []) source sink losses r
+salvages_alone m x {l} {source} sink losses r one is h =
+    subst (λ b. SalvagesFile b (λ s. m x s ∷ []) source sink losses r) is
+    (subst (λ xs. SalvagesFile l (λ s. map (λ i. m i s) xs) source sink losses r) one h)
 
-pub salvaging_meant : {f g : List StanzaParts → Unwrapped} (limits : Bounds) {source : Flow} (old new : Known)
-    (before after : KnownLosses) (r : Result Salvaged Fault) → f ≡ g
-    → SalvagesFile limits (λ s. f s ∷ []) source (moved old new) (told before after) r
-    → SalvagesFile limits (λ s. g s ∷ []) source (moved old new) (told before after) r
-salvaging_meant limits {source} old new before after r same h =
-    subst (λ (m : List StanzaParts → Unwrapped). SalvagesFile limits (λ s. m s ∷ []) source (moved old new)
-    (told before after) r) same h
+pub salvaging_meant : {f g : List StanzaParts → Unwrapped} (limits : Bounds) {source : Flow} (sink : Moved)
+    (losses : Told) (r : Result Salvaged Fault) → f ≡ g
+    → SalvagesFile limits (λ s. f s ∷ []) source sink losses r
+    → SalvagesFile limits (λ s. g s ∷ []) source sink losses r
+salvaging_meant limits {source} sink losses r same h =
+    subst (λ (m : List StanzaParts → Unwrapped). SalvagesFile limits (λ s. m s ∷ []) source sink
+    losses r) same h
 
 pub encrypting_meant : {w v : FileKey → Result (List StanzaParts) ℕ} {l m : Labels} {limits : Bounds} {fresh : Fresh}
     {source : Flow} {old new : Known} {r : Result Done Fault} → w ≡ v → l ≡ m

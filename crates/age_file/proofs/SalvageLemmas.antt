@@ -5,7 +5,7 @@ use Rattle.std.proofs.lemmas.List.{drop_at}
 use Rattle.age_header.specs.declared.fault.HeaderFault.{HeaderFault}
 use Rattle.age_header.specs.declared.fault.HeaderFault.TheVariants as header
 use Rattle.age_header.specs.declared.file_key.FileKey.{FileKey}
-use Rattle.age_header.specs.Device.{Bytes, Known, Seen, flow, moved}
+use Rattle.age_header.specs.Device.{Bytes, Known, Moved, Seen, flow, moved}
 use Rattle.age_header.specs.Header.{HeaderParts}
 use Rattle.age_header.specs.Reader.{Refuses}
 use Rattle.age_header.proofs.DeviceLemmas.{gave_some, of_any, of_map, of_more, of_then}
@@ -13,7 +13,7 @@ use Rattle.age_stream.specs.declared.fault.StreamFault.{StreamFault}
 use Rattle.age_stream.specs.declared.fault.StreamFault.TheVariants as stream
 use Rattle.age_stream.specs.declared.salvaged.Salvaged.{Salvaged}
 use Rattle.age_stream.specs.Opening.{EndsAt}
-use Rattle.age_stream.specs.Salvage.{EndsSaving, KnownLosses, Salvages, SavesPayload, told}
+use Rattle.age_stream.specs.Salvage.{EndsSaving, KnownLosses, Salvages, SavesPayload, Told, told}
 use Rattle.age_stream.proofs.SalvageLemmas.{reports_none}
 use Rattle.age_file.specs.declared.fault.Fault.{Fault}
 use Rattle.age_file.specs.declared.fault.Fault.TheVariants.{Read, OutOfMemory}
@@ -130,18 +130,19 @@ payload_text limits answers come mid h i k c old new before after r key s = go r
     go (Err (stream.BadChunk n)) x = file (Err (stream.BadChunk n)) x
     go (Err stream.TooManyChunks) x = file (Err stream.TooManyChunks) x
 
-pub payload_salvages : {limits : Bounds} (answers : Answering) {come mid to : Seen} (old new : Known)
-    (before after : KnownLosses) {h : HeaderParts} {k : FileKey} {max : ℕ} (r : Result Salvaged StreamFault)
+pub payload_salvages : {limits : Bounds} (answers : Answering) {come mid to : Seen} (sink : Moved) (losses : Told)
+    {h : HeaderParts} {k : FileKey} {max : ℕ} (r : Result Salvaged StreamFault)
     → Inspects limits (flow come mid) (Ok h)
     → (◌≡◌ {A = Result FileKey Fault} (Ok k) (Err OutOfMemory)) ⊎ (Ok k ≡ unlocked answers h)
     → max ≡ limits.max_chunks
-    → Salvages k max (flow mid to) (moved old new) (told before after) r
-    → SalvagesFile limits answers (flow come to) (moved old new) (told before after) (salvage_result r)
-payload_salvages {limits} answers {come} {mid} old new before after {h} {k} r i (inl memory) same w = absurd (cc)
-payload_salvages {limits} answers {come} {mid} old new before after {h} {k} r i (inr key) same w =
+    → Salvages k max (flow mid to) sink losses r
+    → SalvagesFile limits answers (flow come to) sink losses (salvage_result r)
+payload_salvages {limits} answers {come} {mid} sink losses {h} {k} r i (inl memory) same w = absurd (cc)
+payload_salvages {limits} answers {come} {mid} sink losses {h} {k} r i (inr key) same w =
     let is = headed limits i in
-    of_then is.took w (λ c x. payload_text limits answers come mid h is k c old new before after r key
-    (subst (λ m. SavesPayload k m c (moved old new) (told before after) r) same x))
+    of_then is.took w (λ c x.
+    payload_text limits answers come mid h is k c sink.before sink.after losses.before losses.after r key
+    (subst (λ m. SavesPayload k m c sink losses r) same x))
 
 -- how much was read
 pub salvage_takes : {limits : Bounds} {come mid : Seen} (to : Seen) (old new : Known) {h : HeaderParts} {max : ℕ}

@@ -7,7 +7,7 @@ use Rattle.std.proofs.Math.Seq.{take-add, take-append-add, drop-append-add}
 use Rattle.std.proofs.lemmas.List.{take-append-drop, length-take-le, take_at, drop_at, length-drop}
 use Rattle.age_cipher.specs.Sealing.{sealed}
 use Rattle.age_cipher.proofs.OpeningLemmas.{length-sealed}
-use Rattle.age_header.specs.Device.{Gave, GaveAtMost, GaveSome, WritesPart, Known, Seen, flow, moved}
+use Rattle.age_header.specs.Device.{Flow, Gave, GaveAtMost, GaveSome, Known, Seen, WritesPart, flow, moved}
 use Rattle.age_header.specs.Filling.{Filled}
 use Rattle.age_header.proofs.DeviceLemmas.{gave_all, gave_then, of_any, of_ended, of_more, of_still, of_then, Done, done_part}
 use Rattle.age_stream.specs.declared.fault.StreamFault.{StreamFault}
@@ -387,14 +387,15 @@ seals_last s t u from to a b c fault none takes finishes =
       }),
     )
 
-pub seals_finish : (s t : SealerState) {u : Unit {0}} (from to : Seen) (a b c : Known)
+pub seals_finish : (s t : SealerState) {u : Unit {0}} (source : Flow) (a b c : Known)
     (r : Result StreamDone StreamFault)
-    → s.fault ≡ None → IfNone s.fault (TakesAll s t (flow from to) (moved a b) (Ok u))
+    → s.fault ≡ None → IfNone s.fault (TakesAll s t source (moved a b) (Ok u))
     → IfNone t.fault (FinishesBy t (moved b c) r)
-    → SealsAll s (flow from to) (moved a c) r
-seals_finish s t {u} from to a b c (Ok done) none takes finishes = seals_ok s t u from to a b c done none takes finishes
-seals_finish s t {u} from to a b c (Err fault) none takes finishes =
-    seals_last s t u from to a b c fault none takes finishes
+    → SealsAll s source (moved a c) r
+seals_finish s t {u} source a b c (Ok done) none takes finishes =
+    seals_ok s t u source.before source.after a b c done none takes finishes
+seals_finish s t {u} source a b c (Err fault) none takes finishes =
+    seals_last s t u source.before source.after a b c fault none takes finishes
 
 pub seals_err : (s t : SealerState) {from to : Seen} {a b : Known} (fault : StreamFault) → s.fault ≡ None
     → IfNone s.fault (TakesAll {A = Unit {0}} s t (flow from to) (moved a b) (Err fault))

@@ -8,4 +8,4 @@ returns-in_err-write_held-clause-part g c =
     search rules
 
 pub returns-in-Err-clause-part : goal.returns-in-Err-clause-part
-returns-in-Err-clause-part g c = prefix_flushed _ _ _ _ _ c.write_held.ensures.bytes c.flush.ensures.bytes
+returns-in-Err-clause-part g c = search (prefix_flushed, c.write_held.ensures.bytes, c.flush.ensures.bytes)

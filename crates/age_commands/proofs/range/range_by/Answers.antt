@@ -9,7 +9,7 @@ use Rattle.age_commands.proofs.range.range_by.Goals as goal
 pub returns-in-Ok-opened_ranges-clause-known : goal.returns-in-Ok-opened_ranges-clause-known
 returns-in-Ok-opened_ranges-clause-known g c =
     ranged (λ i. (goal.Identity-dyn g (i.vtable, i.value)).meaning i.value) c.args.identity
-    c.args.job.now.at c.args.job.now.len _ _ _ _ _ (search rules)
+    c.args.job.now.at c.args.job.now.len _ _ _ _ (search rules)
     c.limits_of.ensures c.in-Ok-opened_ranges.ensures.ranges.0
     (rw c.as_slice.ensures.value at c.in-Ok-opened_ranges.ensures.ranges.1) c.write_range-written.ensures.known
 
@@ -53,5 +53,4 @@ returns-in-Ok-opened_ranges-clause-reads g c =
 
 pub returns-in-Ok-opened_ranges-clause-quiet : goal.returns-in-Ok-opened_ranges-clause-quiet
 returns-in-Ok-opened_ranges-clause-quiet g c =
-    verified.quiet_part _ c.in-Ok-opened_ranges.reader.chunks _ _ _ _ _ _
-    (c.write_range-written.ensures.any c.in-Ok-opened_ranges.ensures.ranges.3)
+    search (verified.quiet_part, c.write_range-written.ensures.any c.in-Ok-opened_ranges.ensures.ranges.3)

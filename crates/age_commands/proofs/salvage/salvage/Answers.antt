@@ -13,7 +13,7 @@ pub returns-in-Ok-new-clause-salvages : goal.returns-in-Ok-new-clause-salvages
 returns-in-Ok-new-clause-salvages g c =
     let same = read_made own-1 entry-1-1 at-1-1 same-1-1 _ (λ j y. j.1.meaning y) _ _ _ c.into_dyn_box.ensures.1
     ∙ ap unwraps_of (c.in-Ok-new.ensures.ok ∙ c.in-Ok.ensures) in
-    salvaging_meant _ _ _ _ _ _ same c.salvage_by.ensures.salvages
+    search (salvaging_meant, same, c.salvage_by.ensures.salvages)
 
 pub returns-in_default-clause-salvages : goal.returns-in_default-clause-salvages
 returns-in_default-clause-salvages g c =

@@ -9,8 +9,7 @@ use Rattle.age_commands.proofs.salvage.salvage_by.Goals as goal
 pub returns-in-Ok-clause-salvages : goal.returns-in-Ok-clause-salvages
 returns-in-Ok-clause-salvages g c =
     salvages_alone (λ i. (goal.Identity-dyn g (i.vtable, i.value)).meaning i.value)
-    c.args.identity _ _ _ _ _ (search rules)
-    c.limits_of.ensures (rw c.as_slice.ensures.value at c.salvage.ensures.salvages)
+    c.args.identity _ _ _ (search rules) c.limits_of.ensures (rw c.as_slice.ensures.value at c.salvage.ensures.salvages)
 
 pub returns-clause-salvages : goal.returns-clause-salvages
 returns-clause-salvages g c =

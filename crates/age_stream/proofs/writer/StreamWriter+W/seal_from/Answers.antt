@@ -5,7 +5,7 @@ use Rattle.age_stream.proofs.writer.StreamWriter+W.seal_from.Goals.{in-Ok, in-Er
 pub returns-clause-seals : goal.returns-clause-seals
 returns-clause-seals g c = when_none c.args.self.sealer.fault (λ none. elim c.match-write_from.branch [
   | in-Ok w ↦ rw w.result-is (rw w.out-is
-      (seals_finish c.args.self.sealer c.write_from.new.self _ _ _ _ _ w.finish.result none w.in-Ok.ensures.takes
+      (seals_finish c.args.self.sealer c.write_from.new.self _ _ _ _ w.finish.result none w.in-Ok.ensures.takes
       w.finish.ensures.text))
   | in-Err w ↦ rw w.result-is (rw w.out-is
       (seals_err c.args.self.sealer c.write_from.new.self w.in-Err.fault none w.in-Err.ensures.takes))
