@@ -10,6 +10,7 @@ import os
 import re
 import shutil
 import subprocess
+import textwrap
 import unittest
 
 from program import ROOT, TESTS, read, scratch
@@ -74,13 +75,15 @@ class Columns(unittest.TestCase):
 
 class Documents(unittest.TestCase):
     def test_code(self):
-        """Each block of Rust in the README stands in a source."""
-        sources = "".join(text_of(name) for name in sorted(glob.glob(ROOT + "/crates/*/src/**/*.rt", recursive=True)))
-        blocks = re.findall(r"^```rust\n(.*?)^```$", text_of(ROOT + "/README.md"), re.MULTILINE | re.DOTALL)
-        self.assertTrue(blocks)
-        for block in blocks:
-            with self.subTest(block.split("\n")[0]):
-                self.assertTrue("\n" + block in "\n" + sources, f"not in a source:\n{block}")
+        """Each block of Rust or of a proof in these pages stands in a source."""
+        pages = text_of(ROOT + "/README.md") + text_of(ROOT + "/docs/PROOFS.md")
+        for kind, files in (("rust", "src/**/*.rt"), ("antt", "proofs/**/*.antt")):
+            sources = "".join(text_of(name) for name in sorted(glob.glob(f"{ROOT}/crates/*/{files}", recursive=True)))
+            blocks = re.findall(rf"^ *```{kind}\n(.*?)^ *```$", pages, re.MULTILINE | re.DOTALL)
+            self.assertTrue(blocks)
+            for block in map(textwrap.dedent, blocks):
+                with self.subTest(block.split("\n")[0]):
+                    self.assertTrue("\n" + block in "\n" + sources, f"not in a source:\n{block}")
 
     def test_faults(self):
         """What docs/FORMAT.md calls each fault stands in its text too, where it says when the fault comes."""
