@@ -14,7 +14,7 @@ use Rattle.age_file.specs.Verdict.{Answering, IsVerdict, judged, stream_fault}
 use Rattle.agefile.specs.declared.report.Report.{Report}
 use Rattle.agefile.specs.declared.start.Start.{Start}
 use Rattle.agefile.specs.Codes.{code_of}
-use Rattle.agefile.specs.Encrypting.{Decrypts, GivesFirst, GivesReading}
+use Rattle.agefile.specs.WholeFiles.{Decrypts, GivesFirst, GivesReading}
 use Rattle.agefile.specs.Giving.{Exceeds, Fits}
 use Rattle.agefile.specs.Sizes.{limits, opened_len}
 use Rattle.agefile.specs.Report.{report_of}

@@ -29,7 +29,7 @@ use Rattle.age_header.proofs.HeaderLemmas.{reading}
 use Rattle.age_recipient.specs.KeyedStanza.{keyed_stanza}
 use Rattle.age_recipient.specs.PassphraseStanza.{pass_stanza}
 use Rattle.age_stream.specs.Payload.{payload}
-use Rattle.agefile.specs.Encrypting.{IsNewFile}
+use Rattle.agefile.specs.WholeFiles.{IsNewFile}
 use Rattle.agefile.proofs.SizeLemmas.{payload_size}
 
 -- ---- the MAC

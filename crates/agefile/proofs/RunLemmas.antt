@@ -25,7 +25,7 @@ use Rattle.std.specs.List.{concat}
 use Rattle.age_cipher.specs.Sealing.{sealed}
 use Rattle.age_header.specs.declared.file_key.FileKey.{FileKey}
 use Rattle.age_stream.proofs.PayloadLemmas.{Sized, at_most_chunks}
-use Rattle.agefile.specs.Encrypting.{IsNewFile}
+use Rattle.agefile.specs.WholeFiles.{IsNewFile}
 use Rattle.agefile.specs.Heading.{BeginsFile}
 use Rattle.std.proofs.lemmas.List.{append-nil, take_at}
 use Rattle.agefile.specs.declared.part.Part.{Part}

@@ -13,7 +13,7 @@ use Rattle.age_stream.specs.Sizes.{chunk_size, sealed_chunk_size}
 use Rattle.age_stream.proofs.CuttingLemmas.{cut_last}
 use Rattle.age_stream.proofs.ReadingLemmas.{cut_step, is_end_cut}
 use Rattle.agefile.specs.declared.report.Report.{Report}
-use Rattle.agefile.specs.Encrypting.{Encrypts}
+use Rattle.agefile.specs.WholeFiles.{Encrypts}
 use Rattle.agefile.specs.Giving.{Exceeds, Fits}
 use Rattle.agefile.specs.Heading.{MakesHeader}
 use Rattle.agefile.specs.Report.{report_of}

@@ -1,5 +1,5 @@
 pub mod Codes
-pub mod Encrypting
+pub mod WholeFiles
 pub mod Giving
 pub mod Groups
 pub mod Heading

@@ -3,7 +3,7 @@
 ghost use Rattle.std.specs.Prelude.{◌≡◌, ◌≤◌, ◌-◌, length, min, IfOk};
 ghost use Rattle.age_stream.specs.Reading.{first_outcome, reading_from};
 ghost use Rattle.age_stream.specs.Sizes.{sealed_chunk_size, tag_size};
-ghost use Rattle.agefile.specs.Encrypting.{Decrypts, GivesFirst, GivesReading};
+ghost use Rattle.agefile.specs.WholeFiles.{Decrypts, GivesFirst, GivesReading};
 ghost use Rattle.agefile.specs.Sizes.{limits, opened_len};
 ghost use Rattle.agefile.specs.Unlock.{by_file_key};
 

@@ -16,7 +16,7 @@ ghost use Rattle.agefile.specs.declared.payload.Payload.{Payload};
 ghost use Rattle.agefile.specs.declared.ranges.Ranges.{Ranges};
 ghost use Rattle.agefile.specs.declared.report.Report.{Report};
 ghost use Rattle.agefile.specs.Codes.{code_of, fault_code, ok, out_of_memory, too_many_chunks};
-ghost use Rattle.agefile.specs.Encrypting.{IsNewFile};
+ghost use Rattle.agefile.specs.WholeFiles.{IsNewFile};
 ghost use Rattle.agefile.specs.Groups.{OpensGroups, OpensRun, SealsGroups, SealsRun, all_of, sealed_open};
 ghost use Rattle.agefile.specs.Heading.{BeginsFile};
 ghost use Rattle.agefile.specs.Sizes.{limits, front_size};

@@ -5,7 +5,7 @@ ghost use Rattle.std.specs.List.{concat};
 ghost use Rattle.age_cipher.specs.Sealing.{sealed};
 ghost use Rattle.age_stream.specs.Payload.{chunk_nonce, chunks, payload, sealed_from};
 ghost use Rattle.age_stream.specs.Sizes.{chunk_size, tag_size};
-ghost use Rattle.agefile.specs.Encrypting.{Encrypts};
+ghost use Rattle.agefile.specs.WholeFiles.{Encrypts};
 ghost use Rattle.agefile.specs.Sizes.{chunk_count, file_len};
 
 use crate::code::{OK, TOO_SMALL};

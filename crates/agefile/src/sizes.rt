@@ -14,7 +14,7 @@ ghost use Rattle.age_stream.specs.Reading.{Reading};
 ghost use Rattle.age_stream.specs.Sizes.{nonce_size};
 ghost use Rattle.age_file.specs.declared.fault.Fault.{Fault};
 ghost use Rattle.age_file.specs.Verdict.{Answering, IsVerdict};
-ghost use Rattle.agefile.specs.Encrypting.{IsNewFile};
+ghost use Rattle.agefile.specs.WholeFiles.{IsNewFile};
 ghost use Rattle.agefile.specs.Sizes.{file_len, limits, opened_len, plain_len_at_most, sealed_len};
 
 use age_stream::{CHUNK_SIZE, NONCE_SIZE, SEALED_CHUNK_SIZE, TAG_SIZE};
