@@ -15,7 +15,8 @@ returns-in-Err-unlock_header-clause-salvages g c =
 
 pub returns-in-Ok-salvage_payload-clause-salvages : goal.returns-in-Ok-salvage_payload-clause-salvages
 returns-in-Ok-salvage_payload-clause-salvages g c =
-    payload_salvages _ _ _ (Ok c.in-Ok-salvage_payload.salvaged) c.in-Ok.ensures.verdict c.in-Ok-unlock_header.ensures.key
+    payload_salvages _ _ _ (Ok c.in-Ok-salvage_payload.salvaged) c.in-Ok.ensures.verdict
+    c.in-Ok-unlock_header.ensures.key
     c.max_chunks.ensures.value c.in-Ok-salvage_payload.ensures.salvages
 
 pub returns-clause-salvages : goal.returns-clause-salvages
