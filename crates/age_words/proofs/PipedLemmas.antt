@@ -24,7 +24,7 @@ pub piped : (command : Command) (words : List Text) (job : Job) → IsPiped comm
 piped command words job (rows, is, input, output) (faultless, of) =
     let made = subst (λ (o : Option (Text × List Row)). IsJobOf o job) is of in
     record {
-      is = one_command _ _ (sym made.0);
+      is = one_command (sym made.0);
       input = none_mapped _ (made.1.input ∙ input);
       output = none_mapped _ (made.1.output ∙ output);
       max_header = made.1.max_header ∙ ap (λ (o : Option (Text × List Row)).

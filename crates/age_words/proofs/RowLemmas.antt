@@ -14,12 +14,13 @@ use Rattle.age_job.specs.declared.job.Command.{Command}
 use Rattle.age_job.specs.declared.job.Command.TheVariants.{Encrypt, Decrypt, Inspect, Range, Rewrap, Salvage}
 use Rattle.age_words.specs.JobOf.{number_of}
 
-pub copies_take : (xs : List (Bor Text)) (i : ℕ) (d : Bor Text) (old new : List (String Global))
+pub copies_take : (xs : List (Bor Text)) {i : ℕ} (d : Bor Text) (old : List (String Global))
+    {new : List (String Global)}
     (text : String Global) → i < length xs
     → map string_bytes old ≡ take i (map (λ a. a.now) xs) → new ≡ old ++ text ∷ []
     → string_bytes text ≡ (get_or xs i d).now
     → map string_bytes new ≡ take (i + 1) (map (λ a. a.now) xs)
-copies_take xs i d old new text low h is same =
+copies_take xs {i} d old text low h is same =
     let low' : i < length (map (λ (a : Bor Text). a.now) xs) =
     omega (arith, length-map xs (λ (a : Bor Text). a.now)) in
     let at = get_or-map (λ (a : Bor Text). a.now) xs i d [] low in
@@ -55,10 +56,10 @@ pub has_number : (least most : ℕ) (o : Option Text) → IfSome o (IsUnsignedIn
 has_number least most None h = h
 has_number least most (Some t) h = (least, most, h)
 
-pub in_range : (least most d : ℕ) (o : Option Text) → IfSome o (IsUnsignedIn least most)
+pub in_range : {least most : ℕ} (d : ℕ) (o : Option Text) → IfSome o (IsUnsignedIn least most)
     → least ≤ d → d ≤ most → IsBetween least most (option_map_or number_of o d)
-in_range least most d None h low high = (low, high)
-in_range least most d (Some t) h low high = (h.2, h.3)
+in_range d None h low high = (low, high)
+in_range d (Some t) h low high = (h.2, h.3)
 
 abbrev pub nows : List (Bor Text) → List Text
 nows xs = map (λ t. t.now) xs

@@ -275,9 +275,9 @@ neither : {a b : Bool} → (a || b) ≡ false → (a ≡ false) × (b ≡ false)
 neither {a = false} e = (refl, e)
 neither {a = true} e = absurd (true≢false e)
 
-not_false : (b : Bool) → not b ≡ false → b ≡ true
-not_false true e = refl
-not_false false e = absurd (true≢false e)
+not_false : {b : Bool} → not b ≡ false → b ≡ true
+not_false {b = true} e = refl
+not_false {b = false} e = absurd (true≢false e)
 
 wanted_given : (id : Text) (rules : List Rule) (rows : List Row)
     → list_any (λ a. a.required && not (is_given a.id rows)) rules ≡ false
@@ -291,7 +291,7 @@ wanted_given id (a ∷ rest) rows none some = go (wanted_given id rest rows) a.r
         → (r && not (is_given a.id rows) || list_any (λ a. a.required && not (is_given a.id rows)) rest) ≡ false
         → (r && b || list_any (λ a. a.required && bytes_eq a.id id) rest) ≡ true → is_given id rows ≡ true
     go ih true true e n f = ap (λ (i : Text). is_given i rows) (sym ((bytes_eq-Decides a.id id).0 e))
-        ∙ not_false _ (neither n).0
+        ∙ not_false (neither n).0
     go ih true false e n f = ih (neither n).1 f
     go ih false b e n f = ih n f
 
@@ -312,7 +312,7 @@ given_first id rows q g = go (find (λ r. bytes_eq r.id id) rows) (find_passes i
 wanted_kind : (a b : Bool) {c : Bool} → Rattle.clap.specs.Kinds.check_kinds a b c ≡ [] → c ≡ false
 wanted_kind true b e = cc
 wanted_kind false true e = cc
-wanted_kind false false {c} e = test_fails c _ _ e
+wanted_kind false false {c} e = test_fails _ _ e
 
 -- ---- a subcommand
 
@@ -495,8 +495,8 @@ known Range = refl
 known Rewrap = refl
 known Salvage = refl
 
-pub one_command : (a b : Command) → name_of a ≡ name_of b → a ≡ b
-one_command a b e = let same : Some a ≡ Some b = sym (known a) ∙ ap command_of e ∙ known b in cc
+pub one_command : {a b : Command} → name_of a ≡ name_of b → a ≡ b
+one_command {a} {b} e = let same : Some a ≡ Some b = sym (known a) ∙ ap command_of e ∙ known b in cc
 
 pub agep_is_free : is_simple_and_free agep ≡ true
 agep_is_free = refl

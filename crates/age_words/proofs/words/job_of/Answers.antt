@@ -21,10 +21,10 @@ number_or-requires-5 c = has_number _ _ _ c.requires.len
 
 pub returns-clause-ranges : goal.returns-clause-ranges
 returns-clause-ranges c = record {
-  work = rw c.number_or.ensures (in_range _ _ _ _ c.requires.work (omega arith) (omega arith));
-  max_work = rw c.number_or-2.ensures (in_range _ _ _ _ c.requires.max_work (omega arith) (omega arith));
-  max_header = rw c.number_or-3.ensures (in_range _ _ _ _ c.requires.max_header (omega arith) (omega arith));
-  at = rw c.number_or-4.ensures (in_range 0 MOST_OFFSET 0 _ c.requires.at (omega arith) (omega arith)).1;
-  len = rw c.number_or-5.ensures (in_range 0 MOST_OFFSET 0 _ c.requires.len (omega arith) (omega arith)).1;
+  work = rw c.number_or.ensures (in_range _ _ c.requires.work (omega arith) (omega arith));
+  max_work = rw c.number_or-2.ensures (in_range _ _ c.requires.max_work (omega arith) (omega arith));
+  max_header = rw c.number_or-3.ensures (in_range _ _ c.requires.max_header (omega arith) (omega arith));
+  at = rw c.number_or-4.ensures (in_range 0 _ c.requires.at (omega arith) (omega arith)).1;
+  len = rw c.number_or-5.ensures (in_range 0 _ c.requires.len (omega arith) (omega arith)).1;
   input = names_input string_bytes c.args.command _ c.in_ok-text_of-7.ensures c.requires.input;
 }

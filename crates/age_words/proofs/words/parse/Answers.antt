@@ -22,7 +22,7 @@ job_of-requires c =
     c.in_ok-whole_command.ensures c.in_ok-matches.ensures.matches c.in_ok-matches.ensures.kinds c.in-Some.ensures.name
     c.in-Some.ensures.rows in
     subst (λ (x : Command). IsTaken x (rows_of (found_of c.in-Some.matches.now)))
-    (one_command n.taken.0 c.command_named.result (sym n.taken.1 ∙ c.command_named.ensures)) n.taken.2
+    (one_command (sym n.taken.1 ∙ c.command_named.ensures)) n.taken.2
 
 pub returns-in_err-matches-clause-reads : goal.returns-in_err-matches-clause-reads
 returns-in_err-matches-clause-reads c =
