@@ -1,5 +1,5 @@
-# Sourced by ./agep, ./install, ./package and .ci/run, with the repository's folder in `root`: how
-# what they run is built.
+# Sourced by ./agep, ./install, ./package, ./release, .ci/run and tests/planted/run, with the
+# repository's folder in `root`: how what they run is built.
 # shellcheck shell=sh disable=SC2154
 
 # Whether the processor has all of the level x86-64-v3.
