@@ -372,7 +372,7 @@ class Constants(unittest.TestCase):
             found = [number_in(name, before + constant) for constant in ("TEXT_CHUNK", "SEALED_CHUNK", "FRONT")]
             self.assertEqual(found, [chunk, chunk + tag, front], name)
         self.assertEqual([number_in(name, "TAG") for name in (python, rust)], [tag, tag])
-        self.assertGreaterEqual(number_in(header, "AGEFILE_HEADER_ROOM"), number_in("crates/agefile/src/sizes.rt", "FRONT"))
+        self.assertGreaterEqual(number_in(header, "AGEFILE_HEADER_ROOM"), number_in("crates/agefile/src/sizes.rt", "KEYED_START"))
 
 
 class Calls(unittest.TestCase):

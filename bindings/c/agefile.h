@@ -126,10 +126,10 @@ static inline const char *agefile_message(uint32_t code)
     case AGEFILE_REFUSED: return "recipient refused";
     case AGEFILE_INCOMPATIBLE_RECIPIENTS: return "recipient does not go with recipient 0";
     case AGEFILE_TOO_SMALL: return "buffer is too small";
-    case AGEFILE_WORK_FACTOR: return "work factor is not 1 to 30";
+    case AGEFILE_WORK_FACTOR: return "work factor must be 1 to 30";
     case AGEFILE_OUT_OF_ORDER: return "no such stanza or offset, or a call out of order";
     case AGEFILE_NULL_POINTER: return "null pointer with a length";
-    case AGEFILE_BAD_ARGUMENTS: return "stanza arguments are not words";
+    case AGEFILE_BAD_ARGUMENTS: return "stanza arguments must be visible ASCII, one space apart";
     case AGEFILE_EMPTY_PASSPHRASE: return "passphrase is empty";
     /* end of messages */
     default: return "unknown code";

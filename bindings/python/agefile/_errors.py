@@ -64,10 +64,10 @@ _MESSAGES = {
     Code.REFUSED: "recipient refused",
     Code.INCOMPATIBLE_RECIPIENTS: "recipient does not go with recipient 0",
     Code.TOO_SMALL: "buffer is too small",
-    Code.WORK_FACTOR: "work factor is not 1 to 30",
+    Code.WORK_FACTOR: "work factor must be 1 to 30",
     Code.OUT_OF_ORDER: "no such stanza or offset, or a call out of order",
     Code.NULL_POINTER: "null pointer with a length",
-    Code.BAD_ARGUMENTS: "stanza arguments are not words",
+    Code.BAD_ARGUMENTS: "stanza arguments must be visible ASCII, one space apart",
     Code.EMPTY_PASSPHRASE: "passphrase is empty",
     # end of code messages
 }

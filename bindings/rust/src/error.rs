@@ -171,8 +171,8 @@ impl fmt::Display for Error {
             Error::TooManyChunks => write!(f, "too many chunks"),
             Error::OutOfMemory => write!(f, "out of memory"),
             Error::NoRecipients => write!(f, "no recipients"),
-            Error::WorkFactor => write!(f, "work factor is not 1 to 30"),
-            Error::BadArguments => write!(f, "stanza arguments are not words"),
+            Error::WorkFactor => write!(f, "work factor must be 1 to 30"),
+            Error::BadArguments => write!(f, "stanza arguments must be visible ASCII, one space apart"),
             Error::EmptyPassphrase => write!(f, "passphrase is empty"),
             // end of texts of errors
             Error::Refused => write!(f, "recipient refused"),

@@ -7,7 +7,7 @@ use Rattle.std.proofs.lemmas.List.FromFn.{fill_by_all}
 use Rattle.std.proofs.lemmas.Bool.{cases_lt}
 use Rattle.std.proofs.lemmas.Simd.{length-zip2, length-chunk, get_or-zip2, get_or-chunk, get_or-put_chunk_below, get_or-put_chunk_at, get_or-put_chunk_above}
 use Rattle.age_cipher.specs.Bytes.{Bytes, Words}
-use Rattle.age_cipher.specs.ChaCha20.{start, mixed, block, stream_byte}
+use Rattle.age_cipher.specs.ChaCha20.{start, block_words, block, stream_byte}
 use Rattle.age_cipher.specs.Lanes.{lane, bytes, IsXoredAt}
 use Rattle.age_cipher.proofs.LaneLemmas.{lane_word}
 
@@ -72,15 +72,15 @@ pub chunk_xored : (n at : ℕ) (buf : Bytes) {digits : Bytes} (stream : Bytes)
     → IsXoredAt at stream buf (put_chunk at buf (zip2 bit_xor (take n (drop at buf)) digits))
 chunk_xored n at buf stream e long room =
     let chunk_long : length (take n (drop at buf)) ≡ n = length-chunk at n buf room in
-    let mixed = zip2 bit_xor (take n (drop at buf)) stream in
-    let mixed_long : length mixed ≡ n = length-zip2 bit_xor (take n (drop at buf)) stream (chunk_long ∙ sym long)
+    let block_words = zip2 bit_xor (take n (drop at buf)) stream in
+    let mixed_long : length block_words ≡ n = length-zip2 bit_xor (take n (drop at buf)) stream (chunk_long ∙ sym long)
     ∙ chunk_long in
     rw e (record {
-      before = λ j below. get_or-put_chunk_below at buf mixed j 0 below;
-      inside = λ j below. get_or-put_chunk_at at buf mixed j 0 (omega arith) (omega arith)
+      before = λ j below. get_or-put_chunk_below at buf block_words j 0 below;
+      inside = λ j below. get_or-put_chunk_at at buf block_words j 0 (omega arith) (omega arith)
           ∙ get_or-zip2 bit_xor (take n (drop at buf)) stream j 0 0 0 (omega arith) below
           ∙ ap (λ b. bit_xor b (slice_index stream j)) (get_or-chunk at n buf j 0 (omega arith));
-      after = λ j above. get_or-put_chunk_above at buf mixed j 0 (omega arith);
+      after = λ j above. get_or-put_chunk_above at buf block_words j 0 (omega arith);
     })
 
 -- a list is the key stream's first n bytes, from the block `counter` on
@@ -89,9 +89,9 @@ pub record IsStream (key nonce : Bytes) (counter n : ℕ) (stream : Bytes) : Typ
   pub byte : (j : ℕ) → j < n → slice_index stream j ≡ stream_byte key nonce counter j
 
 -- the bytes of a block's words are the stream for one block
-pub block_stream : (key nonce : Bytes) (counter : ℕ) (words : Words) → words ≡ mixed (start key nonce counter)
+pub block_stream : (key nonce : Bytes) (counter : ℕ) (words : Words) → words ≡ block_words (start key nonce counter)
     → IsStream key nonce counter 64 (bytes words)
-unfolding block mixed
+unfolding block block_words
 block_stream key nonce counter words e = rw e (record {
   long = refl;
   byte = λ j below.
@@ -121,8 +121,8 @@ stream_on key nonce counter next m n {prefix} {back} e one two =
 
 -- four blocks' stream
 pub four_stream : (key nonce : Bytes) (counter : ℕ) {a b c d : Bytes}
-    → a ≡ mixed (start key nonce counter) → b ≡ mixed (start key nonce (counter + 1))
-    → c ≡ mixed (start key nonce (counter + 2)) → d ≡ mixed (start key nonce (counter + 3))
+    → a ≡ block_words (start key nonce counter) → b ≡ block_words (start key nonce (counter + 1))
+    → c ≡ block_words (start key nonce (counter + 2)) → d ≡ block_words (start key nonce (counter + 3))
     → IsStream key nonce counter 256 (bytes a ++ (bytes b ++ (bytes c ++ bytes d)))
 four_stream key nonce counter {a} {b} {c} {d} ea eb ec ed =
     stream_on key nonce counter (counter + 1) 1 192 (omega arith) (block_stream key nonce counter a ea)

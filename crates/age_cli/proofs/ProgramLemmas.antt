@@ -1,7 +1,7 @@
 -- What a job comes to, from what its task comes to.
 use Rattle.std.proofs.Common.{◌≡◌, ◌⊎◌, ℕ, List, arith, inl, inr, refl, subst, sym, Option, None, Some, Result, Ok, Err}
 use Rattle.std.specs.Prelude.{⊤}
-use Rattle.age_header.specs.Device.{Bytes, Known, Moved, Stays, moved}
+use Rattle.age_header.specs.Device.{Bytes, Known, Moved, Stays, move_of}
 use Rattle.age_file.specs.declared.fault.Fault.{Fault as FileFault}
 use Rattle.age_job.specs.declared.job.Job.{Job}
 use Rattle.age_words.specs.declared.fault.WordsFault.{WordsFault}
@@ -10,7 +10,7 @@ use Rattle.age_words.specs.JobOf.{AreWrong, AskForText, Reads}
 use Rattle.age_words.proofs.RefusalLemmas.{shown, wrong}
 use Rattle.age_cli.specs.declared.failure.Failure.{Failure}
 use Rattle.age_commands.specs.declared.task.Task.{Task}
-use Rattle.age_cli.specs.Program.{AnswersRefusal, Begins, Completes, Finishes, FinishesOn, IsInput, IsOutput, IsTaskOf, PerformsOn, Works}
+use Rattle.age_cli.specs.Program.{AnswersRefusal, Begins, Completes, Finishes, FinishesOn, IsInput, IsOutput, IsTaskOf, PerformsOn, UsesStreams, Works}
 
 -- standard input, where no file is named
 input_is : {A : Type 0} (F : Type 0) (remaining : F → Known) (o : Option A) (standard from : Known) → o ≡ None
@@ -46,31 +46,33 @@ alone F remaining contents job {from} {sink} none silent (source, i, (target, o,
     (subst (λ (s : Moved). Finishes job source s) (output_is F contents job.output sink target silent o) h)
 
 -- what the status after a refusal says of the words
-module _ (words : List Bytes) (unwritten : Type 0) where
-  pub refused : (fault : WordsFault) (status : ℕ) → Reads words (Err fault) → AnswersRefusal fault status unwritten
-      → status ≡ 2
-      → unwritten × AreWrong words
-  refused Memory status h a two = absurd (omega arith)
-  refused (Refused error) status h (inl (low, is)) two = absurd (omega arith)
-  refused (Refused error) status h (inr (is, stays, hidden)) two = (stays, wrong words error h hidden)
+pub refused : (words : List Bytes) (unwritten : Type 0) (fault : WordsFault) (status : ℕ) → Reads words (Err fault)
+    → AnswersRefusal fault status unwritten → status ≡ 2 → unwritten × AreWrong words
+refused words unwritten Memory status h a two = absurd (omega arith)
+refused words unwritten (Refused error) status h (inl (low, is)) two = absurd (omega arith)
+refused words unwritten (Refused error) status h (inr (is, stays, hidden)) two = (stays, wrong words error h hidden)
 
-  pub answered : (fault : WordsFault) (status : ℕ) → Reads words (Err fault) → AnswersRefusal fault status unwritten
-      → status ≡ 0
-      → AskForText words
-  answered Memory status h a none = absurd (omega arith)
-  answered (Refused error) status h (inl (low, is)) none = shown words error h is
-  answered (Refused error) status h (inr (two, stays, hidden)) none = absurd (omega arith)
+pub answered : (words : List Bytes) (unwritten : Type 0) (fault : WordsFault) (status : ℕ) → Reads words (Err fault)
+    → AnswersRefusal fault status unwritten → status ≡ 0 → AskForText words
+answered words unwritten Memory status h a none = absurd (omega arith)
+answered words unwritten (Refused error) status h (inl (low, is)) none = shown words error h is
+answered words unwritten (Refused error) status h (inr (two, stays, hidden)) none = absurd (omega arith)
 
-  pub failed : (fault : WordsFault) (status : ℕ) → Reads words (Err fault) → AnswersRefusal fault status unwritten
-      → status ≡ 1
-      → AskForText words ⊎ unwritten
-  failed Memory status h a one = inr a.1
-  failed (Refused error) status h (inl (low, is)) one = inl (shown words error h is)
-  failed (Refused error) status h (inr (two, stays, hidden)) one = absurd (omega arith)
+pub failed : (words : List Bytes) (unwritten : Type 0) (fault : WordsFault) (status : ℕ) → Reads words (Err fault)
+    → AnswersRefusal fault status unwritten → status ≡ 1 → AskForText words ⊎ unwritten
+failed words unwritten Memory status h a one = inr a.1
+failed words unwritten (Refused error) status h (inl (low, is)) one = inl (shown words error h is)
+failed words unwritten (Refused error) status h (inr (two, stays, hidden)) one = absurd (omega arith)
 
-pub stays_known : {old new : Known} → new ≡ old → Stays (moved old new)
-stays_known {old} {new} e = subst (λ (k : Known). Stays (moved old k)) (sym e) (same old)
+pub unused : (words : List Bytes) {unread unwritten : Type 0} (fault : WordsFault) (status : ℕ)
+    → Reads words (Err fault) → AnswersRefusal fault status unwritten → unread → UsesStreams words unread unwritten
+unused words Memory status h a kept = inr (inl (kept, a.1))
+unused words (Refused error) status h (inl (low, is)) kept = inl (shown words error h is, kept)
+unused words (Refused error) status h (inr (two, stays, hidden)) kept = inr (inl (kept, stays))
+
+pub stays_known : {old new : Known} → new ≡ old → Stays (move_of old new)
+stays_known {old} {new} e = subst (λ (k : Known). Stays (move_of old k)) (sym e) (same old)
   where
-    same : (k : Known) → Stays (moved k k)
+    same : (k : Known) → Stays (move_of k k)
     same None = tt
     same (Some xs) = refl

@@ -1,20 +1,19 @@
 -- What a job comes to, from its input to its output.
-use Rattle.std.specs.Prelude.{◌≡◌, ◌≤◌, ◌⊎◌, ◌^◌, ℕ, ⊤, List, Option, None, Some, Result, Ok, Err}
-use Rattle.age_header.specs.Device.{Bytes, Known, Moved, moved, Stays}
+use Rattle.std.specs.Prelude.{◌≡◌, ◌≢◌, ◌≤◌, ◌⊎◌, ◌^◌, ℕ, ⊤, List, Option, None, Some, Result, Ok, Err}
+use Rattle.age_header.specs.Device.{Bytes, Known, Moved, move_of, Stays}
 use Rattle.age_file.specs.AgeFile.{Bounds}
 use Rattle.age_file.specs.declared.fault.Fault.{Fault as FileFault}
-use Rattle.age_job.specs.declared.job.Command.{Command}
 use Rattle.age_job.specs.declared.job.Command.TheVariants as command
 use Rattle.age_job.specs.declared.job.Job.{Job}
 use Rattle.age_job.specs.Secret.{IsFileKeyOf, IsNewSecret, IsSecretOf}
 use Rattle.age_job.specs.declared.secret.Secret.{Secret}
 use Rattle.age_words.specs.declared.fault.WordsFault.{WordsFault}
 use Rattle.age_words.specs.declared.fault.WordsFault.TheVariants.{Memory, Refused}
-use Rattle.age_words.specs.JobOf.{IsShown, Makes, header_limit}
+use Rattle.age_words.specs.JobOf.{AskForText, IsShown, Makes, header_limit}
 use Rattle.age_cli.specs.declared.failure.Failure.{Failure}
 use Rattle.age_cli.specs.declared.failure.Fault.TheVariants.{AgeFile}
 use Rattle.age_commands.specs.declared.task.Task.{Task}
-use Rattle.age_commands.specs.declared.task.Task.TheVariants as task
+use Rattle.age_commands.specs.declared.task.Task.TheVariants.{Encrypt, Decrypt, Rewrap, Inspect, Range, Salvage}
 use Rattle.age_commands.specs.Output.{Ends}
 use Rattle.age_commands.specs.Task.{Performs, PerformsQuietly}
 
@@ -22,25 +21,21 @@ use Rattle.age_commands.specs.Task.{Performs, PerformsQuietly}
 abbrev pub IsSecretFor : (job : Job) (secret : Secret) → Type 0
 IsSecretFor job secret = IsSecretOf job.pass job.key job.more_keys.items secret
 
--- a task of this command, with the secrets that the job's options name
-abbrev pub IsTaskFor : (command : Command) (job : Job) (task : Task) → Type 0
-IsTaskFor command.Encrypt job (task.Encrypt secret seed) =
-    IsSecretFor job secret × IsNewSecret secret
-IsTaskFor command.Decrypt job (task.Decrypt secret) = IsSecretFor job secret
-IsTaskFor command.Rewrap job (task.Rewrap old new salt) =
-    IsSecretFor job old
-    × IsSecretOf job.new_pass job.new_key job.more_new_keys.items new × IsNewSecret new
-IsTaskFor command.Inspect job (task.Inspect key) = IsFileKeyOf job.raw job.file_key key
-IsTaskFor command.Range job (task.Range secret) = IsSecretFor job secret
-IsTaskFor command.Salvage job (task.Salvage secret) = IsSecretFor job secret
-IsTaskFor command job task = ⊥
-
 -- A task of this job: its secret is a passphrase if a passphrase file alone is named, else one key
 -- or more, and no more than key files are named; `rewrap` has the old one and the new one in their
 -- roles, and no new passphrase is empty; `inspect` has a file key exactly if `-f` names one,
 -- without `-r`.
 abbrev pub IsTaskOf : (job : Job) (task : Task) → Type 0
-IsTaskOf job task = IsTaskFor job.command job task
+IsTaskOf job (Encrypt secret seed) =
+    (job.command ≡ command.Encrypt) × IsSecretFor job secret × IsNewSecret secret
+IsTaskOf job (Decrypt secret) = (job.command ≡ command.Decrypt) × IsSecretFor job secret
+IsTaskOf job (Rewrap old new salt) =
+    (job.command ≡ command.Rewrap) × IsSecretFor job old
+    × IsSecretOf job.new_pass job.new_key job.more_new_keys.items new × IsNewSecret new
+IsTaskOf job (Inspect key) =
+    (job.command ≡ command.Inspect) × IsFileKeyOf job.raw job.file_key key
+IsTaskOf job (Range secret) = (job.command ≡ command.Range) × IsSecretFor job secret
+IsTaskOf job (Salvage secret) = (job.command ≡ command.Salvage) × IsSecretFor job secret
 
 -- The work of a task, where the input gives `from`: a buffer before the output takes what the
 -- library writes, and the output ends with what the buffer took.
@@ -48,7 +43,7 @@ abbrev pub Works : (job : Job) (task : Task) (from : Known) (sink : Moved)
     (result : Result ⊤ FileFault) → Type 0
 Works job task from sink result =
     (taken : Known) × (work : Result ⊤ FileFault)
-    × Performs job task from (moved sink.before taken) work
+    × Performs job task from (move_of sink.before taken) work
     × PerformsQuietly task sink.before taken work × Ends sink taken work result
 
 -- the same with what a failure names as its fault
@@ -69,7 +64,7 @@ abbrev pub IsOutput : {A : Type 0} (F : Type 0) (contents : F → Known) (name :
     (standard sink : Moved) → Type 0
 IsOutput F contents None standard sink = sink ≡ standard
 IsOutput F contents (Some name) standard sink =
-    (old new : F) × (sink ≡ moved (contents old) (contents new))
+    (old new : F) × (sink ≡ move_of (contents old) (contents new))
 
 -- What work comes to that writes to OUT: it is done. Or it failed: then standard output is as it
 -- was, or has what the work wrote. Of a file nothing is said then.
@@ -122,11 +117,19 @@ FinishesWords F remaining contents words from sink =
 abbrev pub word_limits : (words : List Bytes) → Bounds
 word_limits words = record { max_header = header_limit words; max_chunks = 2 ^ 88 }
 
--- the words make a job, and it ended with a fault
+-- the words make a job; if it names no OUT, nothing was written, or a task of it ended with a fault
 abbrev pub BeginsWords : (F : Type 0) (remaining : F → Known) (words : List Bytes)
     (from : Known) (sink : Moved) → Type 0
 BeginsWords F remaining words from sink =
     (job : Job) × Makes words job × (job.output ≡ None → Begins F remaining job from sink)
+
+-- Standard input is unread and standard output unwritten, but for a text that the words ask for,
+-- and for a job that they make: of it the first if it names IN, the second if it names OUT.
+abbrev pub UsesStreams : (words : List Bytes) (unread unwritten : Type 0) → Type 0
+UsesStreams words unread unwritten =
+    (AskForText words × unread) ⊎ (unread × unwritten)
+    ⊎ ((job : Job) × Makes words job × (job.input ≢ None → unread)
+    × (job.output ≢ None → unwritten))
 
 -- How a refusal is answered: memory by status 1, a text that was asked for by 0, or 1 if it was not
 -- written, and wrong words by 2. But for the text nothing is written.

@@ -2,7 +2,7 @@
 //! contract.
 
 ghost use Rattle.std.specs.Prelude.{◌≡◌, ◌≤◌, ◌++◌, List, Ok, Option, Some, length};
-ghost use Rattle.age_header.specs.Device.{Bytes, Known, moved};
+ghost use Rattle.age_header.specs.Device.{Bytes, Known, move_of};
 ghost use Rattle.age_header.specs.Header.{HeaderParts, StanzaParts};
 ghost use Rattle.age_header.specs.Verdict.{HeaderVerdict};
 ghost use Rattle.age_header.specs.declared.file_key.FileKey.{FileKey};
@@ -10,7 +10,7 @@ ghost use Rattle.age_file.specs.AgeFile.{AgeFile};
 ghost use Rattle.age_job.specs.declared.job.Job.{Job};
 ghost use Rattle.age_words.specs.JobOf.{IsPiped, Makes};
 ghost use Rattle.age_file.specs.Rewrap.{Rewrapped};
-ghost use Rattle.age_file.specs.Verdict.{Answering, found_in};
+ghost use Rattle.age_file.specs.Verdict.{Answering, finding};
 ghost use Rattle.age_commands.specs.Inspect.{IsShown, check_of};
 ghost use Rattle.age_cli.specs.Program.{Finishes, FinishesWords, word_limits};
 ghost use Rattle.age_commands.specs.Secret.{limits_of};
@@ -31,53 +31,53 @@ use std::rt::Files;
 /// `range` names one.
 pub fn done_jobs<F: Files>()
     ensures decrypt { (job : Job) (b xs : Bytes) (new : Known) → job.command ≡ Command.Decrypt
-        → Finishes job (Some b) (moved (Some xs) new)
+        → Finishes job (Some b) (move_of (Some xs) new)
         → (stanzas : List StanzaParts) × (k : FileKey) × (plain : Bytes)
         × AgeFile (limits_of job) k stanzas plain b × (new ≡ Some (xs ++ plain)) }
     ensures encrypt { (job : Job) (plain xs : Bytes) (new : Known) → job.command ≡ Command.Encrypt
-        → Finishes job (Some plain) (moved (Some xs) new)
+        → Finishes job (Some plain) (move_of (Some xs) new)
         → (stanzas : List StanzaParts) × (k : FileKey) × (b : Bytes)
         × AgeFile (limits_of job) k stanzas plain b × (new ≡ Some (xs ++ b)) }
     ensures decrypt_words { (words : List Bytes) (b xs : Bytes) (new : Known)
         → IsPiped Command.Decrypt words
         → FinishesWords F.File ⟦<F::File as Read>⟧.remaining ⟦<F::File as Write>⟧.contents words
-        (Some b) (moved (Some xs) new)
+        (Some b) (move_of (Some xs) new)
         → (stanzas : List StanzaParts) × (k : FileKey) × (plain : Bytes)
         × AgeFile (word_limits words) k stanzas plain b × (new ≡ Some (xs ++ plain)) }
     ensures encrypt_words { (words : List Bytes) (plain xs : Bytes) (new : Known)
         → IsPiped Command.Encrypt words
         → FinishesWords F.File ⟦<F::File as Read>⟧.remaining ⟦<F::File as Write>⟧.contents words
-        (Some plain) (moved (Some xs) new)
+        (Some plain) (move_of (Some xs) new)
         → (stanzas : List StanzaParts) × (k : FileKey) × (b : Bytes)
         × AgeFile (word_limits words) k stanzas plain b × (new ≡ Some (xs ++ b)) }
     ensures rewrap { (job : Job) (b xs : Bytes) (new : Known) → job.command ≡ Command.Rewrap
-        → Finishes job (Some b) (moved (Some xs) new)
+        → Finishes job (Some b) (move_of (Some xs) new)
         → (answers : Answering) × (c : Bytes) × Rewrapped (limits_of job) answers b c
         × (new ≡ Some (xs ++ c)) }
     ensures rewrap_words { (words : List Bytes) (b xs : Bytes) (new : Known)
         → IsPiped Command.Rewrap words
         → FinishesWords F.File ⟦<F::File as Read>⟧.remaining ⟦<F::File as Write>⟧.contents words
-        (Some b) (moved (Some xs) new)
+        (Some b) (move_of (Some xs) new)
         → (answers : Answering) × (c : Bytes) × Rewrapped (word_limits words) answers b c
         × (new ≡ Some (xs ++ c)) }
     ensures inspect { (job : Job) (b xs : Bytes) (new : Known) → job.command ≡ Command.Inspect
-        → Finishes job (Some b) (moved (Some xs) new)
+        → Finishes job (Some b) (move_of (Some xs) new)
         → (header : HeaderParts) × (text : Bytes)
-        × HeaderVerdict b (limits_of job).max_header (Ok (found_in text header))
+        × HeaderVerdict b (limits_of job).max_header (Ok (finding text header))
         × ((key : Option Bytes) × (shown : Bytes)
         × IsShown job.raw header (check_of key header) shown
         × (new ≡ Some (xs ++ shown))) }
     ensures inspect_words { (words : List Bytes) (b xs : Bytes) (new : Known)
         → IsPiped Command.Inspect words
         → FinishesWords F.File ⟦<F::File as Read>⟧.remaining ⟦<F::File as Write>⟧.contents words
-        (Some b) (moved (Some xs) new)
+        (Some b) (move_of (Some xs) new)
         → (job : Job) × Makes words job × ((header : HeaderParts) × (text : Bytes)
-        × HeaderVerdict b (word_limits words).max_header (Ok (found_in text header))
+        × HeaderVerdict b (word_limits words).max_header (Ok (finding text header))
         × ((key : Option Bytes) × (shown : Bytes)
         × IsShown job.raw header (check_of key header) shown
         × (new ≡ Some (xs ++ shown)))) }
     ensures range { (job : Job) (from : Known) (xs : Bytes) (new : Known)
-        → job.command ≡ Command.Range → Finishes job from (moved (Some xs) new)
+        → job.command ≡ Command.Range → Finishes job from (move_of (Some xs) new)
         → (part : Bytes) × (length part ≤ job.len) × (new ≡ Some (xs ++ part)) }
 {
     ok_is_age_file();

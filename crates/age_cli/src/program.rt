@@ -2,8 +2,8 @@
 ghost use Rattle.std.specs.Prelude.{◌≡◌, ◌≢◌, ◌≤◌, ◌⊎◌, None, map, IfOk, OnOk};
 ghost use Rattle.age_job.specs.Job.{IsInRange};
 ghost use Rattle.age_words.specs.JobOf.{AreWrong, AskForText};
-ghost use Rattle.age_cli.specs.Program.{AnswersRefusal, Begins, BeginsWords, Completes, FinishesOn, FinishesWords, IsTaskOf, PerformsOn};
-ghost use Rattle.age_header.specs.Device.{Stays, moved_by};
+ghost use Rattle.age_cli.specs.Program.{AnswersRefusal, Begins, BeginsWords, Completes, FinishesOn, FinishesWords, IsTaskOf, PerformsOn, UsesStreams};
+ghost use Rattle.age_header.specs.Device.{Stays, move_by};
 
 use crate::failure::{Failure, Fault};
 use crate::lines::LossLines;
@@ -57,13 +57,17 @@ pub fn run<F: Files + Clock + AllocGlobal, R: Read, W: Write + IsTerminal, E: Wr
     ensures finishes { result ≡ 0 → AskForText (map (λ word. word.now) words.now)
         ⊎ FinishesWords F.File ⟦<F::File as Read>⟧.remaining ⟦<F::File as Write>⟧.contents
         (map (λ word. word.now) words.now) (R.remaining input.old)
-        (moved_by W.contents out.old out.new) }
-    // Status 1: the words ask for a text that could not be written, the output is as it was, or a
-    // task of a job of these words ended with a fault.
+        (move_by W.contents out.old out.new) }
+    // Status 1: the words ask for a text that could not be written, the output is as it was, or the
+    // words make a job of which, if it names no OUT, a task ended with a fault.
     ensures begins { result ≡ 1 → AskForText (map (λ word. word.now) words.now)
-        ⊎ (Stays (moved_by W.contents out.old out.new)
+        ⊎ (Stays (move_by W.contents out.old out.new)
         ⊎ BeginsWords F.File ⟦<F::File as Read>⟧.remaining (map (λ word. word.now) words.now)
-        (R.remaining input.old) (moved_by W.contents out.old out.new)) }
+        (R.remaining input.old) (move_by W.contents out.old out.new)) }
+    // No standard input is read if the words make a job that names IN, and nothing is written to
+    // standard output if it names OUT; neither is without a job, but for a text that they ask for.
+    ensures streams { UsesStreams (map (λ word. word.now) words.now) (input.new ≡ input.old)
+        (out.new ≡ out.old) }
 {
     match read_words(rt.alloc(), words) {
         Ok(job) => run_job(rt, &job, input, out, err),
@@ -85,11 +89,11 @@ pub fn run_job<
     ensures quiet { result ≡ 0 → err.new ≡ err.old }
     // Status 0: a task of the job's command was done, with some secret of the kind that the options
     // name and some seed, from its IN to its OUT. Where the contents of both are known, the output
-    // gained exactly what the library says, and nothing else. Of a range's IN the size alone is
-    // known.
+    // gained exactly what the library says, and nothing else. Of a range's IN nothing is known:
+    // said is how many bytes are written at most, and which faults there are.
     ensures finishes { result ≡ 0 → FinishesOn F.File ⟦<F::File as Read>⟧.remaining
         ⟦<F::File as Write>⟧.contents job.now (R.remaining input.old)
-        (moved_by W.contents out.old out.new) }
+        (move_by W.contents out.old out.new) }
     // No standard input is read if the job names IN.
     ensures input { job.now.input ≢ None → input.new ≡ input.old }
     // Nothing is written to standard output if the job names OUT.
@@ -99,7 +103,7 @@ pub fn run_job<
     // and a prefix of what the library wrote.
     ensures begins { result ≡ 1 → job.now.output ≡ None
         → Begins F.File ⟦<F::File as Read>⟧.remaining job.now (R.remaining input.old)
-        (moved_by W.contents out.old out.new) }
+        (move_by W.contents out.old out.new) }
 {
     let is_shown = shows_progress(job, out, err);
     let mut lines = LossLines {
@@ -152,7 +156,7 @@ fn perform<'a, F: Files + Clock + AllocGlobal, R: Read, W: Write + IsTerminal, L
     ensures silent { OnOk result (lines.new ≡ lines.old) }
     ensures completes { Completes F.File ⟦<F::File as Read>⟧.remaining
         ⟦<F::File as Write>⟧.contents job.now (R.remaining input.old)
-        (moved_by W.contents out.old out.new) result }
+        (move_by W.contents out.old out.new) result }
     ensures input { job.now.input ≢ None → input.new ≡ input.old }
     ensures output { job.now.output ≢ None → out.new ≡ out.old }
 {
@@ -218,7 +222,7 @@ fn perform_on<'a, F: Files + AllocGlobal, R: Read + Seek + Drop, W: Write, L: Re
     requires { IsInRange job.now }
     ensures silent { OnOk result (lines.new ≡ lines.old) }
     ensures performs { PerformsOn F.File ⟦<F::File as Write>⟧.contents job.now task
-        (R.remaining input) (moved_by W.contents out.old out.new) result }
+        (R.remaining input) (move_by W.contents out.old out.new) result }
     ensures output { job.now.output ≢ None → out.new ≡ out.old }
 {
     let mut input = Watched::new(rt.alloc(), input, kept_prefix(job));

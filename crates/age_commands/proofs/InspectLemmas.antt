@@ -4,7 +4,7 @@ use Rattle.std.proofs.lemmas.List.{append_assoc, append-nil, length-take-le, tak
 use Rattle.std.specs.Prelude.{⊤, ◌^◌, ◌-◌, OnOk, Result, codes, min}
 use Rattle.std.specs.Io.KnownBytes.{Appends}
 use Rattle.std.proofs.KnownBytes.{Appends-trans, Keeps-refl}
-use Rattle.age_header.specs.Device.{Bytes, Flow, Known, OfGiven, Seen, flow, moved}
+use Rattle.age_header.specs.Device.{Bytes, Flow, Known, Moved, OfGiven, Seen, Took, WritesPart, flow, move_of}
 use Rattle.age_header.specs.declared.fault.HeaderFault.{HeaderFault}
 use Rattle.age_header.specs.declared.fault.HeaderFault.TheVariants as header
 use Rattle.age_header.specs.Base64.{IsBase64}
@@ -16,12 +16,12 @@ use Rattle.age_file.specs.AgeFile.{Bounds}
 use Rattle.age_file.specs.Inspect.{Inspects}
 use Rattle.age_file.specs.Verdict.{header_fault}
 use Rattle.age_commands.specs.declared.inspect.Check.{Check}
-use Rattle.age_commands.specs.Inspect.{Inspecting, InspectsText, IsTable, Shows, ShowsAll, check_of, checked_result, first_lines, last_lines, row, rows}
+use Rattle.age_commands.specs.Inspect.{Inspecting, InspectsText, IsShown, IsTable, OfShown, Shows, check_of, first_lines, last_lines, row, rows}
 
 missed_of : (limits : Bounds) (raw : Bool) (key : Option Bytes) (b : Bytes) (source : Flow) (old : Known)
     (e : HeaderFault)
     → ReadsHeaderOf b source limits.max_header (Err e)
-    → InspectsText limits raw key b (moved old old) (Err (header_fault e))
+    → InspectsText limits raw key b (move_of old old) (Err (header_fault e))
 missed_of limits raw key b source old header.NotAge h = (header.NotAge, h, refl, Keeps-refl old)
 missed_of limits raw key b source old (header.BadLine n) h = (header.BadLine n, h, refl, Keeps-refl old)
 missed_of limits raw key b source old header.Truncated h = (header.Truncated, h, refl, Keeps-refl old)
@@ -31,61 +31,58 @@ missed_of limits raw key b source old header.Memory h = Keeps-refl old
 
 missed_from : (limits : Bounds) (raw : Bool) (key : Option Bytes) (from to : Seen) (old : Known) (e : HeaderFault)
     → ReadsHeader (flow from to) limits.max_header (Err e)
-    → Inspecting limits raw key (flow from to) (moved old old) (Err (header_fault e))
+    → Inspecting limits raw key (flow from to) (move_of old old) (Err (header_fault e))
 missed_from limits raw key from to old e h =
     of_map h (λ b reads. missed_of limits raw key b (flow from to) old e reads)
 
 -- there is no header
 pub missed : {limits l : Bounds} (raw : Bool) (key : Option Bytes) {from to : Seen} (old : Known) {fault : Fault}
     → l ≡ limits → Inspects l (flow from to) (Err fault)
-    → Inspecting limits raw key (flow from to) (moved old old) (Err fault)
+    → Inspecting limits raw key (flow from to) (move_of old old) (Err fault)
 missed raw key old same (Ok h, is, reads) = absurd (cc)
 missed {limits} raw key {from} {to} old {fault} same (Err e, is, reads) =
     let one : ◌≡◌ {A = Fault} fault (header_fault e) = cc in
-    subst (λ f. Inspecting limits raw key (flow from to) (moved old old) (Err f)) (sym one)
+    subst (λ f. Inspecting limits raw key (flow from to) (move_of old old) (Err f)) (sym one)
     (missed_from limits raw key from to old e
     (subst (λ (m : Bounds). ReadsHeader (flow from to) m.max_header (Err e)) same reads))
 
-shown_of : (limits : Bounds) (raw : Bool) (key : Option Bytes) (from to : Seen) (old new : Known) (h : HeaderParts)
-    (fault : Fault)
-    → ReadsHeader (flow from to) limits.max_header (Ok h) → Shows raw h (check_of key h) (moved old new) (Err fault)
-    → Inspecting limits raw key (flow from to) (moved old new) (Err fault)
-shown_of limits raw key from to old new h fault reads (inl (is, prefix)) =
-    subst (λ f. Inspecting limits raw key (flow from to) (moved old new) (Err f)) (sym is)
-    (of_map reads (λ b found. (h, found.0, found.1, prefix)))
-shown_of limits raw key from to old new h fault reads (inr (is, k)) =
-    subst (λ f. Inspecting limits raw key (flow from to) (moved old new) (Err f)) (sym is)
-    (of_map reads (λ b found. k))
-
--- all of a header was shown
-pub shown : {limits l : Bounds} (raw : Bool) (key : Option Bytes) {from to : Seen} (old new : Known) {h : HeaderParts}
-    {checked : Check} {r : Result ⊤ Fault} → l ≡ limits
-    → Inspects l (flow from to) (Ok h) → checked ≡ check_of key h → Shows raw h checked (moved old new) (Ok tt)
-    → r ≡ checked_result checked → OfGiven (flow from to) (λ b. ShowsAll limits raw key b (moved old new) r)
-shown raw key old new same (Err e, is, reads) made shows tells = absurd (cc)
-shown {l} raw key {from} {to} old new {h} same (Ok g, is, reads) made shows tells =
+-- what was shown of a header that was read
+shown_of : {limits l : Bounds} (raw : Bool) (key : Option Bytes) {from to : Seen} {h : HeaderParts} {checked : Check}
+    (P : Check → Bytes → Type 0) (text : Bytes) → l ≡ limits → Inspects l (flow from to) (Ok h)
+    → checked ≡ check_of key h → IsShown raw h checked text → P checked text
+    → OfGiven (flow from to) (λ b. OfShown limits raw key b P)
+shown_of raw key P text same (Err e, is, reads) made spelled holds = absurd (cc)
+shown_of {l} raw key {from} {to} {h} P text same (Ok g, is, reads) made spelled holds =
     let one : ◌≡◌ {A = HeaderParts} g h = cc in
     of_map (subst (λ (m : Bounds). ReadsHeader (flow from to) m.max_header (Ok h)) same
-    (subst (λ (x : HeaderParts). ReadsHeader (flow from to) l.max_header (Ok x)) one reads)) (λ b found. (
-      h,
-      found.0,
-      found.1,
-      subst (λ (x : Check). Shows raw h x (moved old new) (Ok tt)) made shows,
-      tells ∙ ap checked_result made,
-    ))
+    (subst (λ (x : HeaderParts). ReadsHeader (flow from to) l.max_header (Ok x)) one reads)) (λ b found. record {
+      header = h;
+      text = found.0;
+      verdict = found.1;
+      shown = text;
+      is = subst (λ (x : Check). IsShown raw h x text) made spelled;
+      holds = subst (λ (x : Check). P x text) made holds;
+    })
+
+-- all of a header was shown
+pub shown : (Q : Check → Type 0) {limits l : Bounds} (raw : Bool) (key : Option Bytes) {from to : Seen}
+    (sink : Moved) {h : HeaderParts} {checked : Check} → l ≡ limits → Inspects l (flow from to) (Ok h)
+    → checked ≡ check_of key h → Shows raw h checked sink (Ok tt) → Q checked
+    → OfGiven (flow from to) (λ b. OfShown limits raw key b (λ x text. Q x × Took sink text))
+shown Q raw key sink same inspects made (text, spelled, took) holds =
+    shown_of raw key (λ x s. Q x × Took sink s) text same inspects made spelled (holds, took)
 
 -- a header that was not shown to its end, or not at all where memory was refused
-pub shown_in_part : {limits l : Bounds} (raw : Bool) (key : Option Bytes) {from to : Seen} (old new : Known)
+pub shown_in_part : {limits l : Bounds} (raw : Bool) (key : Option Bytes) {from to : Seen} (sink : Moved)
     {h : HeaderParts} {checked : Check} {fault : Fault} → l ≡ limits
-    → Inspects l (flow from to) (Ok h) → checked ≡ check_of key h → Shows raw h checked (moved old new) (Err fault)
-    → Inspecting limits raw key (flow from to) (moved old new) (Err fault)
-shown_in_part raw key old new same (Err e, is, reads) made shows = absurd (cc)
-shown_in_part {limits} {l} raw key {from} {to} old new {h} {fault} same (Ok g, is, reads) made shows =
-    let one : ◌≡◌ {A = HeaderParts} g h = cc in
-    shown_of limits raw key from to old new h fault
-    (subst (λ (m : Bounds). ReadsHeader (flow from to) m.max_header (Ok h)) same
-    (subst (λ (x : HeaderParts). ReadsHeader (flow from to) l.max_header (Ok x)) one reads))
-    (subst (λ (x : Check). Shows raw h x (moved old new) (Err fault)) made shows)
+    → Inspects l (flow from to) (Ok h) → checked ≡ check_of key h → Shows raw h checked sink (Err fault)
+    → Inspecting limits raw key (flow from to) sink (Err fault)
+shown_in_part {limits} raw key {from} {to} sink same inspects made (inl (is, (text, spelled, part))) =
+    subst (λ f. Inspecting limits raw key (flow from to) sink (Err f)) (sym is)
+    (shown_of raw key (λ x s. WritesPart sink s) text same inspects made spelled part)
+shown_in_part {limits} raw key {from} {to} sink same (r, found, reads) made (inr (is, stays)) =
+    subst (λ f. Inspecting limits raw key (flow from to) sink (Err f)) (sym is)
+    (of_map reads (λ b some. stays))
 
 -- the rows of one more stanza
 rows_push : (n : ℕ) (xs : List StanzaParts) (x : StanzaParts)

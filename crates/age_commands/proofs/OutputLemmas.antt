@@ -2,13 +2,13 @@
 use Rattle.std.proofs.Common.{◌++◌, ◌∙◌, ap, sym, None, Some}
 use Rattle.std.specs.Io.KnownBytes.{Keeps, append_known}
 use Rattle.std.proofs.KnownBytes.{Appends-trans, Appends-kept}
-use Rattle.age_header.specs.Device.{Bytes, Known, moved}
+use Rattle.age_header.specs.Device.{Bytes, Known, move_of}
 use Rattle.age_commands.specs.Output.{Grows, HasPrefix}
 
-pub grows_on : (a b c : Known) → Grows (moved a b) → Grows (moved b c) → Grows (moved a c)
+pub grows_on : (a b c : Known) → Grows (move_of a b) → Grows (move_of b c) → Grows (move_of a c)
 grows_on a b c (x, p) (y, q) = (x ++ y, Appends-trans a b c x y p q)
 
-pub grows_kept : (a b c : Known) → Grows (moved a b) → Keeps b c → Grows (moved a c)
+pub grows_kept : (a b c : Known) → Grows (move_of a b) → Keeps b c → Grows (move_of a c)
 grows_kept a b c (x, p) k = (x, Appends-kept a b c x p k)
 
 -- what is written in part

@@ -5,12 +5,12 @@ use Rattle.std.proofs.KnownBytes.{Appends-nil, Appends-trans, Keeps-refl}
 use Rattle.std.proofs.lemmas.List.{length-append, length-take, length-take-le, take-append-le, get_or-take, get_or_append_left, get_or-append-add}
 use Rattle.std.proofs.lemmas.Bool.{cases_lt}
 use Rattle.std.specs.Io.KnownBytes.{Appends}
-use Rattle.age_header.specs.Device.{Bytes, Known, Moved, moved}
+use Rattle.age_header.specs.Device.{Bytes, Known, Moved, WritesPart, move_of}
 use Rattle.age_header.specs.Header.{StanzaParts}
 use Rattle.age_recipient.specs.declared.unwrapped.Unwrapped.{Unwrapped}
 use Rattle.age_stream.specs.declared.fault.StreamFault.{StreamFault}
 use Rattle.age_stream.specs.declared.layout.Layout.{Layout}
-use Rattle.age_stream.specs.Ranges.{HasPlain, IsSound, RangeState, Stops, bytes_from, opens_to, range_len}
+use Rattle.age_stream.specs.Ranges.{HasPlain, IsSound, RangeState, Stops, bytes_from, source_opening, range_len}
 use Rattle.age_stream.specs.Slice.{opening}
 use Rattle.age_stream.specs.Sizes.{chunk_size}
 use Rattle.age_file.specs.declared.fault.Fault.{Fault}
@@ -21,7 +21,7 @@ use Rattle.age_commands.specs.Range.{Ranging, WritesPlain, WritesRange}
 
 -- nothing is written
 nothing : (told : Known) (layout : Layout) (at n : ℕ) (old : Known) → n ≡ 0
-    → WritesPlain told layout at n (moved old old)
+    → WritesPlain told layout at n (move_of old old)
 nothing told layout at n old none = record {
   part = [];
   size = sym none;
@@ -69,7 +69,7 @@ pub stopped : {told : Known} {s : RangeState} (at left : ℕ) {most : ℕ} {was 
     {fault : StreamFault} {named : Fault} {old : Known}
     → most ≤ left → most ≤ chunk_size - at % chunk_size → named ≡ stream_fault fault → IsSound told s
     → Stops told s at (range_len s at most) was buf opened fault
-    → WritesRange told s at left (moved old old) (Err named)
+    → WritesRange told s at left (move_of old old) (Err named)
 stopped {told} {s} at left {most} {old} le within is sound stops =
     let some : 0 < range_len s at most = stops.some in
     let to : chunk_size * stops.chunk < at + range_len s at most = stops.to in
@@ -90,7 +90,7 @@ stopped {told} {s} at left {most} {old} le within is sound stops =
 -- a piece was written
 pub written : {told : Known} {layout : Layout} {at n : ℕ} (buf rest : Bytes) {old new : Known} → n ≤ length buf
     → HasPlain told layout at (take n buf)
-    → Appends old new (take n (buf ++ rest)) → WritesPlain told layout at n (moved old new)
+    → Appends old new (take n (buf ++ rest)) → WritesPlain told layout at n (move_of old new)
 written {n} buf rest {old} {new} le plain a = record {
   part = take n buf;
   size = length-take-le n buf le;
@@ -99,11 +99,11 @@ written {n} buf rest {old} {new} le plain a = record {
 }
 
 -- a prefix of a piece was written
-pub written_part : {told : Known} {layout : Layout} {at n : ℕ} (k : ℕ) {most : ℕ} (buf rest : Bytes) {old new : Known}
+pub written_part : {told : Known} {layout : Layout} {at n most : ℕ} (buf rest : Bytes) {old new : Known}
     → n ≤ length buf → HasPlain told layout at (take n buf) → n ≤ most
-    → Appends old new (take k (take n (buf ++ rest))) → (x : ℕ) × (x ≤ most)
-    × WritesPlain told layout at x (moved old new)
-written_part {told} {layout} {at} {n} k buf rest {old} {new} le plain low a =
+    → WritesPart (move_of old new) (take n (buf ++ rest))
+    → (x : ℕ) × (x ≤ most) × WritesPlain told layout at x (move_of old new)
+written_part {told} {layout} {at} {n} buf rest {old} {new} le plain low (k, a) =
     let l : length (take k (take n buf)) ≡ min k (length (take n buf)) = length-take k (take n buf) in
     let m : length (take n buf) ≡ n = length-take-le n buf le in (
       length (take k (take n buf)),
@@ -119,8 +119,8 @@ written_part {told} {layout} {at} {n} k buf rest {old} {new} le plain low a =
 -- two parts that follow one another are one
 pub joined : {told again : Known} {layout same : Layout} (at k from n m : ℕ) {old mid new : Known} → again ≡ told
     → same ≡ layout → from ≡ at + k → m ≡ k + n
-    → WritesPlain told layout at k (moved old mid) → WritesPlain again same from n (moved mid new)
-    → WritesPlain told layout at m (moved old new)
+    → WritesPlain told layout at k (move_of old mid) → WritesPlain again same from n (move_of mid new)
+    → WritesPlain told layout at m (move_of old new)
 joined {told} {layout} {same} at k from n m {old} {mid} {new} et el ef em one more =
     let all : length (one.part ++ more.part) ≡ length one.part + length more.part = length-append one.part more.part in
     let a : length one.part ≡ k = one.size in
@@ -168,9 +168,9 @@ before_chunk plain begin at left i (inr (inr (inr e))) low some from = absurd (o
 pub failed_on : {told again : Known} {s t : RangeState} (begin len at left : ℕ) {old mid new : Known} {fault : Fault}
     → again ≡ told → t.layout ≡ s.layout
     → at + left ≡ begin + len → begin ≤ at → at - begin ≤ range_len s begin len → IsWhole s.layout.plain begin at left
-    → WritesPlain told s.layout begin (at - begin) (moved old mid)
-    → WritesRange again t at left (moved mid new) (Err fault)
-    → WritesRange told s begin len (moved old new) (Err fault)
+    → WritesPlain told s.layout begin (at - begin) (move_of old mid)
+    → WritesRange again t at left (move_of mid new) (Err fault)
+    → WritesRange told s begin len (move_of old new) (Err fault)
 failed_on {told} {again} {s} {t} begin len at left {old} {mid} {new} et el end low some whole one (inl (i, is, stops)) =
     let plain : t.layout.plain ≡ s.layout.plain = ap (λ (l : Layout). l.plain) el in
     let has : 0 < range_len t at left = stops.has.some in
@@ -181,8 +181,8 @@ failed_on {told} {again} {s} {t} begin len at left {old} {mid} {new} et el end l
       is,
       record {
         has = record { some = omega arith; from = omega arith; to = omega arith };
-        lost = subst (λ (l : Layout). opens_to told l i ≡ None) el
-            (subst (λ (k : Known). opens_to k t.layout i ≡ None) et stops.lost);
+        lost = subst (λ (l : Layout). source_opening told l i ≡ None) el
+            (subst (λ (k : Known). source_opening k t.layout i ≡ None) et stops.lost);
         writes = joined begin (at - begin) at (chunk_size * i - at) (chunk_size * i - begin) et el (omega arith)
             (before_chunk s.layout.plain begin at left i whole low (omega arith) from) one stops.writes;
       },
@@ -200,14 +200,14 @@ failed_on {told} {again} {s} {t} begin len at left {old} {mid} {new} et el end l
     )
 
 -- a source that was opened, by one identity in a list
-pub ranged : {X : Type 0} (m : X → List StanzaParts → Unwrapped) {items : List X} (x : X) {l limits : Bounds}
-    (at len : ℕ) {told again : Known} {s : RangeState} (given given2 : ℕ) (sink : Moved) (r : Result ⊤ Fault)
+pub ranged : {X : Type 0} (m : X → List StanzaParts → Unwrapped) (x : X) (at len : ℕ) {items : List X}
+    {l limits : Bounds} {told again : Known} {s : RangeState} (given given2 : ℕ) (sink : Moved) (r : Result ⊤ Fault)
     → items ≡ x ∷ [] → l ≡ limits → again ≡ told
     → IfSome told (λ b. IsRangesOf l (λ stanzas. map (λ i. m i stanzas) items) b s given given2)
     → (IsSound again s → WritesRange again s at len sink r)
     → Ranging limits (λ stanzas. m x stanzas ∷ []) at len told sink r
 ranged m x at len {told = None} given given2 sink r one is et opens writes = tt
-ranged m x {l} {limits} at len {told = Some b} {s} given given2 sink r one is et opens writes =
+ranged m x at len {l} {limits} {told = Some b} {s} given given2 sink r one is et opens writes =
     let opened : IsRangesOf limits (λ stanzas. m x stanzas ∷ []) b s given given2 =
     subst (λ (k : Bounds). IsRangesOf k (λ stanzas. m x stanzas ∷ []) b s given given2) is
     (subst (λ xs. IsRangesOf l (λ stanzas. map (λ i. m i stanzas) xs) b s given given2) one opens) in
@@ -221,12 +221,12 @@ ranged m x {l} {limits} at len {told = Some b} {s} given given2 sink r one is et
     })
 
 -- one that was not
-pub unopened : {X : Type 0} (m : X → List StanzaParts → Unwrapped) {items : List X} (x : X) {l limits : Bounds}
-    (at len : ℕ) (told old : Known) {fault : Fault} → items ≡ x ∷ [] → l ≡ limits
+pub unopened : {X : Type 0} (m : X → List StanzaParts → Unwrapped) (x : X) (at len : ℕ) {items : List X}
+    {l limits : Bounds} (told old : Known) {fault : Fault} → items ≡ x ∷ [] → l ≡ limits
     → MissesRanges l (λ stanzas. map (λ i. m i stanzas) items) told fault
-    → Ranging limits (λ stanzas. m x stanzas ∷ []) at len told (moved old old) (Err fault)
+    → Ranging limits (λ stanzas. m x stanzas ∷ []) at len told (move_of old old) (Err fault)
 unopened m x at len None old one is misses = tt
-unopened m x {l} at len (Some b) old {fault} one is misses =
+unopened m x at len {l} (Some b) old {fault} one is misses =
     inl (
       subst (λ (k : Bounds). MissesRanges k (λ stanzas. m x stanzas ∷ []) (Some b) fault) is
           (subst (λ xs. MissesRanges l (λ stanzas. map (λ i. m i stanzas) xs) (Some b) fault) one misses),

@@ -1,46 +1,71 @@
 -- A list of one recipient or identity, and one that is known by its meaning.
-use Rattle.std.proofs.Common.{◌≡◌, ◌∙◌, ◌+◌, ◌<◌, ◌++◌, [], ◌∷◌, List, ap, get_or, length, map, subst, sym, take, Result, Err}
-use Rattle.std.proofs.KnownBytes.{Appends-nil}
-use Rattle.std.proofs.lemmas.List.{map_push, take_more}
+use Rattle.std.proofs.Common.{◌≡◌, ◌∙◌, ◌+◌, ◌<◌, ◌++◌, [], ◌∷◌, List, ap, get_or, drop, length, map, subst, sym, take, Result}
+use denote.Param.Object.{Made, read_made}
+use denote.Param.Table.{Entry, Table}
+use Rattle.std.proofs.lemmas.List.{get_or_default, map_push, take_more}
 use Rattle.std.specs.Prelude.{⊤, ℕ}
-use Rattle.age_header.specs.Device.{Bytes, Flow, Known, Moved, Seen, flow, moved}
+use Rattle.age_header.specs.Device.{Bytes, Flow, Known, Moved, move_of}
 use Rattle.age_header.specs.Header.{StanzaParts}
 use Rattle.age_header.specs.declared.file_key.FileKey.{FileKey}
+use Rattle.age_recipient.proofs.AnswerLemmas.{decided_step}
+use Rattle.age_recipient.specs.Answer.{decision_from}
 use Rattle.age_recipient.specs.declared.labels.Labels.{Labels}
 use Rattle.age_recipient.specs.declared.unwrapped.Unwrapped.{Unwrapped}
-use Rattle.age_header.proofs.DeviceLemmas.{of_any, some_none}
 use Rattle.age_stream.specs.declared.done.Done.{Done}
 use Rattle.age_stream.specs.declared.salvaged.Salvaged.{Salvaged}
-use Rattle.age_stream.specs.Salvage.{Told}
-use Rattle.age_stream.proofs.SalvageLemmas.{reports_none}
+use Rattle.age_stream.specs.Salvage.{LossesMoved}
 use Rattle.age_file.specs.declared.fault.Fault.{Fault}
 use Rattle.age_file.specs.declared.limits.Fresh.{Fresh}
 use Rattle.age_file.specs.AgeFile.{Bounds}
 use Rattle.age_file.specs.Decrypt.{Decrypts}
-use Rattle.age_file.specs.NewFile.{Gathered}
+use Rattle.age_file.specs.NewFile.{Gathered, Gathering}
 use Rattle.age_file.specs.Salvage.{SalvagesFile}
 use Rattle.age_file.specs.Verdict.{Answering}
-use Rattle.age_file.specs.declared.fault.Fault.TheVariants.{OutOfMemory}
 use Rattle.age_file.specs.Rewrap.{Rewraps}
+use Rattle.age_job.specs.declared.secret.Secret.{Secret}
+use Rattle.age_job.specs.declared.secret.Secret.TheVariants.{Passphrase, Keys}
+use Rattle.age_commands.specs.declared.identity.SecretIdentity.{SecretIdentity}
+use Rattle.age_commands.specs.Secret.{gathering_of, labels_of, recipient_of, unwraps_of, wraps_of}
 use Rattle.age_commands.specs.Task.{Encrypting}
+
+-- a trait object that was just made reads as what it holds
+pub made_reads : {G : Type 0 → Type 1} {C Z : Type 0} (T : Table G C) (e : Entry G C) (at : T.I) → e ≡ T.entry at
+    → (read : (j : Entry G C) → j.0.Denot → Z) {i : T.I} {y : (T.entry i).0.Denot} {x : e.0.Denot}
+    → Made (λ j. (T.entry j).0.coded.code) e.0.coded.code at i y x → read (T.entry i) y ≡ read e x
+made_reads {Z} T e at same read {i} {y} {x} made = read_made T e at same Z read i y x made
+
+-- what the identity of a secret answers, alone in a list
+pub answers_meant : {f g : List StanzaParts → Unwrapped} {answers : Answering} → f ≡ g → (λ s. g s ∷ []) ≡ answers
+    → (λ s. f s ∷ []) ≡ answers
+answers_meant same is = ap {B = Answering} (λ (m : List StanzaParts → Unwrapped) s. m s ∷ []) same ∙ is
+
+-- the same of an identity that was moved into a box
+pub secret_meant : {f : List StanzaParts → Unwrapped} {x identity : SecretIdentity} {answers : Answering}
+    → f ≡ unwraps_of x → x ≡ identity → (λ s. unwraps_of identity s ∷ []) ≡ answers → (λ s. f s ∷ []) ≡ answers
+secret_meant same is means = answers_meant (same ∙ ap unwraps_of is) means
+
+-- what the recipient of a secret gives, alone in a list
+pub gathering_meant : {w : FileKey → Result (List StanzaParts) ℕ} {l : Labels} (secret : Secret) (work : ℕ)
+    (salt : Bytes) → w ≡ wraps_of (recipient_of secret work salt) → l ≡ labels_of (recipient_of secret work salt)
+    → (λ k. Gathered (w k ∷ []) (l ∷ [])) ≡ gathering_of secret work salt
+gathering_meant (Passphrase pass) work salt wraps labels = rw (wraps, labels)
+gathering_meant (Keys keys) work salt wraps labels = rw (wraps, labels)
 
 pub decrypts_alone : {X : Type 0} (m : X → List StanzaParts → Unwrapped) {items : List X} (x : X) {l limits : Bounds}
     {source : Flow} (old new : Known) (r : Result Done Fault)
-    → items ≡ x ∷ [] → l ≡ limits → Decrypts l (λ s. map (λ i. m i s) items) source (moved old new) r
-    → Decrypts limits (λ s. m x s ∷ []) source (moved old new) r
+    → items ≡ x ∷ [] → l ≡ limits → Decrypts l (λ s. map (λ i. m i s) items) source (move_of old new) r
+    → Decrypts limits (λ s. m x s ∷ []) source (move_of old new) r
 decrypts_alone m x {l} {source} old new r one is h =
-    subst (λ b. Decrypts b (λ s. m x s ∷ []) source (moved old new) r) is
-    (subst (λ xs. Decrypts l (λ s. map (λ i. m i s) xs) source (moved old new) r) one h)
+    subst (λ b. Decrypts b (λ s. m x s ∷ []) source (move_of old new) r) is
+    (subst (λ xs. Decrypts l (λ s. map (λ i. m i s) xs) source (move_of old new) r) one h)
 
-pub decrypting_meant : {f g : List StanzaParts → Unwrapped} (limits : Bounds) {source : Flow} (old new : Known)
-    (r : Result Done Fault) → f ≡ g
-    → Decrypts limits (λ s. f s ∷ []) source (moved old new) r → Decrypts limits (λ s. g s ∷ []) source (moved old new)
-    r
+pub decrypting_meant : {f g : Answering} (limits : Bounds) {source : Flow} (old new : Known) (r : Result Done Fault)
+    → f ≡ g → Decrypts limits f source (move_of old new) r → Decrypts limits g source (move_of old new) r
 decrypting_meant limits {source} old new r same h =
-    subst (λ (m : List StanzaParts → Unwrapped). Decrypts limits (λ s. m s ∷ []) source (moved old new) r) same h
+    subst (λ (a : Answering). Decrypts limits a source (move_of old new) r) same h
 
 pub salvages_alone : {X : Type 0} (m : X → List StanzaParts → Unwrapped) {items : List X} (x : X) {l limits : Bounds}
-    {source : Flow} (sink : Moved) (losses : Told) (r : Result Salvaged Fault)
+    {source : Flow} (sink : Moved) (losses : LossesMoved) (r : Result Salvaged Fault)
     → items ≡ x ∷ [] → l ≡ limits
     → SalvagesFile l (λ s. map (λ i. m i s) items) source sink losses r
     → SalvagesFile limits (λ s. m x s ∷ []) source sink losses r
@@ -48,51 +73,48 @@ salvages_alone m x {l} {source} sink losses r one is h =
     subst (λ b. SalvagesFile b (λ s. m x s ∷ []) source sink losses r) is
     (subst (λ xs. SalvagesFile l (λ s. map (λ i. m i s) xs) source sink losses r) one h)
 
-pub salvaging_meant : {f g : List StanzaParts → Unwrapped} (limits : Bounds) {source : Flow} (sink : Moved)
-    (losses : Told) (r : Result Salvaged Fault) → f ≡ g
-    → SalvagesFile limits (λ s. f s ∷ []) source sink losses r
-    → SalvagesFile limits (λ s. g s ∷ []) source sink losses r
+pub salvaging_meant : {f g : Answering} (limits : Bounds) {source : Flow} (sink : Moved) (losses : LossesMoved)
+    (r : Result Salvaged Fault) → f ≡ g
+    → SalvagesFile limits f source sink losses r → SalvagesFile limits g source sink losses r
 salvaging_meant limits {source} sink losses r same h =
-    subst (λ (m : List StanzaParts → Unwrapped). SalvagesFile limits (λ s. m s ∷ []) source sink
-    losses r) same h
+    subst (λ (a : Answering). SalvagesFile limits a source sink losses r) same h
 
-pub encrypting_meant : {w v : FileKey → Result (List StanzaParts) ℕ} {l m : Labels} {limits : Bounds} {fresh : Fresh}
-    {source : Flow} {old new : Known} {r : Result Done Fault} → w ≡ v → l ≡ m
-    → Encrypting limits fresh (Gathered (w fresh.file_key ∷ []) (l ∷ [])) source (moved old new) r
-    → Encrypting limits fresh (Gathered (v fresh.file_key ∷ []) (m ∷ [])) source (moved old new) r
-encrypting_meant {v} {l} {limits} {fresh} {source} {old} {new} {r} same labels h =
-    subst (λ (x : Labels). Encrypting limits fresh (Gathered (v fresh.file_key ∷ []) (x ∷ [])) source (moved old new) r)
-    labels
-    (subst (λ (x : FileKey → Result (List StanzaParts) ℕ). Encrypting limits fresh
-    (Gathered (x fresh.file_key ∷ []) (l ∷ [])) source (moved old new) r) same h)
+pub encrypting_meant : {f g : FileKey → Gathering} {limits : Bounds} {fresh : Fresh} {source : Flow} {old new : Known}
+    {r : Result Done Fault} → f ≡ g → Encrypting limits fresh (f fresh.file_key) source (move_of old new) r
+    → Encrypting limits fresh (g fresh.file_key) source (move_of old new) r
+encrypting_meant {limits} {fresh} {source} {old} {new} {r} same h =
+    subst (λ (f : FileKey → Gathering). Encrypting limits fresh (f fresh.file_key) source (move_of old new) r) same h
 
 pub rewraps_alone : {X Y : Type 0} (m : X → List StanzaParts → Unwrapped)
     (w : Y → FileKey → Result (List StanzaParts) ℕ) (labels : Y → Labels) {items : List X} (x : X) {others : List Y}
     (y : Y) {l limits : Bounds} {source : Flow} (old new : Known) (r : Result ⊤ Fault)
     → items ≡ x ∷ [] → others ≡ y ∷ [] → l ≡ limits
     → Rewraps l (λ s. map (λ i. m i s) items) (λ key. Gathered (map (λ o. w o key) others) (map (λ o. labels o) others))
-    source (moved old new) r
-    → Rewraps limits (λ s. m x s ∷ []) (λ key. Gathered (w y key ∷ []) (labels y ∷ [])) source (moved old new) r
+    source (move_of old new) r
+    → Rewraps limits (λ s. m x s ∷ []) (λ key. Gathered (w y key ∷ []) (labels y ∷ [])) source (move_of old new) r
 rewraps_alone m w labels x {others} y {l} {source} old new r one other is h =
-    subst (λ b. Rewraps b (λ s. m x s ∷ []) (λ key. Gathered (w y key ∷ []) (labels y ∷ [])) source (moved old new) r)
+    subst (λ b. Rewraps b (λ s. m x s ∷ []) (λ key. Gathered (w y key ∷ []) (labels y ∷ [])) source (move_of old new) r)
     is
     (subst (λ ys. Rewraps l (λ s. m x s ∷ []) (λ key. Gathered (map (λ o. w o key) ys) (map (λ o. labels o) ys)) source
-    (moved old new) r) other
+    (move_of old new) r) other
     (subst (λ xs. Rewraps l (λ s. map (λ i. m i s) xs)
-    (λ key. Gathered (map (λ o. w o key) others) (map (λ o. labels o) others)) source (moved old new) r) one h))
+    (λ key. Gathered (map (λ o. w o key) others) (map (λ o. labels o) others)) source (move_of old new) r) one h))
 
-pub rewrapping_meant : {f g : List StanzaParts → Unwrapped} {w v : FileKey → Result (List StanzaParts) ℕ} {l m : Labels}
-    (limits : Bounds) {source : Flow} (old new : Known) (r : Result ⊤ Fault) → f ≡ g → w ≡ v → l ≡ m
-    → Rewraps limits (λ s. f s ∷ []) (λ key. Gathered (w key ∷ []) (l ∷ [])) source (moved old new) r
-    → Rewraps limits (λ s. g s ∷ []) (λ key. Gathered (v key ∷ []) (m ∷ [])) source (moved old new) r
-rewrapping_meant {g} {w} {v} {l} limits {source} old new r same wraps labels h =
-    subst
-    (λ (x : Labels). Rewraps limits (λ s. g s ∷ []) (λ key. Gathered (v key ∷ []) (x ∷ [])) source (moved old new) r)
-    labels
-    (subst (λ (x : FileKey → Result (List StanzaParts) ℕ). Rewraps limits (λ s. g s ∷ [])
-    (λ key. Gathered (x key ∷ []) (l ∷ [])) source (moved old new) r) wraps
-    (subst (λ (x : List StanzaParts → Unwrapped). Rewraps limits (λ s. x s ∷ []) (λ key. Gathered (w key ∷ []) (l ∷ []))
-    source (moved old new) r) same h))
+pub rewrapping_meant : {f g : Answering} {v w : FileKey → Gathering} (limits : Bounds) {source : Flow} (old new : Known)
+    (r : Result ⊤ Fault) → f ≡ g → v ≡ w
+    → Rewraps limits f v source (move_of old new) r → Rewraps limits g w source (move_of old new) r
+rewrapping_meant {g} {v} limits {source} old new r same gives h =
+    subst (λ (x : FileKey → Gathering). Rewraps limits g x source (move_of old new) r) gives
+    (subst (λ (x : Answering). Rewraps limits x v source (move_of old new) r) same h)
+
+-- what is decided by the keys to come, after the next one
+pub keys_step : (f : Bytes → Unwrapped) (keys : List Bytes) {i : ℕ} (so_far : Unwrapped) {answer all : Unwrapped}
+    (next : List Unwrapped → Unwrapped) → i < length keys → answer ≡ f (get_or keys i [])
+    → ((more : List Unwrapped) → decision_from so_far (answer ∷ more) ≡ next more)
+    → decision_from so_far (drop i (map f keys)) ≡ all → next (drop (i + 1) (map f keys)) ≡ all
+keys_step f keys {i} so_far next low is step before =
+    let at = get_or_default keys i [] (get_or keys i []) low in
+    sym (step (drop (i + 1) (map f keys))) ∙ sym (decided_step f keys so_far low at is) ∙ before
 
 -- one more is made for the next key
 pub wrapped_more : {S : Type 0} (f : Bytes → S) (keys : List Bytes) (i : ℕ) {old one new : List S} → i < length keys

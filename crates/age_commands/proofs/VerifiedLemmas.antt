@@ -1,11 +1,11 @@
 -- What is written of a range of any source, piece by piece.
 use Rattle.std.proofs.Common.{◌≡◌, ◌∙◌, ◌++◌, ◌∷◌, List, Result, map, ◌+◌, ◌-◌, ◌*◌, ◌<◌, ◌≤◌, ℕ, [], ap, arith, inl, inr, length, min, refl, slice_index, subst, sym, take, Option, None, Ok, Err}
-use Rattle.std.specs.Prelude.{◌^◌, ⊤, if◌then◌else◌}
+use Rattle.std.specs.Prelude.{⊤}
 use Rattle.std.proofs.KnownBytes.{Appends-nil, Appends-trans, Keeps-refl}
 use Rattle.std.proofs.lemmas.List.{length-append, length-take, length-take-le, take-append-le, get_or-take, get_or_append_left, get_or-append-add}
 use Rattle.std.proofs.lemmas.Bool.{cases_lt}
 use Rattle.std.specs.Io.KnownBytes.{Appends}
-use Rattle.age_header.specs.Device.{Bytes, CountsFaultIf, Known, Moved, moved}
+use Rattle.age_header.specs.Device.{Bytes, CountsFaultIf, Known, Moved, WritesPart, move_of}
 use Rattle.age_header.specs.Header.{StanzaParts}
 use Rattle.age_recipient.specs.declared.unwrapped.Unwrapped.{Unwrapped}
 use Rattle.age_stream.proofs.VerifiedLemmas.{byte_stays}
@@ -21,14 +21,15 @@ use Rattle.age_file.specs.Ranges.{BeginsFile, IsOpenFault}
 use Rattle.age_file.specs.Verdict.{Answering, stream_fault}
 use Rattle.age_commands.specs.Range.{IsPartFault, RangingAny, WritesAny, WritesVerified}
 use Rattle.age_commands.specs.Secret.{answers_of, limits_of}
-use Rattle.age_commands.specs.Task.{RangesUnseen}
+use Rattle.age_commands.specs.declared.task.Task.TheVariants.{Range}
+use Rattle.age_commands.specs.Task.{Performs}
 use Rattle.age_file.specs.Device.{IsLate, IsQuiet, is_write}
 use Rattle.age_job.specs.declared.job.Job.{Job}
 use Rattle.age_job.specs.declared.secret.Secret.{Secret}
 
 -- nothing is written
 pub nothing : (gave : ℕ → ℕ → Type 0) (layout : Layout) (at n : ℕ) (old : Known) → n ≡ 0
-    → WritesVerified gave layout at n (moved old old)
+    → WritesVerified gave layout at n (move_of old old)
 nothing gave layout at n old none = record {
   part = [];
   size = sym none;
@@ -56,7 +57,7 @@ filled gave layout at n buf le verified k lt =
 -- a piece was written
 pub written : {gave : ℕ → ℕ → Type 0} {layout : Layout} {at n : ℕ} (buf rest : Bytes) {old new : Known}
     → n ≤ length buf → ((k : ℕ) → k < n → IsVerifiedByte gave layout (at + k) (slice_index buf k))
-    → Appends old new (take n (buf ++ rest)) → WritesVerified gave layout at n (moved old new)
+    → Appends old new (take n (buf ++ rest)) → WritesVerified gave layout at n (move_of old new)
 written {gave} {layout} {at} {n} buf rest {old} {new} le verified a = record {
   part = take n buf;
   size = length-take-le n buf le;
@@ -65,12 +66,11 @@ written {gave} {layout} {at} {n} buf rest {old} {new} le verified a = record {
 }
 
 -- a prefix of a piece was written
-pub written_part : {gave : ℕ → ℕ → Type 0} {layout : Layout} {at n : ℕ} (k : ℕ) {most : ℕ} (buf rest : Bytes)
-    {old new : Known}
+pub written_part : {gave : ℕ → ℕ → Type 0} {layout : Layout} {at n most : ℕ} (buf rest : Bytes) {old new : Known}
     → n ≤ length buf → ((k : ℕ) → k < n → IsVerifiedByte gave layout (at + k) (slice_index buf k)) → n ≤ most
-    → Appends old new (take k (take n (buf ++ rest)))
-    → (x : ℕ) × (x ≤ most) × WritesVerified gave layout at x (moved old new)
-written_part {gave} {layout} {at} {n} k buf rest {old} {new} le verified low a =
+    → WritesPart (move_of old new) (take n (buf ++ rest))
+    → (x : ℕ) × (x ≤ most) × WritesVerified gave layout at x (move_of old new)
+written_part {gave} {layout} {at} {n} buf rest {old} {new} le verified low (k, a) =
     let l : length (take k (take n buf)) ≡ min k (length (take n buf)) = length-take k (take n buf) in
     let m : length (take n buf) ≡ n = length-take-le n buf le in (
       length (take k (take n buf)),
@@ -86,7 +86,8 @@ written_part {gave} {layout} {at} {n} k buf rest {old} {new} le verified low a =
 -- a range that stops within its first piece has written nothing
 pub stopped : {gave : ℕ → ℕ → Type 0} {told : Known} {s : RangeState} (at left : ℕ) {most : ℕ} {was buf : Bytes}
     {opened : ℕ} {fault : StreamFault} {named : Fault} {old : Known} → most ≤ left → named ≡ stream_fault fault
-    → Stops told s at (range_len s at most) was buf opened fault → WritesAny gave s at left (moved old old) (Err named)
+    → Stops told s at (range_len s at most) was buf opened fault
+    → WritesAny gave s at left (move_of old old) (Err named)
 stopped {gave} {s} at left {most} {old} le is stops =
     let some : 0 < range_len s at most = stops.some in
     let to : chunk_size * stops.chunk < at + range_len s at most = stops.to in (
@@ -115,8 +116,8 @@ part_of_whole s t begin len at left fault el end low (inl (i, is, has)) =
 -- two parts that follow one another are one
 pub joined : {early late : ℕ → ℕ → Type 0} {layout same : Layout} (at k from n m : ℕ) {old mid new : Known}
     → StaysGiven early late → same ≡ layout → from ≡ at + k → m ≡ k + n
-    → WritesVerified early layout at k (moved old mid) → WritesVerified late same from n (moved mid new)
-    → WritesVerified late layout at m (moved old new)
+    → WritesVerified early layout at k (move_of old mid) → WritesVerified late same from n (move_of mid new)
+    → WritesVerified late layout at m (move_of old new)
 joined {early} {late} {layout} at k from n m {old} {mid} {new} stays el ef em one more =
     let all : length (one.part ++ more.part) ≡ length one.part + length more.part = length-append one.part more.part in
     let a : length one.part ≡ k = one.size in
@@ -146,8 +147,8 @@ joined {early} {late} {layout} at k from n m {old} {mid} {new} stays el ef em on
 pub failed_on : {early late : ℕ → ℕ → Type 0} (s t : RangeState) (begin len at left : ℕ) {old mid new : Known}
     {fault : Fault} → StaysGiven early late → t.layout ≡ s.layout → at + left ≡ begin + len → begin ≤ at
     → at - begin ≤ range_len s begin len
-    → WritesVerified early s.layout begin (at - begin) (moved old mid)
-    → WritesAny late t at left (moved mid new) (Err fault) → WritesAny late s begin len (moved old new) (Err fault)
+    → WritesVerified early s.layout begin (at - begin) (move_of old mid)
+    → WritesAny late t at left (move_of mid new) (Err fault) → WritesAny late s begin len (move_of old new) (Err fault)
 failed_on {early} {late} s t begin len at left {old} {mid} {new} {fault} stays el end low some one
     (which, (n, within, more)) =
     let plain : t.layout.plain ≡ s.layout.plain = ap (λ (l : Layout). l.plain) el in (
@@ -160,13 +161,13 @@ failed_on {early} {late} s t begin len at left {old} {mid} {new} {fault} stays e
     )
 
 -- a source that was opened, by one identity in a list
-pub ranged : {D X : Type 0} {gave : D → ℕ → ℕ → Type 0} {found : D → Option ℕ} (m : X → List StanzaParts → Unwrapped)
-    {items : List X} (x : X) {l limits : Bounds} {at len : ℕ} (source : D) {new : D} {s : RangeState}
+pub ranged : {D X : Type 0} (m : X → List StanzaParts → Unwrapped) (x : X) {gave : D → ℕ → ℕ → Type 0}
+    {found : D → Option ℕ} {items : List X} {l limits : Bounds} {at len : ℕ} (source : D) {new : D} {s : RangeState}
     {old taken : Known} {r : Result ⊤ Fault} → items ≡ x ∷ [] → l ≡ limits
     → BeginsFile l (λ stanzas. map (λ i. m i stanzas) items) (gave source) (found source) s
-    → WritesAny (gave new) s at len (moved old taken) r
-    → RangingAny gave found limits (λ stanzas. m x stanzas ∷ []) at len new (moved old taken) r
-ranged {gave} {found} m x {l} source {s} one is begins writes = inr (record {
+    → WritesAny (gave new) s at len (move_of old taken) r
+    → RangingAny gave found limits (λ stanzas. m x stanzas ∷ []) at len new (move_of old taken) r
+ranged m x {gave} {found} {l} source {s} one is begins writes = inr (record {
   source = source;
   state = s;
   begins = subst (λ (k : Bounds). BeginsFile k (λ stanzas. m x stanzas ∷ []) (gave source) (found source) s) is
@@ -177,24 +178,23 @@ ranged {gave} {found} m x {l} source {s} one is begins writes = inr (record {
 -- one that was not
 pub unopened : {D : Type 0} {gave : D → ℕ → ℕ → Type 0} {found : D → Option ℕ} {limits : Bounds} {answers : Answering}
     (at len : ℕ) {new : D} {old : Known} {fault : Fault} → IsOpenFault fault
-    → RangingAny gave found limits answers at len new (moved old old) (Err fault)
+    → RangingAny gave found limits answers at len new (move_of old old) (Err fault)
 unopened at len {old} named = inl (named, Keeps-refl old)
 
-pub ranging_meant : {D : Type 0} {gave : D → ℕ → ℕ → Type 0} {found : D → Option ℕ} {f g : List StanzaParts → Unwrapped}
+pub ranging_meant : {D : Type 0} {gave : D → ℕ → ℕ → Type 0} {found : D → Option ℕ} {f g : Answering}
     {limits : Bounds} {at len : ℕ} {new : D} {old taken : Known} {r : Result ⊤ Fault} → f ≡ g
-    → RangingAny gave found limits (λ s. f s ∷ []) at len new (moved old taken) r
-    → RangingAny gave found limits (λ s. g s ∷ []) at len new (moved old taken) r
+    → RangingAny gave found limits f at len new (move_of old taken) r
+    → RangingAny gave found limits g at len new (move_of old taken) r
 ranging_meant {gave} {found} {limits} {at} {len} {new} {old} {taken} {r} same h =
-    subst (λ (m : List StanzaParts → Unwrapped). RangingAny gave found limits (λ s. m s ∷ []) at len new
-    (moved old taken) r) same h
+    subst (λ (a : Answering). RangingAny gave found limits a at len new (move_of old taken) r) same h
 
 -- a range of a source, of which proofs see the size alone
-pub ranges_unseen : {D : Type 0} {found : D → Option ℕ} (job : Job) (secret : Secret) {new : D} {sink : Moved}
-    {r : Result ⊤ Fault}
-    → RangingAny (λ _ _ _. ⊤) found (limits_of job) (answers_of secret job.max_work) job.at job.len new sink r
-    → RangesUnseen job secret sink r
-ranges_unseen job secret (inl none) = (None, inl none)
-ranges_unseen {found} job secret (inr o) = (
+pub ranges_unseen : {D : Type 0} {found : D → Option ℕ} (job : Job) (secret : Secret) (from : Known) {new : D}
+    {sink : Moved} {r : Result ⊤ Fault}
+    → RangingAny (λ source at byte. ⊤) found (limits_of job) (answers_of secret job.max_work) job.at job.len new sink r
+    → Performs job (Range secret) from sink r
+ranges_unseen job secret from (inl none) = (None, inl none)
+ranges_unseen {found} job secret from (inr o) = (
   found o.source,
   inr (record { source = found o.source; state = o.state; begins = o.begins; writes = o.writes }),
 )

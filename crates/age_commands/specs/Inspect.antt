@@ -1,5 +1,5 @@
 -- What the command `inspect` writes and returns.
-use Rattle.std.specs.Prelude.{◌≡◌, ◌⊎◌, ◌^◌, ◌-◌, ◌+◌, ◌∷◌, ◌++◌, ℕ, List, [], ⊤, Bool, true, false, Result, Ok, Err, if◌then◌else◌, codes, decimal, flat_map, length, min}
+use Rattle.std.specs.Prelude.{◌≡◌, ◌≢◌, ◌⊎◌, ◌^◌, ◌-◌, ◌+◌, ◌∷◌, ◌++◌, ℕ, List, [], ⊤, Bool, true, false, Result, Ok, Err, if◌then◌else◌, codes, decimal, flat_map, length, min}
 use Rattle.std.specs.Fmt.{format_spec, styled_decimal}
 use Rattle.std.specs.Str.{bytes_eq}
 use Rattle.std.specs.declared.option.Option.{Option}
@@ -13,7 +13,7 @@ use Rattle.age_header.specs.Verdict.{HeaderVerdict}
 use Rattle.age_file.specs.declared.fault.Fault.{Fault}
 use Rattle.age_file.specs.declared.fault.Fault.TheVariants.{BadMac, OutOfMemory, Read, Write}
 use Rattle.age_file.specs.AgeFile.{Bounds}
-use Rattle.age_file.specs.Verdict.{found_in, header_fault}
+use Rattle.age_file.specs.Verdict.{finding, header_fault}
 use Rattle.age_commands.specs.declared.inspect.Check.{Check}
 use Rattle.age_commands.specs.declared.inspect.Check.TheVariants as check
 
@@ -31,30 +31,33 @@ check_name check.Good = codes "good"
 check_name check.Bad = codes "bad"
 
 -- n in decimal, at the right of so many columns, as the standard library writes it
-abbrev pub aligned : (width n : ℕ) → Bytes
-aligned width n = styled_decimal (format_spec 32 3 0 width (2 ^ 64 - 1)) n
+abbrev pub padded_decimal : (width n : ℕ) → Bytes
+padded_decimal width n = styled_decimal (format_spec 32 3 0 width (2 ^ 64 - 1)) n
 
 -- arguments, each after a space
-abbrev pub spaced : List Bytes → Bytes
-spaced args = flat_map (λ arg. 32 ∷ arg) args
+abbrev pub spaced_arguments : List Bytes → Bytes
+spaced_arguments args = flat_map (λ arg. 32 ∷ arg) args
 
 -- the line of a stanza: its index, the length of its body, and its arguments
 abbrev pub row : (index : ℕ) (stanza : StanzaParts) → Bytes
 row index stanza =
-    line (aligned 4 index ++ codes " " ++ aligned 8 (length stanza.body) ++ spaced stanza.args)
+    line (padded_decimal 4 index ++ codes " " ++ padded_decimal 8 (length stanza.body)
+    ++ spaced_arguments stanza.args)
 
 -- the lines of stanzas that are counted from `index` on
 abbrev pub rows : (index : ℕ) (stanzas : List StanzaParts) → Bytes
 rows index [] = []
 rows index (stanza ∷ more) = row index stanza ++ rows (index + 1) more
 
--- the lines before those of the stanzas, and what follows the MAC
+-- the lines before those of the stanzas
 abbrev pub first_lines : (count : ℕ) → Bytes
 first_lines count = codes "version age-encryption.org/v1\nstanzas " ++ decimal count ++ codes "\n"
 
+-- what follows the MAC
 abbrev pub last_lines : (len : ℕ) (checked : Check) → Bytes
 last_lines len checked =
-    codes "\nheader " ++ (decimal len ++ (codes " bytes\ncheck " ++ (check_name checked ++ codes "\n")))
+    codes "\nheader " ++ (decimal len ++ (codes " bytes\ncheck " ++ (check_name checked
+    ++ codes "\n")))
 
 -- The table has the version, the number of stanzas, for each its index, the length of its body and
 -- its arguments, the base64 of the MAC, the length of the header, and the result of the check.
@@ -72,11 +75,38 @@ abbrev pub IsShown : (raw : Bool) (header : HeaderParts) (checked : Check) (show
 IsShown true header checked shown = Head header.stanzas header.mac shown
 IsShown false header checked shown = IsTable header checked shown
 
--- a prefix of what is shown of a header was written
-abbrev pub ShowsPrefix : (raw : Bool) (header : HeaderParts) (checked : Check) (sink : Moved)
-    → Type 0
-ShowsPrefix raw header checked sink =
-    (shown : Bytes) × IsShown raw header checked shown × WritesPart sink shown
+-- b begins with a header, and P holds of the result of its check and of what is shown of it
+pub record OfShown (limits : Bounds) (raw : Bool) (key : Option Bytes) (b : Bytes)
+    (P : (checked : Check) (shown : Bytes) → Type 0) : Type 0 where
+  pub header : HeaderParts
+  pub text : Bytes
+  pub verdict : HeaderVerdict b limits.max_header (Ok (finding text header))
+  pub shown : Bytes
+  pub is : IsShown raw header (check_of key header) shown
+  pub holds : P (check_of key header) shown
+
+-- What `inspect` returns where b was to come, and what it writes: all that is shown of its header,
+-- also if the check fails, a prefix where a write failed, or else nothing. Any other fault is that
+-- of b, which begins with no header.
+abbrev pub InspectsText : (limits : Bounds) (raw : Bool) (key : Option Bytes) (b : Bytes)
+    (sink : Moved) (result : Result ⊤ Fault) → Type 0
+InspectsText limits raw key b sink (Ok _) =
+    OfShown limits raw key b (λ checked shown. (checked ≢ check.Bad) × Took sink shown)
+InspectsText limits raw key b sink (Err BadMac) =
+    OfShown limits raw key b (λ checked shown. (checked ≡ check.Bad) × Took sink shown)
+InspectsText limits raw key b sink (Err Write) =
+    OfShown limits raw key b (λ checked shown. WritesPart sink shown)
+InspectsText limits raw key b sink (Err Read) = Stays sink
+InspectsText limits raw key b sink (Err OutOfMemory) = Stays sink
+InspectsText limits raw key b sink (Err fault) =
+    (e : HeaderFault) × HeaderVerdict b limits.max_header (Err e) × (fault ≡ header_fault e)
+    × Stays sink
+
+-- the same of the bytes that the source gave
+abbrev pub Inspecting : (limits : Bounds) (raw : Bool) (key : Option Bytes) (source : Flow)
+    (sink : Moved) (result : Result ⊤ Fault) → Type 0
+Inspecting limits raw key source sink result =
+    OfGiven source (λ b. InspectsText limits raw key b sink result)
 
 -- what showing a header writes: all of it, a prefix where a write failed, or nothing
 abbrev pub Shows : (raw : Bool) (header : HeaderParts) (checked : Check) (sink : Moved)
@@ -84,48 +114,5 @@ abbrev pub Shows : (raw : Bool) (header : HeaderParts) (checked : Check) (sink :
 Shows raw header checked sink (Ok _) =
     (shown : Bytes) × IsShown raw header checked shown × Took sink shown
 Shows raw header checked sink (Err fault) =
-    ((fault ≡ Write) × ShowsPrefix raw header checked sink) ⊎ ((fault ≡ OutOfMemory) × Stays sink)
-
--- what is returned after a header was shown
-abbrev pub checked_result : Check → Result ⊤ Fault
-checked_result check.Bad = Err BadMac
-checked_result _ = Ok tt
-
--- b begins with a header, of which all was shown, and the result is that of the check
-abbrev pub ShowsAll : (limits : Bounds) (raw : Bool) (key : Option Bytes) (b : Bytes)
-    (sink : Moved) (result : Result ⊤ Fault) → Type 0
-ShowsAll limits raw key b sink result =
-    (header : HeaderParts) × (text : Bytes)
-    × HeaderVerdict b limits.max_header (Ok (found_in text header))
-    × Shows raw header (check_of key header) sink (Ok tt)
-    × (result ≡ checked_result (check_of key header))
-
--- b begins with a header, of which a prefix was shown
-abbrev pub ShowsPart : (limits : Bounds) (raw : Bool) (key : Option Bytes) (b : Bytes)
-    (sink : Moved) → Type 0
-ShowsPart limits raw key b sink =
-    (header : HeaderParts) × (text : Bytes)
-    × HeaderVerdict b limits.max_header (Ok (found_in text header))
-    × ShowsPrefix raw header (check_of key header) sink
-
--- b begins with no header, and this is its fault; nothing was written
-abbrev pub Misses : (limits : Bounds) (b : Bytes) (sink : Moved) (fault : Fault) → Type 0
-Misses limits b sink fault =
-    (e : HeaderFault) × HeaderVerdict b limits.max_header (Err e) × (fault ≡ header_fault e)
-    × Stays sink
-
--- What `inspect` returns where b was to come, and what it writes.
-abbrev pub InspectsText : (limits : Bounds) (raw : Bool) (key : Option Bytes) (b : Bytes)
-    (sink : Moved) (result : Result ⊤ Fault) → Type 0
-InspectsText limits raw key b sink (Ok _) = ShowsAll limits raw key b sink (Ok tt)
-InspectsText limits raw key b sink (Err BadMac) = ShowsAll limits raw key b sink (Err BadMac)
-InspectsText limits raw key b sink (Err Write) = ShowsPart limits raw key b sink
-InspectsText limits raw key b sink (Err Read) = Stays sink
-InspectsText limits raw key b sink (Err OutOfMemory) = Stays sink
-InspectsText limits raw key b sink (Err fault) = Misses limits b sink fault
-
--- the same of the bytes that the source gave
-abbrev pub Inspecting : (limits : Bounds) (raw : Bool) (key : Option Bytes) (source : Flow)
-    (sink : Moved) (result : Result ⊤ Fault) → Type 0
-Inspecting limits raw key source sink result =
-    OfGiven source (λ b. InspectsText limits raw key b sink result)
+    ((fault ≡ Write) × ((shown : Bytes) × IsShown raw header checked shown × WritesPart sink shown))
+    ⊎ ((fault ≡ OutOfMemory) × Stays sink)

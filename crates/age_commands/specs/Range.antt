@@ -2,7 +2,7 @@
 use Rattle.std.specs.Prelude.{◌≡◌, ◌⊎◌, ◌<◌, ◌≤◌, ◌+◌, ◌*◌, ◌-◌, ℕ, ⊤, length, slice_index, Option, None, Some, Result, Ok, Err}
 use Rattle.age_header.specs.Device.{Bytes, Known, Moved, Took, Stays}
 use Rattle.age_stream.specs.declared.layout.Layout.{Layout}
-use Rattle.age_stream.specs.Ranges.{HasPlain, IsVerifiedByte, RangeState, opens_to, range_len}
+use Rattle.age_stream.specs.Ranges.{HasPlain, IsVerifiedByte, RangeState, source_opening, range_len}
 use Rattle.age_stream.specs.Sizes.{chunk_size}
 use Rattle.age_file.specs.declared.fault.Fault.{Fault}
 use Rattle.age_file.specs.declared.fault.Fault.TheVariants.{BadChunk, Read, Write}
@@ -26,7 +26,7 @@ pub record HasBytesOf (s : RangeState) (at len i : ℕ) : Type 0 where
 -- a range has bytes of chunk i, which does not open; those before the chunk were written
 pub record StopsAt (told : Known) (s : RangeState) (at len i : ℕ) (sink : Moved) : Type 0 where
   pub has : HasBytesOf s at len i
-  pub lost : opens_to told s.layout i ≡ None
+  pub lost : source_opening told s.layout i ≡ None
   pub writes : WritesPlain told s.layout at (chunk_size * i - at) sink
 
 -- What is written of an opened file, at most `len` bytes from `at` on: all that there are, or those

@@ -6,10 +6,11 @@ use Rattle.age_header.specs.declared.file_key.FileKey.{FileKey}
 use Rattle.age_recipient.specs.declared.labels.Labels.{Labels}
 use Rattle.age_recipient.specs.declared.labels.Labels.TheVariants.{Alone, Names}
 use Rattle.age_recipient.specs.declared.unwrapped.Unwrapped.{Unwrapped}
-use Rattle.age_recipient.specs.Answer.{decided}
+use Rattle.age_recipient.specs.Answer.{decision}
 use Rattle.age_recipient.specs.KeyedHolders.{key_unwraps}
-use Rattle.age_recipient.specs.KeyedStanza.{keyed_stanza}
+use Rattle.age_recipient.specs.KeyedStanza.{keyed_answer, keyed_stanza}
 use Rattle.age_recipient.specs.PassphraseHolders.{pass_unwraps, pass_wraps}
+use Rattle.age_recipient.specs.PassphraseStanza.{pass_answer, pass_stanza}
 use Rattle.age_file.specs.AgeFile.{Bounds}
 use Rattle.age_file.specs.NewFile.{Gathered, Gathering}
 use Rattle.age_file.specs.Verdict.{Answering}
@@ -25,48 +26,48 @@ use Rattle.age_job.specs.declared.secret.Secret.TheVariants.{Passphrase, Keys}
 abbrev pub limits_of : Job → Bounds
 limits_of job = record { max_header = job.max_header; max_chunks = 2 ^ 88 }
 
--- The identity of a passphrase has that passphrase and the job's greatest work factor; that of keys
--- asks them in order, and the first answer that decides is its answer.
-abbrev pub identity_of : (secret : Secret) (max_work : ℕ) → SecretIdentity
-identity_of (Passphrase pass) max_work =
-    identity.Passphrase (record { pass = pass.items; max = max_work })
-identity_of (Keys keys) max_work = identity.Keys keys
+-- What a secret answers to a header's stanzas, as one identity: the first answer that decides, of
+-- its passphrase with the job's greatest work factor, or of its keys in order.
+abbrev pub answers_of : (secret : Secret) (max_work : ℕ) → Answering
+answers_of (Passphrase pass) max_work =
+    λ stanzas. decision (map (pass_answer pass.items max_work) stanzas) ∷ []
+answers_of (Keys keys) max_work =
+    λ stanzas. decision (map (λ key. decision (map (keyed_answer key) stanzas)) keys.items) ∷ []
+
+-- What a secret may give for a file key, as one recipient: a stanza of its passphrase, with the
+-- salt and the job's work factor, alone in its file, or one of each key in order, with the salt.
+abbrev pub gathering_of : (secret : Secret) (work : ℕ) (salt : Bytes) (file_key : FileKey)
+    → Gathering
+gathering_of (Passphrase pass) work salt file_key =
+    Gathered (Ok (pass_stanza pass.items work salt file_key ∷ []) ∷ []) (Alone ∷ [])
+gathering_of (Keys keys) work salt file_key =
+    Gathered (Ok (map (λ key. keyed_stanza key salt file_key) keys.items) ∷ []) (Names [] ∷ [])
+
+-- ---- the same of the types that hold a secret
 
 -- what keys answer, asked in order
 abbrev pub keys_unwrap : (keys : List Bytes) (stanzas : List StanzaParts) → Unwrapped
-keys_unwrap keys stanzas = decided (map (λ key. key_unwraps key stanzas) keys)
+keys_unwrap keys stanzas = decision (map (λ key. key_unwraps key stanzas) keys)
 
 -- what the identity of a secret answers
 abbrev pub unwraps_of : (identity : SecretIdentity) (stanzas : List StanzaParts) → Unwrapped
 unwraps_of (identity.Passphrase guess) stanzas = pass_unwraps guess stanzas
 unwraps_of (identity.Keys keys) stanzas = keys_unwrap keys.items stanzas
 
--- what the one identity of a secret answers to a header's stanzas
-abbrev pub answers_of : (secret : Secret) (max_work : ℕ) → Answering
-answers_of secret max_work = λ stanzas. unwraps_of (identity_of secret max_work) stanzas ∷ []
-
--- The recipient of a passphrase has that passphrase, the salt and the job's work factor; the
--- recipient of keys gives one stanza for each, in order.
+-- the recipient of a secret
 abbrev pub recipient_of : (secret : Secret) (work : ℕ) (salt : Bytes) → SecretRecipient
 recipient_of (Passphrase pass) work salt =
     recipient.Passphrase (record { pass = pass.items; salt = salt; work = work })
 recipient_of (Keys keys) work salt = recipient.Keys keys salt
 
--- what the recipient of a secret gives for a file key: one stanza for the passphrase or each key
+-- what it gives for a file key
 abbrev pub wraps_of : (recipient : SecretRecipient) (file_key : FileKey)
     → Result (List StanzaParts) ℕ
 wraps_of (recipient.Passphrase secret) file_key = pass_wraps secret file_key
 wraps_of (recipient.Keys keys salt) file_key =
     Ok (map (λ key. keyed_stanza key salt file_key) keys.items)
 
--- its labels: a passphrase is alone in its file
+-- its labels
 abbrev pub labels_of : SecretRecipient → Labels
 labels_of (recipient.Passphrase _) = Alone
 labels_of (recipient.Keys keys salt) = Names []
-
--- what the one recipient of a secret may give
-abbrev pub gathering_of : (secret : Secret) (work : ℕ) (salt : Bytes) (file_key : FileKey)
-    → Gathering
-gathering_of secret work salt file_key =
-    let one = recipient_of secret work salt in
-    Gathered (wraps_of one file_key ∷ []) (labels_of one ∷ [])

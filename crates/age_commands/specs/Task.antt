@@ -1,24 +1,23 @@
 -- What a job does with its secrets: from what its input gives to what its output takes.
-use Rattle.std.specs.Prelude.{◌≡◌, ◌⊎◌, ℕ, ⊤, IfErr, Option, None, Result, Ok, Err, if◌then◌else◌}
-use Rattle.age_header.specs.Device.{Flow, Known, Moved, flow}
+use Rattle.std.specs.Prelude.{◌≡◌, ◌⊎◌, ℕ, ⊤, IfErr, IfSome, Option, Result, Ok, Err, if◌then◌else◌}
+use Rattle.age_header.specs.Device.{Bytes, Flow, Known, Moved}
 use Rattle.age_stream.specs.declared.done.Done.{Done}
 use Rattle.age_file.specs.declared.fault.Fault.{Fault}
 use Rattle.age_file.specs.declared.fault.Fault.TheVariants.{BadChunk, BadMac}
 use Rattle.age_file.specs.declared.limits.Fresh.{Fresh}
 use Rattle.age_file.specs.AgeFile.{Bounds}
-use Rattle.age_file.specs.Decrypt.{Decrypts}
+use Rattle.age_file.specs.Decrypt.{DecryptsText}
 use Rattle.age_file.specs.Device.{IsQuiet}
-use Rattle.age_file.specs.NewFile.{EncryptsGiven, Gathering, RefusesFirst, TookWhileEncrypting}
-use Rattle.age_file.specs.Rewrap.{Rewraps}
-use Rattle.age_file.specs.Salvage.{SalvagesFile}
+use Rattle.age_file.specs.NewFile.{EncryptsGiven, EncryptsText, Gathering, RefusesFirst, TookWhileEncrypting}
+use Rattle.age_file.specs.Rewrap.{RewrapsText}
+use Rattle.age_file.specs.Salvage.{SalvagesFile, SalvagesText}
 use Rattle.age_file.specs.Verdict.{Answering}
-use Rattle.age_stream.specs.Salvage.{Told, is_whole}
+use Rattle.age_stream.specs.Salvage.{LossesMoved, is_whole}
 use Rattle.age_stream.specs.declared.salvaged.Salvaged.{Salvaged}
 use Rattle.age_job.specs.declared.job.Job.{Job}
-use Rattle.age_job.specs.declared.secret.Secret.{Secret}
 use Rattle.age_commands.specs.declared.task.Task.{Task}
 use Rattle.age_commands.specs.declared.task.Task.TheVariants.{Encrypt, Decrypt, Rewrap, Inspect, Range, Salvage}
-use Rattle.age_commands.specs.Inspect.{Inspecting}
+use Rattle.age_commands.specs.Inspect.{InspectsText}
 use Rattle.age_commands.specs.Range.{RangingAny}
 use Rattle.age_commands.specs.Secret.{answers_of, gathering_of, limits_of}
 
@@ -44,40 +43,39 @@ abbrev pub SalvagesAll : (limits : Bounds) (answers : Answering) (source : Flow)
     (result : Result ⊤ Fault) → Type 0
 SalvagesAll limits answers source sink result =
     (done : Result Salvaged Fault) × (result ≡ if_whole done)
-    × ((lost : Told) × SalvagesFile limits answers source sink lost done)
+    × ((lost : LossesMoved) × SalvagesFile limits answers source sink lost done)
 
--- a source of which proofs see the bytes to come alone, if they are known
-abbrev pub unseen : (from : Known) → Flow
-unseen from = flow (record { to_come = from; gave = λ past. ⊤ })
-    (record { to_come = None; gave = λ past. ⊤ })
+-- this holds of some bytes, and of those to come, if they are known
+abbrev pub OfKnown : (from : Known) (P : Bytes → Type 0) → Type 0
+OfKnown from P = (given : Bytes) × P given × IfSome from P
 
--- a range of an input of which proofs see the size alone, if it is known
-abbrev pub RangesUnseen : (job : Job) (secret : Secret) (sink : Moved) (result : Result ⊤ Fault)
-    → Type 0
-RangesUnseen job secret sink result =
-    (size : Option ℕ) × RangingAny (λ _ _ _. ⊤) (λ found. found) (limits_of job)
-    (answers_of secret job.max_work) job.at job.len size sink result
-
--- What is returned, and what the output takes, where the input gives `from`.
+-- What is returned, and what the output takes, where the input gives `from`. Of a range's input
+-- nothing is known: said is how many bytes are written at most, and which faults there are.
 abbrev pub Performs : (job : Job) (task : Task) (from : Known) (sink : Moved)
     (result : Result ⊤ Fault) → Type 0
 Performs job (Encrypt secret seed) from sink result =
+    let gathered = gathering_of secret job.work seed.salt seed.fresh.file_key in
     (done : Result Done Fault) × (result ≡ without_counts done)
-    × EncryptsGiven (limits_of job) seed.fresh
-    (gathering_of secret job.work seed.salt seed.fresh.file_key) (unseen from) sink done
-    × IfErr done (RefusesFirst (limits_of job) seed.fresh.file_key
-    (gathering_of secret job.work seed.salt seed.fresh.file_key))
+    × OfKnown from (λ b. EncryptsText (limits_of job) seed.fresh gathered b sink done)
+    × IfErr done (RefusesFirst (limits_of job) seed.fresh.file_key gathered)
 Performs job (Decrypt secret) from sink result =
+    let answers = answers_of secret job.max_work in
     (done : Result Done Fault) × (result ≡ without_counts done)
-    × Decrypts (limits_of job) (answers_of secret job.max_work) (unseen from) sink done
+    × OfKnown from (λ b. DecryptsText (limits_of job) answers b sink done)
 Performs job (Rewrap one other salt) from sink result =
-    Rewraps (limits_of job) (answers_of one job.max_work) (gathering_of other job.work salt)
-    (unseen from) sink result
+    let gathered = gathering_of other job.work salt in
+    let answers = answers_of one job.max_work in
+    OfKnown from (λ b. RewrapsText (limits_of job) answers gathered b sink result)
 Performs job (Inspect key) from sink result =
-    Inspecting (limits_of job) job.raw key (unseen from) sink result
+    OfKnown from (λ b. InspectsText (limits_of job) job.raw key b sink result)
 Performs job (Salvage secret) from sink result =
-    SalvagesAll (limits_of job) (answers_of secret job.max_work) (unseen from) sink result
-Performs job (Range secret) from sink result = RangesUnseen job secret sink result
+    let answers = answers_of secret job.max_work in
+    (done : Result Salvaged Fault) × (result ≡ if_whole done)
+    × ((lost : LossesMoved)
+    × OfKnown from (λ b. SalvagesText (limits_of job) answers b sink lost done))
+Performs job (Range secret) from sink result =
+    (size : Option ℕ) × RangingAny (λ _ _ _. ⊤) (λ found. found) (limits_of job)
+    (answers_of secret job.max_work) job.at job.len size sink result
 
 -- a task that ends with a fault which is not late leaves the output as it was, whether its contents
 -- are known or not; `inspect` shows a header whose MAC is wrong

@@ -1,8 +1,8 @@
 //! The sink of a command's output: a buffer before the writer.
 ghost use Rattle.std.specs.Prelude.{◌≡◌, ◌≤◌, [], length, take, IfOk, OnOk, OnErr};
 ghost use Rattle.std.specs.Io.KnownBytes.{Appends, Keeps, append_known};
-ghost use Rattle.age_header.specs.Device.{Takes, moved, moved_by};
-ghost use Rattle.age_commands.specs.Output.{Buffered, Ends, Grows, HasPrefix, taken_by};
+ghost use Rattle.age_header.specs.Device.{Takes, move_of, move_by};
+ghost use Rattle.age_commands.specs.Output.{Buffered, Ends, Grows, HasPrefix, taken_bytes};
 
 use age_file::{BUFFER_SIZE, DeviceFault, Fault, Sink};
 use std::alloc::{AllocError, Global};
@@ -55,7 +55,7 @@ pub struct Finished<'a, W> {
 
 impl<'a, W: Write, K: Start> Model for BufferedSink<'a, W, K> {
     ghost use Rattle.std.specs.Prelude.{◌≡◌};
-    ghost use Rattle.age_header.specs.Device.{moved};
+    ghost use Rattle.age_header.specs.Device.{move_of};
     ghost use Rattle.age_commands.specs.Output.{Buffered, Grows};
 
     ghost Value = { Buffered };
@@ -64,7 +64,7 @@ impl<'a, W: Write, K: Start> Model for BufferedSink<'a, W, K> {
         record { written = W.contents s.out.now; held = s.held.items; failed = s.failures } };
 
     ghost invariant = { λ s. (s.out.ghost_name ≡ K.writer)
-        × Grows (moved K.contents (W.contents s.out.now)) };
+        × Grows (move_of K.contents (W.contents s.out.now)) };
 }
 
 /// The memory of a sink's buffer.
@@ -102,8 +102,8 @@ impl<'a, W: Write, K: Start> BufferedSink<'a, W, K> {
         ensures writer { result.out.ghost_name ≡ K.writer }
         // It wrote all that it held; or a write failed, and the output has what it had, and a
         // prefix of what was written to the sink.
-        ensures ends { Ends (moved K.contents (W.contents result.out.now))
-            (taken_by self.entry) work result.result }
+        ensures ends { Ends (move_of K.contents (W.contents result.out.now))
+            (taken_bytes self.entry) work result.result }
     {
         let BufferedSink {
             out,
@@ -137,7 +137,7 @@ impl<'a, W: Write, K: Start> BufferedSink<'a, W, K> {
 impl<'a, W: Write, K: Start> Sink for BufferedSink<'a, W, K> {
     ghost failed = { λ s. s.failed };
 
-    ghost taken = { λ s. taken_by s };
+    ghost taken = { λ s. taken_bytes s };
 
     fn write(&mut self, piece: &[u8]) -> Result<usize, DeviceFault> {
         match put(self.out, &mut self.held, piece) {
@@ -159,9 +159,9 @@ impl<'a, W: Write, K: Start> Sink for BufferedSink<'a, W, K> {
 /// buffer to the writer. `Err` has the reason of a failed write, if there is one.
 fn put<W: Write>(out: &mut W, held: &mut Vec<u8>, piece: &[u8]) -> Result<usize, Option<io::Error>>
     ensures bound { IfOk result (λ n. n ≤ length piece.now) }
-    ensures bytes { Takes (moved (append_known (W.contents out.old) held.old.items)
+    ensures bytes { Takes (move_of (append_known (W.contents out.old) held.old.items)
         (append_known (W.contents out.new) held.new.items)) result piece.now }
-    ensures grows { Grows (moved_by W.contents out.old out.new) }
+    ensures grows { Grows (move_by W.contents out.old out.new) }
 {
     if piece.len() > BUFFER_SIZE.saturating_sub(held.len()) {
         write_held(out, held)?;
@@ -181,7 +181,7 @@ fn flush<W: Write>(out: &mut W, held: &mut Vec<u8>) -> Result<(), Option<io::Err
         (Keeps (append_known (W.contents out.old) held.old.items) (W.contents out.new)) }
     ensures part { OnErr result
         (HasPrefix (append_known (W.contents out.old) held.old.items) (W.contents out.new)) }
-    ensures grows { Grows (moved_by W.contents out.old out.new) }
+    ensures grows { Grows (move_by W.contents out.old out.new) }
 {
     write_held(out, held)?;
     match out.flush() {
@@ -194,7 +194,7 @@ fn flush<W: Write>(out: &mut W, held: &mut Vec<u8>) -> Result<(), Option<io::Err
 fn write_held<W: Write>(out: &mut W, held: &mut Vec<u8>) -> Result<(), Option<io::Error>>
     ensures bytes { Keeps (append_known (W.contents out.old) held.old.items)
         (append_known (W.contents out.new) held.new.items) }
-    ensures grows { Grows (moved_by W.contents out.old out.new) }
+    ensures grows { Grows (move_by W.contents out.old out.new) }
     ensures empty { OnOk result (held.new.items ≡ []) }
 {
     let (written, result) = write_out(out, held.as_slice());
@@ -223,8 +223,8 @@ fn write_out<W: Write>(out: &mut W, bytes: &[u8]) -> (usize, Result<(), Option<i
 /// Writes a prefix of this piece, at least one byte if it has one.
 fn write_some<W: Write>(out: &mut W, piece: &[u8]) -> Result<usize, Option<io::Error>>
     ensures bound { IfOk result (λ n. n ≤ length piece.now) }
-    ensures bytes { Takes (moved_by W.contents out.old out.new) result piece.now }
-    ensures grows { Grows (moved_by W.contents out.old out.new) }
+    ensures bytes { Takes (move_by W.contents out.old out.new) result piece.now }
+    ensures grows { Grows (move_by W.contents out.old out.new) }
 {
     match out.write(piece) {
         Ok(n) if n > 0 || piece.is_empty() => Ok(n),

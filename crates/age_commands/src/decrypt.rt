@@ -4,7 +4,7 @@ ghost use Rattle.age_file.specs.Decrypt.{Decrypts, TookUpTo};
 ghost use Rattle.age_file.specs.Device.{IsQuiet, is_read, is_write};
 ghost use Rattle.age_job.specs.Job.{IsInRange};
 ghost use Rattle.age_commands.specs.Secret.{answers_of, limits_of};
-ghost use Rattle.age_header.specs.Device.{CountsIf, flow_by, moved_by};
+ghost use Rattle.age_header.specs.Device.{CountsIf, flow_by, move_by};
 
 use crate::buffering::limits_of;
 use crate::identity::SecretIdentity;
@@ -23,12 +23,12 @@ pub(crate) fn decrypt<S: Source, W: Sink>(
 ) -> Result<Done, Fault>
     requires { IsInRange job.now }
     ensures decrypts { Decrypts (limits_of job.now) (answers_of secret job.now.max_work)
-        (flow_by S.to_come S.gave input.old input.new) (moved_by W.taken out.old out.new) result }
+        (flow_by S.to_come S.gave input.old input.new) (move_by W.taken out.old out.new) result }
     ensures quiet { IsQuiet out.old out.new result }
     ensures reads { CountsIf is_read (S.failed input.old) (S.failed input.new) result }
     ensures writes { CountsIf is_write (W.failed out.old) (W.failed out.new) result }
     ensures took { IfErr result (TookUpTo (limits_of job.now)
-        (flow_by S.to_come S.gave input.old input.new) (moved_by W.taken out.old out.new)) }
+        (flow_by S.to_come S.gave input.old input.new) (move_by W.taken out.old out.new)) }
 {
     let Ok(identity) = SecretIdentity::new(alloc, job, secret) else {
         return Err(Fault::OutOfMemory);
@@ -49,12 +49,12 @@ fn decrypt_by<S: Source, W: Sink>(
 ) -> Result<Done, Fault>
     requires { IsInRange job.now }
     ensures decrypts { Decrypts (limits_of job.now) (λ stanzas. meaning identity stanzas ∷ [])
-        (flow_by S.to_come S.gave input.old input.new) (moved_by W.taken out.old out.new) result }
+        (flow_by S.to_come S.gave input.old input.new) (move_by W.taken out.old out.new) result }
     ensures quiet { IsQuiet out.old out.new result }
     ensures reads { CountsIf is_read (S.failed input.old) (S.failed input.new) result }
     ensures writes { CountsIf is_write (W.failed out.old) (W.failed out.new) result }
     ensures took { IfErr result (TookUpTo (limits_of job.now)
-        (flow_by S.to_come S.gave input.old input.new) (moved_by W.taken out.old out.new)) }
+        (flow_by S.to_come S.gave input.old input.new) (move_by W.taken out.old out.new)) }
 {
     match vec![in alloc; identity] {
         Ok(identities) => {

@@ -5,7 +5,7 @@ ghost use Rattle.age_file.specs.NewFile.{FillsChunk, Gathered};
 ghost use Rattle.age_job.specs.Job.{IsInRange};
 ghost use Rattle.age_commands.specs.Secret.{gathering_of, limits_of};
 ghost use Rattle.age_commands.specs.Task.{Encrypting};
-ghost use Rattle.age_header.specs.Device.{CountsIf, flow_by, moved_by};
+ghost use Rattle.age_header.specs.Device.{CountsIf, flow_by, move_by};
 
 use crate::buffering::limits_of;
 use crate::recipient::SecretRecipient;
@@ -26,7 +26,7 @@ pub(crate) fn encrypt<S: Source, W: Sink>(
     requires { IsInRange job.now }
     ensures encrypts { Encrypting (limits_of job.now) seed.now.fresh
         (gathering_of secret job.now.work seed.now.salt seed.now.fresh.file_key)
-        (flow_by S.to_come S.gave input.old input.new) (moved_by W.taken out.old out.new) result }
+        (flow_by S.to_come S.gave input.old input.new) (move_by W.taken out.old out.new) result }
     ensures quiet { IsQuiet out.old out.new result }
     ensures reads { CountsIf is_read (S.failed input.old) (S.failed input.new) result }
     ensures writes { CountsIf is_write (W.failed out.old) (W.failed out.new) result }
@@ -54,7 +54,7 @@ fn encrypt_for<S: Source, W: Sink>(
     requires { IsInRange job.now }
     ensures encrypts { Encrypting (limits_of job.now) fresh.now
         (Gathered (wraps recipient fresh.now.file_key ∷ []) (the_labels recipient ∷ []))
-        (flow_by S.to_come S.gave input.old input.new) (moved_by W.taken out.old out.new) result }
+        (flow_by S.to_come S.gave input.old input.new) (move_by W.taken out.old out.new) result }
     ensures quiet { IsQuiet out.old out.new result }
     ensures reads { CountsIf is_read (S.failed input.old) (S.failed input.new) result }
     ensures writes { CountsIf is_write (W.failed out.old) (W.failed out.new) result }

@@ -1,7 +1,7 @@
 //! The identity of a secret.
-ghost use Rattle.std.specs.Prelude.{◌≡◌, IfOk};
+ghost use Rattle.std.specs.Prelude.{◌≡◌, ◌∷◌, [], IfOk};
 ghost use Rattle.age_job.specs.Job.{IsInRange};
-ghost use Rattle.age_commands.specs.Secret.{identity_of, keys_unwrap};
+ghost use Rattle.age_commands.specs.Secret.{answers_of, keys_unwrap, unwraps_of};
 
 use age_file::{Identity, KeyIdentity, PassError, PassIdentity, Stanza, Unwrapped};
 use age_job::{Job, Secret};
@@ -22,7 +22,8 @@ impl SecretIdentity {
         secret: Secret,
     ) -> Result<SecretIdentity, AllocError>
         requires { IsInRange job.now }
-        ensures { IfOk result (λ identity. identity ≡ identity_of secret job.now.max_work) }
+        ensures { IfOk result (λ identity. (λ stanzas. unwraps_of identity stanzas ∷ [])
+            ≡ answers_of secret job.now.max_work) }
     {
         match secret {
             Secret::Passphrase(passphrase) => {

@@ -2,10 +2,10 @@
 ghost use Rattle.std.specs.Prelude.{◌≡◌, ◌⊎◌, map, Err, IfOk, OnOk};
 ghost use Rattle.std.specs.String.{string_bytes};
 ghost use Rattle.std.specs.Io.KnownBytes.{Appends};
-ghost use Rattle.age_header.specs.Device.{Bytes, CountsIf, flow_by, moved_by};
+ghost use Rattle.age_header.specs.Device.{Bytes, CountsIf, flow_by, move_by};
 ghost use Rattle.age_file.specs.Device.{IsQuiet, is_read, is_write};
 ghost use Rattle.age_job.specs.Job.{IsInRange};
-ghost use Rattle.age_commands.specs.Inspect.{Inspecting, IsTable, Shows, check_of, row, rows, spaced};
+ghost use Rattle.age_commands.specs.Inspect.{Inspecting, IsTable, Shows, check_of, row, rows, spaced_arguments};
 ghost use Rattle.age_commands.specs.Secret.{limits_of};
 
 use crate::buffering::limits_of;
@@ -50,7 +50,7 @@ pub(crate) fn inspect<S: Source, W: Sink>(
 ) -> Result<(), Fault>
     requires { IsInRange job.now }
     ensures inspects { Inspecting (limits_of job.now) job.now.raw file_key.now
-        (flow_by S.to_come S.gave input.old input.new) (moved_by W.taken out.old out.new) result }
+        (flow_by S.to_come S.gave input.old input.new) (move_by W.taken out.old out.new) result }
     ensures quiet { (result ≡ Err Fault.BadMac) ⊎ IsQuiet out.old out.new result }
     ensures reads { CountsIf is_read (S.failed input.old) (S.failed input.new) result }
     ensures writes { CountsIf is_write (W.failed out.old) (W.failed out.new) result }
@@ -77,7 +77,7 @@ fn show<W: Sink>(
     check: Check,
     out: &mut W,
 ) -> Result<(), Fault>
-    ensures shows { Shows raw header.now check (moved_by W.taken out.old out.new) result }
+    ensures shows { Shows raw header.now check (move_by W.taken out.old out.new) result }
     ensures quiet { IsQuiet out.old out.new result }
     ensures writes { CountsIf is_write (W.failed out.old) (W.failed out.new) result }
 {
@@ -151,7 +151,7 @@ fn write_row<W: Write>(index: usize, stanza: &Stanza, out: &mut W) -> io::Result
 /// Writes arguments, each after a space.
 fn write_args<W: Write>(args: &[String], out: &mut W) -> io::Result<()>
     ensures { OnOk result (Appends (W.contents out.old) (W.contents out.new)
-        (spaced (map string_bytes args.now))) }
+        (spaced_arguments (map string_bytes args.now))) }
 {
     for arg in args {
         out.write_all(b" ")?;

@@ -8,7 +8,7 @@ ghost use Rattle.age_job.specs.Job.{IsInRange};
 ghost use Rattle.age_job.specs.declared.ranges.TheConstants.{MOST_OFFSET};
 ghost use Rattle.age_commands.specs.Range.{Ranging, RangingAny, WritesNext, WritesNextAny, WritesAny, WritesRange};
 ghost use Rattle.age_commands.specs.Secret.{answers_of, limits_of};
-ghost use Rattle.age_header.specs.Device.{CountsIf, moved_by};
+ghost use Rattle.age_header.specs.Device.{CountsIf, move_by};
 
 use crate::buffering::limits_of;
 use crate::identity::SecretIdentity;
@@ -31,13 +31,13 @@ pub(crate) fn range_of<D: ReadAt, W: Sink>(
     // under this secret and these limits. Before a chunk that does not open: the bytes before it;
     // after a failed read or write a prefix. If the file does not open: nothing, and that fault.
     ensures known { Ranging (limits_of job.now) (answers_of secret job.now.max_work) job.now.at
-        job.now.len (D.bytes input.old) (moved_by W.taken out.old out.new) result }
+        job.now.len (D.bytes input.old) (move_by W.taken out.old out.new) result }
     // Of any source, as a file, each byte that was written was verified at its place, in order from
     // the job's offset on and no more than its length, on Ok all that there are. A fault is one of
     // opening, after which nothing was written, or a damaged chunk, a failed read or write.
     ensures any { RangingAny D.gave D.found (limits_of job.now)
         (answers_of secret job.now.max_work) job.now.at job.now.len input.new
-        (moved_by W.taken out.old out.new) result }
+        (move_by W.taken out.old out.new) result }
     ensures quiet { IsQuiet out.old out.new result }
     ensures reads { CountsIf is_read (D.failed input.old) (D.failed input.new) result }
     ensures writes { CountsIf is_write (W.failed out.old) (W.failed out.new) result }
@@ -61,10 +61,10 @@ fn range_by<D: ReadAt, W: Sink>(
 ) -> Result<(), Fault>
     requires { IsInRange job.now }
     ensures known { Ranging (limits_of job.now) (λ stanzas. meaning identity stanzas ∷ [])
-        job.now.at job.now.len (D.bytes input.old) (moved_by W.taken out.old out.new) result }
+        job.now.at job.now.len (D.bytes input.old) (move_by W.taken out.old out.new) result }
     ensures any { RangingAny D.gave D.found (limits_of job.now)
         (λ stanzas. meaning identity stanzas ∷ []) job.now.at job.now.len input.new
-        (moved_by W.taken out.old out.new) result }
+        (move_by W.taken out.old out.new) result }
     ensures quiet { IsQuiet out.old out.new result }
     ensures reads { CountsIf is_read (D.failed input.old) (D.failed input.new) result }
     ensures writes { CountsIf is_write (W.failed out.old) (W.failed out.new) result }
@@ -102,10 +102,10 @@ fn write_range<D: ReadAt, W: Sink>(
         ≡ (source_at_of reader.old).ghost_name }
     ensures known { let told = D.bytes (source_at_of reader.old).now in
         IsSound told (chunks_of reader.old) → WritesRange told (chunks_of reader.old) at len
-        (moved_by W.taken out.old out.new) result }
+        (move_by W.taken out.old out.new) result }
     ensures any { KeepsVerified (D.gave (source_at_of reader.old).now) (chunks_of reader.old)
         → WritesAny (D.gave (source_at_of reader.new).now) (chunks_of reader.old) at len
-        (moved_by W.taken out.old out.new) result }
+        (move_by W.taken out.old out.new) result }
     ensures reads { CountsIf is_read (D.failed (source_at_of reader.old).now)
         (D.failed (source_at_of reader.new).now) result }
     ensures writes { CountsIf is_write (W.failed out.old) (W.failed out.new) result }
@@ -148,7 +148,7 @@ fn write_next<D: ReadAt, W: Sink>(
         ≡ range_len (chunks_of reader.old) at (min left (chunk_size - at % chunk_size))) }
     ensures known { let told = D.bytes (source_at_of reader.old).now in
         IsSound told (chunks_of reader.old) → WritesNext told (chunks_of reader.old) at left
-        (moved_by W.taken out.old out.new) result }
+        (move_by W.taken out.old out.new) result }
     ensures stays_given { StaysGiven (D.gave (source_at_of reader.old).now)
         (D.gave (source_at_of reader.new).now) }
     ensures keeps_verified { let gave = D.gave (source_at_of reader.old).now in
@@ -156,7 +156,7 @@ fn write_next<D: ReadAt, W: Sink>(
         → KeepsVerified (D.gave (source_at_of reader.new).now) (chunks_of reader.new) }
     ensures any { KeepsVerified (D.gave (source_at_of reader.old).now) (chunks_of reader.old)
         → WritesNextAny (D.gave (source_at_of reader.new).now) (chunks_of reader.old) at left
-        (moved_by W.taken out.old out.new) result }
+        (move_by W.taken out.old out.new) result }
     ensures reads { CountsIf is_read (D.failed (source_at_of reader.old).now)
         (D.failed (source_at_of reader.new).now) result }
     ensures writes { CountsIf is_write (W.failed out.old) (W.failed out.new) result }

@@ -5,7 +5,7 @@ ghost use Rattle.age_file.specs.NewFile.{Gathered};
 ghost use Rattle.age_file.specs.Rewrap.{Rewraps};
 ghost use Rattle.age_job.specs.Job.{IsInRange};
 ghost use Rattle.age_commands.specs.Secret.{answers_of, gathering_of, limits_of};
-ghost use Rattle.age_header.specs.Device.{CountsIf, flow_by, moved_by};
+ghost use Rattle.age_header.specs.Device.{CountsIf, flow_by, move_by};
 
 use crate::buffering::limits_of;
 use crate::identity::SecretIdentity;
@@ -28,7 +28,7 @@ pub(crate) fn rewrap<S: Source, W: Sink>(
     requires { IsInRange job.now }
     ensures rewraps { Rewraps (limits_of job.now) (answers_of old job.now.max_work)
         (gathering_of new job.now.work salt)
-        (flow_by S.to_come S.gave input.old input.new) (moved_by W.taken out.old out.new) result }
+        (flow_by S.to_come S.gave input.old input.new) (move_by W.taken out.old out.new) result }
     ensures quiet { IsQuiet out.old out.new result }
     ensures reads { CountsIf is_read (S.failed input.old) (S.failed input.new) result }
     ensures writes { CountsIf is_write (W.failed out.old) (W.failed out.new) result }
@@ -60,7 +60,7 @@ fn rewrap_for<S: Source, W: Sink>(
     requires { IsInRange job.now }
     ensures rewraps { Rewraps (limits_of job.now) (λ stanzas. meaning identity stanzas ∷ [])
         (λ key. Gathered (wraps recipient key ∷ []) (the_labels recipient ∷ []))
-        (flow_by S.to_come S.gave input.old input.new) (moved_by W.taken out.old out.new) result }
+        (flow_by S.to_come S.gave input.old input.new) (move_by W.taken out.old out.new) result }
     ensures quiet { IsQuiet out.old out.new result }
     ensures reads { CountsIf is_read (S.failed input.old) (S.failed input.new) result }
     ensures writes { CountsIf is_write (W.failed out.old) (W.failed out.new) result }

@@ -5,8 +5,8 @@ ghost use Rattle.age_file.specs.Salvage.{SalvagesFile};
 ghost use Rattle.age_job.specs.Job.{IsInRange};
 ghost use Rattle.age_commands.specs.Task.{SalvagesAll};
 ghost use Rattle.age_commands.specs.Secret.{answers_of, limits_of};
-ghost use Rattle.age_header.specs.Device.{CountsIf, flow_by, moved_by};
-ghost use Rattle.age_stream.specs.Salvage.{told_by};
+ghost use Rattle.age_header.specs.Device.{CountsIf, flow_by, move_by};
+ghost use Rattle.age_stream.specs.Salvage.{losses_by};
 
 use crate::buffering::limits_of;
 use crate::identity::SecretIdentity;
@@ -33,7 +33,7 @@ pub(crate) fn salvage_all<S: Source, W: Sink, L: Report>(
 ) -> Result<(), Fault>
     requires { IsInRange job.now }
     ensures salvages { SalvagesAll (limits_of job.now) (answers_of secret job.now.max_work)
-        (flow_by S.to_come S.gave input.old input.new) (moved_by W.taken out.old out.new) result }
+        (flow_by S.to_come S.gave input.old input.new) (move_by W.taken out.old out.new) result }
     // Where all is saved nothing was reported.
     ensures silent { OnOk result (report.new ≡ report.old) }
     ensures quiet { IsQuiet out.old out.new result }
@@ -65,8 +65,8 @@ fn salvage<S: Source, W: Sink, L: Losses>(
     // What is returned, written and reported is what the library says of the identity and the
     // limits that the job and its secret mean.
     ensures salvages { SalvagesFile (limits_of job.now) (answers_of secret job.now.max_work)
-        (flow_by S.to_come S.gave input.old input.new) (moved_by W.taken out.old out.new)
-        (told_by L.lost losses.old losses.new) result }
+        (flow_by S.to_come S.gave input.old input.new) (move_by W.taken out.old out.new)
+        (losses_by L.lost losses.old losses.new) result }
     // Where no chunk is lost none was reported.
     ensures silent { IfOk result (λ s. s.lost ≡ 0 → losses.new ≡ losses.old) }
     // On a fault of the header or its key, or out of memory, the sink is as it was.
@@ -94,8 +94,8 @@ fn salvage_by<S: Source, W: Sink, L: Losses>(
 ) -> Result<Salvaged, Fault>
     requires { IsInRange job.now }
     ensures salvages { SalvagesFile (limits_of job.now) (λ stanzas. meaning identity stanzas ∷ [])
-        (flow_by S.to_come S.gave input.old input.new) (moved_by W.taken out.old out.new)
-        (told_by L.lost losses.old losses.new) result }
+        (flow_by S.to_come S.gave input.old input.new) (move_by W.taken out.old out.new)
+        (losses_by L.lost losses.old losses.new) result }
     ensures silent { IfOk result (λ s. s.lost ≡ 0 → losses.new ≡ losses.old) }
     ensures quiet { IsQuiet out.old out.new result }
     ensures reads { CountsIf is_read (S.failed input.old) (S.failed input.new) result }

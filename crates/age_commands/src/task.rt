@@ -3,7 +3,7 @@ ghost use Rattle.std.specs.Prelude.{◌≡◌, OnOk};
 ghost use Rattle.age_job.specs.Job.{IsInRange};
 ghost use Rattle.age_commands.specs.Task.{Performs, PerformsQuietly, without_counts};
 ghost use Rattle.age_file.specs.Device.{is_write};
-ghost use Rattle.age_header.specs.Device.{CountsIf, moved_by};
+ghost use Rattle.age_header.specs.Device.{CountsIf, move_by};
 
 use crate::buffering::{file_source, header_source, source_at_offsets};
 use crate::decrypt::decrypt;
@@ -46,7 +46,7 @@ pub fn perform_between<R: Read + Seek, W: Sink, L: Report>(
     // limits that the job and its secrets mean; `encrypt` passes the seed's file key, nonce and
     // salt, and `rewrap` its salt.
     ensures performs { Performs job.now task (R.remaining input.old)
-        (moved_by W.taken out.old out.new) result }
+        (move_by W.taken out.old out.new) result }
     // On a fault of the header or its key, or out of memory, the sink is as it was, also where its
     // contents are not known; but `inspect` shows a header whose MAC is wrong.
     ensures quiet { PerformsQuietly task out.old out.new result }

@@ -2,7 +2,7 @@
 use Rattle.std.proofs.Common.{◌≡◌, ℕ, [], refl, slice_index, inl, inr, ◌++◌, ◌+◌, ◌-◌, ◌^◌, ◌<◌, ◌≤◌, length, take, drop, min, option_map, sym, ◌∙◌, ap, arith, subst, IfOk, Option, Some, None, Result, Ok}
 use Rattle.std.proofs.lemmas.Bool.{cases_lt}
 use Rattle.std.proofs.lemmas.List.{length-append, length-drop, length-take, length-take-le, drop-drop, drop_all, get_or-append_right, get_or-take, get_or_append_left, take-append-drop}
-use Rattle.age_header.specs.Device.{Bytes, Gives, Grows, Known, flow_by, moved}
+use Rattle.age_header.specs.Device.{Bytes, Gives, Grows, Known, flow_by, move_of}
 use Rattle.age_file.specs.Ranges.{AtState, GaveFirst, IsWithin}
 use Rattle.age_stream.specs.Offsets.{GaveAt, GivesAt, HasOffsets, StaysGiven}
 
@@ -10,13 +10,13 @@ use Rattle.age_stream.specs.Offsets.{GaveAt, GivesAt, HasOffsets, StaysGiven}
 pub gives_on : {E : Type 0} (told : Known) (size : Option ℕ) (at at2 n : ℕ) (buf : Bytes) (r : Result ℕ E) → r ≡ Ok n
     → HasOffsets told → IsWithin told at → n ≤ length buf
     → at2 ≡ min (at + n) (2 ^ 64 - 1) → GivesAt told size at r buf
-    → Gives (moved (option_map (drop at) told) (option_map (drop at2) told)) r buf
+    → Gives (move_of (option_map (drop at) told) (option_map (drop at2) told)) r buf
 gives_on {E} told size at at2 n buf r is offsets within le next h =
-    subst (λ (x : Result ℕ E). Gives (moved (option_map (drop at) told) (option_map (drop at2) told)) x buf) (sym is)
+    subst (λ (x : Result ℕ E). Gives (move_of (option_map (drop at) told) (option_map (drop at2) told)) x buf) (sym is)
     (go told offsets within (subst (λ (x : Result ℕ E). GivesAt told size at x buf) is h))
   where
     go : (t : Known) → HasOffsets t → IsWithin t at → GivesAt {E = E} t size at (Ok n) buf
-        → Gives {E = E} (moved (option_map (drop at) t) (option_map (drop at2) t)) (Ok n) buf
+        → Gives {E = E} (move_of (option_map (drop at) t) (option_map (drop at2) t)) (Ok n) buf
     go None p w g = (tt, λ e some. tt)
     go (Some bytes) p w g =
         let fits : length bytes < 2 ^ 64 = p in

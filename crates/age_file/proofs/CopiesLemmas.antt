@@ -2,7 +2,7 @@
 use Rattle.std.proofs.Common.{◌≡◌, ℕ, ◌+◌, ◌*◌, ◌^◌, ◌≤◌, Bool, true, false, [], ◌++◌, length, refl, sym, subst, arith, append-nil, append_assoc, Result, Ok, Err, length-append, true≢false}
 use Rattle.std.proofs.KnownBytes.{Appends-nil, Appends-trans}
 use Rattle.std.specs.Io.KnownBytes.{Appends}
-use Rattle.age_header.specs.Device.{Bytes, Gave, GaveSome, WritesPart, Known, Seen, flow, moved}
+use Rattle.age_header.specs.Device.{Bytes, Gave, GaveSome, WritesPart, Known, Seen, flow, move_of}
 use Rattle.age_header.proofs.DeviceLemmas.{gave_none, gave_then, of_any, of_ended, of_more, of_then, done_part}
 use Rattle.age_file.specs.declared.fault.Fault.{Fault}
 use Rattle.age_file.specs.declared.fault.Fault.TheVariants.{TooManyChunks, Read, Write}
@@ -21,7 +21,7 @@ copied_none {from} {old} = record { bytes = []; took = gave_none; put = Appends-
 pub copied_more : {size : ℕ} {from a b : Seen} {old m n : Known} {k : ℕ} (more : Bool) → size ≡ buffer_size
     → more ≡ true
     → Copied from a old m k
-    → CopiesPiece size (flow a b) (moved m n) (Ok more) → Copied from b old n (k + 1)
+    → CopiesPiece size (flow a b) (move_of m n) (Ok more) → Copied from b old n (k + 1)
 copied_more false full is c h = absurd (true≢false (sym is))
 copied_more {from} {a} {b} {old} {m} {n} true size is c (piece, took, put, full) = record {
   bytes = c.bytes ++ piece;
@@ -30,42 +30,42 @@ copied_more {from} {a} {b} {old} {m} {n} true size is c (piece, took, put, full)
   long = omega (arith, length-append c.bytes piece, full, size, c.long);
 }
 
-pub copied_all : (size : ℕ) {from : Seen} {a b : Seen} {old : Known} {m : Known} (n : Known) {k : ℕ} (more : Bool)
+pub copied_all : (size : ℕ) {from a b : Seen} {old m : Known} (n : Known) {k : ℕ} (more : Bool)
     → more ≡ false
-    → Copied from a old m k → CopiesPiece size (flow a b) (moved m n) (Ok more)
-    → Copies (flow from b) (moved old n) (Ok tt)
+    → Copied from a old m k → CopiesPiece size (flow a b) (move_of m n) (Ok more)
+    → Copies (flow from b) (move_of old n) (Ok tt)
 copied_all size {m} n true is c h = absurd (true≢false is)
 copied_all size {from} {old} {m} n false is c (piece, took, put, end) =
     of_ended (gave_then c.took took) end (Appends-trans old m n c.bytes piece c.put put)
 
 -- a prefix of a text was written
-front : (old new : Known) (bytes rest : Bytes) → Appends old new bytes → WritesPart (moved old new) (bytes ++ rest)
+front : (old new : Known) (bytes rest : Bytes) → Appends old new bytes → WritesPart (move_of old new) (bytes ++ rest)
 front old new bytes rest put =
     done_part new [] rest (record { prefix = bytes; took = put; is = refl }) refl (0, Appends-nil new)
 
 write_failed : (from a b : Seen) (old m n : Known) (k : ℕ) (piece : Bytes) → Copied from a old m k
-    → Gave (flow a b) piece → WritesPart (moved m n) piece → Copies (flow from b) (moved old n) (Err Write)
+    → Gave (flow a b) piece → WritesPart (move_of m n) piece → Copies (flow from b) (move_of old n) (Err Write)
 write_failed from a b old m n k piece c took part =
     of_more (gave_then c.took took) (λ d end. done_part n piece d
     (record { prefix = c.bytes; took = c.put; is = append_assoc c.bytes piece d }) refl part)
 
 read_failed : (from a b : Seen) (old m : Known) (k : ℕ) → Copied from a old m k → GaveSome (flow a b)
-    → Copies (flow from b) (moved old m) (Err Read)
+    → Copies (flow from b) (move_of old m) (Err Read)
 read_failed from a b old m k c lost =
     of_then c.took (of_any lost (λ d. front old m c.bytes d c.put)) (λ d part. part)
 
 pub copied_failed : (size : ℕ) {from a : Seen} (b : Seen) {old m : Known} (n : Known) {k : ℕ} (fault : Fault)
     → Copied from a old m k
-    → CopiesPiece size (flow a b) (moved m n) (Err fault)
-    → Copies (flow from b) (moved old n) (Err fault)
+    → CopiesPiece size (flow a b) (move_of m n) (Err fault)
+    → Copies (flow from b) (move_of old n) (Err fault)
 copied_failed size {from} {a} b {old} {m} n {k} Read c h =
-    subst (λ t. Copies (flow from b) (moved old t) (Err Read)) (sym h.1) (read_failed from a b old m k c h.0)
+    subst (λ t. Copies (flow from b) (move_of old t) (Err Read)) (sym h.1) (read_failed from a b old m k c h.0)
 copied_failed size {from} {a} b {old} {m} n {k} Write c (piece, took, part) =
     write_failed from a b old m n k piece c took part
-copied_failed size b n _ c h = absurd h
+copied_failed size b n fault c h = absurd h
 
 pub copied_beyond : {from : Seen} (a : Seen) {old m : Known} (k : ℕ) → 2 ^ 89 ≤ k → Copied from a old m k
-    → Copies (flow from a) (moved old m) (Err TooManyChunks)
+    → Copies (flow from a) (move_of old m) (Err TooManyChunks)
 copied_beyond {from} a {old} {m} k beyond c = (
   (c.bytes, c.put, omega (arith, c.long, beyond)),
   of_more c.took (λ d end. (front old m c.bytes d c.put, omega (arith, length-append c.bytes d, c.long, beyond))),
@@ -73,13 +73,13 @@ copied_beyond {from} a {old} {m} k beyond c = (
 
 -- a piece, and then the rest: a prefix of the rest was written after the piece
 after_piece : (old m n : Known) (piece rest : Bytes) → Appends old m piece
-    → WritesPart (moved m n) rest → WritesPart (moved old n) (piece ++ rest)
+    → WritesPart (move_of m n) rest → WritesPart (move_of old n) (piece ++ rest)
 after_piece old m n piece rest put part =
     done_part n rest [] (record { prefix = piece; took = put; is = refl }) (sym (append-nil rest)) part
 
 pub copied_after : (size : ℕ) (from a b : Seen) (old m n : Known) (more : Bool) (r : Result (Unit {0}) Fault)
-    → more ≡ true → CopiesPiece size (flow from a) (moved old m) (Ok more)
-    → Copies (flow a b) (moved m n) r → Copies (flow from b) (moved old n) r
+    → more ≡ true → CopiesPiece size (flow from a) (move_of old m) (Ok more)
+    → Copies (flow a b) (move_of m n) r → Copies (flow from b) (move_of old n) r
 copied_after size from a b old m n false r is c h = absurd (true≢false (sym is))
 copied_after size from a b old m n true (Ok done) is (piece, took, put, full) h =
     of_then took h (λ rest written. Appends-trans old m n piece rest put written)
@@ -92,4 +92,4 @@ copied_after size from a b old m n true (Err TooManyChunks) is (piece, took, put
   of_then took h
       (λ rest part. (after_piece old m n piece rest put part.0, omega (arith, length-append piece rest, part.1))),
 )
-copied_after size from a b old m n true (Err _) is c h = absurd h
+copied_after size from a b old m n true (Err fault) is c h = absurd h

@@ -1,12 +1,12 @@
 -- What decrypting returns, from what its parts return.
 use Rattle.std.proofs.Common.{◌≡◌, ◌⊎◌, ◌+◌, ◌*◌, ◌/◌, ◌≤◌, ℕ, ◌++◌, length, drop, sym, ◌∙◌, ap, refl, subst, arith, append_assoc, inl, inr, Some, Result, Ok, Err}
-use Rattle.std.specs.Prelude.{option_map}
+use Rattle.std.specs.Prelude.{IfNone, option_map}
 use Rattle.std.specs.Io.KnownBytes.{Appends}
 use Rattle.std.proofs.KnownBytes.{Appends-nil}
 use Rattle.std.proofs.lemmas.List.{drop_at, take_all}
 use Rattle.age_header.specs.declared.fault.HeaderFault.{HeaderFault}
 use Rattle.age_header.specs.declared.fault.HeaderFault.TheVariants as header
-use Rattle.age_header.specs.Device.{Bytes, CountsFaultIf, Gave, GaveSome, Known, Seen, flow, flow_by, moved, seen_by}
+use Rattle.age_header.specs.Device.{Bytes, CountsFaultIf, Gave, GaveSome, Known, Seen, flow, flow_by, move_of, seen_by}
 use Rattle.age_header.specs.Header.{HeaderParts}
 use Rattle.age_header.specs.Reader.{ReadsHeader, Refuses}
 use Rattle.age_header.specs.Verdict.{HeaderVerdict}
@@ -18,10 +18,10 @@ use Rattle.age_stream.specs.declared.done.Done.{Done}
 use Rattle.age_stream.specs.declared.fault.StreamFault.{StreamFault}
 use Rattle.age_stream.specs.declared.fault.StreamFault.TheVariants as stream
 use Rattle.age_stream.specs.Counts as counts
-use Rattle.age_stream.specs.Opening.{EndsAt, IsAtPiece, WritesReading}
+use Rattle.age_stream.specs.Opening.{EndsAt, IsAtPiece, OpenerState, Starts, WritesAll, WritesReading}
 use Rattle.age_stream.specs.Payload.{pieces}
 use Rattle.age_stream.specs.Reader.{MissesNonce}
-use Rattle.age_stream.specs.Reading.{Reading, payload_reading, stops}
+use Rattle.age_stream.specs.Reading.{Reading, payload_reading, stop}
 use Rattle.age_stream.specs.Sizes.{chunk_size, sealed_chunk_size}
 use Rattle.age_file.specs.declared.fault.Fault.{Fault}
 use Rattle.age_file.specs.declared.fault.Fault.TheVariants.{NotAge, BadLine, HeaderTruncated, HeaderTooLarge, Read, Write, OutOfMemory}
@@ -29,8 +29,8 @@ use Rattle.age_file.specs.AgeFile.{Bounds}
 use Rattle.age_file.specs.Decrypt.{BeginsVerdict, Decrypts, DecryptsText, GivesVerdict, TookUpTo, TookThrough, payload_pieces}
 use Rattle.age_file.specs.Device.{is_read}
 use Rattle.age_file.specs.Inspect.{Inspects}
-use Rattle.age_file.proofs.PayloadLemmas.{WritesPayload, nonce_writes}
-use Rattle.age_file.specs.Verdict.{Answering, IsVerdict, found_in, header_fault, judged, read_under, stream_fault, unlocked}
+use Rattle.age_file.proofs.PayloadLemmas.{WritesPayload, nonce_writes, payload_writes}
+use Rattle.age_file.specs.Verdict.{Answering, IsVerdict, finding, header_fault, reading_after, reading_under, stream_fault, header_key}
 
 pub err_err : {A : Type 0} (f g : Fault) → ◌≡◌ {A = Result A Fault} (Err f) (Err g) → f ≡ g
 err_err f g e = cc
@@ -48,38 +48,45 @@ pub file_has_verdict : (limits : Bounds) (answers : Answering) (b : Bytes)
     → (v : Reading Fault) × IsVerdict limits answers b v
 file_has_verdict limits answers b =
     let h = some_verdict b limits.max_header in
-    (judged limits answers b h.0, record { header = h.0; header_verdict = h.1; is = refl })
+    (reading_after limits answers b h.0, record { header = h.0; header_verdict = h.1; is = refl })
 
 -- the whole is a prefix of itself
 begins_whole : (limits : Bounds) (answers : Answering) (b : Bytes) (old new : Known) (r : Result Done Fault)
-    → GivesVerdict limits answers b (moved old new) r → BeginsVerdict limits answers b (moved old new)
-begins_whole limits answers b old new r (v, is, tells, h) =
-    (v, is, (length v.front, subst (Appends old new) (sym (take_all (length v.front) v.front (omega arith))) h))
+    → GivesVerdict limits answers b (move_of old new) r → BeginsVerdict limits answers b (move_of old new)
+begins_whole limits answers b old new r (v, is, tells, h) = (
+  v,
+  is,
+  (
+    length v.plaintext,
+    subst (Appends old new) (sym (take_all (length v.plaintext) v.plaintext
+        (omega arith))) h,
+  ),
+)
 
 -- a verdict that was written
 gives_decrypts : (limits : Bounds) (answers : Answering) (b : Bytes) (old new : Known) (fault : Fault)
-    → GivesVerdict limits answers b (moved old new) (Err fault)
-    → DecryptsText limits answers b (moved old new) (Err fault)
+    → GivesVerdict limits answers b (move_of old new) (Err fault)
+    → DecryptsText limits answers b (move_of old new) (Err fault)
 gives_decrypts limits answers b old new Read h = begins_whole limits answers b old new (Err Read) h
 gives_decrypts limits answers b old new Write h = begins_whole limits answers b old new (Err Write) h
 gives_decrypts limits answers b old new OutOfMemory h = tt
-gives_decrypts limits answers b old new _ h = h
+gives_decrypts limits answers b old new fault h = h
 
 -- a fault before any plaintext
 stops_decrypts : (limits : Bounds) (answers : Answering) (b : Bytes) (old : Known) (fault : Fault)
-    → IsVerdict limits answers b (stops fault) → DecryptsText limits answers b (moved old old) (Err fault)
+    → IsVerdict limits answers b (stop fault) → DecryptsText limits answers b (move_of old old) (Err fault)
 stops_decrypts limits answers b old fault v =
-    gives_decrypts limits answers b old old fault (stops fault, v, refl, Appends-nil old)
+    gives_decrypts limits answers b old old fault (stop fault, v, refl, Appends-nil old)
 
 -- nothing was read or written yet
 begins_none : (limits : Bounds) (answers : Answering) (b : Bytes) (old : Known)
-    → BeginsVerdict limits answers b (moved old old)
+    → BeginsVerdict limits answers b (move_of old old)
 begins_none limits answers b old = let v = file_has_verdict limits answers b in (v.0, v.1, (0, Appends-nil old))
 
 -- ---- the header
 
 header_text : (limits : Bounds) (answers : Answering) (b : Bytes) (old : Known) (g : HeaderFault)
-    → Refuses b limits.max_header g → DecryptsText limits answers b (moved old old) (Err (header_fault g))
+    → Refuses b limits.max_header g → DecryptsText limits answers b (move_of old old) (Err (header_fault g))
 header_text limits answers b old header.Read h = begins_none limits answers b old
 header_text limits answers b old header.Memory h = tt
 header_text limits answers b old header.NotAge h =
@@ -96,22 +103,23 @@ header_text limits answers b old header.TooLarge h =
 
 header_decrypts : (limits : Bounds) (answers : Answering) (come mid : Seen) (old : Known) (g : HeaderFault)
     → ReadsHeader (flow come mid) limits.max_header (Err g)
-    → Decrypts limits answers (flow come mid) (moved old old) (Err (header_fault g))
+    → Decrypts limits answers (flow come mid) (move_of old old) (Err (header_fault g))
 header_decrypts limits answers come mid old g h =
     of_map h (λ b refuses. header_text limits answers b old g refuses)
 
-pub inspect_decrypts : (limits : Bounds) (answers : Answering) {come : Seen} {mid : Seen} (old : Known) {fault : Fault}
-    → Inspects limits (flow come mid) (Err fault) → Decrypts limits answers (flow come mid) (moved old old) (Err fault)
+pub inspect_decrypts : (limits : Bounds) (answers : Answering) {come mid : Seen} (old : Known) {fault : Fault}
+    → Inspects limits (flow come mid) (Err fault) → Decrypts limits answers (flow come mid) (move_of old old)
+    (Err fault)
 inspect_decrypts limits answers {mid} old {fault} (Ok parts, is, h) = absurd (cc)
 inspect_decrypts limits answers {come} {mid} old {fault} (Err g, is, h) =
-    subst (λ f. Decrypts limits answers (flow come mid) (moved old old) (Err f))
+    subst (λ f. Decrypts limits answers (flow come mid) (move_of old old) (Err f))
     (sym (err_err {A = HeaderParts} fault (header_fault g) is)) (header_decrypts limits answers come mid old g h)
 
 -- the header that was read, whatever follows it
 pub record IsHeaded (limits : Bounds) (come mid : Seen) (h : HeaderParts) : Type 0 where
   pub text : Bytes
   pub took : Gave (flow come mid) text
-  pub verdict : (rest : Bytes) → HeaderVerdict (text ++ rest) limits.max_header (Ok (found_in text h))
+  pub verdict : (rest : Bytes) → HeaderVerdict (text ++ rest) limits.max_header (Ok (finding text h))
 
 parts_headed : (limits : Bounds) (come mid : Seen) (h : HeaderParts)
     → ReadsHeader (flow come mid) limits.max_header (Ok h)
@@ -119,7 +127,7 @@ parts_headed : (limits : Bounds) (come mid : Seen) (h : HeaderParts)
 parts_headed limits come mid h r = record {
   text = r.holds.0;
   took = r.holds.2;
-  verdict = λ rest. found_again r.given limits.max_header (found_in r.holds.0 h) r.holds.1 rest;
+  verdict = λ rest. found_again r.given limits.max_header (finding r.holds.0 h) r.holds.1 rest;
 }
 
 pub headed : (limits : Bounds) {come mid : Seen} {h : HeaderParts} → Inspects limits (flow come mid) (Ok h)
@@ -134,32 +142,32 @@ headed limits {come} {mid} {h} (Ok k, is, a) =
 -- the verdict on a header and what follows it
 verdict_of : (limits : Bounds) (answers : Answering) (come mid : Seen) (h : HeaderParts)
     (i : IsHeaded limits come mid h) (rest : Bytes)
-    → IsVerdict limits answers (i.text ++ rest) (read_under limits rest (unlocked answers h))
+    → IsVerdict limits answers (i.text ++ rest) (reading_under limits rest (header_key answers h))
 verdict_of limits answers come mid h i rest = record {
-  header = Ok (found_in i.text h);
+  header = Ok (finding i.text h);
   header_verdict = i.verdict rest;
-  is = ap (λ x. read_under limits x (unlocked answers h)) (sym (drop_at i.text rest (length i.text) refl));
+  is = ap (λ x. reading_under limits x (header_key answers h)) (sym (drop_at i.text rest (length i.text) refl));
 }
 
 -- memory was refused
 pub memory_decrypts : (limits : Bounds) (answers : Answering) (come to : Seen) (old new : Known)
-    → GaveSome (flow come to) → Decrypts limits answers (flow come to) (moved old new) (Err OutOfMemory)
+    → GaveSome (flow come to) → Decrypts limits answers (flow come to) (move_of old new) (Err OutOfMemory)
 memory_decrypts limits answers come to old new some = of_any some (λ b. tt)
 
 -- no key
-pub locked_decrypts : (limits : Bounds) (answers : Answering) {come : Seen} {mid : Seen} (old : Known) {h : HeaderParts}
+pub locked_decrypts : (limits : Bounds) (answers : Answering) {come mid : Seen} (old : Known) {h : HeaderParts}
     {fault : Fault} → Inspects limits (flow come mid) (Ok h)
-    → (◌≡◌ {A = Result FileKey Fault} (Err fault) (Err OutOfMemory)) ⊎ (Err fault ≡ unlocked answers h)
-    → Decrypts limits answers (flow come mid) (moved old old) (Err fault)
+    → (◌≡◌ {A = Result FileKey Fault} (Err fault) (Err OutOfMemory)) ⊎ (Err fault ≡ header_key answers h)
+    → Decrypts limits answers (flow come mid) (move_of old old) (Err fault)
 locked_decrypts limits answers {come} {mid} old {h} {fault} i (inl memory) =
     let is = headed limits i in
-    subst (λ f. Decrypts limits answers (flow come mid) (moved old old) (Err f))
+    subst (λ f. Decrypts limits answers (flow come mid) (move_of old old) (Err f))
     (sym (err_err {A = FileKey} fault OutOfMemory memory))
     (memory_decrypts limits answers come mid old old (gave_some is.took))
 locked_decrypts limits answers {come} {mid} old {h} {fault} i (inr key) =
     let is = headed limits i in
     of_more is.took (λ d end. stops_decrypts limits answers (is.text ++ d) old fault
-    (subst (λ k. IsVerdict limits answers (is.text ++ d) (read_under limits d k)) (sym key)
+    (subst (λ k. IsVerdict limits answers (is.text ++ d) (reading_under limits d k)) (sym key)
     (verdict_of limits answers come mid h is d)))
 
 -- ---- the payload
@@ -172,31 +180,32 @@ file_result (Err fault) = Err (stream_fault fault)
 payload_text : (limits : Bounds) (answers : Answering) (come mid : Seen) (h : HeaderParts)
     (i : IsHeaded limits come mid h) (k : FileKey) (c : Bytes) (old new : Known)
     (r : Result Done StreamFault)
-    → Ok k ≡ unlocked answers h → WritesReading (payload_reading k limits.max_chunks c) (length (pieces (drop 16 c)))
-    (moved old new) r → DecryptsText limits answers (i.text ++ c) (moved old new) (file_result r)
+    → Ok k ≡ header_key answers h → WritesReading (payload_reading k limits.max_chunks c) (length (pieces (drop 16 c)))
+    (move_of old new) r → DecryptsText limits answers (i.text ++ c) (move_of old new) (file_result r)
 payload_text limits answers come mid h i k c old new r key w = go r w
   where
     v : Reading Fault
-    v = read_under limits c (Ok k)
+    v = reading_under limits c (Ok k)
 
     is : IsVerdict limits answers (i.text ++ c) v
     is = record {
-      header = Ok (found_in i.text h);
+      header = Ok (finding i.text h);
       header_verdict = i.verdict c;
-      is = ap (read_under limits c) key
-          ∙ ap (λ x. read_under limits x (unlocked answers h)) (sym (drop_at i.text c (length i.text) refl));
+      is = ap (reading_under limits c) key
+          ∙ ap (λ x. reading_under limits x (header_key answers h)) (sym (drop_at i.text c (length i.text) refl));
     }
 
     count : length (pieces (drop 16 c)) ≡ length (payload_pieces (i.text ++ c) is.header)
     count = ap (λ x. length (pieces (drop 16 x))) (sym (drop_at i.text c (length i.text) refl))
 
-    gives : (fault : StreamFault) → (payload_reading k limits.max_chunks c).fault ≡ Some fault → Appends old new v.front
-        → GivesVerdict limits answers (i.text ++ c) (moved old new) (Err (stream_fault fault))
+    gives : (fault : StreamFault) → (payload_reading k limits.max_chunks c).fault ≡ Some fault
+        → Appends old new v.plaintext
+        → GivesVerdict limits answers (i.text ++ c) (move_of old new) (Err (stream_fault fault))
     gives fault f a = (v, is, ap (option_map stream_fault) f, a)
 
     go : (q : Result Done StreamFault) → WritesReading (payload_reading k limits.max_chunks c)
-        (length (pieces (drop 16 c))) (moved old new) q
-        → DecryptsText limits answers (i.text ++ c) (moved old new) (file_result q)
+        (length (pieces (drop 16 c))) (move_of old new) q
+        → DecryptsText limits answers (i.text ++ c) (move_of old new) (file_result q)
     go (Ok done) x = (v, is, (ap (option_map stream_fault) x.0, x.2, x.3 ∙ count), x.1)
     go (Err stream.Read) x = (v, is, x)
     go (Err stream.Write) x = (v, is, x)
@@ -207,35 +216,49 @@ payload_text limits answers come mid h i k c old new r key w = go r w
     go (Err (stream.BadChunk n)) x = gives (stream.BadChunk n) x.0 x.1
     go (Err stream.TooManyChunks) x = gives stream.TooManyChunks x.0 x.1
 
-pub payload_decrypts : {limits : Bounds} (answers : Answering) {come mid to : Seen} (old new : Known) {h : HeaderParts}
-    {k : FileKey} {max : ℕ} (r : Result Done StreamFault) → Inspects limits (flow come mid) (Ok h)
-    → (◌≡◌ {A = Result FileKey Fault} (Ok k) (Err OutOfMemory)) ⊎ (Ok k ≡ unlocked answers h) → max ≡ limits.max_chunks
+payload_decrypts : (r : Result Done StreamFault) {limits : Bounds} (answers : Answering) {come mid to : Seen}
+    (old new : Known) {h : HeaderParts} {k : FileKey} {max : ℕ} → Inspects limits (flow come mid) (Ok h)
+    → (◌≡◌ {A = Result FileKey Fault} (Ok k) (Err OutOfMemory)) ⊎ (Ok k ≡ header_key answers h) → max
+    ≡ limits.max_chunks
     → WritesPayload k max (flow mid to) old new r
-    → Decrypts limits answers (flow come to) (moved old new) (file_result r)
-payload_decrypts {limits} answers {come} {mid} old new {h} {k} r i (inl memory) same w = absurd (cc)
-payload_decrypts {limits} answers {come} {mid} old new {h} {k} r i (inr key) same w =
+    → Decrypts limits answers (flow come to) (move_of old new) (file_result r)
+payload_decrypts r {limits} answers {come} {mid} old new {h} {k} i (inl memory) same w = absurd (cc)
+payload_decrypts r {limits} answers {come} {mid} old new {h} {k} i (inr key) same w =
     let is = headed limits i in
     of_then is.took w (λ c x. payload_text limits answers come mid h is k c old new r key
-    (subst (λ m. WritesReading (payload_reading k m c) (length (pieces (drop 16 c))) (moved old new) r) same x))
+    (subst (λ m. WritesReading (payload_reading k m c) (length (pieces (drop 16 c))) (move_of old new) r) same x))
+
+-- the pieces were written after the nonce
+pub written_decrypts : (r : Result Done StreamFault) {limits : Bounds} (answers : Answering) {come mid at to : Seen}
+    {s : OpenerState} (old new : Known) {h : HeaderParts} {k : FileKey} {max : ℕ}
+    → Inspects limits (flow come mid) (Ok h)
+    → (◌≡◌ {A = Result FileKey Fault} (Ok k) (Err OutOfMemory)) ⊎ (Ok k ≡ header_key answers h)
+    → max ≡ limits.max_chunks
+    → Starts k max (flow mid at) (Ok s) → IfNone s.fault (WritesAll s (flow at to) (move_of old new) r)
+    → Decrypts limits answers (flow come to) (move_of old new) (file_result r)
+written_decrypts r answers old new {k} i key same starts h =
+    payload_decrypts r answers old new i key same (payload_writes k old new r starts h)
 
 -- there is no nonce, or no memory
 pub missed_decrypts : {S : Type 0} (to_come : S → Known) (gave : S → Bytes → Type 0) {limits : Bounds}
-    (answers : Answering) {come : Seen} {mid : S} {to : S} (old : Known) (before after : ℕ) {h : HeaderParts}
+    (answers : Answering) {come : Seen} {mid to : S} (old : Known) (before after : ℕ) {h : HeaderParts}
     {k : FileKey} {max : ℕ} {fault : StreamFault} → Inspects limits (flow come (seen_by to_come gave mid)) (Ok h)
-    → (◌≡◌ {A = Result FileKey Fault} (Ok k) (Err OutOfMemory)) ⊎ (Ok k ≡ unlocked answers h) → max ≡ limits.max_chunks
+    → (◌≡◌ {A = Result FileKey Fault} (Ok k) (Err OutOfMemory)) ⊎ (Ok k ≡ header_key answers h) → max
+    ≡ limits.max_chunks
     → ((fault ≡ stream.Memory) × (to ≡ mid)) ⊎ MissesNonce k max (flow_by to_come gave mid to) before after fault
-    → Decrypts limits answers (flow come (seen_by to_come gave to)) (moved old old) (Err (stream_fault fault))
+    → Decrypts limits answers (flow come (seen_by to_come gave to)) (move_of old old) (Err (stream_fault fault))
 missed_decrypts to_come gave {limits} answers {come} {mid} old before after {h} {k} {max} {fault} i key same (inl m) =
     let is = headed limits i in
-    subst (λ x. Decrypts limits answers (flow come (seen_by to_come gave x)) (moved old old) (Err (stream_fault fault)))
+    subst (λ x. Decrypts limits answers (flow come (seen_by to_come gave x)) (move_of old old) (Err
+    (stream_fault fault)))
     (sym m.1)
-    (subst (λ f. Decrypts limits answers (flow come (seen_by to_come gave mid)) (moved old old)
+    (subst (λ f. Decrypts limits answers (flow come (seen_by to_come gave mid)) (move_of old old)
     (Err (stream_fault f))) (sym m.0)
     (memory_decrypts limits answers come (seen_by to_come gave mid) old old
     (gave_some is.took)))
 missed_decrypts to_come gave {limits} answers {come} {mid} {to} old before after {h} {k} {max} {fault} i key same
     (inr m) =
-    payload_decrypts answers old old (Err fault) i key same
+    payload_decrypts (Err fault) answers old old i key same
     (nonce_writes k max (seen_by to_come gave mid) (seen_by to_come gave to) old fault m.0)
 
 -- ---- counts, and what was taken
@@ -243,10 +266,10 @@ missed_decrypts to_come gave {limits} answers {come} {mid} {to} old before after
 pub reads_file : (old : ℕ) {new : ℕ} (fault : StreamFault) → CountsFaultIf counts.is_read old new fault
     → CountsFaultIf is_read old new (stream_fault fault)
 reads_file old stream.Read h = h
-reads_file old _ h = h
+reads_file old fault h = h
 
 took_piece : (limits : Bounds) (come mid to : Seen) (old new : Known) (h : HeaderParts) (i : IsHeaded limits come mid h)
-    (fault : StreamFault) (n : ℕ) (e : EndsAt limits.max_chunks 16 (flow mid to) (moved old new) fault) → e.piece ≤ n
+    (fault : StreamFault) (n : ℕ) (e : EndsAt limits.max_chunks 16 (flow mid to) (move_of old new) fault) → e.piece ≤ n
     → TookThrough limits n (flow come to)
 took_piece limits come mid to old new h i fault n e le =
     let g : Bytes = e.gave.0 in
@@ -254,23 +277,23 @@ took_piece limits come mid to old new h i fault n e le =
     gave_more come mid to (length i.text) (16 + (sealed_chunk_size * (e.piece + 1) + 1)) (i.text, i.took, omega arith)
     e.gave in
     record {
-      found = found_in i.text h;
+      found = finding i.text h;
       header = of_more (gave_then i.took e.gave.1) (λ d end.
-          subst (λ z. HeaderVerdict z limits.max_header (Ok (found_in i.text h))) (sym (append_assoc i.text g d))
+          subst (λ z. HeaderVerdict z limits.max_header (Ok (finding i.text h))) (sym (append_assoc i.text g d))
           (i.verdict (g ++ d)));
       gave = (all.0, all.1, omega (arith, all.2));
     }
 
 ends_takes : (limits : Bounds) (come mid to : Seen) (old new : Known) (h : HeaderParts) (i : IsHeaded limits come mid h)
-    (fault : StreamFault) → EndsAt limits.max_chunks 16 (flow mid to) (moved old new) fault
-    → TookUpTo limits (flow come to) (moved old new) (stream_fault fault)
+    (fault : StreamFault) → EndsAt limits.max_chunks 16 (flow mid to) (move_of old new) fault
+    → TookUpTo limits (flow come to) (move_of old new) (stream_fault fault)
 ends_takes limits come mid to old new h i stream.Write e = go e.at
   where
     not-piece : IsAtPiece limits.max_chunks e.piece stream.Write → ⊥
     not-piece x = x
 
     go : ((◌≡◌ {A = StreamFault} stream.Write stream.Write) × (chunk_size * e.piece ≤ length e.text))
-        ⊎ IsAtPiece limits.max_chunks e.piece stream.Write → TookUpTo limits (flow come to) (moved old new) Write
+        ⊎ IsAtPiece limits.max_chunks e.piece stream.Write → TookUpTo limits (flow come to) (move_of old new) Write
     go (inl (is, le)) = (
       e.text,
       e.written,
@@ -314,13 +337,13 @@ ends_takes limits come mid to old new h i stream.TooManyChunks e = go e.at
         → TookThrough limits limits.max_chunks (flow come to)
     go (inl (is, le)) = absurd (not-write is)
     go (inr at) = took_piece limits come mid to old new h i stream.TooManyChunks limits.max_chunks e (omega (arith, at))
-ends_takes limits come mid to old new h i _ e = tt
+ends_takes limits come mid to old new h i fault e = tt
 
 pub payload_takes : {limits : Bounds} {come : Seen} (mid : Seen) {to : Seen} {old new : Known} {h : HeaderParts}
     (fault : StreamFault) → Inspects limits (flow come mid) (Ok h)
-    → (fault ≡ stream.Read) ⊎ EndsAt limits.max_chunks 16 (flow mid to) (moved old new) fault
-    → TookUpTo limits (flow come to) (moved old new) (stream_fault fault)
+    → (fault ≡ stream.Read) ⊎ EndsAt limits.max_chunks 16 (flow mid to) (move_of old new) fault
+    → TookUpTo limits (flow come to) (move_of old new) (stream_fault fault)
 payload_takes {limits} {come} mid {to} {old} {new} fault i (inl e) =
-    subst (λ f. TookUpTo limits (flow come to) (moved old new) (stream_fault f)) (sym e) tt
+    subst (λ f. TookUpTo limits (flow come to) (move_of old new) (stream_fault f)) (sym e) tt
 payload_takes {limits} {come} mid {to} {old} {new} {h} fault i (inr e) =
     ends_takes limits come mid to old new h (headed limits i) fault e

@@ -4,7 +4,7 @@ use Rattle.std.proofs.lemmas.List.{append-nil, length-append}
 use Rattle.std.specs.List.{concat}
 use Rattle.std.specs.Io.KnownBytes.{Appends}
 use Rattle.std.proofs.KnownBytes.{Appends-nil, Appends-trans}
-use Rattle.age_header.specs.Device.{Bytes, Flow, GaveAtMost, GaveSome, OfGiven, WritesPart, Known, Seen, flow, moved}
+use Rattle.age_header.specs.Device.{Bytes, Flow, GaveAtMost, GaveSome, OfGiven, WritesPart, Known, Seen, flow, move_of}
 use Rattle.age_header.specs.Header.{StanzaParts, Head}
 use Rattle.age_header.specs.Mac.{header_mac}
 use Rattle.age_header.proofs.DeviceLemmas.{of_any, of_map, of_then, done_part}
@@ -49,33 +49,33 @@ made {limits} {k} {gathered} {stanzas} {written} (is, (text, heading)) head =
 
 -- memory was refused
 pub encrypts_refused : (limits : Bounds) (fresh : Fresh) (gathered : Gathering) (from to : Seen) (old new : Known)
-    → GaveSome (flow from to) → EncryptsGiven limits fresh gathered (flow from to) (moved old new) (Err OutOfMemory)
+    → GaveSome (flow from to) → EncryptsGiven limits fresh gathered (flow from to) (move_of old new) (Err OutOfMemory)
 encrypts_refused limits fresh gathered from to old new some = of_any some (λ plain. tt)
 
 -- no header was made
 pub encrypts_unmade : (limits : Bounds) (fresh : Fresh) (gathered : Gathering) (from to : Seen) (old new : Known)
     (fault : Fault)
     → GaveSome (flow from to) → FailsHeading limits fresh.file_key gathered fault
-    → EncryptsGiven limits fresh gathered (flow from to) (moved old new) (Err fault)
+    → EncryptsGiven limits fresh gathered (flow from to) (move_of old new) (Err fault)
 encrypts_unmade limits fresh gathered from to old new fault some (inl memory) =
-    subst (λ f. EncryptsGiven limits fresh gathered (flow from to) (moved old new) (Err f)) (sym memory)
+    subst (λ f. EncryptsGiven limits fresh gathered (flow from to) (move_of old new) (Err f)) (sym memory)
     (encrypts_refused limits fresh gathered from to old new some)
 encrypts_unmade limits fresh gathered from to old new fault some (inr refusal) =
     of_any some (λ plain. go plain fault refusal)
   where
     go : (plain : Bytes) (f : Fault) → IsRefusal limits fresh.file_key gathered f
-        → EncryptsText limits fresh gathered plain (moved old new) (Err f)
+        → EncryptsText limits fresh gathered plain (move_of old new) (Err f)
     go plain TooManyChunks h = absurd h
     go plain Read h = absurd h
     go plain Write h = absurd h
-    go plain _ h = tt
+    go plain f h = tt
 
 -- a prefix of the header and the nonce was written
 pub encrypts_begun : {limits : Bounds} {fresh : Fresh} {gathered : Gathering} {stanzas : List StanzaParts} {mac : Bytes}
     {from to : Seen} {old new : Known} → GaveSome (flow from to)
     → HeaderMade limits fresh.file_key gathered stanzas mac
-    → FrontWritten stanzas mac (λ text. WritesPart (moved old new) (text ++ fresh.nonce))
-    → EncryptsGiven limits fresh gathered (flow from to) (moved old new) (Err Write)
+    → FrontWritten stanzas mac (λ text. WritesPart (move_of old new) (text ++ fresh.nonce))
+    → EncryptsGiven limits fresh gathered (flow from to) (move_of old new) (Err Write)
 encrypts_begun {limits} {fresh} {gathered} {stanzas} {mac} {from} {to} {old} {new} some header (text, head, part) =
     let m = made header head in
     let front : Bytes = text ++ fresh.nonce in
@@ -94,15 +94,15 @@ encrypts_begun {limits} {fresh} {gathered} {stanzas} {mac} {from} {to} {old} {ne
 pub encrypts_unread : {limits : Bounds} {fresh : Fresh} {gathered : Gathering} {stanzas : List StanzaParts}
     {mac : Bytes} {from to : Seen} {old : Known} → GaveSome (flow from to)
     → HeaderMade limits fresh.file_key gathered stanzas mac
-    → EncryptsGiven limits fresh gathered (flow from to) (moved old old) (Err Read)
+    → EncryptsGiven limits fresh gathered (flow from to) (move_of old old) (Err Read)
 encrypts_unread {stanzas} {from} {to} {old} some (is, (text, heading)) =
     of_any some (λ plain. record { stanzas = stanzas; text = text; heading = heading; part = (0, Appends-nil old) })
 
 -- a prefix of the payload was written after them
 begun : (limits : Bounds) (fresh : Fresh) (gathered : Gathering) (text plain : Bytes) (a b c : Known)
     → Made limits fresh.file_key gathered text → Appends a b (text ++ fresh.nonce)
-    → WritesPart (moved b c) (concat (sealed_chunks fresh.file_key fresh.nonce plain))
-    → BegunFile limits fresh gathered plain (moved a c)
+    → WritesPart (move_of b c) (concat (sealed_chunks fresh.file_key fresh.nonce plain))
+    → BegunFile limits fresh gathered plain (move_of a c)
 begun limits fresh gathered text plain a b c m front part =
     let rest : Bytes = concat (sealed_chunks fresh.file_key fresh.nonce plain) in
     record {
@@ -121,7 +121,7 @@ whole : (limits : Bounds) (fresh : Fresh) (gathered : Gathering) (text plain : B
     → Appends b c (concat (sealed_chunks fresh.file_key fresh.nonce plain))
     → 0 + length (chunks plain) ≤ limits.max_chunks
     → done.bytes ≡ chunk_size * 0 + 0 + length plain → done.chunks ≡ 0 + length (chunks plain)
-    → EncryptsText limits fresh gathered plain (moved a c) (Ok done)
+    → EncryptsText limits fresh gathered plain (move_of a c) (Ok done)
 whole limits fresh gathered text plain a b c done sixteen m front rest fits bytes count = (
   text ++ payload fresh.file_key fresh.nonce plain,
   record {
@@ -140,7 +140,7 @@ whole limits fresh gathered text plain a b c done sixteen m front rest fits byte
       unmixed = m.heading.unmixed;
     };
   },
-  subst (Appends a c) (append_assoc text fresh.nonce _)
+  rw append_assoc at
       (Appends-trans a b c (text ++ fresh.nonce) (concat (sealed_chunks fresh.file_key fresh.nonce plain)) front rest),
   omega (arith, bytes),
   omega (arith, count),
@@ -151,7 +151,7 @@ up_to_limit : (limits : Bounds) (fresh : Fresh) (gathered : Gathering) (text pla
     → Made limits fresh.file_key gathered text → Appends a b (text ++ fresh.nonce)
     → limits.max_chunks < 0 + length (chunks plain)
     → Appends b c (concat (take (limits.max_chunks - 1 - 0) (sealed_chunks fresh.file_key fresh.nonce plain)))
-    → EncryptsText limits fresh gathered plain (moved a c) (Err TooManyChunks)
+    → EncryptsText limits fresh gathered plain (move_of a c) (Err TooManyChunks)
 up_to_limit limits fresh gathered text plain a b c m front many rest =
     let n : limits.max_chunks - 1 - 0 ≡ limits.max_chunks - 1 = omega arith in
     let out : Bytes = concat (take (limits.max_chunks - 1) (sealed_chunks fresh.file_key fresh.nonce plain)) in
@@ -180,8 +180,8 @@ unfilled t {source} fault is h =
 -- and then sealed what it held and what came
 pub sealed_filled : {key : Bytes} {max : ℕ} {t : SealerState} {more : Bool} {from mid : Seen} (to : Seen) (a c : Known)
     (r : Result Done StreamFault) → 1 ≤ max
-    → Fills (at_start key max) t (flow from mid) (Ok more) → SealsRest t more (flow mid to) (moved a c) r
-    → SealsAll (at_start key max) (flow from to) (moved a c) r
+    → Fills (at_start key max) t (flow from mid) (Ok more) → SealsRest t more (flow mid to) (move_of a c) r
+    → SealsAll (at_start key max) (flow from to) (move_of a c) r
 sealed_filled {key} {max} {t} {more = true} {from} {mid} to a c r some fills seals =
     filled_seals key max t true from mid to a c r fills seals
 sealed_filled {key} {max} {t} {more = false} {from} {mid} to a c r some fills (finishes, same) =
@@ -192,8 +192,8 @@ encrypts_payload : (limits : Bounds) (fresh : Fresh) (gathered : Gathering) (tex
     (a b c : Known)
     (r : Result Done StreamFault) → length fresh.nonce ≡ 16
     → Made limits fresh.file_key gathered text → Appends a b (text ++ fresh.nonce)
-    → SealsAll (at_start (payload_key fresh.file_key fresh.nonce) limits.max_chunks) (flow from to) (moved b c) r
-    → EncryptsGiven limits fresh gathered (flow from to) (moved a c) (file_result r)
+    → SealsAll (at_start (payload_key fresh.file_key fresh.nonce) limits.max_chunks) (flow from to) (move_of b c) r
+    → EncryptsGiven limits fresh gathered (flow from to) (move_of a c) (file_result r)
 encrypts_payload limits fresh gathered text from to a b c (Ok done) sixteen m front h =
     of_map h (λ plain q. whole limits fresh gathered text plain a b c done sixteen m front q.0 q.1 q.2 q.3)
 encrypts_payload limits fresh gathered text from to a b c (Err fault) sixteen m front (chunk, s) =
@@ -203,29 +203,29 @@ encrypts_payload limits fresh gathered text from to a b c (Err fault) sixteen m 
     key = payload_key fresh.file_key fresh.nonce
 
     go : (f : StreamFault)
-        → OfGiven (flow from to) (λ plain. StopsIn key limits.max_chunks 0 [] plain (moved b c) f)
-        → EncryptsGiven limits fresh gathered (flow from to) (moved a c) (Err (stream_fault f))
+        → OfGiven (flow from to) (λ plain. StopsIn key limits.max_chunks 0 [] plain (move_of b c) f)
+        → EncryptsGiven limits fresh gathered (flow from to) (move_of a c) (Err (stream_fault f))
     go stream.Read h = of_map h (λ plain q. begun limits fresh gathered text plain a b c m front q)
     go stream.Write h = of_map h (λ plain q. begun limits fresh gathered text plain a b c m front q)
     go stream.TooManyChunks h =
         of_map h (λ plain q. up_to_limit limits fresh gathered text plain a b c m front q.0 q.1)
-    go _ h = absurd h.holds
+    go f h = absurd h.holds
 
 -- the header, the nonce and the payload
-pub encrypts_sealed : {limits : Bounds} (fresh : Fresh) {gathered : Gathering} {stanzas : List StanzaParts}
-    {mac : Bytes} {from to : Seen} (a b c : Known) (r : Result Done StreamFault)
+pub encrypts_sealed : (r : Result Done StreamFault) {limits : Bounds} (fresh : Fresh) {gathered : Gathering}
+    {stanzas : List StanzaParts} {mac : Bytes} {from to : Seen} (a b c : Known)
     → HeaderMade limits fresh.file_key gathered stanzas mac
     → FrontWritten stanzas mac (λ text. Appends a b (text ++ fresh.nonce)) → length fresh.nonce ≡ 16
-    → SealsAll (at_start (payload_key fresh.file_key fresh.nonce) limits.max_chunks) (flow from to) (moved b c) r
-    → EncryptsGiven limits fresh gathered (flow from to) (moved a c) (file_result r)
-encrypts_sealed {limits} fresh {gathered} {stanzas} {mac} {from} {to} a b c r header (text, head, front) sixteen seals =
+    → SealsAll (at_start (payload_key fresh.file_key fresh.nonce) limits.max_chunks) (flow from to) (move_of b c) r
+    → EncryptsGiven limits fresh gathered (flow from to) (move_of a c) (file_result r)
+encrypts_sealed r {limits} fresh {gathered} {stanzas} {mac} {from} {to} a b c header (text, head, front) sixteen seals =
     encrypts_payload limits fresh gathered text from to a b c r sixteen
     (made header head) front seals
 
 -- a read failed after something was written: the source gave a whole chunk
 pub read_late : {key : Bytes} {max : ℕ} {t : SealerState} {more : Bool} {from mid to : Seen} (a c : Known)
     (fault : StreamFault)
-    → Fills (at_start key max) t (flow from mid) (Ok more) → SealsRest t more (flow mid to) (moved a c) (Err fault)
+    → Fills (at_start key max) t (flow from mid) (Ok more) → SealsRest t more (flow mid to) (move_of a c) (Err fault)
     → stream_fault fault ≡ Read → FillsChunk (flow from to)
 read_late {more = true} {from} {mid} {to} a c fault (x, took, is, fits, full, ended) (chunk, seals) read =
     let l : length x ≡ chunk_size = subst (λ (u : SealerState). length u.held ≡ chunk_size) is (full refl) in
@@ -238,12 +238,12 @@ read_late {more = false} a c fault fills ((write, part), same) read =
 
 -- ---- what was taken
 
-pub takes_begun : {limits : Bounds} {fresh : Fresh} {gathered : Gathering} {stanzas : List StanzaParts} {mac : Bytes}
-    {key : Bytes} {max : ℕ} {t : SealerState} {more : Bool} {from mid : Seen} {old new : Known}
+pub takes_begun : {limits : Bounds} {fresh : Fresh} {gathered : Gathering} {stanzas : List StanzaParts} {mac key :
+    Bytes} {max : ℕ} {t : SealerState} {more : Bool} {from mid : Seen} {old new : Known}
     → HeaderMade limits fresh.file_key gathered stanzas mac
-    → FrontWritten stanzas mac (λ text. WritesPart (moved old new) (text ++ fresh.nonce))
+    → FrontWritten stanzas mac (λ text. WritesPart (move_of old new) (text ++ fresh.nonce))
     → Fills (at_start key max) t (flow from mid) (Ok more)
-    → TookWhileEncrypting limits fresh gathered (flow from mid) (moved old new) Write
+    → TookWhileEncrypting limits fresh gathered (flow from mid) (move_of old new) Write
 takes_begun {limits} {fresh} {gathered} {stanzas} {mac} header (text, head, part)
     (x, gave, is, fits, full, ended) =
     let m = made header head in
@@ -263,9 +263,9 @@ took : (limits : Bounds) (fresh : Fresh) (gathered : Gathering) (text : Bytes) (
     (chunk : ℕ)
     (fault : StreamFault) → length fresh.nonce ≡ 16
     → Made limits fresh.file_key gathered text → Appends a b (text ++ fresh.nonce)
-    → Stopped (payload_key fresh.file_key fresh.nonce) limits.max_chunks 0 chunk [] (flow from to) (moved b c) fault
+    → Stopped (payload_key fresh.file_key fresh.nonce) limits.max_chunks 0 chunk [] (flow from to) (move_of b c) fault
     → GaveAtMost (chunk_size * (chunk + 1 - 0) + 1 - 0) (flow from to)
-    → TookChunks limits fresh gathered (flow from to) (moved a c)
+    → TookChunks limits fresh gathered (flow from to) (move_of a c)
 took limits fresh gathered text from to a b c chunk fault sixteen m front s gave =
     let l : length ((text ++ fresh.nonce) ++ s.wrote.0) ≡ length (text ++ fresh.nonce) + length s.wrote.0 =
     length-append (text ++ fresh.nonce) s.wrote.0 in
@@ -284,16 +284,16 @@ took limits fresh gathered text from to a b c chunk fault sixteen m front s gave
 takes_payload : (limits : Bounds) (fresh : Fresh) (gathered : Gathering) (text : Bytes) (from to : Seen) (a b c : Known)
     (fault : StreamFault) → length fresh.nonce ≡ 16
     → Made limits fresh.file_key gathered text → Appends a b (text ++ fresh.nonce)
-    → SealsAll (at_start (payload_key fresh.file_key fresh.nonce) limits.max_chunks) (flow from to) (moved b c)
+    → SealsAll (at_start (payload_key fresh.file_key fresh.nonce) limits.max_chunks) (flow from to) (move_of b c)
     (Err fault)
-    → TookWhileEncrypting limits fresh gathered (flow from to) (moved a c) (stream_fault fault)
+    → TookWhileEncrypting limits fresh gathered (flow from to) (move_of a c) (stream_fault fault)
 takes_payload limits fresh gathered text from to a b c stream.Write sixteen m front (chunk, s) = go s.gave
   where
     not_read : stream.Write ≡ stream.Read → ⊥
     not_read e = cc
 
     go : (stream.Write ≡ stream.Read) ⊎ GaveAtMost (chunk_size * (chunk + 1 - 0) + 1 - 0) (flow from to)
-        → TookChunks limits fresh gathered (flow from to) (moved a c)
+        → TookChunks limits fresh gathered (flow from to) (move_of a c)
     go (inl e) = absurd (not_read e)
     go (inr gave) = took limits fresh gathered text from to a b c chunk stream.Write sixteen m front s gave
 takes_payload limits fresh gathered text from to a b c stream.TooManyChunks sixteen m front (chunk, s) = go s.gave
@@ -302,15 +302,15 @@ takes_payload limits fresh gathered text from to a b c stream.TooManyChunks sixt
     not_read e = cc
 
     go : (stream.TooManyChunks ≡ stream.Read) ⊎ GaveAtMost (chunk_size * (chunk + 1 - 0) + 1 - 0) (flow from to)
-        → TookChunks limits fresh gathered (flow from to) (moved a c)
+        → TookChunks limits fresh gathered (flow from to) (move_of a c)
     go (inl e) = absurd (not_read e)
     go (inr gave) = took limits fresh gathered text from to a b c chunk stream.TooManyChunks sixteen m front s gave
-takes_payload limits fresh gathered text from to a b c _ sixteen m front s = tt
+takes_payload limits fresh gathered text from to a b c fault sixteen m front s = tt
 
 -- a fault of the payload names no reason against the header, and comes late
 pub refuses_none : (limits : Bounds) (fresh : Fresh) (gathered : Gathering) (from to : Seen) (b c : Known)
     (fault : StreamFault)
-    → SealsAll (at_start (payload_key fresh.file_key fresh.nonce) limits.max_chunks) (flow from to) (moved b c)
+    → SealsAll (at_start (payload_key fresh.file_key fresh.nonce) limits.max_chunks) (flow from to) (move_of b c)
     (Err fault)
     → RefusesFirst limits fresh.file_key gathered (stream_fault fault) × IsLate (stream_fault fault)
 refuses_none limits fresh gathered from to b c stream.Read h = (tt, tt)
@@ -326,9 +326,9 @@ pub takes_sealed : {limits : Bounds} (fresh : Fresh) {gathered : Gathering} {sta
     {from to : Seen} (a : Known) {b c : Known} {fault : StreamFault}
     → HeaderMade limits fresh.file_key gathered stanzas mac
     → FrontWritten stanzas mac (λ text. Appends a b (text ++ fresh.nonce)) → length fresh.nonce ≡ 16
-    → SealsAll (at_start (payload_key fresh.file_key fresh.nonce) limits.max_chunks) (flow from to) (moved b c)
+    → SealsAll (at_start (payload_key fresh.file_key fresh.nonce) limits.max_chunks) (flow from to) (move_of b c)
     (Err fault)
-    → TookWhileEncrypting limits fresh gathered (flow from to) (moved a c) (stream_fault fault)
+    → TookWhileEncrypting limits fresh gathered (flow from to) (move_of a c) (stream_fault fault)
 takes_sealed {limits} fresh {gathered} {stanzas} {mac} {from} {to} a {b} {c} {fault} header
     (text, head, front) sixteen seals =
     takes_payload limits fresh gathered text from to a b c fault sixteen

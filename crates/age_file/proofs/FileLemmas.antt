@@ -2,7 +2,6 @@
 use Rattle.std.proofs.Common.{◌≡◌, ◌↔◌, ◌⊎◌, inl, inr, ℕ, List, [], ◌∷◌, ◌++◌, length, drop, cond, true, false, Bool, sym, ◌∙◌, ap, refl, subst, Option, Some, None, Result, Ok, Err}
 use Rattle.std.specs.Prelude.{option_map}
 use Rattle.std.specs.Str.{bytes_eq}
-use Rattle.std.proofs.lemmas.Bool.{cond-false, cond-true}
 use Rattle.std.proofs.lemmas.List.{drop_at}
 use Rattle.std.proofs.lemmas.Option.{none-some}
 use Rattle.std.proofs.lemmas.Slice.Eq.{bytes_eq-Decides}
@@ -20,15 +19,15 @@ use Rattle.age_recipient.specs.declared.unwrapped.Unwrapped.TheVariants.{Key}
 use Rattle.age_recipient.specs.Choice.{choice}
 use Rattle.age_stream.specs.declared.fault.StreamFault.{StreamFault}
 use Rattle.age_stream.specs.Payload.{payload}
-use Rattle.age_stream.specs.Reading.{Reading, stops, whole, payload_reading}
+use Rattle.age_stream.specs.Reading.{Reading, stop, whole, payload_reading}
 use Rattle.age_stream.proofs.PayloadLemmas.{ok_payload, payload_ok}
 use Rattle.age_file.specs.declared.fault.Fault.{Fault}
 use Rattle.age_file.specs.declared.fault.Fault.TheVariants.{MixedPassphrase, BadMac, OutOfMemory}
 use Rattle.age_file.specs.AgeFile.{Bounds, AgeFile, is_mixed}
-use Rattle.age_file.specs.Verdict.{Answering, IsVerdict, checked, header_fault, judged, parts_of, read_under, stream_fault, unlocked, with_file_fault}
+use Rattle.age_file.specs.Verdict.{Answering, IsVerdict, checked_key, header_fault, reading_after, parts_of, reading_under, stream_fault, header_key, with_file_fault}
 
 -- what is read whole does not stop
-pub never_stops : (p : Bytes) (f : Fault) → whole p ≡ stops f → ⊥
+pub never_stops : (p : Bytes) (f : Fault) → whole p ≡ stop f → ⊥
 never_stops p f h = none-some f (ap (λ (r : Reading Fault). r.fault) h)
 
 pub no_stream_fault : (o : Option StreamFault) → option_map stream_fault o ≡ None → o ≡ None
@@ -38,8 +37,9 @@ no_stream_fault (Some f) h = absurd (none-some (stream_fault f) (sym h))
 -- what a payload was read from
 pub with_file_fault_whole : {p : Bytes} {r : Reading StreamFault} → whole p ≡ with_file_fault r → r ≡ whole p
 with_file_fault_whole {p} {r} h =
-    ap (λ x. record { front = x; fault = r.fault }) (sym (ap (λ (z : Reading Fault). z.front) h))
-    ∙ ap (λ x. record { front = p; fault = x }) (no_stream_fault r.fault (sym (ap (λ (z : Reading Fault). z.fault) h)))
+    ap (λ x. record { plaintext = x; fault = r.fault }) (sym (ap (λ (z : Reading Fault). z.plaintext) h))
+    ∙ ap (λ x. record { plaintext = p; fault = x }) (no_stream_fault r.fault (sym (ap (λ
+    (z : Reading Fault). z.fault) h)))
 
 -- a file of the chosen key
 pub record IsChosenFile (limits : Bounds) (answers : Answering) (p b : Bytes) : Type 0 where
@@ -64,34 +64,34 @@ pub record HasKey (answers : Answering) (h : HeaderParts) (k : FileKey) : Type 0
   pub chosen : choice (answers h.stanzas) ≡ Ok k
   pub mac : h.mac ≡ header_mac k.0 h.stanzas
 
-checked_key : (h : HeaderParts) (c : Result FileKey UnlockFault) (k : FileKey) → checked h c ≡ Ok k
+ok_checked : (h : HeaderParts) (c : Result FileKey UnlockFault) (k : FileKey) → checked_key h c ≡ Ok k
     → (c ≡ Ok k) × (h.mac ≡ header_mac k.0 h.stanzas)
-checked_key h (Err f) k is = absurd (cc)
-checked_key h (Ok j) k is =
+ok_checked h (Err f) k is = absurd (cc)
+ok_checked h (Ok j) k is =
     let both = cond_else_err (bytes_eq h.mac (header_mac j.0 h.stanzas)) BadMac j k is in
-    (ap Ok both.1, (bytes_eq-Decides _ _).0 both.0 ∙ ap (λ (x : FileKey). header_mac x.0 h.stanzas) both.1)
+    let mac = header_mac j.0 h.stanzas in
+    (ap Ok both.1, (bytes_eq-Decides h.mac mac).0 both.0 ∙ ap (λ (x : FileKey). header_mac x.0 h.stanzas) both.1)
 
-unlocked_key : (answers : Answering) (h : HeaderParts) (k : FileKey) → unlocked answers h ≡ Ok k → HasKey answers h k
+unlocked_key : (answers : Answering) (h : HeaderParts) (k : FileKey) → header_key answers h ≡ Ok k → HasKey answers h k
 unlocked_key answers h k is =
-    let alone = cond_err (is_mixed h.stanzas) MixedPassphrase (checked h (choice (answers h.stanzas))) k is in
-    let good = checked_key h (choice (answers h.stanzas)) k alone.1 in
+    let alone = cond_err (is_mixed h.stanzas) MixedPassphrase (checked_key h (choice (answers h.stanzas))) k is in
+    let good = ok_checked h (choice (answers h.stanzas)) k alone.1 in
     record { unmixed = alone.0; chosen = good.0; mac = good.1 }
 
 pub key_unlocked : (answers : Answering) (h : HeaderParts) (k : FileKey) → HasKey answers h k
-    → unlocked answers h ≡ Ok k
+    → header_key answers h ≡ Ok k
 key_unlocked answers h k has =
-    cond-false (is_mixed h.stanzas) _ _ has.unmixed ∙ ap (checked h) has.chosen
-    ∙ cond-true (bytes_eq h.mac (header_mac k.0 h.stanzas)) _ _ ((bytes_eq-Decides _ _).1 has.mac)
+    rw (has.unmixed, has.chosen, (bytes_eq-Decides h.mac (header_mac k.0 h.stanzas)).1 has.mac) refl
 
 -- the outcome of a header whose key was chosen and whose MAC was compared, unless an allocation was refused
 pub checked_unlocked : (answers : Answering) (h : HeaderParts) (chosen : Result FileKey UnlockFault)
     (r : Result FileKey Fault) → is_mixed h.stanzas ≡ false
-    → (chosen ≡ Err Memory) ⊎ (chosen ≡ choice (answers h.stanzas)) → (r ≡ Err OutOfMemory) ⊎ (r ≡ checked h chosen)
-    → (r ≡ Err OutOfMemory) ⊎ (r ≡ unlocked answers h)
+    → (chosen ≡ Err Memory) ⊎ (chosen ≡ choice (answers h.stanzas)) → (r ≡ Err OutOfMemory) ⊎ (r ≡ checked_key h chosen)
+    → (r ≡ Err OutOfMemory) ⊎ (r ≡ header_key answers h)
 checked_unlocked answers h chosen r alone c (inl memory) = inl memory
-checked_unlocked answers h chosen r alone (inl memory) (inr is) = inl (is ∙ ap (checked h) memory)
+checked_unlocked answers h chosen r alone (inl memory) (inr is) = inl (is ∙ ap (checked_key h) memory)
 checked_unlocked answers h chosen r alone (inr chose) (inr is) =
-    inr (is ∙ ap (checked h) chose ∙ sym (cond-false (is_mixed h.stanzas) _ _ alone))
+    inr (is ∙ rw (alone, chose) refl)
 
 -- what follows the header that begins a text
 pub behind : (b : Bytes) (max : ℕ) (found : Found) (begins : BeginsWith b max found)
@@ -101,8 +101,8 @@ behind b max found begins = ap (drop (length found.text)) begins.prefix
 
 under_file : (limits : Bounds) (answers : Answering) (b p : Bytes) (found : Found)
     → BeginsWith b limits.max_header found
-    → (c : Result FileKey Fault) → unlocked answers (parts_of found) ≡ c
-    → whole p ≡ read_under limits (drop (length found.text) b) c → IsChosenFile limits answers p b
+    → (c : Result FileKey Fault) → header_key answers (parts_of found) ≡ c
+    → whole p ≡ reading_under limits (drop (length found.text) b) c → IsChosenFile limits answers p b
 under_file limits answers b p found begins (Err f) is h = absurd (never_stops p f h)
 under_file limits answers b p found begins (Ok k) is h =
     let rest : Bytes = drop (length found.text) b in
@@ -128,11 +128,11 @@ under_file limits answers b p found begins (Ok k) is h =
 
 judged_file : (limits : Bounds) (answers : Answering) (b p : Bytes) (r : Result Found HeaderFault)
     → HeaderVerdict b limits.max_header r
-    → whole p ≡ judged limits answers b r → IsChosenFile limits answers p b
+    → whole p ≡ reading_after limits answers b r → IsChosenFile limits answers p b
 judged_file limits answers b p (Err f) v h = absurd (never_stops p (header_fault f) h)
 judged_file limits answers b p (Ok found) v h =
     under_file limits answers b p found (headers.begins_found b limits.max_header found v)
-    (unlocked answers (parts_of found)) refl h
+    (header_key answers (parts_of found)) refl h
 
 -- an age file for the chosen key reads whole
 pub file_whole : (limits : Bounds) (answers : Answering) (b p : Bytes) (stanzas : List StanzaParts) (k : FileKey)
@@ -151,7 +151,7 @@ file_whole limits answers b p stanzas k file chosen =
     record {
       header = Ok found;
       header_verdict = headers.found_begins b limits.max_header found begins;
-      is = sym (ap (read_under limits (drop (length file.header) b))
+      is = sym (ap (reading_under limits (drop (length file.header) b))
           (key_unlocked answers (parts_of found) k (record { unmixed = file.unmixed; chosen = chosen; mac = refl }))
           ∙ ap with_file_fault reads);
     }
@@ -166,7 +166,7 @@ both_ways limits answers b p = (
 pub one_verdict : (limits : Bounds) (answers : Answering) (b : Bytes) (v w : Reading Fault)
     → IsVerdict limits answers b v → IsVerdict limits answers b w → v ≡ w
 one_verdict limits answers b v w h k =
-    h.is ∙ ap (judged limits answers b)
+    h.is ∙ ap (reading_after limits answers b)
     (headers.one_verdict b limits.max_header h.header k.header h.header_verdict k.header_verdict) ∙ sym k.is
 
 -- one identity that means the key

@@ -5,9 +5,9 @@ use Rattle.std.proofs.Math.Seq.{drop-nil}
 use Rattle.std.specs.List.{AllZip}
 use Rattle.age_header.specs.Header.{StanzaParts}
 use Rattle.age_recipient.specs.declared.labels.Labels.{Labels}
-use Rattle.age_recipient.specs.Labels.{MayLabel, incompatible}
+use Rattle.age_recipient.specs.Labels.{MayLabel, first_incompatible}
 use Rattle.age_file.specs.declared.fault.Fault.{Fault}
-use Rattle.age_file.specs.NewFile.{Gathered, Gathers, WrapsAll, gathered_from}
+use Rattle.age_file.specs.NewFile.{Gathered, Gathers, WrapsAll, gathering_from}
 
 both : {A B : Type 0} (R : A → B → Type 0) (xs xs2 : List A) (ys ys2 : List B) → AllZip R xs ys → AllZip R xs2 ys2
     → AllZip R (xs ++ xs2) (ys ++ ys2)
@@ -59,8 +59,8 @@ collects_all f xs {i} labels end h = subst (λ t. AllZip MayLabel t labels)
 
 -- a refusal comes before any labels
 pub refused_first : (wrapped : List (Result (List StanzaParts) ℕ)) (meant : List Labels) (fault : Fault)
-    → WrapsAll (gathered_from 0 wrapped) (Err fault)
+    → WrapsAll (gathering_from 0 wrapped) (Err fault)
     → Gathers (Gathered wrapped meant) (Err fault)
 refused_first wrapped meant fault (inl memory) = inl memory
 refused_first wrapped meant fault (inr (i, code, is, refused)) =
-    inr (inl (i, code, is, (incompatible meant, (meant, as_meant meant, refl), rw refused refl)))
+    inr (inl (i, code, is, (first_incompatible meant, (meant, as_meant meant, refl), rw refused refl)))

@@ -3,7 +3,7 @@ use Rattle.std.proofs.Common.{◌≡◌, ℕ, ◌+◌, zero, suc, not, List, [],
 use Rattle.std.specs.List.{AllZip, position_from}
 use Rattle.age_recipient.specs.declared.labels.Labels.{Labels}
 use Rattle.age_recipient.specs.declared.labels.Labels.TheVariants.{Alone, Names}
-use Rattle.age_recipient.specs.Labels.{MayLabel, go_together, incompatible}
+use Rattle.age_recipient.specs.Labels.{MayLabel, go_together, first_incompatible}
 use Rattle.age_file.specs.NewFile.{IsIncompatible}
 
 pub one_index : (meant : Labels) (index : Option ℕ) → IsIncompatible (meant ∷ []) index → index ≡ None
@@ -25,12 +25,12 @@ unnamed (suc n) [] may = absurd may
 unnamed (suc n) (l ∷ labels) (inl is, may) = rw (is, unnamed n labels may) refl
 unnamed (suc n) (l ∷ labels) (inr is, may) = rw (is, unnamed n labels may) refl
 
-none_of : (n : ℕ) → incompatible (replicate n (Names [])) ≡ None
+none_of : (n : ℕ) → first_incompatible (replicate n (Names [])) ≡ None
 none_of zero = refl
 none_of (suc n) = none_incompatible n 1
 
 pub keyed_index : (n : ℕ) (index : Option ℕ) → IsIncompatible (replicate n (Names [])) index → index ≡ None
-keyed_index n index (labels, may, is) = is ∙ ap incompatible (unnamed n labels may) ∙ none_of n
+keyed_index n index (labels, may, is) = is ∙ ap first_incompatible (unnamed n labels may) ∙ none_of n
 
 alone_from : (n k : ℕ) (others : List Labels)
     → position_from (λ other. not (go_together (Names []) other)) k (replicate n (Names []) ++ Alone ∷ others)
@@ -39,6 +39,6 @@ alone_from zero k others = ap Some (omega arith)
 alone_from (suc n) k others = alone_from n (k + 1) others ∙ ap Some (omega arith)
 
 pub alone_after : (n : ℕ) (others : List Labels)
-    → incompatible (replicate (n + 1) (Names []) ++ Alone ∷ others) ≡ Some (n + 1)
-alone_after n others = ap (λ k. incompatible (replicate k (Names []) ++ Alone ∷ others)) (add-one n)
+    → first_incompatible (replicate (n + 1) (Names []) ++ Alone ∷ others) ≡ Some (n + 1)
+alone_after n others = ap (λ k. first_incompatible (replicate k (Names []) ++ Alone ∷ others)) (add-one n)
     ∙ alone_from n 1 others

@@ -1,10 +1,10 @@
 -- A whole payload: its nonce, then its pieces.
-use Rattle.std.proofs.Common.{◌≡◌, ◌⊎◌, ◌∙◌, ◌++◌, ◌+◌, ◌*◌, ℕ, length, take, drop, ap, sym, subst, arith, length-append, refl, true, false, inl, inr, Result, Ok, Err, nat_lt}
+use Rattle.std.proofs.Common.{◌≡◌, ◌⊎◌, ◌++◌, ◌+◌, ◌*◌, ℕ, length, take, drop, sym, subst, arith, length-append, refl, true, false, inl, inr, Result, Ok, Err, nat_lt}
 use Rattle.std.specs.Prelude.{IfErr, IfNone}
 use Rattle.std.proofs.KnownBytes.{Appends-nil}
-use Rattle.std.proofs.lemmas.Bool.{le-ltb, lt-ltb, cond-false, cond-true}
+use Rattle.std.proofs.lemmas.Bool.{le-ltb, lt-ltb}
 use Rattle.std.proofs.lemmas.List.{take_at, drop_at}
-use Rattle.age_header.specs.Device.{Bytes, Flow, GaveAtMost, Known, OfGiven, Seen, flow, moved}
+use Rattle.age_header.specs.Device.{Bytes, Flow, GaveAtMost, Known, OfGiven, Seen, flow, move_of}
 use Rattle.age_header.proofs.DeviceLemmas.{gave_more, of_any, of_map, of_then}
 use Rattle.age_header.specs.declared.file_key.FileKey.{FileKey}
 use Rattle.age_stream.specs.declared.done.Done.{Done}
@@ -12,22 +12,22 @@ use Rattle.age_stream.specs.declared.fault.StreamFault.{StreamFault}
 use Rattle.age_stream.specs.declared.fault.StreamFault.TheVariants.{NonceTruncated, ChunkShort, EmptyFinal, BadChunk, TooManyChunks, Read, Write, Memory}
 use Rattle.age_stream.specs.Opening.{EndsAt, OpenerState, Starts, WritesAll, WritesReading, at_start}
 use Rattle.age_stream.specs.Payload.{payload_key, pieces}
-use Rattle.age_stream.specs.Reading.{payload_reading, reading_from, stops}
+use Rattle.age_stream.specs.Reading.{payload_reading, reading_from, stop}
 use Rattle.age_stream.specs.Sizes.{sealed_chunk_size}
 
 -- the reading of the payload that the source gave was written
 abbrev pub WritesPayload : FileKey → ℕ → Flow → Known → Known → Result Done StreamFault → Type 0
 WritesPayload k max source old new r = OfGiven source
-    (λ c. WritesReading (payload_reading k max c) (length (pieces (drop 16 c))) (moved old new) r)
+    (λ c. WritesReading (payload_reading k max c) (length (pieces (drop 16 c))) (move_of old new) r)
 
 -- the nonce, then the pieces
 pub payload_writes : (k : FileKey) {max : ℕ} {s : OpenerState} {from mid to : Seen} (a b : Known)
     (r : Result Done StreamFault)
-    → Starts k max (flow from mid) (Ok s) → IfNone s.fault (WritesAll s (flow mid to) (moved a b) r)
+    → Starts k max (flow from mid) (Ok s) → IfNone s.fault (WritesAll s (flow mid to) (move_of a b) r)
     → WritesPayload k max (flow from to) a b r
 payload_writes k {max} {from} {mid} {to} a b r (nonce, len, is, gave) h =
-    let all : WritesAll (at_start (payload_key k nonce) max) (flow mid to) (moved a b) r =
-    subst (λ (x : OpenerState). IfNone x.fault (WritesAll x (flow mid to) (moved a b) r)) is h in
+    let all : WritesAll (at_start (payload_key k nonce) max) (flow mid to) (move_of a b) r =
+    subst (λ (x : OpenerState). IfNone x.fault (WritesAll x (flow mid to) (move_of a b) r)) is h in
     of_then gave all (λ c w.
     let l : length (nonce ++ c) ≡ length nonce + length c = length-append nonce c in
     let long : nat_lt (length (nonce ++ c)) 16 ≡ false = le-ltb (length (nonce ++ c)) 16 (omega arith) in
@@ -35,11 +35,9 @@ payload_writes k {max} {from} {mid} {to} a b r (nonce, len, is, gave) h =
     let back : drop 16 (nonce ++ c) ≡ c = drop_at nonce c 16 len in
     let key : Bytes = payload_key k nonce in
     let reads : payload_reading k max (nonce ++ c) ≡ reading_from key max 0 c =
-    cond-false (nat_lt (length (nonce ++ c)) 16) _ _ long
-    ∙ ap (λ n. reading_from (payload_key k n) max 0 (drop 16 (nonce ++ c))) front
-    ∙ ap (reading_from key max 0) back in
-    subst (λ x. WritesReading x (length (pieces (drop 16 (nonce ++ c)))) (moved a b) r) (sym reads)
-    (subst (λ x. WritesReading (reading_from key max 0 c) (length (pieces x)) (moved a b) r) (sym back) w))
+    rw (long, front, back) refl in
+    subst (λ x. WritesReading x (length (pieces (drop 16 (nonce ++ c)))) (move_of a b) r) (sym reads)
+    (subst (λ x. WritesReading (reading_from key max 0 c) (length (pieces x)) (move_of a b) r) (sym back) w))
 
 -- the nonce is cut short, or was not read
 pub nonce_writes : (k : FileKey) (max : ℕ) (from mid : Seen) (a : Known) (fault : StreamFault)
@@ -47,8 +45,8 @@ pub nonce_writes : (k : FileKey) (max : ℕ) (from mid : Seen) (a : Known) (faul
 nonce_writes k max from mid a Read h = of_any h (λ c. (0, Appends-nil a))
 nonce_writes k max from mid a NonceTruncated h = of_map h.1 (λ c less.
     let short : nat_lt (length c) 16 ≡ true = lt-ltb (length c) 16 less in
-    let all : payload_reading k max c ≡ stops NonceTruncated = cond-true (nat_lt (length c) 16) _ _ short in
-    subst (λ x. WritesReading x (length (pieces (drop 16 c))) (moved a a) (Err NonceTruncated)) (sym all)
+    let all : payload_reading k max c ≡ stop NonceTruncated = rw short refl in
+    subst (λ x. WritesReading x (length (pieces (drop 16 c))) (move_of a a) (Err NonceTruncated)) (sym all)
     (refl, Appends-nil a))
 nonce_writes k max from mid a (ChunkShort i) h = absurd (cc)
 nonce_writes k max from mid a (EmptyFinal i) h = absurd (cc)
@@ -61,16 +59,16 @@ nonce_writes k max from mid a Memory h = absurd (cc)
 pub payload_ends : (k : FileKey) {max : ℕ} {s : OpenerState} {from mid to : Seen} {a b : Known} {fault : StreamFault}
     → Starts k max (flow from mid) (Ok s) → GaveAtMost 16 (flow from mid)
     → IfNone s.fault
-    (IfErr {T = Done} (Err fault) (λ f. (f ≡ Read) ⊎ EndsAt s.max_chunks 0 (flow mid to) (moved a b) f))
-    → (fault ≡ Read) ⊎ EndsAt max 16 (flow from to) (moved a b) fault
+    (IfErr {T = Done} (Err fault) (λ f. (f ≡ Read) ⊎ EndsAt s.max_chunks 0 (flow mid to) (move_of a b) f))
+    → (fault ≡ Read) ⊎ EndsAt max 16 (flow from to) (move_of a b) fault
 payload_ends k {max} {from} {mid} {to} {a} {b} {fault} starts nonce h =
     go (subst
-    (λ (x : OpenerState). IfNone x.fault ((fault ≡ Read) ⊎ EndsAt x.max_chunks 0 (flow mid to) (moved a b) fault))
+    (λ (x : OpenerState). IfNone x.fault ((fault ≡ Read) ⊎ EndsAt x.max_chunks 0 (flow mid to) (move_of a b) fault))
     starts.2
     h)
   where
-    go : (fault ≡ Read) ⊎ EndsAt max 0 (flow mid to) (moved a b) fault → (fault ≡ Read)
-        ⊎ EndsAt max 16 (flow from to) (moved a b) fault
+    go : (fault ≡ Read) ⊎ EndsAt max 0 (flow mid to) (move_of a b) fault → (fault ≡ Read)
+        ⊎ EndsAt max 16 (flow from to) (move_of a b) fault
     go (inl e) = inl e
     go (inr e) =
         let all = gave_more from mid to 16 (0 + (sealed_chunk_size * (e.piece + 1) + 1)) nonce e.gave in

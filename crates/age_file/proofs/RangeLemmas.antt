@@ -5,7 +5,7 @@ use Rattle.std.specs.Result.{result_map_both}
 use Rattle.std.specs.Str.{bytes_eq}
 use Rattle.std.specs.Io.KnownBytes.{Consumes}
 use Rattle.std.proofs.lemmas.List.{append-nil, length-append, length-drop}
-use Rattle.age_header.specs.Device.{Bytes, CountsFaultIf, Known, Seen, flow, flow_by, moved}
+use Rattle.age_header.specs.Device.{Bytes, CountsFaultIf, Known, Seen, flow, flow_by, move_of}
 use Rattle.age_header.specs.declared.fault.HeaderFault.{HeaderFault}
 use Rattle.age_header.specs.declared.fault.HeaderFault.TheVariants as header
 use Rattle.age_header.specs.Header.{HeaderParts}
@@ -30,7 +30,7 @@ use Rattle.age_file.specs.AgeFile.{Bounds, is_mixed}
 use Rattle.age_file.specs.Inspect.{Inspects}
 use Rattle.age_file.specs.Device.{IsNoDeviceFault, is_read}
 use Rattle.age_file.specs.Ranges.{AtState, BeginsFile, GaveFirst, GaveHeader, HasHeader, IsOpenFault, IsRangesOf, IsWithin, MissesHeader, MissesRanges, RefusesRanges, ranges_under}
-use Rattle.age_file.specs.Verdict.{Answering, checked, found_in, header_fault, stream_fault, unlock_fault, unlocked}
+use Rattle.age_file.specs.Verdict.{Answering, checked_key, finding, header_fault, stream_fault, unlock_fault, header_key}
 use Rattle.age_file.proofs.AtStateLemmas.{first_none, first_stays}
 use Rattle.age_file.proofs.DecryptLemmas.{err_err, found_key, headed, reads_file}
 
@@ -48,7 +48,7 @@ range_header_found limits (Some b) at {a = x} {b = y} h old new w i =
     let inside : at ≤ length b = w in (
       is.text,
       omega arith,
-      subst (λ x. HeaderVerdict x limits.max_header (Ok (found_in is.text h))) (sym all) (is.verdict (drop at b)),
+      subst (λ x. HeaderVerdict x limits.max_header (Ok (finding is.text h))) (sym all) (is.verdict (drop at b)),
     )
 
 -- the same whether or not the contents are known
@@ -61,7 +61,7 @@ header_gave to_come gave {limits} {old} {h} start i =
     record {
       text = is.text;
       gave_text = is.took.grew [] (subst (λ n. GaveFirst (gave old.dev) n []) (sym start) (first_none (gave old.dev)));
-      verdict = subst (λ t. HeaderVerdict t limits.max_header (Ok (found_in is.text h))) (append-nil is.text)
+      verdict = subst (λ t. HeaderVerdict t limits.max_header (Ok (finding is.text h))) (append-nil is.text)
           (is.verdict []);
     }
 
@@ -94,18 +94,18 @@ missed_ranges limits answers (Some b) fault (inr (inr h)) = inr (inr (Err h.0, h
 -- no key
 pub locked_ranges : (limits : Bounds) (answers : Answering) (told : Known) (at : ℕ) (h : HeaderParts) (fault : Fault)
     → HasHeader limits told at h
-    → (◌≡◌ {A = Result FileKey Fault} (Err fault) (Err OutOfMemory)) ⊎ (Err fault ≡ unlocked answers h)
+    → (◌≡◌ {A = Result FileKey Fault} (Err fault) (Err OutOfMemory)) ⊎ (Err fault ≡ header_key answers h)
     → MissesRanges limits answers told fault
 locked_ranges limits answers told at h fault found (inl memory) =
     inr (inl (err_err {A = FileKey} fault OutOfMemory memory))
 locked_ranges limits answers None at h fault found (inr key) = inr (inr tt)
 locked_ranges limits answers (Some b) at h fault found (inr key) =
-    inr (inr (Ok (found_in found.0 h), found.2, ap (ranges_under limits (drop (length found.0) b)) (sym key)))
+    inr (inr (Ok (finding found.0 h), found.2, ap (ranges_under limits (drop (length found.0) b)) (sym key)))
 
 -- a payload that was not opened
 pub payload_missed : (limits : Bounds) (answers : Answering) (told : Known) (at : ℕ) (h : HeaderParts) (k : FileKey)
     (fault : StreamFault) → HasHeader limits told at h
-    → (◌≡◌ {A = Result FileKey Fault} (Ok k) (Err OutOfMemory)) ⊎ (Ok k ≡ unlocked answers h)
+    → (◌≡◌ {A = Result FileKey Fault} (Ok k) (Err OutOfMemory)) ⊎ (Ok k ≡ header_key answers h)
     → OpensRanges k limits.max_chunks at told (Err fault)
     → MissesRanges limits answers told (stream_fault fault)
 payload_missed limits answers told at h k fault found (inl memory) o = absurd (cc)
@@ -113,7 +113,7 @@ payload_missed limits answers told at h k fault found (inr key) (inl e) = inl (a
 payload_missed limits answers told at h k fault found (inr key) (inr (inl e)) = inr (inl (ap stream_fault e))
 payload_missed limits answers None at h k fault found (inr key) (inr (inr e)) = inr (inr tt)
 payload_missed limits answers (Some b) at h k fault found (inr key) (inr (inr e)) = inr (inr (
-  Ok (found_in found.0 h),
+  Ok (finding found.0 h),
   found.2,
   ap (ranges_under limits (drop (length found.0) b)) (sym key)
       ∙ ap (λ n. result_map_both (λ text. text) stream_fault (range_outcome k limits.max_chunks (drop n b))) found.1
@@ -147,17 +147,17 @@ unlock_open unlock.WrongKey = tt
 unlock_open (unlock.Malformed s) = tt
 unlock_open unlock.Memory = tt
 
-checked_open : (h : HeaderParts) (r : Result FileKey UnlockFault) → IfErr (checked h r) IsOpenFault
+checked_open : (h : HeaderParts) (r : Result FileKey UnlockFault) → IfErr (checked_key h r) IsOpenFault
 checked_open h (Err e) = unlock_open e
 checked_open h (Ok k) = either_open (bytes_eq h.mac (header_mac k.0 h.stanzas)) (Ok k) (Err BadMac) tt tt
 
 pub locked_named : (answers : Answering) (h : HeaderParts) (fault : Fault)
-    → (◌≡◌ {A = Result FileKey Fault} (Err fault) (Err OutOfMemory)) ⊎ (Err fault ≡ unlocked answers h)
+    → (◌≡◌ {A = Result FileKey Fault} (Err fault) (Err OutOfMemory)) ⊎ (Err fault ≡ header_key answers h)
     → IsOpenFault fault
 locked_named answers h fault (inl memory) = subst IsOpenFault (sym (err_err {A = FileKey} fault OutOfMemory memory)) tt
 locked_named answers h fault (inr key) =
     subst (λ (r : Result FileKey Fault). IfErr r IsOpenFault) (sym key)
-    (either_open (is_mixed h.stanzas) (Err MixedPassphrase) (checked h (choice (answers h.stanzas))) tt
+    (either_open (is_mixed h.stanzas) (Err MixedPassphrase) (checked_key h (choice (answers h.stanzas))) tt
     (checked_open h (choice (answers h.stanzas))))
 
 pub payload_named : (e : StreamFault) → stream.IsOpenFault e → IsOpenFault (stream_fault e)
@@ -175,7 +175,7 @@ payload_named fault.Memory h = tt
 pub header_refuses : (limits : Bounds) (answers : Answering) (told : Known) {told2 : Known} (failed : ℕ) {failed2 : ℕ}
     {fault : Fault} → MissesHeader limits told fault → IsOpenFault fault
     → told2 ≡ told → CountsFaultIf is_read failed failed2 fault
-    → RefusesRanges limits answers (moved told told2) failed failed2 fault
+    → RefusesRanges limits answers (move_of told told2) failed failed2 fault
 header_refuses limits answers told failed {fault} m early stay count =
     record { misses = missed_ranges limits answers told fault m; named = early; stay = stay; counted = count }
 
@@ -185,9 +185,9 @@ none_counted fault old new none same =
 
 pub locked_refuses : (limits : Bounds) (answers : Answering) (told mid told2 : Known) (failed failed2 at : ℕ)
     (h : HeaderParts) (fault : Fault) → mid ≡ told → HasHeader limits told at h
-    → (◌≡◌ {A = Result FileKey Fault} (Err fault) (Err OutOfMemory)) ⊎ (Err fault ≡ unlocked answers h)
+    → (◌≡◌ {A = Result FileKey Fault} (Err fault) (Err OutOfMemory)) ⊎ (Err fault ≡ header_key answers h)
     → IsNoDeviceFault fault → told2 ≡ mid → failed2 ≡ failed
-    → RefusesRanges limits answers (moved told told2) failed failed2 fault
+    → RefusesRanges limits answers (move_of told told2) failed failed2 fault
 locked_refuses limits answers told mid told2 failed failed2 at h fault same found key none stay count = record {
   misses = locked_ranges limits answers told at h fault found key;
   named = locked_named answers h fault key;
@@ -198,10 +198,10 @@ locked_refuses limits answers told mid told2 failed failed2 at h fault same foun
 pub payload_refuses : (limits : Bounds) (answers : Answering) (told mid told2 : Known)
     (failed failed1 failed2 at max : ℕ) (h : HeaderParts) (k : FileKey) (fault : StreamFault) → mid ≡ told
     → failed1 ≡ failed → max ≡ limits.max_chunks → HasHeader limits told at h
-    → (◌≡◌ {A = Result FileKey Fault} (Ok k) (Err OutOfMemory)) ⊎ (Ok k ≡ unlocked answers h)
+    → (◌≡◌ {A = Result FileKey Fault} (Ok k) (Err OutOfMemory)) ⊎ (Ok k ≡ header_key answers h)
     → OpensRanges k max at mid (Err fault) → stream.IsOpenFault fault → told2 ≡ mid
     → CountsFaultIf counts.is_read failed1 failed2 fault
-    → RefusesRanges limits answers (moved told told2) failed failed2 (stream_fault fault)
+    → RefusesRanges limits answers (move_of told told2) failed failed2 (stream_fault fault)
 payload_refuses limits answers told mid told2 failed failed1 failed2 at max h k fault same before most found key opens
     early stay count = record {
       misses = payload_missed limits answers told at h k fault found key
@@ -217,7 +217,7 @@ payload_refuses limits answers told mid told2 failed failed1 failed2 at max h k 
 
 pub file_begins : (limits : Bounds) (answers : Answering) {gave : ℕ → ℕ → Type 0} {size : Option ℕ}
     {chunks : stream.RangeState} (at : ℕ) (h : HeaderParts) (k : FileKey) → GaveHeader limits gave at h
-    → (◌≡◌ {A = Result FileKey Fault} (Ok k) (Err OutOfMemory)) ⊎ (Ok k ≡ unlocked answers h)
+    → (◌≡◌ {A = Result FileKey Fault} (Ok k) (Err OutOfMemory)) ⊎ (Ok k ≡ header_key answers h)
     → stream.BeginsAt k at gave size chunks → BeginsFile limits answers gave size chunks
 file_begins limits answers at h k first key b =
     record { header = h; at = at; first = first; key = k; chosen = found_key key; begins = b }
@@ -232,19 +232,19 @@ header_stays {old} {new} {at} stays first = record {
 }
 
 pub file_ranges : (limits : Bounds) (answers : Answering) (told : Known) {mid told2 : Known} (given : ℕ)
-    {given1 given2 : ℕ} {at max : ℕ} (h : HeaderParts) {k : FileKey} (chunks : stream.RangeState)
+    {given1 given2 at max : ℕ} (h : HeaderParts) {k : FileKey} (chunks : stream.RangeState)
     → mid ≡ told → given1 ≤ given + at
     → max ≡ limits.max_chunks → HasHeader limits told at h
-    → (◌≡◌ {A = Result FileKey Fault} (Ok k) (Err OutOfMemory)) ⊎ (Ok k ≡ unlocked answers h)
-    → OpensRanges k max at mid (Ok chunks) → stream.Probes (moved mid told2) at given1 given2
+    → (◌≡◌ {A = Result FileKey Fault} (Ok k) (Err OutOfMemory)) ⊎ (Ok k ≡ header_key answers h)
+    → OpensRanges k max at mid (Ok chunks) → stream.Probes (move_of mid told2) at given1 given2
     → IfSome told (λ b. IsRangesOf limits answers b chunks given given2)
 file_ranges limits answers None given {at} {max} h {k} chunks same le most found key opens probes = tt
 file_ranges limits answers (Some b) {told2} given {given1} {given2} {at} {max} h {k} chunks same le most found key opens
     probes =
     let o = subst (λ t. OpensRanges k max at t (Ok chunks)) same opens in
-    let p = subst (λ t. stream.Probes (moved t told2) at given1 given2) same probes in
+    let p = subst (λ t. stream.Probes (move_of t told2) at given1 given2) same probes in
     record {
-      found = found_in found.0 h;
+      found = finding found.0 h;
       header = found.2;
       key = k;
       chosen = found_key key;

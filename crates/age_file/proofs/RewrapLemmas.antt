@@ -6,7 +6,7 @@ use Rattle.std.proofs.lemmas.List.{append-nil, drop_at}
 use Rattle.std.specs.Str.{bytes_eq}
 use Rattle.age_header.specs.declared.fault.HeaderFault.{HeaderFault}
 use Rattle.age_header.specs.declared.fault.HeaderFault.TheVariants as header
-use Rattle.age_header.specs.Device.{Bytes, Flow, WritesPart, Known, Seen, flow, moved}
+use Rattle.age_header.specs.Device.{Bytes, Flow, WritesPart, Known, Seen, flow, move_of}
 use Rattle.age_header.specs.Header.{HeaderParts}
 use Rattle.age_header.specs.Mac.{header_mac}
 use Rattle.age_header.specs.Reader.{ReadsHeader, Refuses}
@@ -26,7 +26,7 @@ use Rattle.age_file.specs.Device.{IsLate}
 use Rattle.age_file.specs.Inspect.{Inspects}
 use Rattle.age_file.specs.NewFile.{FailsHeading, Gathering, IsRefusal}
 use Rattle.age_file.specs.Rewrap.{BeginsRewrapped, IsRewrapped, RefusesRewrap, Rewrapped, Rewraps, RewrapsText}
-use Rattle.age_file.specs.Verdict.{Answering, IsVerdict, checked, found_in, header_fault, judged, parts_of, read_under, unlocked}
+use Rattle.age_file.specs.Verdict.{Answering, IsVerdict, checked_key, finding, header_fault, reading_after, parts_of, reading_under, header_key}
 use Rattle.age_file.proofs.DecryptLemmas.{IsHeaded, err_err}
 use Rattle.age_file.proofs.EncryptLemmas.{Made}
 use Rattle.age_file.proofs.FileLemmas.{behind, key_unlocked}
@@ -42,22 +42,22 @@ IsEarly : Fault → Type 0
 IsEarly Read = ⊥
 IsEarly Write = ⊥
 IsEarly TooManyChunks = ⊥
-IsEarly _ = Unit {0}
+IsEarly fault = Unit {0}
 
 refused : (limits : Bounds) (answers : Answering) (gathered : FileKey → Gathering) (b : Bytes) (old : Known)
     (fault : Fault)
     → IsEarly fault → RefusesRewrap limits answers gathered b fault
-    → RewrapsText limits answers gathered b (moved old old) (Err fault)
+    → RewrapsText limits answers gathered b (move_of old old) (Err fault)
 unfolding IsEarly
 refused limits answers gathered b old OutOfMemory early h = tt
 refused limits answers gathered b old Read early h = absurd early
 refused limits answers gathered b old Write early h = absurd early
 refused limits answers gathered b old TooManyChunks early h = absurd early
-refused limits answers gathered b old _ early h = h
+refused limits answers gathered b old fault early h = h
 
 no_header : (limits : Bounds) (answers : Answering) (gathered : FileKey → Gathering) (b : Bytes) (old : Known)
     (g : HeaderFault)
-    → Refuses b limits.max_header g → RewrapsText limits answers gathered b (moved old old) (Err (header_fault g))
+    → Refuses b limits.max_header g → RewrapsText limits answers gathered b (move_of old old) (Err (header_fault g))
 no_header limits answers gathered b old header.Read h = inl (keeps_same old)
 no_header limits answers gathered b old header.Memory h = tt
 no_header limits answers gathered b old header.NotAge h = (Err header.NotAge, h, refl)
@@ -68,20 +68,20 @@ no_header limits answers gathered b old header.TooLarge h = (Err header.TooLarge
 none_read : (limits : Bounds) (answers : Answering) (gathered : FileKey → Gathering) (come mid : Seen) (old : Known)
     (g : HeaderFault)
     → ReadsHeader (flow come mid) limits.max_header (Err g)
-    → Rewraps limits answers gathered (flow come mid) (moved old old) (Err (header_fault g))
+    → Rewraps limits answers gathered (flow come mid) (move_of old old) (Err (header_fault g))
 none_read limits answers gathered come mid old g h =
     of_map h (λ b refuses. no_header limits answers gathered b old g refuses)
 
 pub inspect_rewraps : (limits : Bounds) (answers : Answering) (gathered : FileKey → Gathering) {come mid : Seen}
     (old : Known) (fault : Fault) → Inspects limits (flow come mid) (Err fault)
-    → Rewraps limits answers gathered (flow come mid) (moved old old) (Err fault)
+    → Rewraps limits answers gathered (flow come mid) (move_of old old) (Err fault)
 inspect_rewraps limits answers gathered old fault (Ok parts, is, h) = absurd (cc)
 inspect_rewraps limits answers gathered {come} {mid} old fault (Err g, is, h) =
-    subst (λ f. Rewraps limits answers gathered (flow come mid) (moved old old) (Err f))
+    subst (λ f. Rewraps limits answers gathered (flow come mid) (move_of old old) (Err f))
     (sym (err_err {A = HeaderParts} fault (header_fault g) is)) (none_read limits answers gathered come mid old g h)
 
 -- a fault of unlocking is early
-early_checked : (h : HeaderParts) (c : Result FileKey UnlockFault) (fault : Fault) → checked h c ≡ Err fault
+early_checked : (h : HeaderParts) (c : Result FileKey UnlockFault) (fault : Fault) → checked_key h c ≡ Err fault
     → IsEarly fault
 unfolding IsEarly
 early_checked h (Err unlock.NoMatch) fault e = subst IsEarly (err_err {A = FileKey} NoMatch fault e) tt
@@ -94,32 +94,33 @@ early_checked h (Ok k) fault e = go (bytes_eq h.mac (header_mac k.0 h.stanzas)) 
     go true e = absurd (cc)
     go false e = subst IsEarly (err_err {A = FileKey} BadMac fault e) tt
 
-early_unlocked : (answers : Answering) (h : HeaderParts) (fault : Fault) → unlocked answers h ≡ Err fault
+early_unlocked : (answers : Answering) (h : HeaderParts) (fault : Fault) → header_key answers h ≡ Err fault
     → IsEarly fault
 unfolding IsEarly
 early_unlocked answers h fault e = go (is_mixed h.stanzas) e
   where
-    go : (t : Bool) → cond t (Err MixedPassphrase) (checked h (choice (answers h.stanzas))) ≡ Err fault → IsEarly fault
+    go : (t : Bool) → cond t (Err MixedPassphrase) (checked_key h (choice (answers h.stanzas))) ≡ Err fault
+        → IsEarly fault
     go true e = subst IsEarly (err_err {A = FileKey} MixedPassphrase fault e) tt
     go false e = early_checked h (choice (answers h.stanzas)) fault e
 
 -- memory was refused
 pub memory_rewraps : (limits : Bounds) (answers : Answering) (gathered : FileKey → Gathering) (come mid : Seen)
     (old new : Known) (h : HeaderParts) → IsHeaded limits come mid h
-    → Rewraps limits answers gathered (flow come mid) (moved old new) (Err OutOfMemory)
+    → Rewraps limits answers gathered (flow come mid) (move_of old new) (Err OutOfMemory)
 memory_rewraps limits answers gathered come mid old new h i = of_more i.took (λ d end. tt)
 
 pub locked_rewraps : (limits : Bounds) (answers : Answering) (gathered : FileKey → Gathering) {come mid : Seen}
     (old : Known) {h : HeaderParts} (fault : Fault)
     → IsHeaded limits come mid h → (◌≡◌ {A = Result FileKey Fault} (Err fault) (Err OutOfMemory))
-    ⊎ (Err fault ≡ unlocked answers h)
-    → Rewraps limits answers gathered (flow come mid) (moved old old) (Err fault)
+    ⊎ (Err fault ≡ header_key answers h)
+    → Rewraps limits answers gathered (flow come mid) (move_of old old) (Err fault)
 locked_rewraps limits answers gathered {come} {mid} old {h} fault i (inl is) =
-    subst (λ f. Rewraps limits answers gathered (flow come mid) (moved old old) (Err f))
+    subst (λ f. Rewraps limits answers gathered (flow come mid) (move_of old old) (Err f))
     (sym (err_err {A = FileKey} fault OutOfMemory is)) (memory_rewraps limits answers gathered come mid old old h i)
 locked_rewraps limits answers gathered {come} {mid} old {h} fault i (inr is) =
     of_more i.took (λ d end. refused limits answers gathered (i.text ++ d) old fault
-    (early_unlocked answers h fault (sym is)) (Ok (found_in i.text h), i.verdict d, inl (sym is)))
+    (early_unlocked answers h fault (sym is)) (Ok (finding i.text h), i.verdict d, inl (sym is)))
 
 -- a reason why there is no new header is early
 early_refusal : (limits : Bounds) (k : FileKey) (gathered : Gathering) (fault : Fault)
@@ -135,26 +136,26 @@ early_refusal limits k gathered fault h = absurd h
 -- no new header was made
 pub heading_rewraps : (limits : Bounds) (answers : Answering) (gathered : FileKey → Gathering) {come mid : Seen}
     (old : Known) (h : HeaderParts) (key : FileKey) (fault : Fault)
-    → IsHeaded limits come mid h → unlocked answers h ≡ Ok key → FailsHeading limits key (gathered key) fault
-    → Rewraps limits answers gathered (flow come mid) (moved old old) (Err fault)
+    → IsHeaded limits come mid h → header_key answers h ≡ Ok key → FailsHeading limits key (gathered key) fault
+    → Rewraps limits answers gathered (flow come mid) (move_of old old) (Err fault)
 heading_rewraps limits answers gathered {come} {mid} old h key fault i chosen (inl is) =
-    subst (λ g. Rewraps limits answers gathered (flow come mid) (moved old old) (Err g)) (sym is)
+    subst (λ g. Rewraps limits answers gathered (flow come mid) (move_of old old) (Err g)) (sym is)
     (memory_rewraps limits answers gathered come mid old old h i)
 heading_rewraps limits answers gathered {come} {mid} old h key fault i chosen (inr refusal) =
     of_more i.took (λ d end. refused limits answers gathered (i.text ++ d) old fault
     (early_refusal limits key (gathered key) fault refusal)
-    (Ok (found_in i.text h), i.verdict d, inr (key, chosen, refusal)))
+    (Ok (finding i.text h), i.verdict d, inr (key, chosen, refusal)))
 
 -- ---- what was written
 
 -- the file of the new header, if the source gives these bytes
 new_file : (limits : Bounds) (answers : Answering) (gathered : FileKey → Gathering) (come mid : Seen) (h : HeaderParts)
     (key : FileKey) (text bytes : Bytes)
-    → (i : IsHeaded limits come mid h) → unlocked answers h ≡ Ok key → Made limits key (gathered key) text
+    → (i : IsHeaded limits come mid h) → header_key answers h ≡ Ok key → Made limits key (gathered key) text
     → IsRewrapped limits answers gathered (i.text ++ bytes) (text ++ bytes)
 new_file limits answers gathered come mid h key text bytes i chosen made = (
   record {
-    found = found_in i.text h;
+    found = finding i.text h;
     header = i.verdict bytes;
     key = key;
     chosen = chosen;
@@ -171,8 +172,8 @@ new_file limits answers gathered come mid h key text bytes i chosen made = (
 -- a prefix of the header was written
 pub begun_rewraps : {limits : Bounds} {answers : Answering} (gathered : FileKey → Gathering) {come mid : Seen}
     (old new : Known) {h : HeaderParts} {key : FileKey} {text : Bytes}
-    → IsHeaded limits come mid h → unlocked answers h ≡ Ok key → Made limits key (gathered key) text
-    → WritesPart (moved old new) text → Rewraps limits answers gathered (flow come mid) (moved old new) (Err Write)
+    → IsHeaded limits come mid h → header_key answers h ≡ Ok key → Made limits key (gathered key) text
+    → WritesPart (move_of old new) text → Rewraps limits answers gathered (flow come mid) (move_of old new) (Err Write)
 begun_rewraps {limits} {answers} gathered {come} {mid} old new {h} {key} {text} i chosen made part =
     of_more i.took (λ d end. (
       text ++ d,
@@ -183,20 +184,21 @@ begun_rewraps {limits} {answers} gathered {come} {mid} old new {h} {key} {text} 
 -- a prefix of the rest was written after it
 copied_part : (limits : Bounds) (answers : Answering) (gathered : FileKey → Gathering) (come mid : Seen)
     (old put new : Known) (h : HeaderParts) (key : FileKey) (text bytes : Bytes)
-    → (i : IsHeaded limits come mid h) → unlocked answers h ≡ Ok key → Made limits key (gathered key) text
-    → Appends old put text → WritesPart (moved put new) bytes
-    → BeginsRewrapped limits answers gathered (i.text ++ bytes) (moved old new)
+    → (i : IsHeaded limits come mid h) → header_key answers h ≡ Ok key → Made limits key (gathered key) text
+    → Appends old put text → WritesPart (move_of put new) bytes
+    → BeginsRewrapped limits answers gathered (i.text ++ bytes) (move_of old new)
 copied_part limits answers gathered come mid old put new h key text bytes i chosen made front part = (
   text ++ bytes,
   new_file limits answers gathered come mid h key text bytes i chosen made,
   done_part new bytes [] (record { prefix = text; took = front; is = refl }) (sym (append-nil bytes)) part,
 )
 
-pub copied_rewraps : {limits : Bounds} (answers : Answering) (gathered : FileKey → Gathering) {come : Seen} {mid : Seen}
-    {to : Seen} (old put new : Known) {h : HeaderParts} {key : FileKey} {text : Bytes} (r : Result (Unit {0}) Fault)
-    → IsHeaded limits come mid h → unlocked answers h ≡ Ok key
-    → Made limits key (gathered key) text → Appends old put text → Copies (flow mid to) (moved put new) r
-    → Rewraps limits answers gathered (flow come to) (moved old new) r
+pub copied_rewraps : {limits : Bounds} (answers : Answering) (gathered : FileKey
+    → Gathering) {come mid to : Seen} (old put new : Known) {h : HeaderParts} {key : FileKey} {text : Bytes} (r : Result
+    (Unit {0}) Fault)
+    → IsHeaded limits come mid h → header_key answers h ≡ Ok key
+    → Made limits key (gathered key) text → Appends old put text → Copies (flow mid to) (move_of put new) r
+    → Rewraps limits answers gathered (flow come to) (move_of old new) r
 copied_rewraps {limits} answers gathered {come} {mid} {to} old put new {h} {key} {text}
     (Ok done) i chosen made front copied =
     of_then i.took copied (λ bytes wrote. (
@@ -208,13 +210,13 @@ copied_rewraps {limits} answers gathered {come} {mid} {to} old put new {h} {key}
     (Err fault) i chosen made front copied =
     go fault copied
   where
-    part : (bytes : Bytes) → WritesPart (moved put new) bytes
-        → BeginsRewrapped limits answers gathered (i.text ++ bytes) (moved old new)
+    part : (bytes : Bytes) → WritesPart (move_of put new) bytes
+        → BeginsRewrapped limits answers gathered (i.text ++ bytes) (move_of old new)
     part bytes wrote = copied_part limits answers gathered come mid old put new h key text bytes i chosen made front
         wrote
 
-    go : (f : Fault) → Copies (flow mid to) (moved put new) (Err f)
-        → Rewraps limits answers gathered (flow come to) (moved old new) (Err f)
+    go : (f : Fault) → Copies (flow mid to) (move_of put new) (Err f)
+        → Rewraps limits answers gathered (flow come to) (move_of old new) (Err f)
     go Read c = of_then i.took c (λ bytes wrote. inr (part bytes wrote))
     go Write c = of_then i.took c part
     go TooManyChunks ((copy, put-copy, much), c) = of_then i.took c (λ bytes wrote. (
@@ -226,20 +228,20 @@ copied_rewraps {limits} answers gathered {come} {mid} {to} old put new {h} {key}
         omega (arith, length-append text copy, much),
       ),
     ))
-    go _ c = absurd c
+    go f c = absurd c
 
 -- copying ends with a late fault alone
-pub copies_late : (source : Flow) (old new : Known) (K : Type 0) (r : Result (Unit {0}) Fault)
-    → Copies source (moved old new) r
+pub copies_late : (K : Type 0) (source : Flow) (old new : Known) (r : Result (Unit {0}) Fault)
+    → Copies source (move_of old new) r
     → IfErr r (λ fault. IsLate fault ⊎ K)
-copies_late source old new K (Ok done) c = tt
-copies_late source old new K (Err fault) c = go fault c
+copies_late K source old new (Ok done) c = tt
+copies_late K source old new (Err fault) c = go fault c
   where
-    go : (f : Fault) → Copies source (moved old new) (Err f) → IsLate f ⊎ K
+    go : (f : Fault) → Copies source (move_of old new) (Err f) → IsLate f ⊎ K
     go Read c = inl tt
     go Write c = inl tt
     go TooManyChunks c = inl tt
-    go _ c = absurd c
+    go f c = absurd c
 
 -- ---- the law
 
@@ -268,24 +270,24 @@ keeps limits old new b c is chosen v = (
     begins : BeginsWith c limits.max_header found
     begins = record { rest = rest; head = is.head; prefix = is.spelled; fits = is.fits }
 
-    same : judged limits new c (Ok found) ≡ judged limits old b (Ok is.found)
+    same : reading_after limits new c (Ok found) ≡ reading_after limits old b (Ok is.found)
     same =
-        ap (λ t. read_under limits t (unlocked new (parts_of found))) (behind c limits.max_header found begins)
-        ∙ ap (read_under limits rest) (key_unlocked new (parts_of found) is.key
+        ap (λ t. reading_under limits t (header_key new (parts_of found))) (behind c limits.max_header found begins)
+        ∙ ap (reading_under limits rest) (key_unlocked new (parts_of found) is.key
         (record { unmixed = is.unmixed; chosen = chosen; mac = refl }) ∙ sym is.chosen)
 
-    of_old : IsVerdict limits old b v → v ≡ judged limits old b (Ok is.found)
-    of_old h = h.is ∙ ap (judged limits old b)
+    of_old : IsVerdict limits old b v → v ≡ reading_after limits old b (Ok is.found)
+    of_old h = h.is ∙ ap (reading_after limits old b)
         (headers.one_verdict b limits.max_header h.header (Ok is.found) h.header_verdict is.header)
 
-    of_new : IsVerdict limits new c v → v ≡ judged limits new c (Ok found)
-    of_new h = h.is ∙ ap (judged limits new c)
+    of_new : IsVerdict limits new c v → v ≡ reading_after limits new c (Ok found)
+    of_new h = h.is ∙ ap (reading_after limits new c)
         (headers.one_verdict c limits.max_header h.header (Ok found) h.header_verdict
         (headers.found_begins c limits.max_header found begins))
 
 -- the key that was found
 pub key_found : (answers : Answering) (h : HeaderParts) {key : FileKey}
-    → (◌≡◌ {A = Result FileKey Fault} (Ok key) (Err OutOfMemory)) ⊎ (Ok key ≡ unlocked answers h)
-    → unlocked answers h ≡ Ok key
+    → (◌≡◌ {A = Result FileKey Fault} (Ok key) (Err OutOfMemory)) ⊎ (Ok key ≡ header_key answers h)
+    → header_key answers h ≡ Ok key
 key_found answers h (inl e) = absurd (cc)
 key_found answers h (inr e) = sym e

@@ -1,6 +1,6 @@
 -- What is saved of a file, and the verdict on it.
-use Rattle.std.proofs.Common.{true, nat_eq, ◌≡◌, ◌⊎◌, ◌∙◌, ◌++◌, [], length, take, drop, sym, ap, subst, List, inl, inr, arith, nat_lt, Result, Ok, Err}
-use Rattle.std.proofs.lemmas.Bool.{lt-ltb, cond-true}
+use Rattle.std.proofs.Common.{refl, true, nat_eq, ◌≡◌, ◌⊎◌, ◌∙◌, ◌++◌, [], length, take, drop, sym, ap, subst, List, inl, inr, arith, Result, Ok, Err}
+use Rattle.std.proofs.lemmas.Bool.{lt-ltb}
 use Rattle.std.proofs.lemmas.List.{take_all}
 use Rattle.age_header.specs.declared.fault.HeaderFault.{HeaderFault}
 use Rattle.age_header.specs.declared.file_key.FileKey.{FileKey}
@@ -10,15 +10,15 @@ use Rattle.age_header.proofs.VerdictUniqueLemmas as headers
 use Rattle.age_stream.specs.declared.fault.StreamFault.{StreamFault}
 use Rattle.age_stream.specs.declared.fault.StreamFault.TheVariants as stream
 use Rattle.age_stream.specs.declared.salvaged.Salvaged.{Salvaged}
-use Rattle.age_stream.specs.Reading.{Reading, payload_reading, stops, whole}
-use Rattle.age_stream.specs.Salvage.{IsOfPieces, Part, Reports, Saves, SavesParts, SavesPayload, Told, losses, is_whole, is_whole_to, payload_parts, salvaged}
-use Rattle.age_stream.proofs.SalvageReading.{payload_front, payload_whole}
+use Rattle.age_stream.specs.Reading.{Reading, payload_reading, stop, whole}
+use Rattle.age_stream.specs.Salvage.{IsOfPieces, Part, Reports, Saves, SavesParts, SavesPayload, LossesMoved, losses, is_whole, is_whole_to, payload_parts, salvaged_text}
+use Rattle.age_stream.proofs.SalvageReading.{payload_plaintext, payload_whole}
 use Rattle.age_file.specs.declared.fault.Fault.{Fault}
 use Rattle.age_file.specs.declared.fault.Fault.TheVariants.{OutOfMemory}
 use Rattle.age_file.specs.AgeFile.{Bounds}
 use Rattle.age_file.specs.Device.{IsLate}
 use Rattle.age_file.specs.Salvage.{SavesAfter, SavesFile, SavesUnder}
-use Rattle.age_file.specs.Verdict.{Answering, IsVerdict, header_fault, judged, parts_of, read_under, stream_fault, unlocked, with_file_fault}
+use Rattle.age_file.specs.Verdict.{Answering, IsVerdict, header_fault, reading_after, parts_of, reading_under, stream_fault, header_key, with_file_fault}
 use Rattle.age_file.proofs.DecryptLemmas.{err_err}
 use Rattle.age_file.proofs.FileLemmas.{with_file_fault_whole}
 
@@ -29,25 +29,26 @@ ok_ok : (s t : Salvaged) → ◌≡◌ {A = Result Salvaged Fault} (Ok s) (Ok t)
 ok_ok s t e = cc
 
 -- the header of the verdict is the one under which the file was saved
-same_header : (limits : Bounds) (answers : Answering) (b : Bytes) (v : Reading Fault) (sink : Moved) (lost : Told)
+same_header : (limits : Bounds) (answers : Answering) (b : Bytes) (v : Reading Fault) (sink : Moved)
+    (lost : LossesMoved)
     (r : Result Salvaged Fault) → IsVerdict limits answers b v → (f : SavesFile limits answers b sink lost r)
-    → v ≡ judged limits answers b f.header
-same_header limits answers b v sink lost r i f = i.is ∙ ap (judged limits answers b)
+    → v ≡ reading_after limits answers b f.header
+same_header limits answers b v sink lost r i f = i.is ∙ ap (reading_after limits answers b)
     (headers.one_verdict b limits.max_header i.header f.header i.header_verdict f.header_verdict)
 
 -- a payload that was read for the verdict was saved
-record SavedOf (limits : Bounds) (v : Reading Fault) (sink : Moved) (lost : Told) (s : Salvaged) : Type 0 where
+record SavedOf (limits : Bounds) (v : Reading Fault) (sink : Moved) (lost : LossesMoved) (s : Salvaged) : Type 0 where
   pub key : FileKey
   pub rest : Bytes
   pub reads : v ≡ with_file_fault (payload_reading key limits.max_chunks rest)
   pub saves : SavesParts limits.max_chunks (payload_parts key rest) sink lost (Ok s)
 
-saved_of : (limits : Bounds) (answers : Answering) (b : Bytes) (v : Reading Fault) (sink : Moved) (lost : Told)
+saved_of : (limits : Bounds) (answers : Answering) (b : Bytes) (v : Reading Fault) (sink : Moved) (lost : LossesMoved)
     (s : Salvaged) → IsVerdict limits answers b v → SavesFile limits answers b sink lost (Ok s)
     → SavedOf limits v sink lost s
 saved_of limits answers b v sink lost s i f = go f.header (same_header limits answers b v sink lost (Ok s) i f) f.saves
   where
-    under : (rest : Bytes) (key : Result FileKey Fault) → v ≡ read_under limits rest key
+    under : (rest : Bytes) (key : Result FileKey Fault) → v ≡ reading_under limits rest key
         → SavesUnder limits rest key sink lost (Ok s) → SavedOf limits v sink lost s
     under rest (Err fault) is h = absurd (err_ok fault s h.0)
     under rest (Ok k) is (Err g, e, h) = absurd (err_ok (stream_fault g) s e)
@@ -58,31 +59,32 @@ saved_of limits answers b v sink lost s i f = go f.header (same_header limits an
       saves = subst (λ x. SavesParts limits.max_chunks (payload_parts k rest) sink lost (Ok x)) (sym (ok_ok s t e)) h.1;
     }
 
-    go : (header : Result Found HeaderFault) → v ≡ judged limits answers b header
+    go : (header : Result Found HeaderFault) → v ≡ reading_after limits answers b header
         → SavesAfter limits answers b header sink lost (Ok s) → SavedOf limits v sink lost s
     go (Err g) is h = absurd (err_ok (header_fault g) s h.0)
-    go (Ok found) is h = under (drop (length found.text) b) (unlocked answers (parts_of found)) is h
+    go (Ok found) is h = under (drop (length found.text) b) (header_key answers (parts_of found)) is h
 
 -- all parts were written
-written : (ps : List Part) (sink : Moved) (lost : Told) → Saves (length ps) ps sink lost
-    → Took sink (salvaged ps) × Reports lost (losses 0 0 ps)
+written : (ps : List Part) (sink : Moved) (lost : LossesMoved) → Saves (length ps) ps sink lost
+    → Took sink (salvaged_text ps) × Reports lost (losses 0 0 ps)
 written ps sink lost h =
     let all : take (length ps) ps ≡ ps = take_all (length ps) ps (omega arith) in
-    subst (λ x. Took sink (salvaged x) × Reports lost (losses 0 0 x)) all h
+    subst (λ x. Took sink (salvaged_text x) × Reports lost (losses 0 0 x)) all h
 
-pub saved_front : (limits : Bounds) (answers : Answering) (b : Bytes) (v : Reading Fault) (sink : Moved) (lost : Told)
+pub saved_plaintext : (limits : Bounds) (answers : Answering) (b : Bytes) (v : Reading Fault) (sink : Moved)
+    (lost : LossesMoved)
     (s : Salvaged) → IsVerdict limits answers b v → SavesFile limits answers b sink lost (Ok s)
-    → (rest : Bytes) × Took sink (v.front ++ rest)
-saved_front limits answers b v sink lost s i f =
+    → (rest : Bytes) × Took sink (v.plaintext ++ rest)
+saved_plaintext limits answers b v sink lost s i f =
     let o = saved_of limits answers b v sink lost s i f in
     let ps : List Part = payload_parts o.key o.rest in
-    let begins = payload_front o.key o.rest limits.max_chunks in
+    let begins = payload_plaintext o.key o.rest limits.max_chunks in
     let all : take limits.max_chunks ps ≡ ps = take_all limits.max_chunks ps o.saves.0 in
-    let text : salvaged ps ≡ v.front ++ begins.0 = ap salvaged (sym all) ∙ begins.1
-    ∙ ap (λ (r : Reading Fault). r.front ++ begins.0) (sym o.reads) in
+    let text : salvaged_text ps ≡ v.plaintext ++ begins.0 = ap salvaged_text (sym all) ∙ begins.1
+    ∙ ap (λ (r : Reading Fault). r.plaintext ++ begins.0) (sym o.reads) in
     (begins.0, subst (Took sink) text (written ps sink lost o.saves.1).0)
 
-pub saved_whole : (limits : Bounds) (answers : Answering) (b plain : Bytes) (sink : Moved) (lost : Told)
+pub saved_whole : (limits : Bounds) (answers : Answering) (b plain : Bytes) (sink : Moved) (lost : LossesMoved)
     (s : Salvaged) → IsVerdict limits answers b (whole plain) → SavesFile limits answers b sink lost (Ok s)
     → Took sink plain × Reports lost [] × (is_whole s ≡ true)
 saved_whole limits answers b plain sink lost s i f =
@@ -101,50 +103,51 @@ late_pieces : (g : StreamFault) → IsOfPieces g → IsLate (stream_fault g)
 late_pieces stream.TooManyChunks h = tt
 late_pieces stream.Read h = tt
 late_pieces stream.Write h = tt
-late_pieces _ h = absurd h
+late_pieces g h = absurd h
 
 pub quiet_pieces : {P Q : Type 0} (g : StreamFault) → IsOfPieces g ⊎ (P × Q) → IsLate (stream_fault g) ⊎ P
 quiet_pieces g (inl h) = inl (late_pieces g h)
 quiet_pieces g (inr h) = inr h.0
 
-pub saved_fault : (limits : Bounds) (answers : Answering) (b : Bytes) (v : Reading Fault) (sink : Moved) (lost : Told)
+pub saved_fault : (limits : Bounds) (answers : Answering) (b : Bytes) (v : Reading Fault) (sink : Moved)
+    (lost : LossesMoved)
     (fault : Fault) → IsVerdict limits answers b v → SavesFile limits answers b sink lost (Err fault)
-    → IsLate fault ⊎ (fault ≡ OutOfMemory) ⊎ (v ≡ stops fault)
+    → IsLate fault ⊎ (fault ≡ OutOfMemory) ⊎ (v ≡ stop fault)
 saved_fault limits answers b v sink lost fault i f =
     go f.header (same_header limits answers b v sink lost (Err fault) i f) f.saves
   where
-    same : (g : Fault) → ◌≡◌ {A = Result Salvaged Fault} (Err fault) (Err g) → v ≡ stops g
-        → IsLate fault ⊎ (fault ≡ OutOfMemory) ⊎ (v ≡ stops fault)
-    same g e is = inr (inr (is ∙ ap stops (sym (err_err {A = Salvaged} fault g e))))
+    same : (g : Fault) → ◌≡◌ {A = Result Salvaged Fault} (Err fault) (Err g) → v ≡ stop g
+        → IsLate fault ⊎ (fault ≡ OutOfMemory) ⊎ (v ≡ stop fault)
+    same g e is = inr (inr (is ∙ ap stop (sym (err_err {A = Salvaged} fault g e))))
 
     late : (g : StreamFault) → ◌≡◌ {A = Result Salvaged Fault} (Err fault) (Err (stream_fault g)) → IsOfPieces g
-        → IsLate fault ⊎ (fault ≡ OutOfMemory) ⊎ (v ≡ stops fault)
+        → IsLate fault ⊎ (fault ≡ OutOfMemory) ⊎ (v ≡ stop fault)
     late g e h = inl (subst IsLate (sym (err_err {A = Salvaged} fault (stream_fault g) e)) (late_pieces g h))
 
-    piece : (k : FileKey) (rest : Bytes) (g : StreamFault) → v ≡ read_under limits rest (Ok k)
+    piece : (k : FileKey) (rest : Bytes) (g : StreamFault) → v ≡ reading_under limits rest (Ok k)
         → ◌≡◌ {A = Result Salvaged Fault} (Err fault) (Err (stream_fault g))
         → SavesPayload k limits.max_chunks rest sink lost (Err g)
-        → IsLate fault ⊎ (fault ≡ OutOfMemory) ⊎ (v ≡ stops fault)
+        → IsLate fault ⊎ (fault ≡ OutOfMemory) ⊎ (v ≡ stop fault)
     piece k rest stream.Read is e h = late stream.Read e tt
     piece k rest stream.Write is e h = late stream.Write e tt
     piece k rest stream.TooManyChunks is e h = late stream.TooManyChunks e tt
     piece k rest stream.Memory is e h = inr (inl (err_err {A = Salvaged} fault OutOfMemory e))
     piece k rest stream.NonceTruncated is e h =
         same (stream_fault stream.NonceTruncated) e
-        (is ∙ ap with_file_fault (cond-true (nat_lt (length rest) 16) _ _ (lt-ltb (length rest) 16 h.0)))
+        (is ∙ rw (lt-ltb (length rest) 16 h.0) refl)
     piece k rest (stream.ChunkShort j) is e h = absurd h.1
     piece k rest (stream.EmptyFinal j) is e h = absurd h.1
     piece k rest (stream.BadChunk j) is e h = absurd h.1
 
-    under : (rest : Bytes) (key : Result FileKey Fault) → v ≡ read_under limits rest key
+    under : (rest : Bytes) (key : Result FileKey Fault) → v ≡ reading_under limits rest key
         → SavesUnder limits rest key sink lost (Err fault)
-        → IsLate fault ⊎ (fault ≡ OutOfMemory) ⊎ (v ≡ stops fault)
+        → IsLate fault ⊎ (fault ≡ OutOfMemory) ⊎ (v ≡ stop fault)
     under rest (Err g) is h = same g h.0 is
     under rest (Ok k) is (Ok t, e, h) = absurd (err_ok fault t (sym e))
     under rest (Ok k) is (Err g, e, h) = piece k rest g is e h
 
-    go : (header : Result Found HeaderFault) → v ≡ judged limits answers b header
+    go : (header : Result Found HeaderFault) → v ≡ reading_after limits answers b header
         → SavesAfter limits answers b header sink lost (Err fault)
-        → IsLate fault ⊎ (fault ≡ OutOfMemory) ⊎ (v ≡ stops fault)
+        → IsLate fault ⊎ (fault ≡ OutOfMemory) ⊎ (v ≡ stop fault)
     go (Err g) is h = same (header_fault g) h.0 is
-    go (Ok found) is h = under (drop (length found.text) b) (unlocked answers (parts_of found)) is h
+    go (Ok found) is h = under (drop (length found.text) b) (header_key answers (parts_of found)) is h

@@ -1,11 +1,12 @@
 -- What salvaging returns, from what its parts return.
 use Rattle.std.proofs.Common.{◌≡◌, ◌⊎◌, ◌++◌, length, sym, refl, subst, inl, inr, Result, Ok, Err, ℕ}
+use Rattle.std.specs.Result.{result_map_both}
 use Rattle.std.proofs.KnownBytes.{Appends-nil}
 use Rattle.std.proofs.lemmas.List.{drop_at}
 use Rattle.age_header.specs.declared.fault.HeaderFault.{HeaderFault}
 use Rattle.age_header.specs.declared.fault.HeaderFault.TheVariants as header
 use Rattle.age_header.specs.declared.file_key.FileKey.{FileKey}
-use Rattle.age_header.specs.Device.{Bytes, Known, Moved, Seen, flow, moved}
+use Rattle.age_header.specs.Device.{Bytes, Known, Moved, Seen, flow, move_of}
 use Rattle.age_header.specs.Header.{HeaderParts}
 use Rattle.age_header.specs.Reader.{Refuses}
 use Rattle.age_header.proofs.DeviceLemmas.{gave_some, of_any, of_map, of_more, of_then}
@@ -13,33 +14,33 @@ use Rattle.age_stream.specs.declared.fault.StreamFault.{StreamFault}
 use Rattle.age_stream.specs.declared.fault.StreamFault.TheVariants as stream
 use Rattle.age_stream.specs.declared.salvaged.Salvaged.{Salvaged}
 use Rattle.age_stream.specs.Opening.{EndsAt}
-use Rattle.age_stream.specs.Salvage.{EndsSaving, KnownLosses, Salvages, SavesPayload, Told, told}
+use Rattle.age_stream.specs.Salvage.{EndsSaving, KnownLosses, Salvages, SavesPayload, LossesMoved, losses_of}
 use Rattle.age_stream.proofs.SalvageLemmas.{reports_none}
 use Rattle.age_file.specs.declared.fault.Fault.{Fault}
 use Rattle.age_file.specs.declared.fault.Fault.TheVariants.{Read, OutOfMemory}
 use Rattle.age_file.specs.AgeFile.{Bounds}
 use Rattle.age_file.specs.Decrypt.{TookUpTo}
 use Rattle.age_file.specs.Inspect.{Inspects}
-use Rattle.age_file.specs.Salvage.{SalvagesFile, SalvagesText, SavesFile, SavesNone, SavesUnder, salvage_result}
-use Rattle.age_file.specs.Verdict.{Answering, found_in, header_fault, stream_fault, unlocked}
+use Rattle.age_file.specs.Salvage.{SalvagesFile, SalvagesText, SavesFile, SavesNone, SavesUnder}
+use Rattle.age_file.specs.Verdict.{Answering, finding, header_fault, stream_fault, header_key}
 use Rattle.age_file.proofs.DecryptLemmas.{IsHeaded, err_err, headed, payload_takes}
 
-saves_none : (old : Known) (lost : KnownLosses) → SavesNone (moved old old) (told lost lost)
+saves_none : (old : Known) (lost : KnownLosses) → SavesNone (move_of old old) (losses_of lost lost)
 saves_none old lost = (Appends-nil old, reports_none lost)
 
 -- what a file comes to, where a fault ends the work before its payload
 stopped : (limits : Bounds) (answers : Answering) (b : Bytes) (old : Known) (lost : KnownLosses) (fault : Fault)
-    → SavesFile limits answers b (moved old old) (told lost lost) (Err fault)
-    → SalvagesText limits answers b (moved old old) (told lost lost) (Err fault)
+    → SavesFile limits answers b (move_of old old) (losses_of lost lost) (Err fault)
+    → SalvagesText limits answers b (move_of old old) (losses_of lost lost) (Err fault)
 stopped limits answers b old lost OutOfMemory h = saves_none old lost
 stopped limits answers b old lost Read h = inl (saves_none old lost)
-stopped limits answers b old lost _ h = h
+stopped limits answers b old lost fault h = h
 
 -- ---- the header
 
 header_text : (limits : Bounds) (answers : Answering) (b : Bytes) (old : Known) (lost : KnownLosses) (g : HeaderFault)
     → Refuses b limits.max_header g
-    → SalvagesText limits answers b (moved old old) (told lost lost) (Err (header_fault g))
+    → SalvagesText limits answers b (move_of old old) (losses_of lost lost) (Err (header_fault g))
 header_text limits answers b old lost header.Read h = inl (saves_none old lost)
 header_text limits answers b old lost header.Memory h = saves_none old lost
 header_text limits answers b old lost header.NotAge h = record {
@@ -65,35 +66,35 @@ header_text limits answers b old lost header.TooLarge h = record {
 
 pub inspect_salvages : (limits : Bounds) (answers : Answering) {come mid : Seen} (old : Known) (lost : KnownLosses)
     {fault : Fault} → Inspects limits (flow come mid) (Err fault)
-    → SalvagesFile limits answers (flow come mid) (moved old old) (told lost lost) (Err fault)
+    → SalvagesFile limits answers (flow come mid) (move_of old old) (losses_of lost lost) (Err fault)
 inspect_salvages limits answers {come} {mid} old lost {fault} (Ok parts, is, h) = absurd (cc)
 inspect_salvages limits answers {come} {mid} old lost {fault} (Err g, is, h) =
-    subst (λ f. SalvagesFile limits answers (flow come mid) (moved old old) (told lost lost) (Err f))
+    subst (λ f. SalvagesFile limits answers (flow come mid) (move_of old old) (losses_of lost lost) (Err f))
     (sym (err_err {A = HeaderParts} fault (header_fault g) is))
     (of_map h (λ b refuses. header_text limits answers b old lost g refuses))
 
 -- what follows a header that was read
 after_header : (limits : Bounds) (answers : Answering) (come mid : Seen) (h : HeaderParts)
     (i : IsHeaded limits come mid h) (key : Result FileKey Fault) (rest : Bytes) (old new : Known)
-    (before after : KnownLosses) (r : Result Salvaged Fault) → key ≡ unlocked answers h
-    → SavesUnder limits rest key (moved old new) (told before after) r
-    → SavesFile limits answers (i.text ++ rest) (moved old new) (told before after) r
+    (before after : KnownLosses) (r : Result Salvaged Fault) → key ≡ header_key answers h
+    → SavesUnder limits rest key (move_of old new) (losses_of before after) r
+    → SavesFile limits answers (i.text ++ rest) (move_of old new) (losses_of before after) r
 after_header limits answers come mid h i key rest old new before after r is s = record {
-  header = Ok (found_in i.text h);
+  header = Ok (finding i.text h);
   header_verdict = i.verdict rest;
-  saves = subst (λ x. SavesUnder limits x (unlocked answers h) (moved old new) (told before after) r)
+  saves = subst (λ x. SavesUnder limits x (header_key answers h) (move_of old new) (losses_of before after) r)
       (sym (drop_at i.text rest (length i.text) refl))
-      (subst (λ k. SavesUnder limits rest k (moved old new) (told before after) r) is s);
+      (subst (λ k. SavesUnder limits rest k (move_of old new) (losses_of before after) r) is s);
 }
 
 -- no key
 pub locked_salvages : (limits : Bounds) (answers : Answering) {come mid : Seen} (old : Known) (lost : KnownLosses)
     {h : HeaderParts} {fault : Fault} → Inspects limits (flow come mid) (Ok h)
-    → (◌≡◌ {A = Result FileKey Fault} (Err fault) (Err OutOfMemory)) ⊎ (Err fault ≡ unlocked answers h)
-    → SalvagesFile limits answers (flow come mid) (moved old old) (told lost lost) (Err fault)
+    → (◌≡◌ {A = Result FileKey Fault} (Err fault) (Err OutOfMemory)) ⊎ (Err fault ≡ header_key answers h)
+    → SalvagesFile limits answers (flow come mid) (move_of old old) (losses_of lost lost) (Err fault)
 locked_salvages limits answers {come} {mid} old lost {h} {fault} i (inl memory) =
     let is = headed limits i in
-    subst (λ f. SalvagesFile limits answers (flow come mid) (moved old old) (told lost lost) (Err f))
+    subst (λ f. SalvagesFile limits answers (flow come mid) (move_of old old) (losses_of lost lost) (Err f))
     (sym (err_err {A = FileKey} fault OutOfMemory memory))
     (of_any (gave_some is.took) (λ b. saves_none old lost))
 locked_salvages limits answers {come} {mid} old lost {h} {fault} i (inr key) =
@@ -106,20 +107,24 @@ locked_salvages limits answers {come} {mid} old lost {h} {fault} i (inr key) =
 
 payload_text : (limits : Bounds) (answers : Answering) (come mid : Seen) (h : HeaderParts)
     (i : IsHeaded limits come mid h) (k : FileKey) (c : Bytes) (old new : Known) (before after : KnownLosses)
-    (r : Result Salvaged StreamFault) → Ok k ≡ unlocked answers h
-    → SavesPayload k limits.max_chunks c (moved old new) (told before after) r
-    → SalvagesText limits answers (i.text ++ c) (moved old new) (told before after) (salvage_result r)
+    (r : Result Salvaged StreamFault) → Ok k ≡ header_key answers h
+    → SavesPayload k limits.max_chunks c (move_of old new) (losses_of before after) r
+    → SalvagesText limits answers (i.text ++ c) (move_of old new) (losses_of before after) (result_map_both
+    (λ d. d) stream_fault r)
 payload_text limits answers come mid h i k c old new before after r key s = go r s
   where
     file : (q : Result Salvaged StreamFault)
-        → SavesPayload k limits.max_chunks c (moved old new) (told before after) q
-        → SavesFile limits answers (i.text ++ c) (moved old new) (told before after) (salvage_result q)
-    file q x = after_header limits answers come mid h i (Ok k) c old new before after (salvage_result q) key
+        → SavesPayload k limits.max_chunks c (move_of old new) (losses_of before after) q
+        → SavesFile limits answers (i.text ++ c) (move_of old new) (losses_of before after) (result_map_both
+        (λ d. d) stream_fault q)
+    file q x = after_header limits answers come mid h i (Ok k) c old new before after (result_map_both
+        (λ d. d) stream_fault q) key
         (q, refl, x)
 
     go : (q : Result Salvaged StreamFault)
-        → SavesPayload k limits.max_chunks c (moved old new) (told before after) q
-        → SalvagesText limits answers (i.text ++ c) (moved old new) (told before after) (salvage_result q)
+        → SavesPayload k limits.max_chunks c (move_of old new) (losses_of before after) q
+        → SalvagesText limits answers (i.text ++ c) (move_of old new) (losses_of before after) (result_map_both
+        (λ d. d) stream_fault q)
     go (Ok t) x = file (Ok t) x
     go (Err stream.Read) x = inr (file (Err stream.Read) x)
     go (Err stream.Memory) x = x
@@ -130,15 +135,15 @@ payload_text limits answers come mid h i k c old new before after r key s = go r
     go (Err (stream.BadChunk n)) x = file (Err (stream.BadChunk n)) x
     go (Err stream.TooManyChunks) x = file (Err stream.TooManyChunks) x
 
-pub payload_salvages : {limits : Bounds} (answers : Answering) {come mid to : Seen} (sink : Moved) (losses : Told)
-    {h : HeaderParts} {k : FileKey} {max : ℕ} (r : Result Salvaged StreamFault)
+pub payload_salvages : (r : Result Salvaged StreamFault) {limits : Bounds} (answers : Answering) {come mid to : Seen}
+    (sink : Moved) (losses : LossesMoved) {h : HeaderParts} {k : FileKey} {max : ℕ}
     → Inspects limits (flow come mid) (Ok h)
-    → (◌≡◌ {A = Result FileKey Fault} (Ok k) (Err OutOfMemory)) ⊎ (Ok k ≡ unlocked answers h)
+    → (◌≡◌ {A = Result FileKey Fault} (Ok k) (Err OutOfMemory)) ⊎ (Ok k ≡ header_key answers h)
     → max ≡ limits.max_chunks
     → Salvages k max (flow mid to) sink losses r
-    → SalvagesFile limits answers (flow come to) sink losses (salvage_result r)
-payload_salvages {limits} answers {come} {mid} sink losses {h} {k} r i (inl memory) same w = absurd (cc)
-payload_salvages {limits} answers {come} {mid} sink losses {h} {k} r i (inr key) same w =
+    → SalvagesFile limits answers (flow come to) sink losses (result_map_both (λ d. d) stream_fault r)
+payload_salvages r {limits} answers {come} {mid} sink losses {h} {k} i (inl memory) same w = absurd (cc)
+payload_salvages r {limits} answers {come} {mid} sink losses {h} {k} i (inr key) same w =
     let is = headed limits i in
     of_then is.took w (λ c x.
     payload_text limits answers come mid h is k c sink.before sink.after losses.before losses.after r key
@@ -147,11 +152,11 @@ payload_salvages {limits} answers {come} {mid} sink losses {h} {k} r i (inr key)
 -- how much was read
 pub salvage_takes : {limits : Bounds} {come mid : Seen} (to : Seen) (old new : Known) {h : HeaderParts} {max : ℕ}
     (fault : StreamFault) → Inspects limits (flow come mid) (Ok h) → max ≡ limits.max_chunks
-    → EndsSaving max (flow mid to) (moved old new) fault
-    → TookUpTo limits (flow come to) (moved old new) (stream_fault fault)
+    → EndsSaving max (flow mid to) (move_of old new) fault
+    → TookUpTo limits (flow come to) (move_of old new) (stream_fault fault)
 salvage_takes {mid} to old new stream.Read i same e = tt
 salvage_takes {mid} to old new stream.NonceTruncated i same e = tt
 salvage_takes {mid} to old new stream.Memory i same e = tt
 salvage_takes {mid} to old new fault i same e =
     payload_takes mid fault i
-    (inr (subst (λ m. EndsAt m 16 (flow mid to) (moved old new) fault) same e))
+    (inr (subst (λ m. EndsAt m 16 (flow mid to) (move_of old new) fault) same e))

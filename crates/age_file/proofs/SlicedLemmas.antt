@@ -15,12 +15,12 @@ use Rattle.age_file.specs.declared.fault.Fault.{Fault}
 use Rattle.age_file.specs.declared.fault.Fault.TheVariants.{OutOfMemory, Read}
 use Rattle.age_file.specs.AgeFile.{Bounds}
 use Rattle.age_file.specs.Ranges.{IsRangeFault, IsRangesOf, MissesRanges, ranges_under}
-use Rattle.age_file.specs.Verdict.{Answering, IsVerdict, header_fault, judged, parts_of, read_under, stream_fault, unlocked}
+use Rattle.age_file.specs.Verdict.{Answering, IsVerdict, header_fault, reading_after, parts_of, reading_under, stream_fault, header_key}
 use Rattle.age_file.proofs.FileLemmas.{never_stops, with_file_fault_whole}
 
 -- under the key that was chosen
 none_under : (limits : Bounds) (rest p : Bytes) (fault : Fault) (c : Result FileKey Fault)
-    → whole p ≡ read_under limits rest c → ranges_under limits rest c ≡ Err fault → ⊥
+    → whole p ≡ reading_under limits rest c → ranges_under limits rest c ≡ Err fault → ⊥
 none_under limits rest p fault (Err g) h is = never_stops p g h
 none_under limits rest p fault (Ok k) h is =
     let o = whole_opens k rest p limits.max_chunks
@@ -31,10 +31,10 @@ none_under limits rest p fault (Ok k) h is =
     ok-err x e = absurd (cc)
 
 none_judged : (limits : Bounds) (answers : Answering) (b p : Bytes) (fault : Fault) (r : Result Found HeaderFault)
-    → whole p ≡ judged limits answers b r → IsRangeFault limits answers b r fault → ⊥
+    → whole p ≡ reading_after limits answers b r → IsRangeFault limits answers b r fault → ⊥
 none_judged limits answers b p fault (Err e) h is = never_stops p (header_fault e) h
 none_judged limits answers b p fault (Ok found) h is =
-    none_under limits (drop (length found.text) b) p fault (unlocked answers (parts_of found)) h is
+    none_under limits (drop (length found.text) b) p fault (header_key answers (parts_of found)) h is
 
 -- such a file opens, unless a device failed or memory was refused
 pub file_opens : (limits : Bounds) (answers : Answering) (b p : Bytes) (fault : Fault)
@@ -53,9 +53,9 @@ payload_whole : (limits : Bounds) (answers : Answering) (b p : Bytes) (chunks : 
     → (r : IsRangesOf limits answers b chunks given given2)
     → payload_reading r.key limits.max_chunks (drop (length r.found.text) b) ≡ whole p
 payload_whole limits answers b p chunks given given2 v r =
-    with_file_fault_whole (v.is ∙ ap (judged limits answers b)
+    with_file_fault_whole (v.is ∙ ap (reading_after limits answers b)
     (headers.one_verdict b limits.max_header v.header (Ok r.found) v.header_verdict r.header)
-    ∙ ap (read_under limits (drop (length r.found.text) b)) r.chosen)
+    ∙ ap (reading_under limits (drop (length r.found.text) b)) r.chosen)
 
 pub file_has_len : (limits : Bounds) (answers : Answering) (b p : Bytes) (chunks : RangeState) (given given2 : ℕ)
     → IsVerdict limits answers b (whole p)

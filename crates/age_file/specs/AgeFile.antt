@@ -1,11 +1,12 @@
 -- Whole age files (C2SP age.md).
-use Rattle.std.specs.Prelude.{◌≡◌, ℕ, ◌≤◌, ◌&&◌, Bool, false, List, [], ◌∷◌, ◌++◌, length, codes, nat_lt}
+use Rattle.std.specs.Prelude.{◌≡◌, ℕ, ◌≤◌, ◌&&◌, Bool, false, List, [], ◌∷◌, ◌++◌, length, nat_lt}
 use Rattle.std.specs.List.{list_any}
 use Rattle.std.specs.Str.{bytes_eq}
 use Rattle.age_header.specs.Device.{Bytes}
 use Rattle.age_header.specs.Header.{StanzaParts, Head}
 use Rattle.age_header.specs.Mac.{header_mac}
 use Rattle.age_header.specs.declared.file_key.FileKey.{FileKey}
+use Rattle.age_recipient.specs.PassphraseStanza.{scrypt_type}
 use Rattle.age_stream.specs.Payload.{chunks, payload}
 use Rattle.age_stream.specs.Sizes.{nonce_size, most_chunks}
 
@@ -34,7 +35,7 @@ pub record IsBounds (limits : Bounds) : Type 0 where
 -- whether the first argument, the type, is `scrypt`
 abbrev pub is_scrypt : List Bytes → Bool
 is_scrypt [] = false
-is_scrypt (kind ∷ _) = bytes_eq kind (codes "scrypt")
+is_scrypt (kind ∷ _) = bytes_eq kind scrypt_type
 
 -- a `scrypt` stanza is not the only stanza (C2SP age.md, "The scrypt recipient type")
 abbrev pub is_mixed : List StanzaParts → Bool

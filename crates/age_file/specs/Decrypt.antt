@@ -21,7 +21,7 @@ payload_pieces b (Err fault) = []
 -- pieces
 abbrev pub ReturnsVerdict : (verdict : Reading Fault) (n : ℕ) (result : Result Done Fault) → Type 0
 ReturnsVerdict verdict n (Ok done) =
-    (verdict.fault ≡ None) × (done.bytes ≡ length verdict.front) × (done.chunks ≡ n)
+    (verdict.fault ≡ None) × (done.bytes ≡ length verdict.plaintext) × (done.chunks ≡ n)
 ReturnsVerdict verdict n (Err fault) = verdict.fault ≡ Some fault
 
 -- the verdict on b is returned, and its plaintext was written
@@ -29,13 +29,14 @@ abbrev pub GivesVerdict : (limits : Bounds) (answers : Answering) (b : Bytes) (s
     (r : Result Done Fault) → Type 0
 GivesVerdict limits answers b sink r =
     (verdict : Reading Fault) × (is : IsVerdict limits answers b verdict)
-    × ReturnsVerdict verdict (length (payload_pieces b is.header)) r × Took sink verdict.front
+    × ReturnsVerdict verdict (length (payload_pieces b is.header)) r × Took sink verdict.plaintext
 
 -- a prefix of the verdict's plaintext was written
 abbrev pub BeginsVerdict : (limits : Bounds) (answers : Answering) (b : Bytes) (sink : Moved)
     → Type 0
 BeginsVerdict limits answers b sink =
-    (verdict : Reading Fault) × IsVerdict limits answers b verdict × WritesPart sink verdict.front
+    (verdict : Reading Fault) × IsVerdict limits answers b verdict
+    × WritesPart sink verdict.plaintext
 
 -- What is returned where b was to come, and what is written: the verdict, unless a device failed or
 -- memory was refused.

@@ -7,7 +7,7 @@ use Rattle.age_header.specs.Header.{StanzaParts, Head}
 use Rattle.age_header.specs.Mac.{header_mac}
 use Rattle.age_header.specs.declared.file_key.FileKey.{FileKey}
 use Rattle.age_recipient.specs.declared.labels.Labels.{Labels}
-use Rattle.age_recipient.specs.Labels.{MayLabel, incompatible}
+use Rattle.age_recipient.specs.Labels.{MayLabel, first_incompatible}
 use Rattle.age_stream.specs.declared.done.Done.{Done}
 use Rattle.age_stream.specs.declared.fault.StreamFault.{StreamFault}
 use Rattle.age_stream.specs.Sealing.{FinishesBy, SealerState, SealsAll}
@@ -19,17 +19,17 @@ use Rattle.age_file.specs.AgeFile.{AgeFile, Bounds, is_mixed}
 use Rattle.age_stream.specs.Sizes.{nonce_size, chunk_size, sealed_chunk_size}
 
 -- these stanzas, then those that follow
-abbrev pub preceded_by : (stanzas : List StanzaParts) (more : Result (List StanzaParts) Fault)
+abbrev pub with_stanzas : (stanzas : List StanzaParts) (more : Result (List StanzaParts) Fault)
     → Result (List StanzaParts) Fault
-preceded_by stanzas (Ok more) = Ok (stanzas ++ more)
-preceded_by stanzas (Err fault) = Err fault
+with_stanzas stanzas (Ok more) = Ok (stanzas ++ more)
+with_stanzas stanzas (Err fault) = Err fault
 
 -- what the recipients from number i on give in order: their stanzas joined, or the first refusal
-abbrev pub gathered_from : (i : ℕ) (wrapped : List (Result (List StanzaParts) ℕ))
+abbrev pub gathering_from : (i : ℕ) (wrapped : List (Result (List StanzaParts) ℕ))
     → Result (List StanzaParts) Fault
-gathered_from i [] = Ok []
-gathered_from i (Ok stanzas ∷ more) = preceded_by stanzas (gathered_from (i + 1) more)
-gathered_from i (Err code ∷ more) = Err (Refused i code)
+gathering_from i [] = Ok []
+gathering_from i (Ok stanzas ∷ more) = with_stanzas stanzas (gathering_from (i + 1) more)
+gathering_from i (Err code ∷ more) = Err (Refused i code)
 
 -- the stanzas, unless a recipient's labels do not go together with those of recipient 0
 abbrev pub unless_incompatible : (gathered : Result (List StanzaParts) Fault) (index : Option ℕ)
@@ -42,7 +42,7 @@ unless_incompatible (Ok stanzas) None = Ok stanzas
 -- together with recipient 0
 abbrev pub IsIncompatible : (meant : List Labels) (index : Option ℕ) → Type 0
 IsIncompatible meant index =
-    (labels : List Labels) × AllZip MayLabel meant labels × (index ≡ incompatible labels)
+    (labels : List Labels) × AllZip MayLabel meant labels × (index ≡ first_incompatible labels)
 
 -- what recipients with these meanings may give: all their stanzas, the first refusal, or the first
 -- recipient that does not go together with recipient 0
@@ -50,7 +50,7 @@ abbrev pub Gathered : (wrapped : List (Result (List StanzaParts) ℕ)) (meant : 
     (gathered : Result (List StanzaParts) Fault) → Type 0
 Gathered wrapped meant gathered =
     (index : Option ℕ) × IsIncompatible meant index
-    × (gathered ≡ unless_incompatible (gathered_from 0 wrapped) index)
+    × (gathered ≡ unless_incompatible (gathering_from 0 wrapped) index)
 
 -- which results a list of recipients may give, as `Gathered wrapped meant`
 abbrev pub Gathering : Type 1

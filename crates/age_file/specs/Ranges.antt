@@ -1,7 +1,7 @@
 -- Opening a file for ranges of its plaintext.
 use Rattle.std.specs.Prelude.{◌≡◌, ◌⊎◌, ℕ, ◌+◌, ◌-◌, ◌^◌, ◌≤◌, min, length, take, drop, IfSome, ⊤, Option, Some, Result, Ok, Err}
 use Rattle.std.specs.Result.{result_map_both}
-use Rattle.age_header.specs.Device.{Bytes, CountsFaultIf, Known, Moved, moved_by}
+use Rattle.age_header.specs.Device.{Bytes, CountsFaultIf, Known, Moved, move_by}
 use Rattle.age_header.specs.declared.fault.HeaderFault.{HeaderFault}
 use Rattle.age_header.specs.Header.{HeaderParts}
 use Rattle.age_header.specs.Verdict.{Found, HeaderVerdict}
@@ -13,7 +13,7 @@ use Rattle.age_file.specs.declared.fault.Fault.{Fault}
 use Rattle.age_file.specs.declared.fault.Fault.TheVariants.{IncompatibleRecipients, NoRecipients, OutOfMemory, Read, Refused, Write}
 use Rattle.age_file.specs.AgeFile.{Bounds}
 use Rattle.age_file.specs.Device.{is_read}
-use Rattle.age_file.specs.Verdict.{Answering, found_in, header_fault, parts_of, stream_fault, unlocked}
+use Rattle.age_file.specs.Verdict.{Answering, finding, header_fault, parts_of, stream_fault, header_key}
 use Rattle.age_stream.specs.Sizes.{nonce_size}
 
 -- a source that is read at offsets, here read from its first byte on, and the next offset
@@ -41,14 +41,14 @@ IsOpenFault _ = ⊤
 abbrev pub HasHeader : (limits : Bounds) (told : Known) (at : ℕ) (h : HeaderParts) → Type 0
 HasHeader limits told at h =
     IfSome told (λ b. (text : Bytes) × (length text ≡ at)
-    × HeaderVerdict b limits.max_header (Ok (found_in text h)))
+    × HeaderVerdict b limits.max_header (Ok (finding text h)))
 
 -- this header was read from the source's first byte on, and `at` is the next offset
 pub record GaveHeader (limits : Bounds) (gave : (at byte : ℕ) → Type 0) (at : ℕ) (h : HeaderParts)
     : Type 0 where
   pub text : Bytes
   pub gave_text : GaveFirst gave at text
-  pub verdict : HeaderVerdict text limits.max_header (Ok (found_in text h))
+  pub verdict : HeaderVerdict text limits.max_header (Ok (finding text h))
 
 -- the known bytes begin with no header, and this is its fault; or a read failed, or memory was
 -- refused
@@ -68,7 +68,8 @@ abbrev pub IsRangeFault : (limits : Bounds) (answers : Answering) (b : Bytes)
     (result : Result Found HeaderFault) (fault : Fault) → Type 0
 IsRangeFault limits answers b (Err e) fault = fault ≡ header_fault e
 IsRangeFault limits answers b (Ok found) fault =
-    ranges_under limits (drop (length found.text) b) (unlocked answers (parts_of found)) ≡ Err fault
+    ranges_under limits (drop (length found.text) b) (header_key answers (parts_of found))
+    ≡ Err fault
 
 -- the fault is the first of the known bytes; or a read failed, or memory was refused
 abbrev pub MissesRanges : (limits : Bounds) (answers : Answering) (told : Known) (fault : Fault)
@@ -87,7 +88,7 @@ pub record IsRangesOf (limits : Bounds) (answers : Answering) (b : Bytes) (chunk
   pub found : Found
   pub header : HeaderVerdict b limits.max_header (Ok found)
   pub key : FileKey
-  pub chosen : unlocked answers (parts_of found) ≡ Ok key
+  pub chosen : header_key answers (parts_of found) ≡ Ok key
   pub opened : IsOpened key limits.max_chunks (Some b) (length found.text) chunks
   pub gave : given2
       ≤ given + length found.text
@@ -102,7 +103,7 @@ pub record BeginsFile (limits : Bounds) (answers : Answering) (gave : (at byte :
   pub at : ℕ
   pub first : GaveHeader limits gave at header
   pub key : FileKey
-  pub chosen : unlocked answers header ≡ Ok key
+  pub chosen : header_key answers header ≡ Ok key
   pub begins : BeginsAt key at gave size chunks
 
 -- Opening a file for ranges failed: with the first fault of the known bytes, a failed read or out
@@ -127,4 +128,4 @@ StartsFileRanges told given failed gave found limits answers old new (Ok chunks)
     × (chunks.index ≡ Some (chunks.layout.count - 1)) × (chunks.opened ≡ 1)
     × (failed new ≡ failed old)
 StartsFileRanges told given failed gave found limits answers old new (Err fault) =
-    RefusesRanges limits answers (moved_by told old new) (failed old) (failed new) fault
+    RefusesRanges limits answers (move_by told old new) (failed old) (failed new) fault

@@ -11,7 +11,7 @@ use Rattle.age_file.specs.declared.fault.Fault.{Fault}
 use Rattle.age_file.specs.declared.fault.Fault.TheVariants.{TooManyChunks, Read, Write, OutOfMemory}
 use Rattle.age_file.specs.AgeFile.{Bounds, is_mixed}
 use Rattle.age_file.specs.NewFile.{Gathering, IsRefusal}
-use Rattle.age_file.specs.Verdict.{Answering, header_fault, parts_of, unlocked}
+use Rattle.age_file.specs.Verdict.{Answering, header_fault, parts_of, header_key}
 use Rattle.age_file.specs.Copying.{most_copied}
 
 -- c is b with another header for the file key that is chosen: the text of the new stanzas with
@@ -21,7 +21,7 @@ pub record Rewrapped (limits : Bounds) (answers : Answering) (b c : Bytes) : Typ
   pub found : Found
   pub header : HeaderVerdict b limits.max_header (Ok found)
   pub key : FileKey
-  pub chosen : unlocked answers (parts_of found) ≡ Ok key
+  pub chosen : header_key answers (parts_of found) ≡ Ok key
   pub stanzas : List StanzaParts
   pub unmixed : is_mixed stanzas ≡ false
   pub text : Bytes
@@ -40,8 +40,8 @@ abbrev pub IsRefusedBy : (limits : Bounds) (answers : Answering) (gathered : Fil
     (result : Result Found HeaderFault) (fault : Fault) → Type 0
 IsRefusedBy limits answers gathered (Err e) fault = fault ≡ header_fault e
 IsRefusedBy limits answers gathered (Ok found) fault =
-    (unlocked answers (parts_of found) ≡ Err fault)
-    ⊎ ((key : FileKey) × (unlocked answers (parts_of found) ≡ Ok key)
+    (header_key answers (parts_of found) ≡ Err fault)
+    ⊎ ((key : FileKey) × (header_key answers (parts_of found) ≡ Ok key)
     × IsRefusal limits key (gathered key) fault)
 
 abbrev pub RefusesRewrap : (limits : Bounds) (answers : Answering) (gathered : FileKey → Gathering)

@@ -2,7 +2,7 @@
 -- its device.
 use Rattle.std.specs.Prelude.{◌≡◌, ◌⊎◌, ℕ, true, false, ◌++◌, Result, Ok, Err}
 use denote.Ref.{MutBor}
-use Rattle.age_header.specs.Device.{Bytes, CountsFaultIf, Known, WritesPart, Took, flow_by, moved_by}
+use Rattle.age_header.specs.Device.{Bytes, CountsFaultIf, Known, WritesPart, Took, flow_by, move_by}
 use Rattle.age_header.specs.Header.{Head, HeaderParts}
 use Rattle.age_header.specs.declared.file_key.FileKey.{FileKey}
 use Rattle.age_stream.specs.declared.fault.StreamFault.{StreamFault}
@@ -32,14 +32,14 @@ abbrev pub StartsFile : {W : Type 0} (taken : W → Known) (failed : W → ℕ) 
     (old new : W) (r : Result SealerState Fault) → Type 0
 StartsFile taken failed s old new (Ok sealer) =
     ((text : Bytes) × Head s.header.stanzas s.header.mac text
-    × Took (moved_by taken old new) (text ++ s.fresh.nonce))
+    × Took (move_by taken old new) (text ++ s.fresh.nonce))
     × (failed new ≡ failed old)
     × (sealer ≡ at_start (payload_key s.fresh.file_key s.fresh.nonce) s.limits.max_chunks)
 StartsFile taken failed s old new (Err fault) =
     ((fault ≡ OutOfMemory) × (new ≡ old))
     ⊎ ((fault ≡ Write)
     × ((text : Bytes) × Head s.header.stanzas s.header.mac text
-    × WritesPart (moved_by taken old new) (text ++ s.fresh.nonce))
+    × WritesPart (move_by taken old new) (text ++ s.fresh.nonce))
     × CountsFaultIf is_write (failed old) (failed new) fault)
 
 -- a file whose header was read: the source that gives the rest, the header, and the limits

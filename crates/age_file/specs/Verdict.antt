@@ -15,7 +15,7 @@ use Rattle.age_recipient.specs.declared.unwrapped.Unwrapped.{Unwrapped}
 use Rattle.age_recipient.specs.Choice.{choice}
 use Rattle.age_stream.specs.declared.fault.StreamFault.{StreamFault}
 use Rattle.age_stream.specs.declared.fault.StreamFault.TheVariants as stream
-use Rattle.age_stream.specs.Reading.{Reading, stops, payload_reading}
+use Rattle.age_stream.specs.Reading.{Reading, stop, payload_reading}
 use Rattle.age_file.specs.declared.fault.Fault.{Fault}
 use Rattle.age_file.specs.declared.fault.Fault.TheVariants.{NotAge, BadLine, HeaderTruncated, HeaderTooLarge, MixedPassphrase, NoMatch, WrongKey, Malformed, BadMac, NonceTruncated, ChunkShort, EmptyFinal, BadChunk, TooManyChunks, Read, Write, OutOfMemory}
 use Rattle.age_file.specs.AgeFile.{Bounds, is_mixed}
@@ -52,12 +52,12 @@ abbrev pub parts_of : Found → HeaderParts
 parts_of found = record { stanzas = found.stanzas; mac = found.mac }
 
 -- a header with its text
-abbrev pub found_in : (text : Bytes) (h : HeaderParts) → Found
-found_in text h = record { stanzas = h.stanzas; mac = h.mac; text = text }
+abbrev pub finding : (text : Bytes) (h : HeaderParts) → Found
+finding text h = record { stanzas = h.stanzas; mac = h.mac; text = text }
 
 -- a payload's reading, with the file's fault for its own
 abbrev pub with_file_fault : Reading StreamFault → Reading Fault
-with_file_fault r = record { front = r.front; fault = option_map stream_fault r.fault }
+with_file_fault r = record { plaintext = r.plaintext; fault = option_map stream_fault r.fault }
 
 -- what identities make of each list of stanzas: one answer for each identity, in order
 abbrev pub Answering : Type 0
@@ -69,32 +69,33 @@ abbrev pub answers_by : {I : Type 0} (identities : List I)
 answers_by identities meaning = λ stanzas. map (λ i. meaning i stanzas) identities
 
 -- the key that was chosen, where the header's MAC is the one under it
-abbrev pub checked : (h : HeaderParts) (chosen : Result FileKey UnlockFault) → Result FileKey Fault
-checked h (Err fault) = Err (unlock_fault fault)
-checked h (Ok k) = if bytes_eq h.mac (header_mac k.0 h.stanzas) then Ok k else Err BadMac
+abbrev pub checked_key : (h : HeaderParts) (chosen : Result FileKey UnlockFault)
+    → Result FileKey Fault
+checked_key h (Err fault) = Err (unlock_fault fault)
+checked_key h (Ok k) = if bytes_eq h.mac (header_mac k.0 h.stanzas) then Ok k else Err BadMac
 
 -- the file key of a header, or the first fault up to the MAC
-abbrev pub unlocked : (answers : Answering) (h : HeaderParts) → Result FileKey Fault
-unlocked answers h =
+abbrev pub header_key : (answers : Answering) (h : HeaderParts) → Result FileKey Fault
+header_key answers h =
     if is_mixed h.stanzas then Err MixedPassphrase
-    else checked h (choice (answers h.stanzas))
+    else checked_key h (choice (answers h.stanzas))
 
 -- what follows a header, read under the file key
-abbrev pub read_under : (limits : Bounds) (rest : Bytes) (result : Result FileKey Fault)
+abbrev pub reading_under : (limits : Bounds) (rest : Bytes) (result : Result FileKey Fault)
     → Reading Fault
-read_under limits rest (Err fault) = stops fault
-read_under limits rest (Ok k) = with_file_fault (payload_reading k limits.max_chunks rest)
+reading_under limits rest (Err fault) = stop fault
+reading_under limits rest (Ok k) = with_file_fault (payload_reading k limits.max_chunks rest)
 
 -- what b comes to, given its header verdict
-abbrev pub judged : (limits : Bounds) (answers : Answering) (b : Bytes)
+abbrev pub reading_after : (limits : Bounds) (answers : Answering) (b : Bytes)
     (result : Result Found HeaderFault) → Reading Fault
-judged limits answers b (Err fault) = stops (header_fault fault)
-judged limits answers b (Ok found) =
-    read_under limits (drop (length found.text) b) (unlocked answers (parts_of found))
+reading_after limits answers b (Err fault) = stop (header_fault fault)
+reading_after limits answers b (Ok found) =
+    reading_under limits (drop (length found.text) b) (header_key answers (parts_of found))
 
 -- The verdict on b: the first fault, if there is one, and the plaintext of the chunks before it.
 pub record IsVerdict (limits : Bounds) (answers : Answering) (b : Bytes) (verdict : Reading Fault)
     : Type 0 where
   pub header : Result Found HeaderFault
   pub header_verdict : HeaderVerdict b limits.max_header header
-  pub is : verdict ≡ judged limits answers b header
+  pub is : verdict ≡ reading_after limits answers b header

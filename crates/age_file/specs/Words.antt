@@ -7,8 +7,19 @@ pub use Rattle.age_recipient.specs.PassphraseHolders.{IsPassError, PairFits, Wor
 pub use Rattle.age_recipient.specs.declared.labels.Labels.{Labels}
 pub use Rattle.age_recipient.specs.declared.labels.Labels.TheVariants.{Alone, Names}
 pub use Rattle.age_recipient.specs.declared.unwrapped.StanzaFault.{StanzaFault}
-pub use Rattle.age_recipient.specs.declared.unwrapped.StanzaFault.TheVariants.{ArgCount, Salt, WorkFactorText, WorkFactorTooHigh, BodyLength}
+pub use Rattle.age_recipient.specs.declared.unwrapped.StanzaFault.TheVariants.{
+  ArgCount,
+  Salt,
+  WorkFactorText,
+  WorkFactorTooHigh,
+  BodyLength,
+}
 pub use Rattle.age_recipient.specs.declared.unwrapped.Unwrapped.{Unwrapped}
-pub use Rattle.age_recipient.specs.declared.unwrapped.Unwrapped.TheVariants.{NotMine, Failed, Key, Malformed}
-pub use Rattle.age_stream.specs.Reading.{Reading, stops, whole}
+pub use Rattle.age_recipient.specs.declared.unwrapped.Unwrapped.TheVariants.{
+  NotMine,
+  Failed,
+  Key,
+  Malformed,
+}
+pub use Rattle.age_stream.specs.Reading.{Reading, stop, whole}
 pub use Rattle.age_stream.specs.declared.done.Done.{Done}

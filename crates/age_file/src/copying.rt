@@ -1,7 +1,7 @@
 //! Copying what follows a header.
 
 ghost use Rattle.std.specs.Prelude.{◌≡◌, ◌≤◌, length};
-ghost use Rattle.age_header.specs.Device.{CountsIf, flow_by, moved_by};
+ghost use Rattle.age_header.specs.Device.{CountsIf, flow_by, move_by};
 ghost use Rattle.age_file.specs.Copying.{Copies, CopiesPiece, buffer_size};
 ghost use Rattle.age_file.specs.Device.{is_read, is_write};
 
@@ -28,7 +28,7 @@ pub(crate) fn copy_all<S: Source, W: Sink>(
     requires size { length buf.old ≡ buffer_size }
     requires first { first ≤ buffer_size }
     ensures copies { Copies (flow_by S.to_come S.gave input.old input.new)
-        (moved_by W.taken out.old out.new) result }
+        (move_by W.taken out.old out.new) result }
     ensures reads { CountsIf is_read (S.failed input.old) (S.failed input.new) result }
     ensures writes { CountsIf is_write (W.failed out.old) (W.failed out.new) result }
 {
@@ -44,7 +44,7 @@ pub(crate) fn copy_all<S: Source, W: Sink>(
 fn copy_pieces<S: Source, W: Sink>(input: &mut S, out: &mut W, buf: &mut [u8]) -> Result<(), Fault>
     requires { length buf.old ≡ buffer_size }
     ensures copies { Copies (flow_by S.to_come S.gave input.old input.new)
-        (moved_by W.taken out.old out.new) result }
+        (move_by W.taken out.old out.new) result }
     ensures reads { CountsIf is_read (S.failed input.old) (S.failed input.new) result }
     ensures writes { CountsIf is_write (W.failed out.old) (W.failed out.new) result }
 {
@@ -64,7 +64,7 @@ fn copy_pieces<S: Source, W: Sink>(input: &mut S, out: &mut W, buf: &mut [u8]) -
 fn copy_piece<S: Source, W: Sink>(input: &mut S, out: &mut W, buf: &mut [u8]) -> Result<bool, Fault>
     ensures len { length buf.new ≡ length buf.old }
     ensures copies { CopiesPiece (length buf.old) (flow_by S.to_come S.gave input.old input.new)
-        (moved_by W.taken out.old out.new) result }
+        (move_by W.taken out.old out.new) result }
     ensures reads { CountsIf is_read (S.failed input.old) (S.failed input.new) result }
     ensures writes { CountsIf is_write (W.failed out.old) (W.failed out.new) result }
 {

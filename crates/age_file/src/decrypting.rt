@@ -1,7 +1,7 @@
 //! Decrypting a whole file.
 
 ghost use Rattle.std.specs.Prelude.{IfErr};
-ghost use Rattle.age_header.specs.Device.{CountsIf, flow_by, moved_by};
+ghost use Rattle.age_header.specs.Device.{CountsIf, flow_by, move_by};
 ghost use Rattle.age_file.specs.Decrypt.{Decrypts, TookUpTo};
 ghost use Rattle.age_file.specs.Device.{IsQuiet, is_read, is_write};
 ghost use Rattle.age_file.specs.Verdict.{answers_by};
@@ -42,7 +42,7 @@ pub fn decrypt<S: Source, W: Sink>(
     // Ok the counts are its length and the number of the payload's pieces. If a device failed, a
     // prefix of that plaintext was written.
     ensures decrypts { Decrypts limits.now (answers_by identities.now (λ i s. meaning i s))
-        (flow_by S.to_come S.gave input.old input.new) (moved_by W.taken out.old out.new) result }
+        (flow_by S.to_come S.gave input.old input.new) (move_by W.taken out.old out.new) result }
     // On a fault of a header or its key, a truncated nonce, a refusal, recipients that do not go
     // together, or out of memory the sink is as it was, whether or not its contents are known.
     ensures quiet { IsQuiet out.old out.new result }
@@ -51,7 +51,7 @@ pub fn decrypt<S: Source, W: Sink>(
     // If it ended at piece i, or at a write after 65,536 i bytes: at most the header, the nonce,
     // the pieces up to and including piece i and one byte were read.
     ensures took { IfErr result (TookUpTo limits.now (flow_by S.to_come S.gave input.old input.new)
-        (moved_by W.taken out.old out.new)) }
+        (move_by W.taken out.old out.new)) }
 {
     let header = match inspect(alloc, input, limits) {
         Ok(header) => header,

@@ -3,7 +3,7 @@
 ghost use Rattle.std.specs.Prelude.{◌≡◌, Ok, Err, IfOk, IfErr};
 ghost use Rattle.age_stream.specs.Reader.{opener_of, source_of};
 ghost use Rattle.age_stream.specs.Writer.{device_of, fault_of};
-ghost use Rattle.age_file.specs.Verdict.{answers_by, unlocked};
+ghost use Rattle.age_file.specs.Verdict.{answers_by, header_key};
 
 use crate::fault::Fault;
 use crate::fault_conversions::stream_fault;
@@ -121,14 +121,14 @@ impl<'a, S: Source> Decryptor<'a, S> {
         // read.
         ensures starts { IfOk result
             (λ reader. StartsUnder S.to_come S.gave S.failed (limits_of self.entry)
-            (unlocked (answers_by identities.now (λ i s. meaning i s)) (header_of self.entry))
+            (header_key (answers_by identities.now (λ i s. meaning i s)) (header_of self.entry))
             (input_of self.entry).now (source_of reader).now (Ok (opener_of reader))) }
         ensures handed_back { IfErr result
             (λ refused. (device_of refused).ghost_name ≡ (input_of self.entry).ghost_name) }
         // Otherwise the fault up to the MAC, or of a nonce that was not read, or out of memory.
         ensures misses { IfErr result
             (λ refused. StartsUnder S.to_come S.gave S.failed (limits_of self.entry)
-            (unlocked (answers_by identities.now (λ i s. meaning i s)) (header_of self.entry))
+            (header_key (answers_by identities.now (λ i s. meaning i s)) (header_of self.entry))
             (input_of self.entry).now (device_of refused).now (Err (fault_of refused))) }
     {
         let Decryptor {
@@ -167,12 +167,12 @@ impl<'a, S: Source> Decryptor<'a, S> {
         // read.
         ensures starts { IfOk result
             (λ reader. StartsUnder S.to_come S.gave S.failed (limits_of self.entry)
-            (unlocked (answers_by identities.now (λ i s. meaning i s)) (header_of self.entry))
+            (header_key (answers_by identities.now (λ i s. meaning i s)) (header_of self.entry))
             (input_of self.entry).now (source_of reader).now (Ok (opener_of reader))) }
         // As `unlocked`, of some state of the source, which is not handed back.
         ensures misses { IfErr result
             (λ fault. (last : S) × StartsUnder S.to_come S.gave S.failed (limits_of self.entry)
-            (unlocked (answers_by identities.now (λ i s. meaning i s)) (header_of self.entry))
+            (header_key (answers_by identities.now (λ i s. meaning i s)) (header_of self.entry))
             (input_of self.entry).now last (Err fault)) }
     {
         match self.unlocked(alloc, identities) {

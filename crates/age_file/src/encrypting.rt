@@ -1,7 +1,7 @@
 //! Encrypting a whole file.
 
 ghost use Rattle.std.specs.Prelude.{◌≡◌, ◌⊎◌, ◌++◌, Err, None, IfErr};
-ghost use Rattle.age_header.specs.Device.{Bytes, Counts, CountsIf, Writes, flow_by, moved_by};
+ghost use Rattle.age_header.specs.Device.{Bytes, Counts, CountsIf, Writes, flow_by, move_by};
 ghost use Rattle.age_header.specs.Header.{Head};
 ghost use Rattle.age_file.specs.Device.{IsQuiet, is_read, is_write};
 ghost use Rattle.age_file.specs.NewFile.{EncryptsGiven, FillsChunk, RefusesFirst, SealsRest, TookWhileEncrypting, gathering_by};
@@ -46,18 +46,17 @@ pub fn encrypt<S: Source, W: Sink>(
     // [refused] applies. If a device failed, a prefix of that file was written.
     ensures encrypts { EncryptsGiven limits.now fresh.now
         (gathering_by recipients.now (λ r k. wraps r k) (λ r. the_labels r) fresh.now.file_key)
-        (flow_by S.to_come S.gave plain.old plain.new) (moved_by W.taken out.old out.new) result }
+        (flow_by S.to_come S.gave plain.old plain.new) (move_by W.taken out.old out.new) result }
     // The first that applies: a refusal, with its index; the least index above 0 whose labels do
     // not go together with those of recipient 0; no stanza; a `scrypt` stanza that is not alone; a
     // header over the limit. The labels are some that the recipients may have returned.
     ensures refused { IfErr result (RefusesFirst limits.now fresh.now.file_key
         (gathering_by recipients.now (λ r k. wraps r k) (λ r. the_labels r) fresh.now.file_key)) }
     // On a fault of a header or its key, a truncated nonce, a refusal, recipients that do not go
-    // together, or out of memory the sink is as it was, whether or not its contents are known.
+    // together, no stanza, or out of memory the sink is as it was, whether or not its contents are
+    // known.
     ensures quiet { IsQuiet out.old out.new result }
-    // If a failed read is returned and something was written, the source's known contents had
-    // 65,536 bytes or more. That the first chunk's read failed no clause can say: nothing is known
-    // of a source after a failed read.
+    // If a failed read is returned and something was written, the source gave 65,536 bytes or more.
     ensures spared { result ≡ Err Fault.Read
         → (out.new ≡ out.old) ⊎ FillsChunk (flow_by S.to_come S.gave plain.old plain.new) }
     ensures reads { CountsIf is_read (S.failed plain.old) (S.failed plain.new) result }
@@ -66,7 +65,7 @@ pub fn encrypt<S: Source, W: Sink>(
     // of plaintext were read.
     ensures took { IfErr result (TookWhileEncrypting limits.now fresh.now
         (gathering_by recipients.now (λ r k. wraps r k) (λ r. the_labels r) fresh.now.file_key)
-        (flow_by S.to_come S.gave plain.old plain.new) (moved_by W.taken out.old out.new)) }
+        (flow_by S.to_come S.gave plain.old plain.new) (move_by W.taken out.old out.new)) }
 {
     let header = header_for(alloc, recipients, &fresh.file_key, limits)?;
     let Ok(buf) = ChunkBuf::new(alloc) else {
@@ -95,7 +94,7 @@ fn seal_rest<S: Source, W: Sink>(
 ) -> Result<Done, StreamFault>
     requires { sealer.fault ≡ None }
     ensures seals { SealsRest sealer is_open (flow_by S.to_come S.gave plain.old plain.new)
-        (moved_by W.taken out.old out.new) result }
+        (move_by W.taken out.old out.new) result }
     ensures reads { CountsIf stream.is_read (S.failed plain.old) (S.failed plain.new) result }
     ensures writes { CountsIf stream.is_write (W.failed out.old) (W.failed out.new) result }
 {
@@ -117,7 +116,7 @@ pub fn write_front<W: Sink>(
 ) -> Result<(), DeviceFault>
     // The header and then the nonce; on an error a prefix of both.
     ensures text { (text : Bytes) × Head header.now.stanzas header.now.mac text
-        × Writes (moved_by W.taken out.old out.new) result (text ++ nonce.now) }
+        × Writes (move_by W.taken out.old out.new) result (text ++ nonce.now) }
     ensures count { Counts (W.failed out.old) (W.failed out.new) result }
 {
     write_header(header, out)?;

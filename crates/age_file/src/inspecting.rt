@@ -17,7 +17,8 @@ use std::alloc::Global;
 /// The first of `NotAge`, `BadLine`, `HeaderTruncated` and `HeaderTooLarge` that applies, as
 /// `HeaderReader` says; `Read` if the source failed, `OutOfMemory` if an allocation was refused.
 pub fn inspect<S: Source>(alloc: Global, input: &mut S, limits: &Limits) -> Result<Header, Fault>
-    // The header verdict is returned, and exactly the header's bytes were read.
+    // The header verdict is returned, unless a read failed or memory was refused; of a header
+    // exactly its bytes were read.
     ensures verdict { Inspects limits.now (flow_by S.to_come S.gave input.old input.new) result }
     ensures reads { CountsIf is_read (S.failed input.old) (S.failed input.new) result }
 {

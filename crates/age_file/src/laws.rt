@@ -6,10 +6,10 @@ ghost use Rattle.age_header.specs.Header.{StanzaParts};
 ghost use Rattle.age_header.specs.declared.file_key.FileKey.{FileKey};
 ghost use Rattle.age_recipient.specs.Choice.{choice};
 ghost use Rattle.age_recipient.specs.Key.{IsFileKey};
-ghost use Rattle.age_recipient.specs.Labels.{incompatible};
+ghost use Rattle.age_recipient.specs.Labels.{first_incompatible};
 ghost use Rattle.age_stream.specs.Ranges.{HasPlain, RangeState};
-ghost use Rattle.age_stream.specs.Reading.{Reading, stops, whole};
-ghost use Rattle.age_stream.specs.Salvage.{Reports, Told, is_whole};
+ghost use Rattle.age_stream.specs.Reading.{Reading, stop, whole};
+ghost use Rattle.age_stream.specs.Salvage.{Reports, LossesMoved, is_whole};
 ghost use Rattle.age_stream.specs.declared.salvaged.Salvaged.{Salvaged};
 ghost use Rattle.age_file.specs.declared.fault.Fault.{Fault};
 ghost use Rattle.age_file.specs.declared.fault.Fault.TheVariants.{OutOfMemory, Read};
@@ -73,10 +73,10 @@ pub fn own_recipients()
         → IsIncompatible (replicate n (Labels.Names [])) index → index ≡ None }
     // After a passphrase recipient recipient 1 is incompatible, whichever it is.
     ensures passphrase_first { (other : Labels) (others : List Labels)
-        → incompatible (Labels.Alone ∷ other ∷ others) ≡ Some 1 }
+        → first_incompatible (Labels.Alone ∷ other ∷ others) ≡ Some 1 }
     // A passphrase recipient after one or more without names is incompatible itself.
     ensures passphrase_after { (n : ℕ) (others : List Labels)
-        → incompatible (replicate (n + 1) (Labels.Names []) ++ Labels.Alone ∷ others)
+        → first_incompatible (replicate (n + 1) (Labels.Names []) ++ Labels.Alone ∷ others)
         ≡ Some (n + 1) }
 {}
 
@@ -91,22 +91,22 @@ pub fn rewrap_keeps()
 /// Salvaging a whole file is decrypting it. Of any file it writes what decrypting writes before its
 /// fault, and then more.
 pub fn salvage_is_verdict()
-    // If the verdict is a plaintext without fault, that plaintext is written.
+    // On Ok, if the verdict is a plaintext without fault, that plaintext was written.
     ensures whole { (limits : Bounds) (answers : Answering) (b plain : Bytes) (sink : Moved)
-        (lost : Told) (s : Salvaged) → IsVerdict limits answers b (whole plain)
+        (lost : LossesMoved) (s : Salvaged) → IsVerdict limits answers b (whole plain)
         → SavesFile limits answers b sink lost (Ok s) → Took sink plain }
     // Then no chunk is reported, and what is returned says that all is saved.
     ensures none { (limits : Bounds) (answers : Answering) (b plain : Bytes) (sink : Moved)
-        (lost : Told) (s : Salvaged) → IsVerdict limits answers b (whole plain)
+        (lost : LossesMoved) (s : Salvaged) → IsVerdict limits answers b (whole plain)
         → SavesFile limits answers b sink lost (Ok s) → Reports lost [] × (is_whole s ≡ true) }
     // A fault before which nothing was written is the verdict's, or out of memory.
     ensures fault { (limits : Bounds) (answers : Answering) (b : Bytes) (v : Reading Fault)
-        (sink : Moved) (lost : Told) (fault : Fault) → IsVerdict limits answers b v
+        (sink : Moved) (lost : LossesMoved) (fault : Fault) → IsVerdict limits answers b v
         → SavesFile limits answers b sink lost (Err fault)
-        → IsLate fault ⊎ (fault ≡ OutOfMemory) ⊎ (v ≡ stops fault) }
-    // What is written begins with the verdict's plaintext.
-    ensures front { (limits : Bounds) (answers : Answering) (b : Bytes) (v : Reading Fault)
-        (sink : Moved) (lost : Told) (s : Salvaged) → IsVerdict limits answers b v
+        → IsLate fault ⊎ (fault ≡ OutOfMemory) ⊎ (v ≡ stop fault) }
+    // On Ok what was written begins with the verdict's plaintext.
+    ensures plaintext { (limits : Bounds) (answers : Answering) (b : Bytes) (v : Reading Fault)
+        (sink : Moved) (lost : LossesMoved) (s : Salvaged) → IsVerdict limits answers b v
         → SavesFile limits answers b sink lost (Ok s)
-        → (rest : Bytes) × Took sink (v.front ++ rest) }
+        → (rest : Bytes) × Took sink (v.plaintext ++ rest) }
 {}

@@ -6,7 +6,7 @@ ghost use Rattle.age_header.specs.Device.{Bytes};
 ghost use Rattle.age_header.specs.Mac.{header_mac};
 ghost use Rattle.age_recipient.specs.Labels.{MayLabel};
 ghost use Rattle.age_recipient.specs.Wrap.{WrapsAs};
-ghost use Rattle.age_file.specs.NewFile.{FailsHeading, Gathers, IsHeading, WrapsAll, gathered_from, gathering_by};
+ghost use Rattle.age_file.specs.NewFile.{FailsHeading, Gathers, IsHeading, WrapsAll, gathering_from, gathering_by};
 
 use crate::fault::Fault;
 use crate::limits::Limits;
@@ -87,7 +87,7 @@ fn wrap_all(
     recipients: &[Box<dyn Recipient>],
     key: &FileKey,
 ) -> Result<Vec<Stanza>, Fault>
-    ensures { WrapsAll (gathered_from 0 (map (λ r. wraps r key.now) recipients.now)) result }
+    ensures { WrapsAll (gathering_from 0 (map (λ r. wraps r key.now) recipients.now)) result }
 {
     let mut all = Vec::new(alloc);
     for (i, recipient) in recipients.iter().enumerate() {

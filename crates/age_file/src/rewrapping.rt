@@ -1,6 +1,6 @@
 //! Replacing the header of a file; the payload stays.
 
-ghost use Rattle.age_header.specs.Device.{CountsIf, flow_by, moved_by};
+ghost use Rattle.age_header.specs.Device.{CountsIf, flow_by, move_by};
 ghost use Rattle.age_file.specs.Device.{IsQuiet, is_read, is_write};
 ghost use Rattle.age_file.specs.NewFile.{gathering_by};
 ghost use Rattle.age_file.specs.Rewrap.{Rewraps};
@@ -38,11 +38,13 @@ pub fn rewrap<S: Source, W: Sink>(
     // On Ok: the text of the new stanzas with their MAC under the same file key, then every byte
     // that followed the old header. Otherwise the first that applies: the faults of `decrypt` up to
     // the MAC, of the old header; those of `encrypt`, of the new one; or out of memory.
+    // If a device failed, nothing or a prefix was written.
     ensures rewraps { Rewraps limits.now (answers_by identities.now (λ i s. meaning i s))
         (gathering_by recipients.now (λ r k. wraps r k) (λ r. the_labels r))
-        (flow_by S.to_come S.gave input.old input.new) (moved_by W.taken out.old out.new) result }
+        (flow_by S.to_come S.gave input.old input.new) (move_by W.taken out.old out.new) result }
     // On a fault of a header or its key, a truncated nonce, a refusal, recipients that do not go
-    // together, or out of memory the sink is as it was, whether or not its contents are known.
+    // together, no stanza, or out of memory the sink is as it was, whether or not its contents are
+    // known.
     ensures quiet { IsQuiet out.old out.new result }
     ensures reads { CountsIf is_read (S.failed input.old) (S.failed input.new) result }
     ensures writes { CountsIf is_write (W.failed out.old) (W.failed out.new) result }

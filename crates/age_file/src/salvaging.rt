@@ -1,8 +1,8 @@
 //! Saving what can be saved of a damaged file.
 
 ghost use Rattle.std.specs.Prelude.{◌≡◌, IfErr, IfOk};
-ghost use Rattle.age_header.specs.Device.{CountsIf, flow_by, moved_by};
-ghost use Rattle.age_stream.specs.Salvage.{told_by};
+ghost use Rattle.age_header.specs.Device.{CountsIf, flow_by, move_by};
+ghost use Rattle.age_stream.specs.Salvage.{losses_by};
 ghost use Rattle.age_file.specs.Decrypt.{TookUpTo};
 ghost use Rattle.age_file.specs.Device.{IsQuiet, is_read, is_write};
 ghost use Rattle.age_file.specs.Salvage.{SalvagesFile};
@@ -39,10 +39,11 @@ pub fn salvage<S: Source, W: Sink, L: Losses>(
     limits: &Limits,
 ) -> Result<Salvaged, Fault>
     // The header, its key and its MAC are judged as by `decrypt`. Then each chunk that opens was
-    // written at its offset, zeros for each other, and each lost chunk was reported, in order.
+    // written at its offset, zeros for each other, and each lost chunk was reported, in order. On a
+    // fault only a beginning of this.
     ensures salvages { SalvagesFile limits.now (answers_by identities.now (λ i s. meaning i s))
-        (flow_by S.to_come S.gave input.old input.new) (moved_by W.taken out.old out.new)
-        (told_by L.lost losses.old losses.new) result }
+        (flow_by S.to_come S.gave input.old input.new) (move_by W.taken out.old out.new)
+        (losses_by L.lost losses.old losses.new) result }
     // Where no chunk is lost none was reported.
     ensures silent { IfOk result (λ s. s.lost ≡ 0 → losses.new ≡ losses.old) }
     ensures quiet { IsQuiet out.old out.new result }
@@ -51,7 +52,7 @@ pub fn salvage<S: Source, W: Sink, L: Losses>(
     // If it ended at piece i, or at a write after 65,536 i bytes: at most the header, the nonce,
     // the pieces up to and including piece i and one byte were read.
     ensures took { IfErr result (TookUpTo limits.now (flow_by S.to_come S.gave input.old input.new)
-        (moved_by W.taken out.old out.new)) }
+        (move_by W.taken out.old out.new)) }
 {
     let header = match inspect(alloc, input, limits) {
         Ok(header) => header,

@@ -4,7 +4,7 @@ ghost use Rattle.std.specs.Prelude.{◌≡◌, ◌⊎◌, Err, IfErr};
 ghost use Rattle.std.specs.List.{list_any};
 ghost use Rattle.age_file.specs.AgeFile.{is_mixed, is_scrypt};
 ghost use Rattle.age_file.specs.Device.{IsNoDeviceFault};
-ghost use Rattle.age_file.specs.Verdict.{answers_by, checked, unlocked};
+ghost use Rattle.age_file.specs.Verdict.{answers_by, checked_key, header_key};
 
 use crate::fault::Fault;
 use crate::fault_conversions::unlock_fault;
@@ -27,7 +27,7 @@ pub fn unlock_header(
     // The file key that the identities choose, if the header's MAC is right under it; otherwise the
     // first fault, or out of memory.
     ensures key { (result ≡ Err Fault.OutOfMemory)
-        ⊎ (result ≡ unlocked (answers_by identities.now (λ i s. meaning i s)) header.now) }
+        ⊎ (result ≡ header_key (answers_by identities.now (λ i s. meaning i s)) header.now) }
     // It is no device's fault.
     ensures no_device { IfErr result IsNoDeviceFault }
 {
@@ -43,7 +43,7 @@ fn checked(
     header: &Header,
     chosen: Result<FileKey, UnlockFault>,
 ) -> Result<FileKey, Fault>
-    ensures key { (result ≡ Err Fault.OutOfMemory) ⊎ (result ≡ checked header.now chosen) }
+    ensures key { (result ≡ Err Fault.OutOfMemory) ⊎ (result ≡ checked_key header.now chosen) }
     ensures no_device { IfErr result IsNoDeviceFault }
 {
     let key = match chosen {

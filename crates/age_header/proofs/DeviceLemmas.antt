@@ -9,7 +9,7 @@ use Rattle.std.proofs.Math.Seq.{take-append-add}
 use Rattle.std.specs.declared.result.Result.{Result}
 use Rattle.std.specs.declared.result.Result.TheVariants.{Ok, Err}
 use Rattle.age_kdf.specs.Bytes.{Bytes}
-use Rattle.age_header.specs.Device.{Flow, Gave, GaveAtMost, GaveSome, Grew, Known, OfGiven, Seen, Writes, WritesPart, flow, moved}
+use Rattle.age_header.specs.Device.{Flow, Gave, GaveAtMost, GaveSome, Grew, Known, OfGiven, Seen, Writes, WritesPart, flow, move_of}
 
 grew_none : (a : Seen) → Grew (flow a a) []
 grew_none a past h = subst a.gave (sym (append-nil past)) h
@@ -146,8 +146,8 @@ done_all a b c whole left d h = subst (λ (z : Bytes). Appends a c z) (sym d.is)
     (Appends-trans a b c d.prefix left d.took h)
 
 pub done_part : {a b : Known} (c : Known) {whole left : Bytes} (x y : Bytes) → Done a b whole left → left ≡ x ++ y
-    → WritesPart (moved b c) x
-    → WritesPart (moved a c) whole
+    → WritesPart (move_of b c) x
+    → WritesPart (move_of a c) whole
 done_part {a} {b} c {whole} x y d e w =
     let n : ℕ = min w.0 (length x) in
     let low : n ≤ length x = omega arith in
@@ -161,12 +161,12 @@ done_part {a} {b} c {whole} x y d e w =
           (Appends-trans a b c d.prefix (take w.0 x) d.took w.1),
     )
 
-pub done_last : (a b c : Known) (whole left : Bytes) → Done a b whole left → WritesPart (moved b c) left
-    → WritesPart (moved a c) whole
+pub done_last : (a b c : Known) (whole left : Bytes) → Done a b whole left → WritesPart (move_of b c) left
+    → WritesPart (move_of a c) whole
 done_last a b c whole left d w = done_part c left [] d (sym (append-nil left)) w
 
 -- what the last call did to what was left, it did to the whole
 pub writes_last : {T E : Type 0} {a b : Known} (c : Known) (r : Result T E) {whole left : Bytes} → Done a b whole left
-    → Writes (moved b c) r left → Writes (moved a c) r whole
+    → Writes (move_of b c) r left → Writes (move_of a c) r whole
 writes_last {a} {b} c (Ok x) {whole} {left} d h = done_all a b c whole left d h
 writes_last {a} {b} c (Err e) {whole} {left} d h = done_last a b c whole left d h

@@ -5,7 +5,7 @@ use Rattle.std.proofs.Math.Seq.{take-append-add, take-append_seam}
 use Rattle.std.specs.Io.{ReadsAtMost}
 use Rattle.age_kdf.specs.Bytes.{Bytes}
 use Rattle.age_header.specs.declared.device.DeviceFault.{DeviceFault}
-use Rattle.age_header.specs.Device.{GaveSome, Gives, Grows, Seen, flow, moved}
+use Rattle.age_header.specs.Device.{GaveSome, Gives, Grows, Seen, flow, move_of}
 use Rattle.age_header.specs.Filling.{Filled, Got}
 
 pub filled_none : (start : ℕ) (buf : Bytes) (a : Seen) → start ≤ length buf → Filled start start buf buf (flow a a)
@@ -30,7 +30,7 @@ filled_more start at n buf mid after {a} {b} {c} size f h = record {
 -- one read after a prefix
 pub got_read : (r : Result ℕ DeviceFault) (at : ℕ) (buf prefix rest after : Bytes) (a b : Seen) → buf ≡ prefix ++ rest
     → length prefix ≡ at → length after ≡ length rest
-    → ReadsAtMost r after → Gives (moved a.to_come b.to_come) r after → Grows (flow a b) r after
+    → ReadsAtMost r after → Gives (move_of a.to_come b.to_come) r after → Grows (flow a b) r after
     → IfOk r (λ n. Got at n buf (prefix ++ after) (flow a b))
 got_read (Err e) at buf prefix rest after a b is len size bound gives grows = tt
 got_read (Ok n) at buf prefix rest after a b is len size bound gives grows =

@@ -9,7 +9,7 @@ use Rattle.age_header.specs.Header.{StanzaParts, Head, IsStanza, AreStanzas, IsF
 use Rattle.age_header.specs.Base64.{IsBase64}
 use Rattle.age_header.specs.Steps.{State, between, within, Step, Leads}
 use Rattle.age_header.specs.Verdict.{IsLineText, lines_text}
-use Rattle.age_header.specs.Text.{IsWhole, IsHeaderValue, signed, mac_end}
+use Rattle.age_header.specs.Text.{IsWhole, IsHeaderValue, signed_text, mac_end}
 use Rattle.age_header.proofs.Base64Lemmas.{IsBase64-only, IsBase64-injective, IsBase64-bytes}
 use Rattle.age_header.proofs.LinesLemmas.{lines_prefix, Lines-append, characters_text}
 use Rattle.age_header.proofs.StepsLemmas.{Leads-once, Leads-split, stanzas_lead}
@@ -146,7 +146,8 @@ reading ss ts m n h x a b =
     let e0 : (version_line ++ lines_text ls) ++ x ≡ version_line ++ lines_text ms =
     ap (λ (z : Bytes). z ++ x) (sym p.is) ∙ q.is in
     let e1 : lines_text ls ++ x ≡ lines_text ms ++ [] =
-    append_cancel_left version_line _ _ (sym (append_assoc version_line (lines_text ls) x) ∙ e0)
+    append_cancel_left version_line (lines_text ls ++ x) (lines_text ms)
+    (sym (append_assoc version_line (lines_text ls) x) ∙ e0)
     ∙ sym (append-nil (lines_text ms)) in
     elim (cases_lt (length ms) (length ls)) [
       | inl fewer ↦
@@ -182,7 +183,7 @@ reading ss ts m n h x a b =
 
 whole_stanzas : (ss : List StanzaParts) (text : Bytes) → AreStanzas ss text → AllByRecursion IsWhole ss
 whole_stanzas [] text h = tt
-whole_stanzas (s ∷ ss) text h = ((h.2.arguments, IsBase64-bytes s.body _ h.2.body), whole_stanzas ss h.1 h.3)
+whole_stanzas (s ∷ ss) text h = ((h.2.arguments, search (IsBase64-bytes, h.2.body)), whole_stanzas ss h.1 h.3)
 
 -- what a header spells is a value that has a text
 pub head_value : (ss : List StanzaParts) (mac h : Bytes) → Head ss mac h → IsHeaderValue ss mac
@@ -194,12 +195,13 @@ head_value ss mac h k = record {
 }
 
 -- the header without its last 45 bytes
-pub signed_prefix : (ss : List StanzaParts) (mac h : Bytes) → Head ss mac h → signed ss ≡ take (length h - 45) h
+pub signed_prefix : (ss : List StanzaParts) (mac h : Bytes) → Head ss mac h → signed_text ss ≡ take (length h - 45) h
 signed_prefix ss mac h k =
     let v = head_value ss mac h k in
-    let is : h ≡ signed ss ++ mac_end mac = one_text ss mac h (signed ss ++ mac_end mac) k (header_text_is ss mac v) in
+    let is : h ≡ signed_text ss ++ mac_end mac = one_text ss mac h (signed_text ss
+    ++ mac_end mac) k (header_text_is ss mac v) in
     let end = mac_end_size mac v.mac_len in
-    let size : length h ≡ length (signed ss) + length (mac_end mac) = ap length is
-    ∙ length-append (signed ss) (mac_end mac) in
-    let prefix : length (signed ss) ≡ length h - 45 = omega arith in
-    sym (ap (λ (z : Bytes). take (length h - 45) z) is ∙ take_at (signed ss) (mac_end mac) (length h - 45) prefix)
+    let size : length h ≡ length (signed_text ss) + length (mac_end mac) = ap length is
+    ∙ length-append (signed_text ss) (mac_end mac) in
+    let prefix : length (signed_text ss) ≡ length h - 45 = omega arith in
+    sym (ap (λ (z : Bytes). take (length h - 45) z) is ∙ take_at (signed_text ss) (mac_end mac) (length h - 45) prefix)

@@ -5,7 +5,7 @@ use Rattle.std.proofs.lemmas.List.Concat.{flat_map-append}
 use Rattle.age_kdf.specs.Bytes.{Bytes}
 use Rattle.age_header.specs.Header.{StanzaParts, argument_line, line, version_line, version_size, line_size, bytes_of_a_line, mac_size}
 use Rattle.age_header.specs.Base64.{base64_of}
-use Rattle.age_header.specs.Text.{body_lines, body_text, stanza_text, signed, mac_end}
+use Rattle.age_header.specs.Text.{body_lines, body_text, stanza_text, signed_text, mac_end}
 use Rattle.age_header.proofs.TextLemmas.{signs_size}
 
 pub length-line : (t : Bytes) → length (line t) ≡ length t + 1
@@ -59,10 +59,10 @@ unfolding mac_end
 mac_end_size mac n = omega (arith, signs_size mac, length-append (base64_of mac) (10 ∷ []))
 
 pub header_size : (ss : List StanzaParts) (mac : Bytes) → length mac ≡ mac_size
-    → length (signed ss ++ mac_end mac) ≡ 70 + length (flat_map stanza_text ss)
-unfolding signed
+    → length (signed_text ss ++ mac_end mac) ≡ 70 + length (flat_map stanza_text ss)
+unfolding signed_text
 header_size ss mac n =
-    let all = length-append (signed ss) (mac_end mac) in
+    let all = length-append (signed_text ss) (mac_end mac) in
     let prefix = length-append (version_line ++ flat_map stanza_text ss) (codes "---") in
     let first = length-append version_line (flat_map stanza_text ss) in
     let end = mac_end_size mac n in

@@ -74,7 +74,7 @@ characters_text (a ∷ b ∷ []) (p ∷ q ∷ r ∷ []) h = (no_lf p h.0 h.3, (n
 characters_text (a ∷ b ∷ c ∷ bytes) (p ∷ q ∷ r ∷ s ∷ characters) h =
     let t = h.0 in
     (no_lf p t.0 t.4, (no_lf q t.1 t.5, (no_lf r t.2 t.6, (no_lf s t.3 t.7, characters_text bytes characters h.1))))
-characters_text _ _ h = absurd h
+characters_text bytes characters h = absurd h
 
 -- the lines whose join has no LF
 pub lines_of : (full : List Bytes) → IsLineText (concat full) → AllByRecursion IsLineText full
@@ -89,7 +89,7 @@ args_text : (args : List Bytes) → AllByRecursion IsArgument args → IsLineTex
 args_text [] h = tt
 args_text (a ∷ args) h = (
   (λ e. absurd (omega arith)),
-  All-append (λ c. c ≢ 10) a _ (visible_text a h.0.1) (args_text args h.1),
+  All-append (λ c. c ≢ 10) a (flat_map (λ x. 32 ∷ x) args) (visible_text a h.0.1) (args_text args h.1),
 )
 
 -- the text of an argument line, less its LF

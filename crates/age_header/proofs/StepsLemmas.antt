@@ -100,7 +100,7 @@ pub Step-once : (s : State) (l : Bytes) (t u : State) → Step s l t → Step s 
 Step-once (between ss) l (within ts args body) (within us brgs cody) h k =
     let e : argument_line args ≡ argument_line brgs = sym h.3 ∙ k.3 in
     let f : flat_map (λ x. 32 ∷ x) args ≡ flat_map (λ x. 32 ∷ x) brgs =
-    append_cancel_left (codes "->") _ _
+    append_cancel_left (codes "->") (flat_map (λ x. 32 ∷ x) args) (flat_map (λ x. 32 ∷ x) brgs)
     (append_cancel_right (codes "->" ++ flat_map (λ x. 32 ∷ x) args) (codes "->" ++ flat_map (λ x. 32 ∷ x) brgs)
     (10 ∷ []) e) in
     let same : args ≡ brgs = args_once args brgs h.2.1 k.2.1 f in
@@ -126,7 +126,7 @@ Step-once (within ss args body) l (within ts brgs cody) (between us) h k = let n
     let m : length l < line_size = k.1 in absurd (omega arith)
 Step-once (within ss args body) l (between us) (within ts brgs cody) h k = let n : length l ≡ line_size = k.3 in
     let m : length l < line_size = h.1 in absurd (omega arith)
-Step-once _ l _ _ h k = absurd assumption
+Step-once s l t u h k = absurd assumption
 
 pub Leads-once : (s t u : State) (ls : List Bytes) → Leads s ls t → Leads s ls u → t ≡ u
 Leads-once s t u [] h k = sym h ∙ k

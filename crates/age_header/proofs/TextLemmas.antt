@@ -10,7 +10,7 @@ use Rattle.base64.specs.declared.engine.general_purpose.GeneralPurpose.{GeneralP
 use Rattle.age_kdf.specs.Bytes.{Bytes}
 use Rattle.age_header.specs.Base64.{IsBase64, alphabet, base64_of}
 use Rattle.age_header.specs.Header.{StanzaParts, Head, IsStanza, AreStanzas, IsFullLine, argument_line, line, version_line, line_size, bytes_of_a_line}
-use Rattle.age_header.specs.Text.{IsPlain, IsWhole, IsHeaderValue, body_lines, body_text, stanza_text, signed, mac_end}
+use Rattle.age_header.specs.Text.{IsPlain, IsWhole, IsHeaderValue, body_lines, body_text, stanza_text, signed_text, mac_end}
 use Rattle.age_header.proofs.Base64Lemmas.{IsBase64-encode, encode_of_unpadded, IsBase64-append}
 
 -- what the engine wrote into a buffer
@@ -23,7 +23,7 @@ encoded {e} m old {len} p over is =
     let size : encoded_size_of e (length m) ≡ unpadded_len (length m) = rw p.unpadded refl in
     let fits : length (encode_symbols alphabet m) ≡ len = length-encode_symbols alphabet m ∙ sym size ∙ sym is in
     ap (λ (z : Bytes). take len z) (over ∙ ap (λ (z : Bytes). z ++ drop (encoded_size_of e (length m)) old) plain)
-    ∙ take_at (encode_symbols alphabet m) _ len fits
+    ∙ search (take_at, fits)
 
 pub encoded_size_plain : (e : GeneralPurpose) (n : ℕ) → IsPlain e → encoded_size_of e n ≡ (4 * n + 2) / 3
 encoded_size_plain e n p = rw p.unpadded refl
@@ -36,7 +36,7 @@ unfolding body_text body_lines
 body_step b piece after h p a =
     let n : length b / bytes_of_a_line ≡ suc (length (drop bytes_of_a_line b) / bytes_of_a_line) =
     omega (arith, length-drop bytes_of_a_line b) in
-    rw (n, p, a) (append_assoc (base64_of (take bytes_of_a_line b)) (10 ∷ []) _)
+    rw (n, p, a) (search (append_assoc))
 
 pub body_end : (b : Bytes) → length b < bytes_of_a_line → body_text b ≡ base64_of b ++ 10 ∷ []
 unfolding body_text body_lines
@@ -158,8 +158,8 @@ stanzas_text_is (s ∷ ss) h = (
 )
 
 pub header_text_is : (ss : List StanzaParts) (mac : Bytes) → IsHeaderValue ss mac
-    → Head ss mac (signed ss ++ mac_end mac)
-unfolding signed mac_end
+    → Head ss mac (signed_text ss ++ mac_end mac)
+unfolding signed_text mac_end
 header_text_is ss mac h = record {
   body = flat_map stanza_text ss;
   characters = base64_of mac;

@@ -57,7 +57,7 @@ pub lf_prefix : (b n first : Bytes) (max : ℕ) → b ≡ (first ++ 10 ∷ []) +
 lf_prefix b n first max is end =
     let low : length (first ++ 10 ∷ []) ≤ min max version_size = omega (arith, length-append first (10 ∷ [])) in
     ap (λ (z : Bytes). take (min max version_size) z) is ∙ take_past (first ++ 10 ∷ []) n (min max version_size) low
-    ∙ append_assoc first (10 ∷ []) _
+    ∙ search (append_assoc)
 
 pub first_prefix : (b n first : Bytes) (end : LineEnd) (max : ℕ) → b ≡ line_bytes first end ++ n
     → IsEnd end (length first) (min max version_size) (Some n)

@@ -213,7 +213,7 @@ path_bad {a} {mid} {new} {max} {room} {count} {s} {text} p took is low end none 
     not_header g =
         let q = head_path g.2 in
         let e : lines_text ls ≡ lines_text (q.lines ++ end_text q.characters ∷ []) =
-        append_cancel_left version_line _ _ q.is in
+        search (append_cancel_left, q.is) in
         let same = same_lines ls (q.lines ++ end_text q.characters ∷ []) each q.each e in
         let cut = same_from_push p.ls q.lines text (end_text q.characters) same in
         let there : Leads (between []) p.ls (between g.0) =
@@ -222,13 +222,13 @@ path_bad {a} {mid} {new} {max} {room} {count} {s} {text} p took is low end none 
         q.mac_text
 
     not_viable : IsViable (version_line ++ lines_text ls) → ⊥
-    not_viable (inl e) = no_nil _ e
+    not_viable (inl e) = search (no_nil, e)
       where
         no_nil : (x : Bytes) → version_line ++ x ≡ [] → ⊥
         no_nil x e = absurd (omega (arith, ap length e, length-append version_line x, length-version_line))
     not_viable (inr v) =
         let q = prefix_path v in
-        let e : lines_text ls ≡ lines_text q.lines = append_cancel_left version_line _ _ q.is in
+        let e : lines_text ls ≡ lines_text q.lines = search (append_cancel_left, q.is) in
         let same = same_lines ls q.lines each q.each e in
         let cut = Leads-split (between []) q.state p.ls (text ∷ [])
         (subst (λ (z : List Bytes). Leads (between []) z q.state) (sym same) q.leads) in

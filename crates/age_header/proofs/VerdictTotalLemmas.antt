@@ -12,7 +12,7 @@ use Rattle.age_header.specs.declared.fault.HeaderFault.TheVariants.{NotAge, BadL
 use Rattle.age_header.specs.declared.lines.LineEnd.{LineEnd}
 use Rattle.age_header.specs.declared.lines.LineEnd.TheVariants.{Lf, Input, Room}
 use Rattle.age_header.specs.Arguments.{NoVisible}
-use Rattle.age_header.specs.Base64.{IsBase64, decoded}
+use Rattle.age_header.specs.Base64.{IsBase64, decoded_bytes}
 use Rattle.age_header.specs.Header.{StanzaParts, AreArguments, IsVisible, argument_line, line, version_size, line_size, mac_size}
 use Rattle.age_header.specs.Lines.{line_bytes, IsEnd}
 use Rattle.age_header.specs.Steps.{State, between, within, Step}
@@ -121,9 +121,9 @@ step_of (between ss) l = elim (arguments_of l) [
   | inl w ↦ inl (within ss w.0 [], (refl, refl, w.1, w.2))
   | inr none ↦ inr (λ t h. no_arguments ss l t none h)
 ]
-step_of (within ss args body) l = here (decoded l) refl
+step_of (within ss args body) l = here (decoded_bytes l) refl
   where
-    here : (o : Known) → decoded l ≡ o → ((t : State) × Step (within ss args body) l t)
+    here : (o : Known) → decoded_bytes l ≡ o → ((t : State) × Step (within ss args body) l t)
         ⊎ ((t : State) → Step (within ss args body) l t → ⊥)
     here None e = inr (λ t h. no_base64 ss args body l t (λ b g. let some = b64_decoded l b g in cc) h)
     here (Some more) e =
@@ -152,15 +152,15 @@ end_of (within ss args body) l = inr (λ e. let at = e.at in cc)
 end_of (between []) l = inr (λ e. let at = e.at in e.some cc)
 end_of (between (s ∷ ss)) l = elim (prefix_of (codes "--- ") l) [
   | inr none ↦ inr (λ e. none e.characters e.spelled)
-  | inl w ↦ here w.0 w.1 (decoded w.0) refl
+  | inl w ↦ here w.0 w.1 (decoded_bytes w.0) refl
 ]
   where
-    here : (characters : Bytes) → l ≡ codes "--- " ++ characters → (o : Known) → decoded characters ≡ o
+    here : (characters : Bytes) → l ≡ codes "--- " ++ characters → (o : Known) → decoded_bytes characters ≡ o
         → IsEndLine (between (s ∷ ss)) l ⊎ (IsEndLine (between (s ∷ ss)) l → ⊥)
     here characters spelled None o = inr (λ e.
         let same : e.characters ≡ characters =
         append_cancel_left (codes "--- ") e.characters characters (sym e.spelled ∙ spelled) in
-        let some : decoded characters ≡ Some e.mac =
+        let some : decoded_bytes characters ≡ Some e.mac =
         b64_decoded characters e.mac (subst (λ (z : Bytes). IsBase64 e.mac z) same e.is) in
         cc)
     here characters spelled (Some mac) o =

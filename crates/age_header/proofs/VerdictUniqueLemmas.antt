@@ -90,10 +90,7 @@ same_fault b max TooLarge (BadLine n) h k = absurd (h.1 k.1.0 k.1.2)
 same_fault b max TooLarge Truncated h k = let low : length b < max = k.2 in let high : max ≤ length b = h.2 in
     absurd (omega arith)
 same_fault b max TooLarge TooLarge h k = refl
-same_fault b max Read _ h k = absurd h
-same_fault b max Memory _ h k = absurd h
-same_fault b max _ Read h k = absurd k
-same_fault b max _ Memory h k = absurd k
+same_fault b max f g h k = absurd assumption
 
 pub one_verdict : (b : Bytes) (max : ℕ) (r q : Result Found HeaderFault) → HeaderVerdict b max r → HeaderVerdict b max q
     → r ≡ q

@@ -63,7 +63,7 @@ candidate _ = []
 
 -- the bytes whose base64 these characters are, where there are such bytes: the only candidate is
 -- tried
-unfoldable pub decoded : Bytes → Option Bytes
-decoded characters =
+unfoldable pub decoded_bytes : Bytes → Option Bytes
+decoded_bytes characters =
     if bytes_eq (base64_of (candidate characters)) characters then Some (candidate characters)
     else None

@@ -14,12 +14,12 @@ pub record Moved : Type 0 where
   pub before : Known
   pub after : Known
 
-abbrev pub moved : (before after : Known) → Moved
-moved before after = record { before = before; after = after }
+abbrev pub move_of : (before after : Known) → Moved
+move_of before after = record { before = before; after = after }
 
 -- the same by the ghost member that tells it
-abbrev pub moved_by : {D : Type 0} (told : D → Known) (old new : D) → Moved
-moved_by told old new = moved (told old) (told new)
+abbrev pub move_by : {D : Type 0} (told : D → Known) (old new : D) → Moved
+move_by told old new = move_of (told old) (told new)
 
 -- a source at a moment: the bytes that are to come, if they are known, and which bytes may be all
 -- that it gave so far
@@ -35,7 +35,7 @@ pub record Flow : Type 1 where
 abbrev pub flow : (before after : Seen) → Flow
 flow before after = record { before = before; after = after }
 
--- the same by the ghost members that tell it
+-- a source at a moment, by its ghost members
 abbrev pub seen_by : {S : Type 0} (to_come : S → Known) (gave : S → Bytes → Type 0) (s : S) → Seen
 seen_by to_come gave s = record { to_come = to_come s; gave = gave s }
 

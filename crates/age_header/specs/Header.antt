@@ -26,7 +26,7 @@ version_size = 22
 abbrev pub line_size : ℕ
 line_size = 64
 
--- how many bytes of the body these are
+-- how many bytes of a body a full line encodes
 abbrev pub bytes_of_a_line : ℕ
 bytes_of_a_line = 48
 

@@ -28,8 +28,8 @@ unfoldable pub stanza_text : StanzaParts → Bytes
 stanza_text s = argument_line s.args ++ body_text s.body
 
 -- the header through the three bytes `---`
-unfoldable pub signed : List StanzaParts → Bytes
-signed ss = version_line ++ flat_map stanza_text ss ++ codes "---"
+unfoldable pub signed_text : List StanzaParts → Bytes
+signed_text ss = version_line ++ flat_map stanza_text ss ++ codes "---"
 
 -- what follows them
 unfoldable pub mac_end : Bytes → Bytes

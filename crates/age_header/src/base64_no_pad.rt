@@ -4,7 +4,7 @@
 ghost use Rattle.std.specs.Prelude.{◌≡◌, IfOk, IfSome, IfNone, option_map};
 ghost use Rattle.std.specs.String.{string_bytes};
 ghost use Rattle.age_kdf.specs.Bytes.{Bytes};
-ghost use Rattle.age_header.specs.Base64.{IsBase64, decoded, base64_of};
+ghost use Rattle.age_header.specs.Base64.{IsBase64, decoded_bytes, base64_of};
 ghost use Rattle.age_header.specs.Text.{IsPlain};
 
 use base64::DecodeAllocError;
@@ -35,7 +35,7 @@ pub fn decode(
 ) -> Result<Option<Vec<u8>>, AllocError>
     requires { IsPlain engine.now }
     // The bytes whose base64 the characters are, if there are such bytes.
-    ensures value { IfOk result (λ o. option_map (λ v. v.items) o ≡ decoded text.now) }
+    ensures value { IfOk result (λ o. option_map (λ v. v.items) o ≡ decoded_bytes text.now) }
     // The characters are the base64 of the bytes.
     ensures some { IfOk result (λ o. IfSome o (λ v. IsBase64 v.items text.now)) }
     // They are the base64 of no bytes.

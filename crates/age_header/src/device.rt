@@ -4,7 +4,7 @@
 ghost use Rattle.std.specs.Prelude.{◌≡◌, ◌<◌, ◌≤◌, ◌+◌, ◌-◌, ◌^◌, ℕ, Some, length, min, ⊤, vec_capacity, vec_len, IfOk, OnErr};
 ghost use Rattle.std.specs.declared.option.Option.{Option};
 ghost use Rattle.std.specs.Io.{ReadsAtMost};
-ghost use Rattle.age_header.specs.Device.{Bytes, Known, Counts, Gives, Grows, Takes, Writes, flow_by, moved, moved_by};
+ghost use Rattle.age_header.specs.Device.{Bytes, Known, Counts, Gives, Grows, Takes, Writes, flow_by, move_of, move_by};
 ghost use Rattle.age_header.specs.MemSink.{spare_of};
 
 use std::io::{Read, Write};
@@ -32,7 +32,7 @@ pub trait Source {
         // An error raises the count of failures, an Ok leaves it.
         ensures count { Counts (failed self.old) (failed self.new) result }
         // On Ok the next bytes are at the start of the buffer; 0 with room only at the end.
-        ensures bytes { Gives (moved_by to_come self.old self.new) result buf.new }
+        ensures bytes { Gives (move_by to_come self.old self.new) result buf.new }
         // What the source gave grew by these bytes, on an error by none.
         ensures gave { Grows (flow_by to_come gave self.old self.new) result buf.new };
 
@@ -57,7 +57,7 @@ pub trait Sink {
         ensures count { Counts (failed self.old) (failed self.new) result }
         // On Ok the first n bytes were appended, at least one of a nonempty piece; on an error
         // none.
-        ensures bytes { Takes (moved_by taken self.old self.new) result piece.now };
+        ensures bytes { Takes (move_by taken self.old self.new) result piece.now };
 
     /// The number of failed writes, saturating at the largest `u64`.
     fn failures(&self) -> u64
@@ -68,7 +68,7 @@ pub trait Sink {
 /// written; an interrupted call is not repeated.
 pub fn write_all<W: Sink>(out: &mut W, piece: &[u8]) -> Result<(), DeviceFault>
     // On Ok the piece was written, on an error a prefix of it.
-    ensures text { Writes (moved_by W.taken out.old out.new) result piece.now }
+    ensures text { Writes (move_by W.taken out.old out.new) result piece.now }
     // After a failed write the sink's count of failures rose by one; otherwise it stays.
     ensures count { Counts (W.failed out.old) (W.failed out.new) result }
 {
@@ -168,7 +168,7 @@ impl Sink for MemSink {
         ensures count { Counts self.old.failures self.new.failures result }
         // On Ok the first n bytes were appended, at least one of a nonempty piece; on an error
         // none.
-        ensures bytes { Takes (moved (Some self.old.out.items) (Some self.new.out.items))
+        ensures bytes { Takes (move_of (Some self.old.out.items) (Some self.new.out.items))
             result piece.now }
         // On Ok the whole piece was written.
         ensures whole { IfOk result (λ n. n ≡ length piece.now) }

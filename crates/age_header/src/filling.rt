@@ -25,7 +25,7 @@ pub fn fill_from<S: Source>(
         (λ n. Filled start n buf.old buf.new (flow_by S.to_come S.gave input.old input.new)) }
     // It stops below the buffer's length only at the end of known contents.
     ensures end { IfOk result (λ n. n < length buf.old → IsAtEnd (S.to_come input.new)) }
-    // On an error the source gave some bytes.
+    // On an error the source gave some bytes, perhaps none.
     ensures lost { OnErr result (GaveSome (flow_by S.to_come S.gave input.old input.new)) }
     ensures count { Counts (S.failed input.old) (S.failed input.new) result }
 {

@@ -6,16 +6,16 @@ ghost use Rattle.std.specs.declared.result.Result.{Result};
 ghost use Rattle.age_kdf.specs.Bytes.{Bytes};
 ghost use Rattle.age_header.specs.declared.fault.HeaderFault.{HeaderFault};
 ghost use Rattle.base64.specs.GeneralPurpose.{IsBytes};
-ghost use Rattle.age_header.specs.Base64.{IsBase64, decoded, base64_of};
+ghost use Rattle.age_header.specs.Base64.{IsBase64, decoded_bytes, base64_of};
 ghost use Rattle.age_header.specs.Header.{StanzaParts, Head};
-ghost use Rattle.age_header.specs.Text.{signed};
+ghost use Rattle.age_header.specs.Text.{signed_text};
 ghost use Rattle.age_header.specs.Verdict.{Found, HeaderVerdict, BeginsWith};
 
 /// Characters are decoded to exactly the bytes whose base64 they are, and bytes are encoded to
 /// their base64.
 pub fn one_base64()
     ensures decoded { (characters bytes : Bytes)
-        → (decoded characters ≡ Some bytes) ↔ IsBase64 bytes characters }
+        → (decoded_bytes characters ≡ Some bytes) ↔ IsBase64 bytes characters }
     ensures encoded { (bytes : Bytes) → IsBytes bytes → IsBase64 bytes (base64_of bytes) }
 {}
 
@@ -43,5 +43,5 @@ pub fn one_verdict()
 /// MAC's 43 characters and the LF.
 pub fn signed_prefix()
     ensures { (ss : List StanzaParts) (mac h : Bytes) → Head ss mac h
-        → signed ss ≡ take (length h - 45) h }
+        → signed_text ss ≡ take (length h - 45) h }
 {}

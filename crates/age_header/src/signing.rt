@@ -2,7 +2,7 @@
 
 ghost use Rattle.std.specs.Prelude.{◌≡◌, IfOk};
 ghost use Rattle.age_header.specs.Mac.{header_mac};
-ghost use Rattle.age_header.specs.Text.{signed};
+ghost use Rattle.age_header.specs.Text.{signed_text};
 
 use crate::base64_no_pad;
 use crate::device::MemSink;
@@ -15,7 +15,7 @@ use std::alloc::{AllocError, Global};
 /// `---`, these included: the text that the header's MAC is computed over (C2SP `age.md`, "Header
 /// MAC").
 pub fn signed_text(alloc: Global, stanzas: &[Stanza]) -> Result<Vec<u8>, AllocError>
-    ensures { IfOk result (λ text. text.items ≡ signed stanzas.now) }
+    ensures { IfOk result (λ text. text.items ≡ signed_text stanzas.now) }
 {
     let mut text = MemSink::new(Vec::new(alloc));
     match write_signed(stanzas, &base64_no_pad::engine(), &mut text) {

@@ -2,6 +2,8 @@
 
 ghost use Rattle.std.specs.Prelude.{◌≡◌, ◌↔◌, ◌++◌, [], map, IfOk, IfErr, OnOk, IsTrue};
 ghost use Rattle.std.specs.List.{AllByRecursion};
+ghost use Rattle.age_header.specs.Header.{AreArguments, IsVisible};
+ghost use Rattle.age_header.specs.Stanza.{IsStanzaError};
 
 use crate::arguments::Arguments;
 use std::alloc::{AllocError, Global};
@@ -100,9 +102,6 @@ impl Stanza {
         self.body.as_slice()
     }
 }
-
-ghost use Rattle.age_header.specs.Header.{AreArguments, IsVisible};
-ghost use Rattle.age_header.specs.Stanza.{IsStanzaError};
 
 /// The first fault of these arguments.
 fn check_arguments(args: &[&str]) -> Result<(), StanzaError>

@@ -3,10 +3,10 @@
 ghost use Rattle.std.specs.Prelude.{◌≡◌, ◌≤◌, length, map};
 ghost use Rattle.std.specs.String.{string_bytes};
 ghost use Rattle.age_kdf.specs.Bytes.{Bytes};
-ghost use Rattle.age_header.specs.Device.{Counts, Writes, moved_by};
+ghost use Rattle.age_header.specs.Device.{Counts, Writes, move_by};
 ghost use Rattle.age_header.specs.Header.{Head, argument_line, bytes_of_a_line};
 ghost use Rattle.age_header.specs.Base64.{base64_of};
-ghost use Rattle.age_header.specs.Text.{IsPlain, body_text, stanza_text, signed, mac_end};
+ghost use Rattle.age_header.specs.Text.{IsPlain, body_text, stanza_text, signed_text, mac_end};
 
 use crate::base64_no_pad;
 use crate::device::{DeviceFault, Sink, write_all};
@@ -19,7 +19,7 @@ use base64::engine::general_purpose::GeneralPurpose;
 pub fn write_header<W: Sink>(header: &Header, out: &mut W) -> Result<(), DeviceFault>
     // On Ok the header's text was written; after a failed write a prefix of it.
     ensures text { (h : Bytes) × Head header.now.stanzas header.now.mac h
-        × Writes (moved_by W.taken out.old out.new) result h }
+        × Writes (move_by W.taken out.old out.new) result h }
     // After a failed write the sink's count of failures rose by one; otherwise it stays.
     ensures count { Counts (W.failed out.old) (W.failed out.new) result }
 {
@@ -35,7 +35,7 @@ pub(crate) fn write_signed<W: Sink>(
     out: &mut W,
 ) -> Result<(), DeviceFault>
     requires { IsPlain engine.now }
-    ensures text { Writes (moved_by W.taken out.old out.new) result (signed stanzas.now) }
+    ensures text { Writes (move_by W.taken out.old out.new) result (signed_text stanzas.now) }
     ensures count { Counts (W.failed out.old) (W.failed out.new) result }
 {
     write_all(out, b"age-encryption.org/v1\n")?;
@@ -53,7 +53,7 @@ fn write_mac<W: Sink>(
     out: &mut W,
 ) -> Result<(), DeviceFault>
     requires { IsPlain engine.now }
-    ensures text { Writes (moved_by W.taken out.old out.new) result (mac_end mac.now) }
+    ensures text { Writes (move_by W.taken out.old out.new) result (mac_end mac.now) }
     ensures count { Counts (W.failed out.old) (W.failed out.new) result }
 {
     write_all(out, b" ")?;
@@ -63,7 +63,7 @@ fn write_mac<W: Sink>(
 
 /// Writes the line of these arguments.
 fn write_args<W: Sink>(args: &[String], out: &mut W) -> Result<(), DeviceFault>
-    ensures text { Writes (moved_by W.taken out.old out.new) result
+    ensures text { Writes (move_by W.taken out.old out.new) result
         (argument_line (map string_bytes args.now)) }
     ensures count { Counts (W.failed out.old) (W.failed out.new) result }
 {
@@ -78,7 +78,7 @@ fn write_args<W: Sink>(args: &[String], out: &mut W) -> Result<(), DeviceFault>
 /// Writes a body's lines.
 fn write_body<W: Sink>(body: &[u8], engine: &GeneralPurpose, out: &mut W) -> Result<(), DeviceFault>
     requires { IsPlain engine.now }
-    ensures text { Writes (moved_by W.taken out.old out.new) result (body_text body.now) }
+    ensures text { Writes (move_by W.taken out.old out.new) result (body_text body.now) }
     ensures count { Counts (W.failed out.old) (W.failed out.new) result }
 {
     let mut rest = body;
@@ -100,7 +100,7 @@ fn write_base64<W: Sink>(
 ) -> Result<(), DeviceFault>
     requires short { length bytes.now ≤ bytes_of_a_line }
     requires plain { IsPlain engine.now }
-    ensures text { Writes (moved_by W.taken out.old out.new) result (base64_of bytes.now) }
+    ensures text { Writes (move_by W.taken out.old out.new) result (base64_of bytes.now) }
     ensures count { Counts (W.failed out.old) (W.failed out.new) result }
 {
     let mut characters = [0u8; LINE_SIZE];

@@ -28,8 +28,8 @@ escaped_char exact c =
     else encode_utf8 c
 
 -- a name in a message
-abbrev pub escaped : (exact : Bool) → (name : List ℕ) → List ℕ
-escaped exact name = flat_map (escaped_char exact) (chars name)
+abbrev pub escaped_name : (exact : Bool) → (name : List ℕ) → List ℕ
+escaped_name exact name = flat_map (escaped_char exact) (chars name)
 
 -- whether a name is empty, or begins or ends with a space
 abbrev pub needs_quotes : (name : List ℕ) → Bool
@@ -37,6 +37,7 @@ needs_quotes name =
     (length name == 0) || starts_with nat_eq name (codes " ") || ends_with nat_eq name (codes " ")
 
 -- a name on the second line, which no other name gives
-abbrev pub quoted : (name : List ℕ) → List ℕ
-quoted name =
-    if needs_quotes name then codes "\"" ++ escaped true name ++ codes "\"" else escaped true name
+abbrev pub quoted_name : (name : List ℕ) → List ℕ
+quoted_name name =
+    if needs_quotes name then codes "\"" ++ escaped_name true name ++ codes "\"" else escaped_name
+    true name

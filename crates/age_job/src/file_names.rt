@@ -2,7 +2,7 @@
 
 ghost use Rattle.std.specs.Prelude.{◌≡◌, Some, false};
 ghost use Rattle.std.specs.Fmt.{WritesOnOk};
-ghost use Rattle.age_job.specs.Names.{directs_writing, escaped, escaped_char, needs_quotes, quoted};
+ghost use Rattle.age_job.specs.Names.{directs_writing, escaped_name, escaped_char, needs_quotes, quoted_name};
 
 use std::fmt;
 use std::fmt::Write;
@@ -49,7 +49,7 @@ impl fmt::Display for Role {
 pub struct Name<'a>(pub &'a str);
 
 impl fmt::Display for Name<'_> {
-    ghost output = { λ name. Some (escaped false name.0.now) };
+    ghost output = { λ name. Some (escaped_name false name.0.now) };
 
     fn fmt<W: fmt::Write>(&self, f: &mut fmt::Formatter<W>) -> fmt::Result {
         write_escaped(self.0, false, f)
@@ -63,7 +63,7 @@ impl fmt::Display for Name<'_> {
 pub struct Quoted<'a>(pub Name<'a>);
 
 impl fmt::Display for Quoted<'_> {
-    ghost output = { λ name. Some (quoted name.0.0.now) };
+    ghost output = { λ name. Some (quoted_name name.0.0.now) };
 
     fn fmt<W: fmt::Write>(&self, f: &mut fmt::Formatter<W>) -> fmt::Result {
         let name = self.0.0;
@@ -99,7 +99,7 @@ impl fmt::Display for Bytes {
 }
 
 fn write_escaped<W: fmt::Write>(text: &str, exact: bool, f: &mut fmt::Formatter<W>) -> fmt::Result
-    ensures { WritesOnOk W.write_str_gives f.old result (escaped exact text.now) f.new }
+    ensures { WritesOnOk W.write_str_gives f.old result (escaped_name exact text.now) f.new }
 {
     for c in text.chars() {
         write_char(c, exact, f)?;

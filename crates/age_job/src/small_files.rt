@@ -23,8 +23,8 @@ pub fn read_secret<'a, F: Files + AllocGlobal>(
     job: &'a Job,
     read: &mut ReadFiles<'a>,
 ) -> Result<Secret, Failure<'a>>
-    // A passphrase if a passphrase file alone is named, else one key or more, and no more than key
-    // files are named.
+    // A passphrase if a passphrase file alone is named; if key files alone are, one key or more,
+    // and no more than these files.
     ensures { IfOk result (IsSecretOf job.now.pass job.now.key job.now.more_keys.items) }
 {
     let files = secret_files(job)?;
@@ -40,8 +40,8 @@ pub fn read_encrypt_secrets<'a, F: Files + AllocGlobal, W: IsTerminal>(
     read: &mut ReadFiles<'a>,
     out: &W,
 ) -> Result<(Secret, [u8; SEED_LEN]), Failure<'a>>
-    // A passphrase if a passphrase file alone is named, else one key or more, and no more than key
-    // files are named.
+    // A passphrase if a passphrase file alone is named; if key files alone are, one key or more,
+    // and no more than these files.
     ensures secret { IfOk result
         (λ read. IsSecretOf job.now.pass job.now.key job.now.more_keys.items read.0) }
     // No new passphrase is empty.

@@ -5,14 +5,14 @@ use Rattle.std.proofs.lemmas.Slice.{take-put_mid}
 use Rattle.age_kdf.specs.Bytes.{Words}
 use borrow.Rule.Slice.PartMut.{put_mid}
 use Rattle.age_kdf.specs.Salsa.{salsa8}
-use Rattle.age_kdf.specs.BlockMix.{mixed, evens, odds}
+use Rattle.age_kdf.specs.BlockMix.{x_after, evens, odds}
 
 -- one step: X after it
-pub mixed_next : (r : ℕ) (b : Words) {x out : Words} (i at next : ℕ) → x ≡ mixed r b i → at ≡ 16 * i → next ≡ suc i
-    → out ≡ salsa8 (zip2 bit_xor x (take 16 (drop at b))) → out ≡ mixed r b next
-unfolding mixed
+pub mixed_next : (r : ℕ) (b : Words) {x out : Words} (i at next : ℕ) → x ≡ x_after r b i → at ≡ 16 * i → next ≡ suc i
+    → out ≡ salsa8 (zip2 bit_xor x (take 16 (drop at b))) → out ≡ x_after r b next
+unfolding x_after
 mixed_next r b i at next is at_is after made =
-    made ∙ ap₂ (λ y a. salsa8 (zip2 bit_xor y (take 16 (drop a b)))) is at_is ∙ ap (mixed r b) (sym after)
+    made ∙ ap₂ (λ y a. salsa8 (zip2 bit_xor y (take 16 (drop a b)))) is at_is ∙ ap (x_after r b) (sym after)
 
 -- a block written after those that were written before
 pub block_written : (out : Words) {prefix : Words} (x : Words) (at k : ℕ) {next : ℕ}
@@ -22,7 +22,7 @@ block_written out x at k {next} is len after room =
     take-put_mid at k out x next (omega arith) (omega arith) ∙ ap (λ z. z ++ x) is
 
 -- one more even block
-pub evens_next : (r : ℕ) (b : Words) {x all : Words} (i : ℕ) → all ≡ evens r b i ++ x → x ≡ mixed r b (2 * i + 1)
+pub evens_next : (r : ℕ) (b : Words) {x all : Words} (i : ℕ) → all ≡ evens r b i ++ x → x ≡ x_after r b (2 * i + 1)
     → all ≡ evens r b (i + 1)
 unfolding evens
 evens_next r b i is x-is =
@@ -30,7 +30,7 @@ evens_next r b i is x-is =
     is ∙ ap (λ z. evens r b i ++ z) x-is ∙ ap (evens r b) one
 
 -- one more odd block
-pub odds_next : (r : ℕ) (b : Words) {x all : Words} (i : ℕ) → all ≡ odds r b i ++ x → x ≡ mixed r b (2 * i + 2)
+pub odds_next : (r : ℕ) (b : Words) {x all : Words} (i : ℕ) → all ≡ odds r b i ++ x → x ≡ x_after r b (2 * i + 2)
     → all ≡ odds r b (i + 1)
 unfolding odds
 odds_next r b i is x-is =

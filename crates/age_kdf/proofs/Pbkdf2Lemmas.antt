@@ -13,7 +13,7 @@ use Rattle.age_kdf.proofs.HmacLemmas.{length-hmac}
 length-pbkdf2_round : (pass first : Bytes) (j : ℕ) → length (pbkdf2_round pass first j) ≡ 32
 unfolding pbkdf2_round
 length-pbkdf2_round pass first zero = length-hmac pass first
-length-pbkdf2_round pass first (suc j) = length-hmac pass _
+length-pbkdf2_round pass first (suc j) = length-hmac pass (pbkdf2_round pass first j)
 
 -- so does their sum
 length-pbkdf2_sum : (pass first : Bytes) (c : ℕ) → length (pbkdf2_sum pass first c) ≡ 32

@@ -9,7 +9,7 @@ use Rattle.std.proofs.lemmas.Nat.{pow-add, mod_below, pow_pos}
 use Rattle.age_kdf.specs.Bytes.{Words}
 use borrow.Rule.Slice.PartMut.{put_mid}
 use Rattle.age_kdf.specs.BlockMix.{block, block_mix}
-use Rattle.age_kdf.specs.RoMix.{integerify, mixed_times, romix_after}
+use Rattle.age_kdf.specs.RoMix.{integerify, v_at, romix_after}
 
 -- a row that was just written
 pub row_here : (at size k : ℕ) (xs ys : Words) → length ys ≡ size → at ≤ length xs
@@ -53,16 +53,16 @@ index_is r k x pos h =
 pub look_turn : {r k : ℕ} (m : ℕ) {len n : ℕ} (b : Words) {x x1 x2 : Words} (table : Words) → 0 < r → k ≤ 32
     → len ≡ 32 * r → n ≡ 2 ^ k
     → x ≡ romix_after r (2 ^ k) b m
-    → ((j : ℕ) → j < 2 ^ k → take (32 * r) (drop (32 * r * j) table) ≡ mixed_times r b j)
+    → ((j : ℕ) → j < 2 ^ k → take (32 * r) (drop (32 * r * j) table) ≡ v_at r b j)
     → x1 ≡ zip2 bit_xor x (take len (drop (len * (get_or x (32 * r - 16) 0 % n)) table))
     → x2 ≡ block_mix r x1 → x2 ≡ romix_after r (2 ^ k) b (m + 1)
 unfolding romix_after
 look_turn {r} {k} m {len} {n} b {x} table pos low len-is n-is x-is rows x1-is x2-is =
     let j = get_or x (32 * r - 16) 0 % 2 ^ k in
     let next : suc m ≡ m + 1 = omega arith in
-    let at_j : take len (drop (len * (get_or x (32 * r - 16) 0 % n)) table) ≡ mixed_times r b j =
+    let at_j : take len (drop (len * (get_or x (32 * r - 16) 0 % n)) table) ≡ v_at r b j =
     rw (len-is, n-is) (rows j (mod_below (get_or x (32 * r - 16) 0) (2 ^ k) (pow_pos k))) in
     x2-is
-    ∙ ap (block_mix r) (x1-is ∙ ap (zip2 bit_xor x) (at_j ∙ ap (mixed_times r b) (index_is r k x pos low)))
-    ∙ ap (λ z. block_mix r (zip2 bit_xor z (mixed_times r b (integerify r (2 ^ k) z)))) x-is
+    ∙ ap (block_mix r) (x1-is ∙ ap (zip2 bit_xor x) (at_j ∙ ap (v_at r b) (index_is r k x pos low)))
+    ∙ ap (λ z. block_mix r (zip2 bit_xor z (v_at r b (integerify r (2 ^ k) z)))) x-is
     ∙ ap (romix_after r (2 ^ k) b) next

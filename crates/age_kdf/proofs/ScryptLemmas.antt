@@ -5,7 +5,7 @@ use Rattle.std.proofs.Math.ListN.{get_or-append}
 use Rattle.std.proofs.lemmas.Slice.{take-put_mid, drop-put_mid}
 use Rattle.age_kdf.specs.Bytes.{Bytes, Words}
 use borrow.Rule.Slice.PartMut.{put_mid}
-use Rattle.age_kdf.specs.Scrypt.{words_of, word_at, parts_mixed}
+use Rattle.age_kdf.specs.Scrypt.{words_of, word_at, mixed_parts}
 use Rattle.age_kdf.specs.RoMix.{romix}
 
 -- words that lie in the first bytes
@@ -59,20 +59,20 @@ block_loaded words {ws} prefix block i k before is len long room =
 -- a part mixed in place after those that were mixed before
 pub part_mixed : (r n size i : ℕ) {k : ℕ} (next : ℕ) (b parts : Words) {x : Words}
     → size ≡ 32 * r → k ≡ size → next ≡ size * i + size
-    → take (size * i) parts ≡ parts_mixed r n b i → drop (size * i) parts ≡ drop (size * i) b
+    → take (size * i) parts ≡ mixed_parts r n b i → drop (size * i) parts ≡ drop (size * i) b
     → x ≡ romix r n (take k (drop (size * i) parts)) → length x ≡ size → next ≤ length parts
     → record {
-      done : take next (put_mid (size * i) k parts x) ≡ parts_mixed r n b (i + 1);
+      done : take next (put_mid (size * i) k parts x) ≡ mixed_parts r n b (i + 1);
       rest : drop next (put_mid (size * i) k parts x) ≡ drop next b;
     }
-unfolding parts_mixed
+unfolding mixed_parts
 part_mixed r n size i {k} next b parts {x} size-is k-is next-is done rest x-is len room =
     let one : suc i ≡ i + 1 = omega arith in
     record {
       done = take-put_mid (size * i) k parts x next (omega arith) (omega arith)
           ∙ ap₂ ◌++◌ done (x-is ∙ ap₂ (λ a d. romix r n (take a d)) (k-is ∙ size-is)
           (rest ∙ ap (λ s. drop (s * i) b) size-is))
-          ∙ ap (parts_mixed r n b) one;
+          ∙ ap (mixed_parts r n b) one;
       rest = drop-put_mid (size * i) k parts x next (omega arith) (omega arith) (omega arith)
           ∙ ap (λ a. drop a parts) next-is ∙ sym (drop-drop size (size * i) parts)
           ∙ ap (drop size) rest

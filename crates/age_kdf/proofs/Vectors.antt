@@ -6,9 +6,9 @@ use Rattle.age_kdf.specs.Hmac.{hmac}
 use Rattle.age_kdf.specs.Hkdf.{hkdf, hkdf_block, hkdf_blocks}
 use Rattle.age_kdf.specs.Pbkdf2.{pbkdf2, pbkdf2_blocks, pbkdf2_sum, pbkdf2_round}
 use Rattle.age_kdf.specs.Salsa.{salsa8, double_rounds, rows, columns, quarter}
-use Rattle.age_kdf.specs.BlockMix.{block_mix, evens, odds, mixed}
-use Rattle.age_kdf.specs.RoMix.{mixed_times, romix_after, romix}
-use Rattle.age_kdf.specs.Scrypt.{words_of, bytes_of, parts_mixed, scrypt}
+use Rattle.age_kdf.specs.BlockMix.{block_mix, evens, odds, x_after}
+use Rattle.age_kdf.specs.RoMix.{v_at, romix_after, romix}
+use Rattle.age_kdf.specs.Scrypt.{words_of, bytes_of, mixed_parts, scrypt}
 
 -- RFC 4231, test case 1
 hmac_case_1 : hmac (replicate 20 0x0b) (codes "Hi There")
@@ -93,7 +93,7 @@ block_mix_vector : bytes_of (block_mix 1 (words_of
     0x21 ∷ 0x07 ∷ 0x7c ∷ 0xfe ∷ 0x5f ∷ 0x8d ∷ 0x5f ∷ 0xe2 ∷ 0xb1 ∷ 0xa4 ∷ 0x16 ∷ 0x8f ∷ 0x95 ∷ 0x36 ∷ 0x78 ∷ 0xb7 ∷
     0x7d ∷ 0x3b ∷ 0x3d ∷ 0x80 ∷ 0x3b ∷ 0x60 ∷ 0xe4 ∷ 0xab ∷ 0x92 ∷ 0x09 ∷ 0x96 ∷ 0xe5 ∷ 0x9b ∷ 0x4d ∷ 0x53 ∷ 0xb6 ∷
     0x5d ∷ 0x2a ∷ 0x22 ∷ 0x58 ∷ 0x77 ∷ 0xd5 ∷ 0xed ∷ 0xf5 ∷ 0x84 ∷ 0x2c ∷ 0xb9 ∷ 0xf1 ∷ 0x4e ∷ 0xef ∷ 0xe4 ∷ 0x25 ∷ []
-unfolding salsa8 double_rounds rows columns quarter words_of block_mix evens odds mixed
+unfolding salsa8 double_rounds rows columns quarter words_of block_mix evens odds x_after
 block_mix_vector = refl
 
 -- RFC 7914, section 10: ROMix with r = 1 and N = 16
@@ -115,7 +115,7 @@ romix_vector : bytes_of (romix 1 16 (words_of
     0xac ∷ 0x0b ∷ 0x9c ∷ 0xf1 ∷ 0xbe ∷ 0x2b ∷ 0xff ∷ 0xca ∷ 0x30 ∷ 0x0d ∷ 0x01 ∷ 0xee ∷ 0x38 ∷ 0x76 ∷ 0x19 ∷ 0xc4 ∷
     0xae ∷ 0x12 ∷ 0xfd ∷ 0x44 ∷ 0x38 ∷ 0xf2 ∷ 0x03 ∷ 0xa0 ∷ 0xe4 ∷ 0xe1 ∷ 0xc4 ∷ 0x7e ∷ 0xc3 ∷ 0x14 ∷ 0x86 ∷ 0x1f ∷
     0x4e ∷ 0x90 ∷ 0x87 ∷ 0xcb ∷ 0x33 ∷ 0x39 ∷ 0x6a ∷ 0x68 ∷ 0x73 ∷ 0xe8 ∷ 0xf9 ∷ 0xd2 ∷ 0x53 ∷ 0x9a ∷ 0x4b ∷ 0x8e ∷ []
-unfolding salsa8 double_rounds rows columns quarter words_of block_mix evens odds mixed mixed_times romix_after
+unfolding salsa8 double_rounds rows columns quarter words_of block_mix evens odds x_after v_at romix_after
 romix_vector = refl
 
 -- RFC 7914, section 12, first vector: N = 16, r = 1, p = 1
@@ -124,7 +124,7 @@ scrypt_vector : scrypt [] [] 16 1 1 64
     0xf1 ∷ 0x6b ∷ 0x48 ∷ 0x44 ∷ 0xe3 ∷ 0x07 ∷ 0x4a ∷ 0xe8 ∷ 0xdf ∷ 0xdf ∷ 0xfa ∷ 0x3f ∷ 0xed ∷ 0xe2 ∷ 0x14 ∷ 0x42 ∷
     0xfc ∷ 0xd0 ∷ 0x06 ∷ 0x9d ∷ 0xed ∷ 0x09 ∷ 0x48 ∷ 0xf8 ∷ 0x32 ∷ 0x6a ∷ 0x75 ∷ 0x3a ∷ 0x0f ∷ 0xc8 ∷ 0x1f ∷ 0x17 ∷
     0xe8 ∷ 0xd3 ∷ 0xe0 ∷ 0xfb ∷ 0x2e ∷ 0x0d ∷ 0x36 ∷ 0x28 ∷ 0xcf ∷ 0x35 ∷ 0xe2 ∷ 0x0c ∷ 0x38 ∷ 0xd1 ∷ 0x89 ∷ 0x06 ∷ []
-unfolding scrypt parts_mixed salsa8 double_rounds rows columns quarter words_of block_mix evens odds mixed mixed_times
+unfolding scrypt mixed_parts salsa8 double_rounds rows columns quarter words_of block_mix evens odds x_after v_at
     romix_after pbkdf2 pbkdf2_blocks pbkdf2_sum pbkdf2_round hmac sha256 digest_bytes hash_after compress rounds
     schedule first_words
 scrypt_vector = refl
@@ -132,7 +132,7 @@ scrypt_vector = refl
 -- two parts, two blocks in each and N = 2 (by Python's hashlib)
 scrypt_two_parts : scrypt (codes "p") (codes "s") 2 2 2 16
     ≡ 0x19 ∷ 0xf6 ∷ 0x48 ∷ 0xd6 ∷ 0x8d ∷ 0x3b ∷ 0x32 ∷ 0xf6 ∷ 0x33 ∷ 0xd7 ∷ 0xe3 ∷ 0xd8 ∷ 0x06 ∷ 0xca ∷ 0xc2 ∷ 0xf2 ∷ []
-unfolding scrypt parts_mixed salsa8 double_rounds rows columns quarter words_of block_mix evens odds mixed mixed_times
+unfolding scrypt mixed_parts salsa8 double_rounds rows columns quarter words_of block_mix evens odds x_after v_at
     romix_after pbkdf2 pbkdf2_blocks pbkdf2_sum pbkdf2_round hmac sha256 digest_bytes hash_after compress rounds
     schedule first_words
 scrypt_two_parts = refl

@@ -10,19 +10,19 @@ block b i = take 16 (drop (16 * i) b)
 
 -- X on the 2 * r blocks of b after i steps: at first the last block, then Salsa20/8 of X xor B[i].
 -- Y[i] is X after step i, that is after i + 1 steps.
-unfoldable pub mixed : (r : ℕ) (b : Words) (i : ℕ) → Words
-mixed r b zero = block b (2 * r - 1)
-mixed r b (suc i) = salsa8 (zip2 bit_xor (mixed r b i) (block b i))
+unfoldable pub x_after : (r : ℕ) (b : Words) (i : ℕ) → Words
+x_after r b zero = block b (2 * r - 1)
+x_after r b (suc i) = salsa8 (zip2 bit_xor (x_after r b i) (block b i))
 
 -- Y[0] Y[2] .., n of them
 unfoldable pub evens : (r : ℕ) (b : Words) (n : ℕ) → Words
 evens r b zero = []
-evens r b (suc n) = evens r b n ++ mixed r b (2 * n + 1)
+evens r b (suc n) = evens r b n ++ x_after r b (2 * n + 1)
 
 -- Y[1] Y[3] .., n of them
 unfoldable pub odds : (r : ℕ) (b : Words) (n : ℕ) → Words
 odds r b zero = []
-odds r b (suc n) = odds r b n ++ mixed r b (2 * n + 2)
+odds r b (suc n) = odds r b n ++ x_after r b (2 * n + 2)
 
 -- the even Y, then the odd ones
 unfoldable pub block_mix : (r : ℕ) (b : Words) → Words

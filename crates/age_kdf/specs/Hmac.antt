@@ -15,13 +15,6 @@ block_key key = short_key key ++ replicate (64 - length (short_key key)) 0
 abbrev pub padded_key : (key : Bytes) (byte : ℕ) → Bytes
 padded_key key byte = map (λ k. bit_xor k byte) (block_key key)
 
--- the bytes that ipad and opad repeat
-abbrev pub ipad : ℕ
-ipad = 0x36
-
-abbrev pub opad : ℕ
-opad = 0x5c
-
--- H(K XOR opad, H(K XOR ipad, text)) (RFC 2104, section 2)
+-- H(K XOR opad, H(K XOR ipad, text)), where opad repeats 0x5c and ipad 0x36 (RFC 2104, section 2)
 unfoldable pub hmac : (key text : Bytes) → Bytes
-hmac key text = sha256 (padded_key key opad ++ sha256 (padded_key key ipad ++ text))
+hmac key text = sha256 (padded_key key 0x5c ++ sha256 (padded_key key 0x36 ++ text))

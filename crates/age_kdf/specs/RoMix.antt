@@ -6,9 +6,9 @@ use Rattle.age_kdf.specs.Bytes.{Words}
 use Rattle.age_kdf.specs.BlockMix.{block, block_mix}
 
 -- V[i]: BlockMix applied i times
-unfoldable pub mixed_times : (r : ℕ) (b : Words) (i : ℕ) → Words
-mixed_times r b zero = b
-mixed_times r b (suc i) = block_mix r (mixed_times r b i)
+unfoldable pub v_at : (r : ℕ) (b : Words) (i : ℕ) → Words
+v_at r b zero = b
+v_at r b (suc i) = block_mix r (v_at r b i)
 
 -- Integerify(X) mod N: the last block of X as one number, its least word first
 abbrev pub integerify : (r n : ℕ) (x : Words) → ℕ
@@ -16,10 +16,10 @@ integerify r n x = number_l (2 ^ 32) (block x (2 * r - 1)) % n
 
 -- X after k turns of the second loop: X = BlockMix(X xor V[Integerify(X) mod N])
 unfoldable pub romix_after : (r n : ℕ) (b : Words) (k : ℕ) → Words
-romix_after r n b zero = mixed_times r b n
+romix_after r n b zero = v_at r b n
 romix_after r n b (suc k) =
     let x = romix_after r n b k in
-    block_mix r (zip2 bit_xor x (mixed_times r b (integerify r n x)))
+    block_mix r (zip2 bit_xor x (v_at r b (integerify r n x)))
 
 -- X after N turns
 abbrev pub romix : (r n : ℕ) (b : Words) → Words

@@ -26,7 +26,7 @@ quarter a b c d x =
 unfoldable pub columns : Words → Words
 columns x = quarter 15 3 7 11 (quarter 10 14 2 6 (quarter 5 9 13 1 (quarter 0 4 8 12 x)))
 
--- the second half, on its rows
+-- the second half of a double round, on the rows
 unfoldable pub rows : Words → Words
 rows x = quarter 15 12 13 14 (quarter 10 11 8 9 (quarter 5 6 7 4 (quarter 0 1 2 3 x)))
 

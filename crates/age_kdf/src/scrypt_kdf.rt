@@ -4,7 +4,7 @@ ghost use Rattle.std.specs.Prelude.{◌≡◌, ◌+◌, ◌*◌, ◌^◌, ◌≤
 ghost use Rattle.age_kdf.specs.Bytes.{Bytes};
 ghost use Rattle.age_kdf.specs.Pbkdf2.{pbkdf2, longest_output, most_blocks};
 ghost use Rattle.age_kdf.specs.Params.{work_words};
-ghost use Rattle.age_kdf.specs.Scrypt.{words_of, bytes_of, parts_mixed, scrypt};
+ghost use Rattle.age_kdf.specs.Scrypt.{words_of, bytes_of, mixed_parts, scrypt};
 ghost use Rattle.age_kdf.specs.HmacState.{IsFed};
 
 use crate::hmac_sha256::Mac;
@@ -59,7 +59,7 @@ fn mix_parts(table: &mut [u32], parts: &mut [u32], y: &mut [u32], r: usize, log_
     requires table { length table.old ≡ 32 * r * 2 ^ log_n }
     requires parts { length parts.old ≡ 32 * r * p }
     requires y { length y.old ≡ 32 * r }
-    ensures { parts.new ≡ parts_mixed r (2 ^ log_n) parts.old p }
+    ensures { parts.new ≡ mixed_parts r (2 ^ log_n) parts.old p }
 {
     let size = 32 * r;
     'each_part: for i in 0..p {

@@ -4,14 +4,14 @@ use Rattle.std.specs.List.{AllByRecursion, concat}
 use Rattle.std.specs.Fmt.{decimal}
 use Rattle.std.proofs.lemmas.Fmt.{length-decimal-le}
 use Rattle.age_kdf.specs.Bytes.{Bytes}
-use Rattle.age_cipher.proofs.OpeningLemmas.{length-sealed}
+use Rattle.age_cipher.proofs.OpeningLemmas.{length-sealed_text}
 use Rattle.age_header.specs.Base64.{IsBase64, base64_of}
 use Rattle.age_header.specs.Header.{Head, IsFullLine, IsStanza, StanzaParts, argument_line, line, version_line}
 use Rattle.age_header.proofs.LengthLemmas.{length-line, length-version_line}
 use Rattle.age_header.proofs.TextLemmas.{signs_size}
 use Rattle.age_header.specs.declared.file_key.FileKey.{FileKey}
-use Rattle.age_recipient.specs.KeyedStanza.{keyed_stanza, keyed_wrap_key}
-use Rattle.age_recipient.specs.PassphraseStanza.{pass_wrap_key, pass_stanza}
+use Rattle.age_recipient.specs.KeyedStanza.{keyed_stanza, keyed_type, keyed_wrap_key}
+use Rattle.age_recipient.specs.PassphraseStanza.{pass_wrap_key, pass_stanza, scrypt_type}
 use Rattle.age_recipient.specs.Sealing.{zero_nonce}
 
 pub b64_size : (bytes characters : Bytes) → IsBase64 bytes characters → length characters ≡ (4 * length bytes + 2) / 3
@@ -105,23 +105,24 @@ pub pass_header : (pass salt : Bytes) {work : ℕ} (k : FileKey) {mac text : Byt
 unfolding pass_stanza
 pass_header pass salt {work} k {mac} {text} salted keyed high h =
     let body : length (pass_stanza pass work salt k).body ≡ 32 =
-    length-sealed (pass_wrap_key pass salt work) zero_nonce [] k.0 ∙ omega arith in
+    length-sealed_text (pass_wrap_key pass salt work) zero_nonce [] k.0 ∙ omega arith in
     let all = header_size (pass_stanza pass work salt k) mac text body h in
     let digits : length (decimal work) ≤ 2 = length-decimal-le 2 work (omega arith) (omega arith) (omega arith) in
     let characters : length (base64_of salt) ≡ 22 = omega (arith, signs_size salt) in
     let args : length (argument_line (pass_stanza pass work salt k).args)
     ≡ 6 + (6 + length (base64_of salt) + length (decimal work)) =
-    three_args (codes "scrypt") (base64_of salt) (decimal work) in
+    three_args scrypt_type (base64_of salt) (decimal work) in
     omega arith
 
 pub key_header : (key salt : Bytes) (k : FileKey) {mac text : Bytes} → length salt ≡ 16 → length k.0 ≡ 16
     → Head (keyed_stanza key salt k ∷ []) mac text → length text ≡ 156
 unfolding keyed_stanza
 key_header key salt k {mac} {text} salted keyed h =
-    let body : length (keyed_stanza key salt k).body ≡ 32 = length-sealed (keyed_wrap_key key salt) zero_nonce [] k.0
+    let body : length (keyed_stanza key salt k).body ≡ 32 =
+    length-sealed_text (keyed_wrap_key key salt) zero_nonce [] k.0
     ∙ omega arith in
     let all = header_size (keyed_stanza key salt k) mac text body h in
     let characters : length (base64_of salt) ≡ 22 = omega (arith, signs_size salt) in
     let args : length (argument_line (keyed_stanza key salt k).args) ≡ 5 + (15 + length (base64_of salt)) =
-    two_args (codes "example.org/key") (base64_of salt) in
+    two_args keyed_type (base64_of salt) in
     omega arith

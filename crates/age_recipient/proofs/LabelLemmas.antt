@@ -18,7 +18,7 @@ use Rattle.std.specs.declared.cmp.Ordering.TheVariants.{Less}
 use Rattle.age_kdf.specs.Bytes.{Bytes}
 use Rattle.age_recipient.specs.declared.labels.Labels.{Labels}
 use Rattle.age_recipient.specs.declared.labels.Labels.TheVariants.{Names}
-use Rattle.age_recipient.specs.Labels.{IsSetOf, go_together, incompatible}
+use Rattle.age_recipient.specs.Labels.{IsSetOf, go_together, first_incompatible}
 
 below_all : (x : String Global) (ks : List (String Global)) → AllByRecursion (λ y. string_cmp x y ≡ Less) ks
     → AllByRecursion (λ b. slice_cmp nat_cmp (string_bytes x) b ≡ Less) (map string_bytes ks)
@@ -110,13 +110,13 @@ passes_over first others {i} {l} low is goes before = before ∙ one_fewer first
 pub stops_at : {all : List Labels} {first : Labels} {others : List Labels} (i : ℕ) {l : Labels} → all ≡ first ∷ others
     → i < length others → l ≡ get_or others i l
     → go_together first l ≡ false → incompatible_from first 1 others ≡ incompatible_from first (i + 1) (drop i others)
-    → Some (i + 1) ≡ incompatible all
+    → Some (i + 1) ≡ first_incompatible all
 stops_at {first} {others} i {l} is_all low is goes before =
     rw is_all (sym (before ∙ one_fewer first others i l low is ∙ rw goes refl))
 
 -- none is left
 pub passes_all : {all : List Labels} {first : Labels} {others : List Labels} (i : ℕ) → all ≡ first ∷ others
     → length others ≤ i
-    → incompatible_from first 1 others ≡ incompatible_from first (i + 1) (drop i others) → None ≡ incompatible all
+    → incompatible_from first 1 others ≡ incompatible_from first (i + 1) (drop i others) → None ≡ first_incompatible all
 passes_all {first} {others} i is_all end before =
     rw is_all (sym (before ∙ ap (incompatible_from first (i + 1)) (drop_all i others end)))

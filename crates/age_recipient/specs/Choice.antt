@@ -7,16 +7,16 @@ use Rattle.age_recipient.specs.declared.choice.UnlockFault.{UnlockFault}
 use Rattle.age_recipient.specs.declared.choice.UnlockFault.TheVariants as unlock
 use Rattle.age_recipient.specs.declared.unwrapped.Unwrapped.{Unwrapped}
 use Rattle.age_recipient.specs.declared.unwrapped.Unwrapped.TheVariants.{NotMine, Failed, Key, Malformed}
-use Rattle.age_recipient.specs.Answer.{decided}
+use Rattle.age_recipient.specs.Answer.{decision}
 
 -- what the answer that decides comes to
-abbrev pub chosen : Unwrapped → Result FileKey UnlockFault
-chosen NotMine = Err unlock.NoMatch
-chosen Failed = Err unlock.WrongKey
-chosen (Key file_key) = Ok file_key
-chosen (Malformed fault) = Err (unlock.Malformed fault)
+abbrev pub verdict_of : Unwrapped → Result FileKey UnlockFault
+verdict_of NotMine = Err unlock.NoMatch
+verdict_of Failed = Err unlock.WrongKey
+verdict_of (Key file_key) = Ok file_key
+verdict_of (Malformed fault) = Err (unlock.Malformed fault)
 
 -- of the identities' answers, in order: the first key or malformed stanza; else `WrongKey` where
 -- one failed; else `NoMatch`
 abbrev pub choice : List Unwrapped → Result FileKey UnlockFault
-choice answers = chosen (decided answers)
+choice answers = verdict_of (decision answers)

@@ -1,19 +1,20 @@
 -- The keyed stanza, which is this project's own.
 use Rattle.std.specs.Prelude.{List, [], ◌∷◌, length, codes, nat_eq, if◌then◌else◌}
+use Rattle.std.specs.Option.{option_map_or}
 use Rattle.std.specs.declared.option.Option.{Option}
 use Rattle.std.specs.declared.option.Option.TheVariants.{None, Some}
 use Rattle.age_cipher.specs.Bytes.{Key}
 use Rattle.age_kdf.specs.Bytes.{Bytes}
 use Rattle.age_kdf.specs.Hkdf.{hkdf}
-use Rattle.age_header.specs.Base64.{decoded, base64_of}
+use Rattle.age_header.specs.Base64.{decoded_bytes, base64_of}
 use Rattle.age_header.specs.Header.{StanzaParts}
 use Rattle.age_header.specs.declared.file_key.FileKey.{FileKey}
 use Rattle.age_recipient.specs.declared.unwrapped.StanzaFault.TheVariants.{ArgCount, Salt, BodyLength}
 use Rattle.age_recipient.specs.declared.unwrapped.Unwrapped.{Unwrapped}
-use Rattle.age_recipient.specs.declared.unwrapped.Unwrapped.TheVariants.{Malformed}
-use Rattle.age_recipient.specs.Answer.{after_type, typed_answer}
+use Rattle.age_recipient.specs.declared.unwrapped.Unwrapped.TheVariants.{Malformed, NotMine}
+use Rattle.age_recipient.specs.Answer.{after_type}
 use Rattle.age_recipient.specs.Salt.{salt_of}
-use Rattle.age_recipient.specs.Sealing.{sealed_key, unsealed, sealed_key_size}
+use Rattle.age_recipient.specs.Sealing.{sealed_key, unsealed_key, sealed_key_size}
 
 -- the type of the stanza, which is its first argument, and the info of its wrap key
 abbrev pub keyed_type : Bytes
@@ -34,17 +35,17 @@ keyed_stanza key salt file_key = record {
 abbrev pub salted_answer : (key : Key) (body : Bytes) (salt : Option Bytes) → Unwrapped
 salted_answer key body None = Malformed Salt
 salted_answer key body (Some salt) =
-    if nat_eq (length body) sealed_key_size then unsealed (keyed_wrap_key key salt) body
+    if nat_eq (length body) sealed_key_size then unsealed_key (keyed_wrap_key key salt) body
     else Malformed BodyLength
 
 -- what a stanza of this type gives, whose arguments after the type are these
 abbrev pub arguments_answer : (key : Key) (args : List Bytes) (body : Bytes) → Unwrapped
-arguments_answer key (salt ∷ []) body = salted_answer key body (salt_of (decoded salt))
+arguments_answer key (salt ∷ []) body = salted_answer key body (salt_of (decoded_bytes salt))
 arguments_answer key _ body = Malformed ArgCount
 
--- Of the `example.org/key` stanzas the first that breaks a check, with the first check that it
--- breaks, or that opens decides; if none does, `Failed` if there was one, else `NotMine`.
+-- What one stanza gives: `NotMine` if it is of another type, else the first check that it breaks,
+-- the file key, or `Failed`.
 unfoldable pub keyed_answer : (key : Key) (stanza : StanzaParts) → Unwrapped
 keyed_answer key stanza =
-    typed_answer (λ args. arguments_answer key args stanza.body)
-    (after_type keyed_type stanza.args)
+    option_map_or (λ args. arguments_answer key args stanza.body)
+    (after_type keyed_type stanza.args) NotMine

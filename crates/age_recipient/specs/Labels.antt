@@ -22,9 +22,10 @@ go_together (Names a) (Names b) = pointwise bytes_eq a b
 go_together _ _ = false
 
 -- the first recipient from number 1 on whose labels do not go together with those of recipient 0
-abbrev pub incompatible : List Labels → Option ℕ
-incompatible [] = None
-incompatible (first ∷ others) = position_from (λ other. not (go_together first other)) 1 others
+abbrev pub first_incompatible : List Labels → Option ℕ
+first_incompatible [] = None
+first_incompatible (first ∷ others) = position_from (λ other. not
+    (go_together first other)) 1 others
 
 -- what a recipient with this meaning may return: a recipient may also leave the method's own body,
 -- which returns no names

@@ -10,21 +10,21 @@ use Rattle.std.specs.Int.Digits.{digits_of}
 use Rattle.std.specs.declared.result.Result.{Result}
 use Rattle.age_kdf.specs.Bytes.{Bytes}
 use Rattle.age_cipher.specs.Bytes.{tag_size}
-use Rattle.age_cipher.proofs.OpeningLemmas.{length-sealed, opened-sealed}
-use Rattle.age_header.specs.Base64.{decoded, base64_of}
+use Rattle.age_cipher.proofs.OpeningLemmas.{length-sealed_text, opened_text-sealed_text}
+use Rattle.age_header.specs.Base64.{decoded_bytes, base64_of}
 use Rattle.age_header.specs.Header.{StanzaParts}
-use Rattle.age_header.proofs.Base64Lemmas.{decoded-base64_of}
+use Rattle.age_header.proofs.Base64Lemmas.{decoded_bytes-base64_of}
 use Rattle.age_header.specs.declared.file_key.FileKey.{FileKey}
 use Rattle.age_recipient.specs.declared.unwrapped.Unwrapped.{Unwrapped}
 use Rattle.age_recipient.specs.declared.unwrapped.Unwrapped.TheVariants.{Key}
-use Rattle.age_recipient.specs.Answer.{decided}
+use Rattle.age_recipient.specs.Answer.{decision}
 use Rattle.age_recipient.specs.Key.{IsFileKey}
 use Rattle.age_recipient.specs.KeyedHolders.{KeySecret, key_unwraps, key_wraps}
 use Rattle.age_recipient.specs.KeyedStanza.{keyed_answer, keyed_stanza, keyed_wrap_key}
 use Rattle.age_recipient.specs.PassphraseHolders.{most_work, PairFits, PassSecret, PassGuess, pass_wraps, pass_unwraps}
 use Rattle.age_recipient.specs.PassphraseStanza.{is_work_factor, number_from, pass_answer, pass_stanza, pass_wrap_key}
 use Rattle.age_recipient.specs.Salt.{IsSalt, salt_of, salt_size}
-use Rattle.age_recipient.specs.Sealing.{sealed_key, sealed_key_size, unsealed, zero_nonce}
+use Rattle.age_recipient.specs.Sealing.{sealed_key, sealed_key_size, unsealed_key, zero_nonce}
 
 -- f holds of each number below n
 abbrev all_below : (f : ℕ → Bool) (n : ℕ) → Bool
@@ -65,22 +65,23 @@ spelled (suc n) low high =
     rw text at
 
 -- a sealed key is unsealed
-pub unsealed-sealed : (wrap_key : Bytes) (file_key : FileKey)
-    → unsealed wrap_key (sealed_key wrap_key file_key) ≡ Key file_key
-unfolding unsealed
-unsealed-sealed wrap_key file_key = rw (opened-sealed wrap_key zero_nonce [] file_key.0) refl
+pub unsealed_key-sealed_text : (wrap_key : Bytes) (file_key : FileKey)
+    → unsealed_key wrap_key (sealed_key wrap_key file_key) ≡ Key file_key
+unfolding unsealed_key
+unsealed_key-sealed_text wrap_key file_key = rw
+    (opened_text-sealed_text wrap_key zero_nonce [] file_key.0) refl
 
 -- a sealed key has 32 bytes
 sealed_whole : (wrap_key : Bytes) (file_key : FileKey) → IsFileKey file_key
     → nat_eq (length (sealed_key wrap_key file_key)) sealed_key_size ≡ true
 sealed_whole wrap_key file_key is =
     eq-eqb (length (sealed_key wrap_key file_key)) sealed_key_size
-    (length-sealed wrap_key zero_nonce [] file_key.0 ∙ ap (λ n. n + tag_size) is.len)
+    (length-sealed_text wrap_key zero_nonce [] file_key.0 ∙ ap (λ n. n + tag_size) is.len)
 
 -- a salt's characters spell it
-salt_spelled : (salt : Bytes) → IsSalt salt → salt_of (decoded (base64_of salt)) ≡ Some salt
+salt_spelled : (salt : Bytes) → IsSalt salt → salt_of (decoded_bytes (base64_of salt)) ≡ Some salt
 salt_spelled salt is =
-    rw (decoded-base64_of salt is.bytes, eq-eqb (length salt) salt_size is.len) refl
+    rw (decoded_bytes-base64_of salt is.bytes, eq-eqb (length salt) salt_size is.len) refl
 
 -- an identity's answer to the stanza that a recipient of the same passphrase makes
 pass_opens : (pass salt : Bytes) (work max : ℕ) (file_key : FileKey) → IsSalt salt
@@ -96,7 +97,7 @@ pass_opens pass salt work max file_key is_salt fits is_key =
     let top : nat_le work max ≡ true = le-leb work max fits.within in
     let whole = sealed_whole (pass_wrap_key pass salt work) file_key is_key in
     rw (salt_spelled salt is_salt, parts.0, number, top, whole)
-    (unsealed-sealed (pass_wrap_key pass salt work) file_key)
+    (unsealed_key-sealed_text (pass_wrap_key pass salt work) file_key)
 
 -- an identity's answer to the stanza that a recipient of the same key makes
 keyed_opens : (key salt : Bytes) (file_key : FileKey) → IsSalt salt → IsFileKey file_key
@@ -104,7 +105,7 @@ keyed_opens : (key salt : Bytes) (file_key : FileKey) → IsSalt salt → IsFile
 unfolding keyed_answer keyed_stanza
 keyed_opens key salt file_key is_salt is_key =
     rw (salt_spelled salt is_salt, sealed_whole (keyed_wrap_key key salt) file_key is_key)
-    (unsealed-sealed (keyed_wrap_key key salt) file_key)
+    (unsealed_key-sealed_text (keyed_wrap_key key salt) file_key)
 
 stanzas_of : Result (List StanzaParts) ℕ → List StanzaParts
 stanzas_of (Ok stanzas) = stanzas
@@ -116,7 +117,7 @@ pair_opens : (answer : Bytes → StanzaParts → Unwrapped) (secret guess : Byte
     (stanza : StanzaParts) (stanzas : List StanzaParts) (file_key : FileKey)
     (wrapped : Result (List StanzaParts) ℕ) → wrapped ≡ Ok (stanza ∷ []) → secret ≡ guess
     → answer secret stanza ≡ Key file_key → wrapped ≡ Ok stanzas
-    → decided (map (answer guess) stanzas) ≡ Key file_key
+    → decision (map (answer guess) stanzas) ≡ Key file_key
 unfolding stanzas_of
 pair_opens answer secret guess stanza stanzas file_key wrapped one same opens wraps =
     let list : stanzas ≡ stanza ∷ [] = ap stanzas_of (sym wraps ∙ one) in

@@ -8,7 +8,7 @@ use Rattle.age_header.specs.declared.file_key.FileKey.{FileKey}
 use Rattle.age_recipient.specs.declared.unwrapped.Unwrapped.{Unwrapped}
 use Rattle.age_recipient.specs.declared.passphrase.recipient.PassError.{PassError}
 use Rattle.age_recipient.specs.declared.passphrase.recipient.PassError.TheVariants.{WorkFactor, Memory}
-use Rattle.age_recipient.specs.Answer.{decided}
+use Rattle.age_recipient.specs.Answer.{decision}
 use Rattle.age_recipient.specs.PassphraseStanza.{pass_answer, pass_stanza}
 
 -- what a recipient holds
@@ -30,7 +30,7 @@ most_work = 30
 abbrev pub WorkFits : ℕ → Type 0
 WorkFits work = (1 ≤ work) × (work ≤ most_work)
 
--- a pair's work factor is at most its maximum
+-- a pair's work factor is from 1 to its maximum, and that at most the greatest
 pub record PairFits (work max : ℕ) : Type 0 where
   pub low : 1 ≤ work
   pub within : work ≤ max
@@ -45,6 +45,7 @@ IsPassError fits Memory = fits
 abbrev pub pass_wraps : (r : PassSecret) (file_key : FileKey) → Result (List StanzaParts) ℕ
 pass_wraps r file_key = Ok (pass_stanza r.pass r.work r.salt file_key ∷ [])
 
--- an identity goes through the stanzas in order
+-- Of the `scrypt` stanzas the first that breaks a check, with the first check that it breaks, or
+-- that opens decides; if none does, `Failed` if there was one, else `NotMine`.
 abbrev pub pass_unwraps : (i : PassGuess) (stanzas : List StanzaParts) → Unwrapped
-pass_unwraps i stanzas = decided (map (pass_answer i.pass i.max) stanzas)
+pass_unwraps i stanzas = decision (map (pass_answer i.pass i.max) stanzas)

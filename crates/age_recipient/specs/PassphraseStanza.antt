@@ -2,20 +2,21 @@
 use Rattle.std.specs.Prelude.{ℕ, ◌+◌, ◌-◌, ◌*◌, ◌^◌, ◌&&◌, Bool, false, List, [], ◌∷◌, ◌++◌, length, codes, nat_eq, nat_le, if◌then◌else◌}
 use Rattle.std.specs.Fmt.{decimal}
 use Rattle.std.specs.List.{list_all}
+use Rattle.std.specs.Option.{option_map_or}
 use Rattle.std.specs.declared.option.Option.{Option}
 use Rattle.std.specs.declared.option.Option.TheVariants.{None, Some}
 use Rattle.age_cipher.specs.Bytes.{Key}
 use Rattle.age_kdf.specs.Bytes.{Bytes}
 use Rattle.age_kdf.specs.Scrypt.{scrypt}
-use Rattle.age_header.specs.Base64.{decoded, base64_of}
+use Rattle.age_header.specs.Base64.{decoded_bytes, base64_of}
 use Rattle.age_header.specs.Header.{StanzaParts}
 use Rattle.age_header.specs.declared.file_key.FileKey.{FileKey}
 use Rattle.age_recipient.specs.declared.unwrapped.StanzaFault.TheVariants.{ArgCount, Salt, WorkFactorText, WorkFactorTooHigh, BodyLength}
 use Rattle.age_recipient.specs.declared.unwrapped.Unwrapped.{Unwrapped}
-use Rattle.age_recipient.specs.declared.unwrapped.Unwrapped.TheVariants.{Malformed}
-use Rattle.age_recipient.specs.Answer.{after_type, typed_answer}
+use Rattle.age_recipient.specs.declared.unwrapped.Unwrapped.TheVariants.{Malformed, NotMine}
+use Rattle.age_recipient.specs.Answer.{after_type}
 use Rattle.age_recipient.specs.Salt.{salt_of}
-use Rattle.age_recipient.specs.Sealing.{sealed_key, unsealed, sealed_key_size}
+use Rattle.age_recipient.specs.Sealing.{sealed_key, unsealed_key, sealed_key_size}
 
 -- the type of the stanza, its first argument
 abbrev pub scrypt_type : Bytes
@@ -56,19 +57,19 @@ salted_answer pass max work body None = Malformed Salt
 salted_answer pass max work body (Some salt) =
     if is_work_factor work then if nat_le (number_from 0 work) max
     then if nat_eq (length body) sealed_key_size
-    then unsealed (pass_wrap_key pass salt (number_from 0 work)) body else Malformed BodyLength
+    then unsealed_key (pass_wrap_key pass salt (number_from 0 work)) body else Malformed BodyLength
     else Malformed WorkFactorTooHigh else Malformed WorkFactorText
 
 -- what a stanza of this type gives, whose arguments after the type are these
 abbrev pub arguments_answer : (pass : Bytes) (max : ℕ) (args : List Bytes) (body : Bytes)
     → Unwrapped
 arguments_answer pass max (salt ∷ work ∷ []) body =
-    salted_answer pass max work body (salt_of (decoded salt))
+    salted_answer pass max work body (salt_of (decoded_bytes salt))
 arguments_answer pass max _ body = Malformed ArgCount
 
--- Of the `scrypt` stanzas the first that breaks a check, with the first check that it breaks, or
--- that opens decides; if none does, `Failed` if there was one, else `NotMine`.
+-- What one stanza gives: `NotMine` if it is of another type, else the first check that it breaks,
+-- the file key, or `Failed`.
 unfoldable pub pass_answer : (pass : Bytes) (max : ℕ) (stanza : StanzaParts) → Unwrapped
 pass_answer pass max stanza =
-    typed_answer (λ args. arguments_answer pass max args stanza.body)
-    (after_type scrypt_type stanza.args)
+    option_map_or (λ args. arguments_answer pass max args stanza.body)
+    (after_type scrypt_type stanza.args) NotMine

@@ -2,10 +2,9 @@
 -- type"): sealed with ChaCha20-Poly1305 under a wrap key, a nonce of twelve zero bytes, and no
 -- associated data.
 use Rattle.std.specs.Prelude.{ℕ, ◌+◌, [], replicate}
-use Rattle.std.specs.declared.option.Option.{Option}
-use Rattle.std.specs.declared.option.Option.TheVariants.{None, Some}
+use Rattle.std.specs.Option.{option_map_or}
 use Rattle.age_kdf.specs.Bytes.{Bytes}
-use Rattle.age_cipher.specs.Sealing.{sealed, opened}
+use Rattle.age_cipher.specs.Sealing.{sealed_text, opened_text}
 use Rattle.age_header.specs.declared.file_key.FileKey.{FileKey}
 use Rattle.age_recipient.specs.declared.unwrapped.Unwrapped.{Unwrapped}
 use Rattle.age_recipient.specs.declared.unwrapped.Unwrapped.TheVariants as answer
@@ -22,13 +21,10 @@ sealed_key_size = file_key_size + tag_size
 
 -- the body that holds this file key
 abbrev pub sealed_key : (wrap_key : Key) (file_key : FileKey) → Bytes
-sealed_key wrap_key file_key = sealed wrap_key zero_nonce [] file_key.0
-
--- the file key that was found, or a failure
-abbrev pub key_answer : Option Bytes → Unwrapped
-key_answer None = answer.Failed
-key_answer (Some bytes) = answer.Key (record { 0 = bytes })
+sealed_key wrap_key file_key = sealed_text wrap_key zero_nonce [] file_key.0
 
 -- what a body gives under a wrap key: the file key that it opens to, or a failure
-unfoldable pub unsealed : (wrap_key : Key) (body : Bytes) → Unwrapped
-unsealed wrap_key body = key_answer (opened wrap_key zero_nonce [] body)
+unfoldable pub unsealed_key : (wrap_key : Key) (body : Bytes) → Unwrapped
+unsealed_key wrap_key body =
+    option_map_or (λ bytes. answer.Key (record { 0 = bytes }))
+    (opened_text wrap_key zero_nonce [] body) answer.Failed

@@ -1,7 +1,7 @@
 //! The choice of a file key by several identities.
 
 ghost use Rattle.std.specs.Prelude.{◌≡◌, ◌⊎◌, map, Err, IfOk};
-ghost use Rattle.age_recipient.specs.Answer.{decided};
+ghost use Rattle.age_recipient.specs.Answer.{decision};
 ghost use Rattle.age_recipient.specs.Choice.{choice};
 
 use crate::identity::Identity;
@@ -35,6 +35,7 @@ pub fn unlock(
     identities: &[Box<dyn Identity>],
     stanzas: &[Stanza],
 ) -> Result<FileKey, UnlockFault>
+    // What the identities' answers come to, in order; or out of memory.
     ensures { (result ≡ Err UnlockFault.Memory)
         ⊎ (result ≡ choice (map (λ b. meaning b stanzas.now) identities.now)) }
 {
@@ -54,7 +55,7 @@ fn first_decided(
     stanzas: &[Stanza],
 ) -> Result<Unwrapped, AllocError>
     ensures { IfOk result
-        (λ answer. answer ≡ decided (map (λ b. meaning b stanzas.now) identities.now)) }
+        (λ answer. answer ≡ decision (map (λ b. meaning b stanzas.now) identities.now)) }
 {
     let mut so_far = Unwrapped::NotMine;
     for identity in identities {

@@ -1,7 +1,7 @@
 //! Labels: which recipients go together in one file.
 
 ghost use Rattle.std.specs.Prelude.{◌≡◌, map, IfOk};
-ghost use Rattle.age_recipient.specs.Labels.{IsSetOf, go_together, incompatible};
+ghost use Rattle.age_recipient.specs.Labels.{IsSetOf, go_together, first_incompatible};
 
 use std::alloc::{AllocError, Global};
 use std::collections::BTreeSet;
@@ -77,7 +77,7 @@ impl Labels {
 
 /// The least index, from 1 up, whose labels do not go together with those at index 0.
 pub fn first_incompatible(labels: &[Labels]) -> Option<usize>
-    ensures { result ≡ incompatible labels.now }
+    ensures { result ≡ first_incompatible labels.now }
 {
     let Some((first, others)) = labels.split_first() else {
         return None;

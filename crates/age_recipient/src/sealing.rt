@@ -1,7 +1,7 @@
 //! The file key within a stanza's body (C2SP `age.md`, "The scrypt recipient type").
 
 ghost use Rattle.std.specs.Prelude.{◌≡◌, length};
-ghost use Rattle.age_recipient.specs.Sealing.{sealed_key, unsealed, sealed_key_size};
+ghost use Rattle.age_recipient.specs.Sealing.{sealed_key, unsealed_key, sealed_key_size};
 
 use crate::unwrapped::Unwrapped;
 use age_cipher::{open_in_place, seal_in_place};
@@ -31,7 +31,7 @@ pub(crate) fn seal_key(wrap_key: &[u8; 32], file_key: &FileKey) -> [u8; SEALED_K
 /// Opens a body of 32 bytes under this wrap key.
 pub(crate) fn unseal_key(wrap_key: &[u8; 32], body: &[u8]) -> Unwrapped
     requires { length body.now ≡ sealed_key_size }
-    ensures { result ≡ unsealed wrap_key.now body.now }
+    ensures { result ≡ unsealed_key wrap_key.now body.now }
 {
     let (prefix, back) = body.split_at(FILE_KEY_SIZE);
     let mut key = [0; FILE_KEY_SIZE];

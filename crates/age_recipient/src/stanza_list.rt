@@ -2,8 +2,8 @@
 
 ghost use Rattle.std.specs.Prelude.{◌≡◌, map, option_map, IfOk};
 ghost use Rattle.std.specs.String.{string_bytes};
-ghost use Rattle.age_header.specs.Base64.{decoded};
-ghost use Rattle.age_recipient.specs.Answer.{after_type, decided};
+ghost use Rattle.age_header.specs.Base64.{decoded_bytes};
+ghost use Rattle.age_recipient.specs.Answer.{after_type, decision};
 ghost use Rattle.age_recipient.specs.Salt.{salt_of};
 
 use crate::unwrapped::Unwrapped;
@@ -30,7 +30,7 @@ pub(crate) fn first_opened<O: Opener>(
     opener: &O,
     stanzas: &[Stanza],
 ) -> Result<Unwrapped, AllocError>
-    ensures { IfOk result (λ answer. answer ≡ decided (map (O.gives opener.now) stanzas.now)) }
+    ensures { IfOk result (λ answer. answer ≡ decision (map (O.gives opener.now) stanzas.now)) }
 {
     let mut so_far = Unwrapped::NotMine;
     for stanza in stanzas {
@@ -58,7 +58,7 @@ pub(crate) fn after_type<'a>(stanza: &'a Stanza, kind: &str) -> Option<&'a [Stri
 
 /// The salt whose base64 these characters are, if it has 16 bytes.
 pub(crate) fn salt_of(alloc: Global, text: &[u8]) -> Result<Option<[u8; 16]>, AllocError>
-    ensures { IfOk result (λ salt. salt ≡ salt_of (decoded text.now)) }
+    ensures { IfOk result (λ salt. salt ≡ salt_of (decoded_bytes text.now)) }
 {
     let Some(bytes) = base64_no_pad::decode(alloc, &base64_no_pad::engine(), text)? else {
         return Ok(None);

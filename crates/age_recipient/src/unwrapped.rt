@@ -1,7 +1,7 @@
 //! What an identity finds in the stanzas of a header.
 
 ghost use Rattle.std.specs.Prelude.{◌≡◌, List, ◌∷◌, IfOk, IfErr};
-ghost use Rattle.age_recipient.specs.Answer.{decided_from};
+ghost use Rattle.age_recipient.specs.Answer.{decision_from};
 
 use age_header::FileKey;
 use thiserror::Error;
@@ -49,10 +49,10 @@ impl Unwrapped {
     pub fn followed_by(self, next: Unwrapped) -> Result<Unwrapped, Unwrapped>
         // If the next one decides nothing, both are one answer for those that follow.
         ensures continues { IfOk result (λ both.
-            (more : List Unwrapped) → decided_from self (next ∷ more) ≡ decided_from both more) }
+            (more : List Unwrapped) → decision_from self (next ∷ more) ≡ decision_from both more) }
         // A next one that is a key or a malformed stanza decides, whatever follows.
         ensures decides { IfErr result (λ decision.
-            (more : List Unwrapped) → decided_from self (next ∷ more) ≡ decision) }
+            (more : List Unwrapped) → decision_from self (next ∷ more) ≡ decision) }
     {
         match next {
             Unwrapped::NotMine => Ok(self),

@@ -4,29 +4,29 @@ use Rattle.std.specs.List.{concat}
 use Rattle.std.proofs.lemmas.Bool.{le-ltb, lt-ltb, cases_lt}
 use Rattle.std.proofs.lemmas.List.{append-nil}
 use Rattle.age_kdf.specs.Bytes.{Bytes}
-use Rattle.age_stream.specs.Cutting.{cut_into, cut, IsCut, IsFilled}
+use Rattle.age_stream.specs.Cutting.{cut_after, cut, IsCut, IsFilled}
 
 -- bytes that fit go into the open list
 pub cut_fits : (size : ℕ) (held x r : Bytes) → length held + length x ≤ size
-    → cut_into size held (x ++ r) ≡ cut_into size (held ++ x) r
-cut_fits size held [] r le = ap (λ h. cut_into size h r) (sym (append-nil held))
+    → cut_after size held (x ++ r) ≡ cut_after size (held ++ x) r
+cut_fits size held [] r le = ap (λ h. cut_after size h r) (sym (append-nil held))
 cut_fits size held (b ∷ bs) r le =
-    let lt : nat_lt (length held) size ≡ true = lt-ltb _ _ (omega arith) in
-    let next : cut_into size (held ++ b ∷ []) (bs ++ r) ≡ cut_into size ((held ++ b ∷ []) ++ bs) r =
+    let lt : nat_lt (length held) size ≡ true = lt-ltb (length held) size (omega arith) in
+    let next : cut_after size (held ++ b ∷ []) (bs ++ r) ≡ cut_after size ((held ++ b ∷ []) ++ bs) r =
     cut_fits size (held ++ b ∷ []) bs r
     (let l : length (held ++ b ∷ []) ≡ length held + 1 = length-append held (b ∷ []) in omega arith) in
-    ap (λ t. cond t (cut_into size (held ++ b ∷ []) (bs ++ r)) (held ∷ cut_into size (b ∷ []) (bs ++ r))) lt ∙ next
-    ∙ ap (λ h. cut_into size h r) (append_assoc held (b ∷ []) bs)
+    ap (λ t. cond t (cut_after size (held ++ b ∷ []) (bs ++ r)) (held ∷ cut_after size (b ∷ []) (bs ++ r))) lt ∙ next
+    ∙ ap (λ h. cut_after size h r) (append_assoc held (b ∷ []) bs)
 
 -- at a full list the next byte begins one
 pub cut_full : (size : ℕ) (held r : Bytes) → 0 < size → 0 < length r → length held ≡ size
-    → cut_into size held r ≡ held ∷ cut size r
+    → cut_after size held r ≡ held ∷ cut size r
 cut_full size held [] pos some full = absurd (omega arith)
 cut_full size held (b ∷ r) pos some full =
-    let ge : nat_lt (length held) size ≡ false = le-ltb _ _ (omega arith) in
-    let lt : nat_lt 0 size ≡ true = lt-ltb _ _ pos in
-    ap (λ t. cond t (cut_into size (held ++ b ∷ []) r) (held ∷ cut_into size (b ∷ []) r)) ge
-    ∙ ap (λ t. held ∷ cond t (cut_into size (b ∷ []) r) ([] ∷ cut_into size (b ∷ []) r)) (sym lt)
+    let ge : nat_lt (length held) size ≡ false = le-ltb (length held) size (omega arith) in
+    let lt : nat_lt 0 size ≡ true = lt-ltb 0 size pos in
+    ap (λ t. cond t (cut_after size (held ++ b ∷ []) r) (held ∷ cut_after size (b ∷ []) r)) ge
+    ∙ ap (λ t. held ∷ cond t (cut_after size (b ∷ []) r) ([] ∷ cut_after size (b ∷ []) r)) (sym lt)
 
 -- a full list with more after it is the first of the cut
 pub cut_first : (size : ℕ) (x r : Bytes) → 0 < size → 0 < length r → length x ≡ size
@@ -43,8 +43,7 @@ filled_some size [] pos h = absurd h
 filled_some size (c ∷ []) pos h = let l : length (c ++ []) ≡ length c + 0 = length-append c [] in
     let k : 0 < length c = h.0 in omega arith
 filled_some size (c ∷ d ∷ more) pos h =
-    let l : length (c ++ concat (d ∷ more)) ≡ length c + length (concat (d ∷ more)) = length-append c _ in
-    let k : length c ≡ size = h.0 in omega arith
+    let k : length c ≡ size = h.0 in omega (arith, length-append c (concat (d ∷ more)))
 
 -- filled lists are the cut of their join
 pub filled_cut : (size : ℕ) (cs : List Bytes) → 0 < size → IsFilled size cs → cut size (concat cs) ≡ cs
@@ -55,13 +54,13 @@ filled_cut size (c ∷ d ∷ more) pos h =
     ∙ ap (λ t. c ∷ t) (filled_cut size (d ∷ more) pos h.1)
 
 -- the lists of a cut join to what was cut
-pub concat-cut_into : (size : ℕ) (held p : Bytes) → concat (cut_into size held p) ≡ held ++ p
-concat-cut_into size held [] = refl
-concat-cut_into size held (x ∷ xs) =
+pub concat-cut_after : (size : ℕ) (held p : Bytes) → concat (cut_after size held p) ≡ held ++ p
+concat-cut_after size held [] = refl
+concat-cut_after size held (x ∷ xs) =
     elim (nat_lt (length held) size) as (λ t. concat
-    (cond t (cut_into size (held ++ x ∷ []) xs) (held ∷ cut_into size (x ∷ []) xs)) ≡ held ++ x ∷ xs) [
-      | true ↦ concat-cut_into size (held ++ x ∷ []) xs ∙ append_assoc held (x ∷ []) xs
-      | false ↦ ap (λ t. held ++ t) (concat-cut_into size (x ∷ []) xs)
+    (cond t (cut_after size (held ++ x ∷ []) xs) (held ∷ cut_after size (x ∷ []) xs)) ≡ held ++ x ∷ xs) [
+      | true ↦ concat-cut_after size (held ++ x ∷ []) xs ∙ append_assoc held (x ∷ []) xs
+      | false ↦ ap (λ t. held ++ t) (concat-cut_after size (x ∷ []) xs)
     ]
 
 -- one more full list before a filled one
@@ -70,24 +69,27 @@ filled_more size c [] e h = absurd h
 filled_more size c (d ∷ more) e h = (e, h)
 
 pub filled_cut_into : (size : ℕ) (held p : Bytes) → 0 < size → length held ≤ size → 0 < length held + length p
-    → IsFilled size (cut_into size held p)
+    → IsFilled size (cut_after size held p)
 filled_cut_into size held [] pos le some = (omega arith, le)
 filled_cut_into size held (x ∷ xs) pos le some =
     elim (cases_lt (length held) size) [
       | inl lt ↦ subst (λ t. IsFilled size
-          (cond t (cut_into size (held ++ x ∷ []) xs) (held ∷ cut_into size (x ∷ []) xs))) (sym (lt-ltb _ _ lt))
+          (cond t (cut_after size (held ++ x ∷ []) xs) (held ∷ cut_after size (x ∷ []) xs)))
+          (sym (lt-ltb (length held) size lt))
           (let l : length (held ++ x ∷ []) ≡ length held + 1 = length-append held (x ∷ []) in
           filled_cut_into size (held ++ x ∷ []) xs pos (omega arith) (omega arith))
       | inr ge ↦ subst (λ t. IsFilled size
-          (cond t (cut_into size (held ++ x ∷ []) xs) (held ∷ cut_into size (x ∷ []) xs))) (sym (le-ltb _ _ ge))
-          (filled_more size held _ (omega arith) (filled_cut_into size (x ∷ []) xs pos (omega arith) (omega arith)))
+          (cond t (cut_after size (held ++ x ∷ []) xs) (held ∷ cut_after size (x ∷ []) xs)))
+          (sym (le-ltb (length held) size ge))
+          (filled_more size held (cut_after size (x ∷ []) xs) (omega arith)
+          (filled_cut_into size (x ∷ []) xs pos (omega arith) (omega arith)))
     ]
 
 -- the computed cut is one
 pub is_cut : (size : ℕ) (p : Bytes) → 0 < size → IsCut size p (cut size p)
 is_cut size [] pos = record { joined = refl; sizes = inl refl }
 is_cut size (x ∷ xs) pos = record {
-  joined = concat-cut_into size [] (x ∷ xs);
+  joined = concat-cut_after size [] (x ∷ xs);
   sizes =
       inr (filled_cut_into size [] (x ∷ xs) pos (omega arith) (omega arith));
 }

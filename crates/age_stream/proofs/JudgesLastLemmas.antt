@@ -1,11 +1,11 @@
 -- What the last piece gives, and what opening a payload for ranges finds.
-use Rattle.std.proofs.Common.{◌≡◌, ◌⊎◌, ℕ, [], ◌+◌, ◌-◌, ◌*◌, ◌/◌, ◌<◌, ◌≤◌, length, take, drop, get_or, nat_lt, nat_eq, sym, ◌∙◌, ap, arith, true, refl, inl, inr, subst, Option, Some, None, Result, Ok, Err}
+use Rattle.std.proofs.Common.{◌≡◌, ◌⊎◌, ℕ, [], ◌+◌, ◌-◌, ◌*◌, ◌/◌, ◌<◌, ◌≤◌, length, take, drop, get_or, nat_eq, sym, ◌∙◌, ap, arith, true, refl, inl, inr, subst, Option, Some, None, Result, Ok, Err}
 use Rattle.std.specs.Prelude.{unwrap_or, IfSome}
-use Rattle.std.proofs.lemmas.Bool.{cases_lt, eq-eqb, le-leb, le-ltb, cond-false}
+use Rattle.std.proofs.lemmas.Bool.{cases_lt, eq-eqb, le-leb, le-ltb}
 use Rattle.std.proofs.lemmas.List.{length-drop, length-take-le, drop-drop, take_all}
 use Rattle.age_kdf.specs.Bytes.{Bytes}
 use Rattle.age_header.specs.Device.{Known}
-use Rattle.age_cipher.proofs.OpeningLemmas.{length-sealed, opened-sealed}
+use Rattle.age_cipher.proofs.OpeningLemmas.{length-sealed_text, opened_text-sealed_text}
 use Rattle.age_header.specs.declared.file_key.FileKey.{FileKey}
 use Rattle.age_stream.specs.declared.fault.StreamFault.{StreamFault}
 use Rattle.age_stream.specs.declared.fault.StreamFault.TheVariants.{TooManyChunks, Write}
@@ -13,8 +13,8 @@ use Rattle.age_stream.specs.declared.layout.Layout.{Layout}
 use Rattle.age_stream.specs.Opening.{IsAtPiece}
 use Rattle.age_stream.specs.Payload.{pieces, chunk_nonce, payload_key}
 use Rattle.age_stream.specs.Offsets.{EndsBefore, HasAt, GaveAt}
-use Rattle.age_stream.specs.Reading.{opened_at, outcome}
-use Rattle.age_stream.specs.Ranges.{last_len, opens_to, IsOpenFault, IsVerified, JudgesLast, OpensRanges}
+use Rattle.age_stream.specs.Reading.{piece_opening, outcome}
+use Rattle.age_stream.specs.Ranges.{last_len, source_opening, IsOpenFault, IsVerified, JudgesLast, OpensRanges}
 use Rattle.age_stream.specs.Slice.{opening, plain_len, chunk_len, last_piece, last_outcome, range_outcome}
 use Rattle.age_stream.specs.Sizes.{chunk_size, sealed_chunk_size, chunk_buf_size}
 use Rattle.age_stream.proofs.ReadingLemmas.{cut_count}
@@ -111,7 +111,7 @@ pub open_len : (key : Bytes) (max i end n : ℕ) (buf after : Bytes) → length 
 open_len key max i end n buf after room le opens within =
     let o = outcome_opens key max i true (take end buf) (take n after) opens in
     let len : length (take end buf) ≡ length (take n after) + 16 = ap length o.sealed_so
-    ∙ length-sealed key (chunk_nonce i true) [] (take n after) in
+    ∙ length-sealed_text key (chunk_nonce i true) [] (take n after) in
     let a : length (take end buf) ≡ end = length-take-le end buf (omega arith) in
     let b : length (take n after) ≡ n = length-take-le n after within in
     (omega arith, λ pos. let some : 0 < length (take n after) = o.some refl pos in omega arith)
@@ -130,9 +130,10 @@ last_verified {gave} {layout} max last end {n} buf after count read opens len =
     subst (λ i. IsVerified gave layout i (take (chunk_len layout.plain i) after)) at (record {
       piece = take end buf;
       read = read;
-      opens = ap (λ b. opened_at layout.key last b (take end buf)) is_last
-          ∙ ap (opened_at layout.key last true) o.sealed_so
-          ∙ opened-sealed layout.key (chunk_nonce last true) [] (take n after) ∙ ap (λ k. Some (take k after)) len;
+      opens = ap (λ b. piece_opening layout.key last b (take end buf)) is_last
+          ∙ ap (piece_opening layout.key last true) o.sealed_so
+          ∙ opened_text-sealed_text layout.key (chunk_nonce last true) [] (take n after)
+          ∙ ap (λ k. Some (take k after)) len;
     })
 
 -- a last piece that opens
@@ -144,11 +145,11 @@ last_opens key max rest t last is h =
     let n : length (pieces rest) ≡ last + 1 = piece_count rest last is in
     let o = outcome_opens key max last true piece t (sym (last_is key max rest last is) ∙ h) in
     opening_at key rest last (omega arith)
-    ∙ ap (λ b. opened_at key last b (take sealed_chunk_size piece))
+    ∙ ap (λ b. piece_opening key last b (take sealed_chunk_size piece))
     (le-leb (length rest) (sealed_chunk_size * (last + 1)) (omega arith))
-    ∙ ap (opened_at key last true) (take_all sealed_chunk_size piece (omega arith))
-    ∙ ap (opened_at key last true) o.sealed_so
-    ∙ opened-sealed key (chunk_nonce last true) [] t
+    ∙ ap (piece_opening key last true) (take_all sealed_chunk_size piece (omega arith))
+    ∙ ap (piece_opening key last true) o.sealed_so
+    ∙ opened_text-sealed_text key (chunk_nonce last true) [] t
 
 -- what is known of a nonce that was read, and of the n bytes after it
 abbrev pub IsNonce : Known → ℕ → Bytes → ℕ → Type 0
@@ -160,9 +161,9 @@ behind_nonce : (k : FileKey) (max at : ℕ) (bytes nonce : Bytes) (n : ℕ) → 
     → range_outcome k max (drop at bytes) ≡ last_outcome (payload_key k nonce) max (drop (at + 16) bytes)
 behind_nonce k max at bytes nonce n is size =
     let d : length (drop at bytes) ≡ length bytes - at = length-drop at bytes in
-    cond-false (nat_lt (length (drop at bytes)) 16) _ _ (le-ltb (length (drop at bytes)) 16 (omega arith))
-    ∙ ap (λ x. last_outcome (payload_key k x) max (drop 16 (drop at bytes))) (sym is)
-    ∙ ap (last_outcome (payload_key k nonce) max) (drop-drop 16 at bytes)
+    rw (le-ltb (length (drop at bytes)) 16 (omega arith))
+    (ap (λ x. last_outcome (payload_key k x) max (drop 16 (drop at bytes))) (sym is)
+    ∙ ap (last_outcome (payload_key k nonce) max) (drop-drop 16 at bytes))
 
 -- the last piece's fault
 pub judged_err : (k : FileKey) (max at : ℕ) (told : Known) (nonce after : Bytes) (n : ℕ) (fault : StreamFault)
@@ -214,7 +215,7 @@ judged_ok k max at (Some bytes) nonce buf n layout h j =
     let gives : last_outcome (payload_key k nonce) max (drop (at + 16) bytes) ≡ Ok text = j.3 h.1 in
     let there : length (drop layout.first bytes) ≡ layout.plain + 16 * layout.count =
     ap (λ f. length (drop f bytes)) j.1 ∙ size ∙ sym j.2 in
-    let opens : opens_to (Some bytes) layout (layout.count - 1) ≡ Some text =
+    let opens : source_opening (Some bytes) layout (layout.count - 1) ≡ Some text =
     ap (λ x. opening x (drop layout.first bytes) (layout.count - 1)) j.0
     ∙ ap (λ f. opening (payload_key k nonce) (drop f bytes) (layout.count - 1)) j.1
     ∙ last_opens (payload_key k nonce) max (drop (at + 16) bytes) text (layout.count - 1)
@@ -228,7 +229,7 @@ judged_ok k max at (Some bytes) nonce buf n layout h j =
         plain = sym (plain_there layout (drop layout.first bytes) there) ∙ ap (λ f. plain_len (drop f bytes)) j.1;
         sound = record {
           there = record { known = refl; size = there };
-          keeps = λ i e. subst (λ m. opens_to (Some bytes) layout m ≡ Some (take (chunk_len layout.plain m) buf))
+          keeps = λ i e. subst (λ m. source_opening (Some bytes) layout m ≡ Some (take (chunk_len layout.plain m) buf))
               (same_some (layout.count - 1) i e) opens;
         };
       },
@@ -247,4 +248,4 @@ given_last (Some bytes) nonce at n new mid old h le le2 =
 -- a fault of a piece is one of opening
 pub piece_named : (max i : ℕ) (fault : StreamFault) → IsAtPiece max i fault → IsOpenFault fault
 piece_named max i Write h = absurd h
-piece_named max i _ h = tt
+piece_named max i fault h = tt

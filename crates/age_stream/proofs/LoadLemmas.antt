@@ -4,13 +4,13 @@ use Rattle.std.proofs.lemmas.Bool.{cases_lt, le-leb, lt-leb, eq-eqb, eqb-true, f
 use Rattle.std.proofs.lemmas.List.{take_all, length-drop, length-take-le, drop-drop}
 use Rattle.age_kdf.specs.Bytes.{Bytes}
 use Rattle.age_header.specs.Device.{Known}
-use Rattle.age_cipher.specs.Sealing.{opened}
+use Rattle.age_cipher.specs.Sealing.{opened_text}
 use Rattle.age_stream.specs.Payload.{chunk_nonce, pieces}
-use Rattle.age_stream.specs.Reading.{opened_at}
+use Rattle.age_stream.specs.Reading.{piece_opening}
 use Rattle.age_stream.proofs.ReadingLemmas.{cut_count}
 use Rattle.age_stream.specs.declared.layout.Layout.{Layout}
 use Rattle.age_stream.specs.Offsets.{HasAt}
-use Rattle.age_stream.specs.Ranges.{bytes_from, opens_to, IsThere}
+use Rattle.age_stream.specs.Ranges.{bytes_from, source_opening, IsThere}
 use Rattle.age_stream.specs.Slice.{chunk_len}
 use Rattle.age_stream.specs.Sizes.{chunk_size, sealed_chunk_size, chunk_buf_size}
 use Rattle.age_stream.proofs.SliceLemmas.{opening_at}
@@ -83,15 +83,15 @@ pub open_there : (told : Known) (layout : Layout) (nonce buf : Bytes) (i end : �
     → i < layout.count
     → HasAt told (layout.first + sealed_chunk_size * i) (take end buf) → end ≡ chunk_len layout.plain i + 16
     → length buf ≡ chunk_buf_size
-    → nonce ≡ chunk_nonce i (nat_eq (i + 1) layout.count) → opened layout.key nonce [] (take end buf) ≡ o
-    → opens_to told layout i ≡ o
+    → nonce ≡ chunk_nonce i (nat_eq (i + 1) layout.count) → opened_text layout.key nonce [] (take end buf) ≡ o
+    → source_opening told layout i ≡ o
 open_there told layout nonce buf i end o there lt has len room at opens =
     let rest : Bytes = bytes_from told layout.first in
     let count : length (pieces rest) ≡ layout.count = there_count layout rest there.size in
     let size : length (take end buf) ≡ end = length-take-le end buf (omega arith) in
     opening_at layout.key rest i (omega arith)
-    ∙ ap (λ b. opened_at layout.key i b (take sealed_chunk_size (drop (sealed_chunk_size * i) rest)))
+    ∙ ap (λ b. piece_opening layout.key i b (take sealed_chunk_size (drop (sealed_chunk_size * i) rest)))
     (sym (there_last layout rest i there.size lt))
-    ∙ ap (opened_at layout.key i (nat_eq (i + 1) layout.count))
+    ∙ ap (piece_opening layout.key i (nat_eq (i + 1) layout.count))
     (sym (there_piece told layout i (take end buf) there lt has (size ∙ len)))
-    ∙ ap (λ n. opened layout.key n [] (take end buf)) (sym at) ∙ opens
+    ∙ ap (λ n. opened_text layout.key n [] (take end buf)) (sym at) ∙ opens

@@ -71,7 +71,7 @@ ahead_one bytes size =
 pub counts_piece : (max i : ℕ) {old new : ℕ} (fault : StreamFault) → IsAtPiece max i fault → new ≡ old
     → CountsFaultIf is_read old new fault
 counts_piece max i Read at is = absurd at
-counts_piece max i _ at is = is
+counts_piece max i fault at is = is
 
 unkept : {P : Type 0} (fault : Option StreamFault) → P → IfNone fault P
 unkept None p = p

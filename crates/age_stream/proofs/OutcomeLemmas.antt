@@ -1,37 +1,34 @@
 -- Each case of a piece's outcome.
-use Rattle.std.proofs.Common.{[], ◌≡◌, ℕ, ◌<◌, ◌≤◌, ◌&&◌, length, nat_lt, nat_le, nat_eq, true, false, Bool, ◌∙◌, ap, Err}
+use Rattle.std.proofs.Common.{refl, [], ◌≡◌, ℕ, ◌<◌, ◌≤◌, ◌&&◌, length, nat_lt, nat_eq, true, false, Bool, Err}
 use Rattle.std.specs.Prelude.{ok_or}
-use Rattle.std.proofs.lemmas.Bool.{le-ltb, lt-ltb, le-leb, lt-leb, cond-false, cond-true}
+use Rattle.std.proofs.lemmas.Bool.{le-ltb, lt-ltb, le-leb, lt-leb}
 use Rattle.age_kdf.specs.Bytes.{Bytes}
 use Rattle.age_header.specs.Device.{Known}
 use Rattle.age_stream.specs.declared.fault.StreamFault.TheVariants.{ChunkShort, EmptyFinal, BadChunk, TooManyChunks}
-use Rattle.age_cipher.specs.Sealing.{opened}
+use Rattle.age_cipher.specs.Sealing.{opened_text}
 use Rattle.age_stream.specs.Payload.{chunk_nonce}
 use Rattle.age_stream.specs.Reading.{outcome}
 
 pub outcome_many : (key : Bytes) (max i : ℕ) (last : Bool) (c : Bytes) → max ≤ i
     → outcome key max i last c ≡ Err TooManyChunks
 unfolding outcome
-outcome_many key max i last c le = cond-true (nat_le max i) _ _ (le-leb max i le)
+outcome_many key max i last c le = rw (le-leb max i le) refl
 
 pub outcome_short : (key : Bytes) (max i : ℕ) (last : Bool) (c : Bytes) → i < max → length c < 16
     → outcome key max i last c ≡ Err (ChunkShort i)
 unfolding outcome
-outcome_short key max i last c lt short = cond-false (nat_le max i) _ _ (lt-leb max i lt)
-    ∙ cond-true (nat_lt (length c) 16) _ _ (lt-ltb (length c) 16 short)
+outcome_short key max i last c lt short = rw (lt-leb max i lt, lt-ltb (length c) 16 short) refl
 
 pub outcome_empty : (key : Bytes) (max i : ℕ) (last : Bool) (c : Bytes) → i < max → 16 ≤ length c
     → (last && nat_lt 0 i && nat_eq (length c) 16) ≡ true
     → outcome key max i last c ≡ Err (EmptyFinal i)
 unfolding outcome
 outcome_empty key max i last c lt some empty =
-    cond-false (nat_le max i) _ _ (lt-leb max i lt) ∙ cond-false (nat_lt (length c) 16) _ _ (le-ltb (length c) 16 some)
-    ∙ cond-true (last && nat_lt 0 i && nat_eq (length c) 16) _ _ empty
+    rw (lt-leb max i lt, le-ltb (length c) 16 some, empty) refl
 
 pub outcome_open : (key : Bytes) (max i : ℕ) (last : Bool) (c : Bytes) (o : Known) → i < max → 16 ≤ length c
     → (last && nat_lt 0 i && nat_eq (length c) 16) ≡ false
-    → opened key (chunk_nonce i last) [] c ≡ o → outcome key max i last c ≡ ok_or o (BadChunk i)
+    → opened_text key (chunk_nonce i last) [] c ≡ o → outcome key max i last c ≡ ok_or o (BadChunk i)
 unfolding outcome
 outcome_open key max i last c o lt some empty is =
-    cond-false (nat_le max i) _ _ (lt-leb max i lt) ∙ cond-false (nat_lt (length c) 16) _ _ (le-ltb (length c) 16 some)
-    ∙ cond-false (last && nat_lt 0 i && nat_eq (length c) 16) _ _ empty ∙ ap (λ x. ok_or x (BadChunk i)) is
+    rw (lt-leb max i lt, le-ltb (length c) 16 some, empty, is) refl

@@ -5,7 +5,7 @@ use Rattle.std.proofs.lemmas.List.{length-take-le, length-drop, drop-drop, take_
 use Rattle.age_kdf.specs.Bytes.{Bytes}
 use Rattle.age_header.specs.Device.{Known}
 use Rattle.age_stream.specs.declared.layout.Layout.{Layout}
-use Rattle.age_stream.specs.Ranges.{opens_to, first_to_open, is_kept, sealed_span}
+use Rattle.age_stream.specs.Ranges.{source_opening, first_to_open, is_kept, sealed_span}
 use Rattle.age_stream.specs.Slice.{opening, chunk_len, IsSlice}
 use Rattle.age_stream.specs.Sizes.{chunk_size}
 use Rattle.age_stream.proofs.SliceLemmas.{slice_on}
@@ -137,6 +137,6 @@ under_chunk at i is = omega arith
 
 -- what a chunk opens to, where source and layout are the same
 pub opens_moved : (told told2 : Known) (layout layout2 : Layout) (i : ℕ) (o : Known) → told ≡ told2 → layout ≡ layout2
-    → opens_to told layout i ≡ o → opens_to told2 layout2 i ≡ o
-opens_moved told told2 layout layout2 i o et el h = ap (λ t. opens_to t layout2 i) (sym et)
-    ∙ ap (λ (x : Layout). opens_to told x i) (sym el) ∙ h
+    → source_opening told layout i ≡ o → source_opening told2 layout2 i ≡ o
+opens_moved told told2 layout layout2 i o et el h = ap (λ t. source_opening t layout2 i) (sym et)
+    ∙ ap (λ (x : Layout). source_opening told x i) (sym el) ∙ h

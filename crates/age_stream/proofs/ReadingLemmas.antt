@@ -4,20 +4,20 @@ use Rattle.std.proofs.lemmas.Bool.{true≢false}
 use Rattle.std.proofs.lemmas.List.{take-append-drop, length-take-le, length-drop}
 use Rattle.age_kdf.specs.Bytes.{Bytes}
 use Rattle.age_stream.specs.declared.fault.StreamFault.{StreamFault}
-use Rattle.age_stream.specs.Cutting.{cut, cut_into}
+use Rattle.age_stream.specs.Cutting.{cut, cut_after}
 use Rattle.age_stream.specs.Payload.{pieces, is_end}
-use Rattle.age_stream.specs.Reading.{Reading, outcome, outcomes, first_fault, front, reading_from, stops}
+use Rattle.age_stream.specs.Reading.{Reading, outcome, outcomes, first_fault, plaintext_of, reading_from, stop}
 use Rattle.age_stream.specs.Sizes.{sealed_chunk_size}
 use Rattle.age_stream.proofs.CuttingLemmas.{cut_first, cut_last}
 
 -- nothing more to read
 abbrev pub ends : Reading StreamFault
-ends = record { front = []; fault = None }
+ends = record { plaintext = []; fault = None }
 
 -- what one piece gives, then what the rest gives
 abbrev pub then_read : Result Bytes StreamFault → Reading StreamFault → Reading StreamFault
-then_read (Ok text) rest = record { front = text ++ rest.front; fault = rest.fault }
-then_read (Err fault) rest = stops fault
+then_read (Ok text) rest = record { plaintext = text ++ rest.plaintext; fault = rest.fault }
+then_read (Err fault) rest = stop fault
 
 -- more than one list
 pub cut_step : (size : ℕ) (p : Bytes) → 0 < size → size < length p → cut size p ≡ take size p ∷ cut size (drop size p)
@@ -27,17 +27,17 @@ cut_step size p pos lt =
     ap (cut size) (sym (take-append-drop size p)) ∙ cut_first size (take size p) (drop size p) pos (omega arith) l
 
 -- a cut has a list
-pub is_end_cut : (size : ℕ) (held p : Bytes) → is_end (cut_into size held p) ≡ false
+pub is_end_cut : (size : ℕ) (held p : Bytes) → is_end (cut_after size held p) ≡ false
 is_end_cut size held [] = refl
 is_end_cut size held (x ∷ xs) =
     elim (nat_lt (length held) size) as (λ t. is_end
-    (cond t (cut_into size (held ++ x ∷ []) xs) (held ∷ cut_into size (x ∷ []) xs)) ≡ false) [
+    (cond t (cut_after size (held ++ x ∷ []) xs) (held ∷ cut_after size (x ∷ []) xs)) ≡ false) [
       | true ↦ is_end_cut size (held ++ x ∷ []) xs
       | false ↦ refl
     ]
 
-pub cut_some : (size : ℕ) (held p : Bytes) → 0 < length (cut_into size held p)
-cut_some size held p = go (cut_into size held p) (is_end_cut size held p)
+pub cut_some : (size : ℕ) (held p : Bytes) → 0 < length (cut_after size held p)
+cut_some size held p = go (cut_after size held p) (is_end_cut size held p)
   where
     go : (cs : List Bytes) → is_end cs ≡ false → 0 < length cs
     go [] e = absurd (true≢false e)
@@ -45,8 +45,8 @@ cut_some size held p = go (cut_into size held p) (is_end_cut size held p)
 
 -- the reading of some outcomes, in order
 reading_first : (r : Result Bytes StreamFault) (rs : List (Result Bytes StreamFault))
-    → record { front = front (r ∷ rs); fault = first_fault (r ∷ rs) }
-    ≡ then_read r (record { front = front rs; fault = first_fault rs })
+    → record { plaintext = plaintext_of (r ∷ rs); fault = first_fault (r ∷ rs) }
+    ≡ then_read r (record { plaintext = plaintext_of rs; fault = first_fault rs })
 reading_first (Ok p) rs = refl
 reading_first (Err f) rs = refl
 
@@ -54,7 +54,7 @@ reading_first (Err f) rs = refl
 pub reading_last : (key : Bytes) (max i : ℕ) (c : Bytes) → length c ≤ sealed_chunk_size
     → reading_from key max i c ≡ then_read (outcome key max i true c) ends
 reading_last key max i c le =
-    ap (λ cs. record { front = front (outcomes key max i cs); fault = first_fault (outcomes key max i cs) })
+    ap (λ cs. record { plaintext = plaintext_of (outcomes key max i cs); fault = first_fault (outcomes key max i cs) })
     (cut_last sealed_chunk_size c le)
     ∙ reading_first (outcome key max i true c) []
 
@@ -63,7 +63,7 @@ pub reading_more : (key : Bytes) (max i : ℕ) (c : Bytes) → sealed_chunk_size
     → reading_from key max i c ≡ then_read (outcome key max i false (take sealed_chunk_size c))
     (reading_from key max (i + 1) (drop sealed_chunk_size c))
 reading_more key max i c lt =
-    ap (λ cs. record { front = front (outcomes key max i cs); fault = first_fault (outcomes key max i cs) })
+    ap (λ cs. record { plaintext = plaintext_of (outcomes key max i cs); fault = first_fault (outcomes key max i cs) })
     (cut_step sealed_chunk_size c (omega arith) lt)
     ∙ reading_first (outcome key max i (is_end (pieces (drop sealed_chunk_size c))) (take sealed_chunk_size c))
     (outcomes key max (i + 1) (pieces (drop sealed_chunk_size c)))

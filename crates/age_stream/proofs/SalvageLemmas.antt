@@ -6,7 +6,7 @@ use Rattle.std.proofs.KnownBytes.{Appends-trans, Appends-nil}
 use Rattle.std.proofs.lemmas.Bool.{le-leb, lt-leb, cases_lt}
 use Rattle.std.proofs.lemmas.List.{drop-append-le, take_all, take_at, drop_at, take-append-le, length-take-le, length-drop}
 use Rattle.age_kdf.specs.Bytes.{Bytes}
-use Rattle.age_header.specs.Device.{Gave, GaveSome, Known, OfGiven, Seen, WritesPart, flow, moved}
+use Rattle.age_header.specs.Device.{Gave, GaveSome, Known, OfGiven, Seen, WritesPart, flow, move_of}
 use Rattle.age_header.specs.declared.file_key.FileKey.{FileKey}
 use Rattle.age_header.specs.Filling.{Filled}
 use Rattle.age_header.proofs.DeviceLemmas.{done_part, gave_more, gave_none, gave_then, of_any, of_ended, of_map, of_more, of_then}
@@ -16,37 +16,38 @@ use Rattle.age_stream.specs.declared.salvaged.Lost.{Lost}
 use Rattle.age_stream.specs.declared.salvaged.Salvaged.{Salvaged}
 use Rattle.age_stream.specs.declared.salvaged.Saved.{Saved}
 use Rattle.age_stream.specs.declared.salvaged.Saved.TheVariants.{Nothing, Zeros, Chunk, LastChunk}
-use Rattle.age_cipher.specs.Sealing.{opened}
-use Rattle.age_cipher.proofs.OpeningLemmas.{length-sealed, opened_is}
+use Rattle.age_cipher.specs.Sealing.{opened_text}
+use Rattle.age_cipher.proofs.OpeningLemmas.{length-sealed_text, opened_is}
 use Rattle.age_stream.specs.Opening.{EndsAt, GivesNonce}
 use Rattle.age_stream.specs.Payload.{chunk_nonce, payload_key, pieces}
-use Rattle.age_stream.specs.Reading.{opened_at}
-use Rattle.age_stream.specs.Salvage.{EndsSaving, KnownLosses, Part, ReadsAhead, Reports, Salvages, SavesParts, SavesPayload, first_part, last_saved, loss, losses, lost_part, opening_or, part, parts, payload_parts, salvaged, summary, told, with_part}
+use Rattle.age_stream.specs.Reading.{piece_opening}
+use Rattle.age_stream.specs.Salvage.{EndsSaving, KnownLosses, Part, ReadsAhead, Reports, Salvages, SavesParts, SavesPayload, first_part, last_saved, loss, losses, lost_part, opening_or, part, parts, payload_parts, salvaged_text, summary, losses_of, with_part}
+use Rattle.age_stream.specs.Sizes.{chunk_size, sealed_chunk_size, chunk_buf_size}
 use Rattle.age_stream.proofs.CuttingLemmas.{cut_last}
 use Rattle.age_stream.proofs.ReadingLemmas.{cut_some, cut_step, is_end_cut}
 
 -- ---- one part
 
-opened_short : (key nonce c : Bytes) → length c < 16 → opened key nonce [] c ≡ None
-opened_short key nonce c short = go (opened key nonce [] c) refl
+opened_short : (key nonce c : Bytes) → length c < 16 → opened_text key nonce [] c ≡ None
+opened_short key nonce c short = go (opened_text key nonce [] c) refl
   where
-    go : (o : Known) → opened key nonce [] c ≡ o → opened key nonce [] c ≡ None
+    go : (o : Known) → opened_text key nonce [] c ≡ o → opened_text key nonce [] c ≡ None
     go None e = e
     go (Some t) e =
         let l : length c ≡ length t + 16 = ap length (sym ((opened_is key nonce [] c t).0 e))
-        ∙ length-sealed key nonce [] t in
+        ∙ length-sealed_text key nonce [] t in
         absurd (omega arith)
 
-pub part-opened : (key : Bytes) (i : ℕ) (last : Bool) (c t : Bytes) → opened_at key i last c ≡ Some t
+pub part-opened : (key : Bytes) (i : ℕ) (last : Bool) (c t : Bytes) → piece_opening key i last c ≡ Some t
     → part key i last c ≡ record { text = t; saved = cond last LastChunk Chunk }
 part-opened key i last c t is =
-    ap (λ x. opening_or last x (opening_or (not last) (opened_at key i (not last) c) (lost_part c))) is
+    ap (λ x. opening_or last x (opening_or (not last) (piece_opening key i (not last) c) (lost_part c))) is
 
-pub part_other : (key : Bytes) (i : ℕ) (last : Bool) (c t : Bytes) → opened_at key i last c ≡ None
-    → opened_at key i (not last) c ≡ Some t
+pub part_other : (key : Bytes) (i : ℕ) (last : Bool) (c t : Bytes) → piece_opening key i last c ≡ None
+    → piece_opening key i (not last) c ≡ Some t
     → part key i last c ≡ record { text = t; saved = cond last Chunk LastChunk }
 part_other key i last c t none is =
-    ap (λ x. opening_or last x (opening_or (not last) (opened_at key i (not last) c) (lost_part c))) none
+    ap (λ x. opening_or last x (opening_or (not last) (piece_opening key i (not last) c) (lost_part c))) none
     ∙ ap (λ x. opening_or (not last) x (lost_part c)) is ∙ flag last
   where
     flag : (b : Bool) → ◌≡◌ {A = Part} (record { text = t; saved = cond (not b) LastChunk Chunk })
@@ -54,10 +55,10 @@ part_other key i last c t none is =
     flag true = refl
     flag false = refl
 
-part_lost : (key : Bytes) (i : ℕ) (last : Bool) (c : Bytes) → opened_at key i last c ≡ None
-    → opened_at key i (not last) c ≡ None → part key i last c ≡ lost_part c
+part_lost : (key : Bytes) (i : ℕ) (last : Bool) (c : Bytes) → piece_opening key i last c ≡ None
+    → piece_opening key i (not last) c ≡ None → part key i last c ≡ lost_part c
 part_lost key i last c none other =
-    ap (λ x. opening_or last x (opening_or (not last) (opened_at key i (not last) c) (lost_part c))) none
+    ap (λ x. opening_or last x (opening_or (not last) (piece_opening key i (not last) c) (lost_part c))) none
     ∙ ap (λ x. opening_or (not last) x (lost_part c)) other
 
 pub part_short : (key : Bytes) (i : ℕ) (last : Bool) (c : Bytes) (end : ℕ) (bytes : Bytes) → length c ≡ end → end < 16
@@ -72,7 +73,7 @@ part_short key i last c end bytes len short =
     ∙ ap (λ n. record { text = take n bytes; saved = Nothing }) (sym nothing)
 
 pub part-zeros : (key : Bytes) (i : ℕ) (last : Bool) (c : Bytes) (end : ℕ) (text : Bytes)
-    → opened_at key i last c ≡ None → opened_at key i (not last) c ≡ None → length c ≡ end
+    → piece_opening key i last c ≡ None → piece_opening key i (not last) c ≡ None → length c ≡ end
     → text ≡ replicate (end - 16) 0
     → part key i last c ≡ record { text = text; saved = cond (nat_le end 16) Nothing Zeros }
 part-zeros key i last c end text none other len zeros =
@@ -83,40 +84,43 @@ part-zeros key i last c end text none other len zeros =
 -- ---- the parts of what follows the nonce
 
 -- the last piece
-pub parts_last : (key : Bytes) (i : ℕ) (c : Bytes) → length c ≤ 65552
+pub parts_last : (key : Bytes) (i : ℕ) (c : Bytes) → length c ≤ sealed_chunk_size
     → parts key i (pieces c) ≡ first_part key i c ∷ []
 parts_last key i c le =
-    ap (parts key i) (cut_last 65552 c le)
-    ∙ ap (λ b. part key i b c ∷ []) (sym (le-leb (length c) 65552 le))
-    ∙ ap (λ t. part key i (nat_le (length c) 65552) t ∷ []) (sym (take_all 65552 c le))
+    ap (parts key i) (cut_last sealed_chunk_size c le)
+    ∙ ap (λ b. part key i b c ∷ []) (sym (le-leb (length c) sealed_chunk_size le))
+    ∙ ap (λ t. part key i (nat_le (length c) sealed_chunk_size) t ∷ []) (sym (take_all sealed_chunk_size c le))
 
 -- a piece with more after it
-pub parts_more : (key : Bytes) (i : ℕ) (c : Bytes) → 65552 < length c
-    → parts key i (pieces c) ≡ first_part key i c ∷ parts key (i + 1) (pieces (drop 65552 c))
+pub parts_more : (key : Bytes) (i : ℕ) (c : Bytes) → sealed_chunk_size < length c
+    → parts key i (pieces c) ≡ first_part key i c ∷ parts key (i + 1) (pieces (drop sealed_chunk_size c))
 parts_more key i c lt =
-    ap (parts key i) (cut_step 65552 c (omega arith) lt)
-    ∙ ap (λ b. part key i b (take 65552 c) ∷ parts key (i + 1) (pieces (drop 65552 c)))
-    (is_end_cut 65552 [] (drop 65552 c) ∙ sym (lt-leb (length c) 65552 lt))
+    ap (parts key i) (cut_step sealed_chunk_size c (omega arith) lt)
+    ∙ ap (λ b. part key i b (take sealed_chunk_size c) ∷ parts key (i + 1) (pieces (drop sealed_chunk_size c)))
+    (is_end_cut sealed_chunk_size [] (drop sealed_chunk_size c) ∙ sym (lt-leb (length c) sealed_chunk_size lt))
 
 -- the same whatever follows
-pub parts_next : (key : Bytes) (i : ℕ) (c d : Bytes) → 65552 < length c
-    → parts key i (pieces (c ++ d)) ≡ first_part key i c ∷ parts key (i + 1) (pieces (drop 65552 c ++ d))
+pub parts_next : (key : Bytes) (i : ℕ) (c d : Bytes) → sealed_chunk_size < length c
+    → parts key i (pieces (c ++ d)) ≡ first_part key i c ∷ parts key (i + 1) (pieces (drop sealed_chunk_size c ++ d))
 parts_next key i c d lt =
     let l : length (c ++ d) ≡ length c + length d = length-append c d in
-    let far : nat_le (length (c ++ d)) 65552 ≡ false = lt-leb (length (c ++ d)) 65552 (omega arith) in
-    let no : nat_le (length c) 65552 ≡ false = lt-leb (length c) 65552 lt in
+    let far : nat_le (length (c ++ d)) sealed_chunk_size ≡ false =
+    lt-leb (length (c ++ d)) sealed_chunk_size (omega arith) in
+    let no : nat_le (length c) sealed_chunk_size ≡ false = lt-leb (length c) sealed_chunk_size lt in
     parts_more key i (c ++ d) (omega arith)
-    ∙ ap (λ b. part key i b (take 65552 (c ++ d)) ∷ parts key (i + 1) (pieces (drop 65552 (c ++ d)))) (far ∙ sym no)
-    ∙ ap (λ t. part key i (nat_le (length c) 65552) t ∷ parts key (i + 1) (pieces (drop 65552 (c ++ d))))
-    (take-append-le 65552 c d (omega arith))
-    ∙ ap (λ t. first_part key i c ∷ parts key (i + 1) (pieces t)) (drop-append-le 65552 c d (omega arith))
+    ∙ ap (λ b. part key i b (take sealed_chunk_size (c ++ d)) ∷ parts key (i + 1) (pieces (drop sealed_chunk_size (c
+    ++ d)))) (far ∙ sym no)
+    ∙ ap (λ t. part key i (nat_le (length c) sealed_chunk_size) t ∷ parts key (i + 1) (pieces (drop sealed_chunk_size (c
+    ++ d))))
+    (take-append-le sealed_chunk_size c d (omega arith))
+    ∙ ap (λ t. first_part key i c ∷ parts key (i + 1) (pieces t)) (drop-append-le sealed_chunk_size c d (omega arith))
 
 -- the first part, where the piece is whole
-pub parts_first : (key : Bytes) (i : ℕ) (c d : Bytes) → (65552 < length c) ⊎ (d ≡ [])
+pub parts_first : (key : Bytes) (i : ℕ) (c d : Bytes) → (sealed_chunk_size < length c) ⊎ (d ≡ [])
     → (more : List Part) × (parts key i (pieces (c ++ d)) ≡ first_part key i c ∷ more)
-parts_first key i c d (inl lt) = (parts key (i + 1) (pieces (drop 65552 c ++ d)), parts_next key i c d lt)
-parts_first key i c d (inr none) = elim (cases_lt 65552 (length c)) [
-  | inl lt ↦ (parts key (i + 1) (pieces (drop 65552 c ++ d)), parts_next key i c d lt)
+parts_first key i c d (inl lt) = (parts key (i + 1) (pieces (drop sealed_chunk_size c ++ d)), parts_next key i c d lt)
+parts_first key i c d (inr none) = elim (cases_lt sealed_chunk_size (length c)) [
+  | inl lt ↦ (parts key (i + 1) (pieces (drop sealed_chunk_size c ++ d)), parts_next key i c d lt)
   | inr le ↦ ([], ap (λ t. parts key i (pieces t)) (ap (λ t. c ++ t) none ∙ append-nil c) ∙ parts_last key i c le)
 ]
 
@@ -125,17 +129,17 @@ length-parts key i [] = refl
 length-parts key i (c ∷ cs) = ap suc (length-parts key (i + 1) cs)
 
 pub parts_some : (key : Bytes) (i : ℕ) (c : Bytes) → 0 < length (parts key i (pieces c))
-parts_some key i c = omega (arith, length-parts key i (pieces c), cut_some 65552 [] c)
+parts_some key i c = omega (arith, length-parts key i (pieces c), cut_some sealed_chunk_size [] c)
 
 -- ---- one part more
 
-pub salvaged_append : (xs ys : List Part) → salvaged (xs ++ ys) ≡ salvaged xs ++ salvaged ys
+pub salvaged_append : (xs ys : List Part) → salvaged_text (xs ++ ys) ≡ salvaged_text xs ++ salvaged_text ys
 salvaged_append [] ys = refl
 salvaged_append (x ∷ xs) ys =
-    ap (λ t. x.text ++ t) (salvaged_append xs ys) ∙ sym (append_assoc x.text (salvaged xs) (salvaged ys))
+    ap (λ t. x.text ++ t) (salvaged_append xs ys) ∙ sym (append_assoc x.text (salvaged_text xs) (salvaged_text ys))
 
-pub salvaged_snoc : (xs : List Part) (y : Part) → salvaged (xs ++ y ∷ []) ≡ salvaged xs ++ y.text
-salvaged_snoc xs y = salvaged_append xs (y ∷ []) ∙ ap (λ t. salvaged xs ++ t) (append-nil y.text)
+pub salvaged_snoc : (xs : List Part) (y : Part) → salvaged_text (xs ++ y ∷ []) ≡ salvaged_text xs ++ y.text
+salvaged_snoc xs y = salvaged_append xs (y ∷ []) ∙ ap (λ t. salvaged_text xs ++ t) (append-nil y.text)
 
 lost_at : (s : Saved) (i j a b len : ℕ) → i ≡ j → a ≡ b
     → loss s (record { chunk = i; start = a; len = len }) ≡ loss s (record { chunk = j; start = b; len = len })
@@ -144,21 +148,22 @@ lost_at s i j a b len e f = ap (λ k. loss s (record { chunk = k; start = a; len
 
 pub losses_snoc : (i at : ℕ) (xs : List Part) (y : Part)
     → losses i at (xs ++ y ∷ []) ≡ losses i at xs
-    ++ loss y.saved (record { chunk = i + length xs; start = at + length (salvaged xs); len = length y.text })
+    ++ loss y.saved (record { chunk = i + length xs; start = at + length (salvaged_text xs); len = length y.text })
 losses_snoc i at [] y = append-nil (loss y.saved (record { chunk = i; start = at; len = length y.text }))
     ∙ lost_at y.saved i (i + 0) at (at + 0) (length y.text) (omega arith) (omega arith)
 losses_snoc i at (x ∷ xs) y =
     let first : List Lost = loss x.saved (record { chunk = i; start = at; len = length x.text }) in
     let rest : List Lost = losses (i + 1) (at + length x.text) xs in
-    let l : length (x.text ++ salvaged xs) ≡ length x.text + length (salvaged xs) =
-    length-append x.text (salvaged xs) in
+    let l : length (x.text ++ salvaged_text xs) ≡ length x.text + length (salvaged_text xs) =
+    length-append x.text (salvaged_text xs) in
     ap (λ t. first ++ t) (losses_snoc (i + 1) (at + length x.text) xs y)
     ∙ ap (λ t. first ++ (rest ++ t)) (lost_at y.saved (i + 1 + length xs) (i + length (x ∷ xs))
-    (at + length x.text + length (salvaged xs)) (at + length (salvaged (x ∷ xs))) (length y.text) (omega arith)
+    (at + length x.text + length (salvaged_text xs)) (at + length (salvaged_text (x ∷ xs))) (length y.text)
+    (omega arith)
     (omega arith))
     ∙ sym (append_assoc first rest (loss y.saved (record {
       chunk = i + length (x ∷ xs);
-      start = at + length (salvaged (x ∷ xs));
+      start = at + length (salvaged_text (x ∷ xs));
       len = length y.text;
     })))
 
@@ -169,12 +174,12 @@ last_snoc (x ∷ z ∷ xs) y = last_snoc (z ∷ xs) y
 
 -- ---- what was reported
 
-pub reports_none : (a : KnownLosses) → Reports (told a a) []
+pub reports_none : (a : KnownLosses) → Reports (losses_of a a) []
 reports_none None = tt
 reports_none (Some past) = ap Some (sym (append-nil past))
 
-pub reports_then : (a b c : KnownLosses) (xs ys : List Lost) → Reports (told a b) xs → Reports (told b c) ys
-    → Reports (told a c) (xs ++ ys)
+pub reports_then : (a b c : KnownLosses) (xs ys : List Lost) → Reports (losses_of a b) xs → Reports (losses_of b c) ys
+    → Reports (losses_of a c) (xs ++ ys)
 reports_then None b c xs ys g h = tt
 reports_then (Some past) b c xs ys g h =
     let next : c ≡ Some ((past ++ xs) ++ ys) = subst (λ (x : KnownLosses). IfSome x (λ p. c ≡ Some (p ++ ys))) g h in
@@ -185,7 +190,8 @@ reports_then (Some past) b c xs ys g h =
 -- what filling the buffer after the byte that was held leaves there
 pub reads_ahead : {E : Type 0} (r : Result ℕ E) (ahead : ℕ) {held : Bytes} (carried after : Bytes) (now next : Seen)
     → IfOk r (λ n. Filled ahead n carried after (flow now next))
-    → IfOk r (λ n. n < length carried → IsAtEnd next.to_come) → take ahead carried ≡ held → length carried ≡ 65553
+    → IfOk r (λ n. n < length carried → IsAtEnd next.to_come) → take ahead carried ≡ held → length carried
+    ≡ chunk_buf_size
     → IfOk r (λ n. ReadsAhead held n after (flow now next))
 reads_ahead (Ok n) ahead carried after now next f end is size = record {
   given = f.piece;
@@ -199,34 +205,38 @@ reads_ahead (Err e) ahead carried after now next f end is size = tt
 -- the first piece, where no byte follows it
 pub first_last : (key : Bytes) (i : ℕ) {n len : ℕ} {bytes : Bytes} (piece new rest : Bytes) {saved : Saved}
     → bytes ≡ piece ++ rest
-    → length piece ≡ 65552 → n ≤ 65552 → length new ≡ length piece → len ≡ n - 16
+    → length piece ≡ sealed_chunk_size → n ≤ sealed_chunk_size → length new ≡ length piece → len ≡ n - 16
     → part key i true (take n piece) ≡ record { text = take (n - 16) new; saved = saved }
     → first_part key i (take n bytes) ≡ record { text = take len (new ++ rest); saved = saved }
 first_last key i {n} {bytes} piece new rest {saved} is whole le same wide found =
     let cut : take n bytes ≡ take n piece = ap (take n) is ∙ take-append-le n piece rest (omega arith) in
     let l : length (take n bytes) ≡ n = ap length cut ∙ length-take-le n piece (omega arith) in
-    ap (λ b. part key i b (take 65552 (take n bytes))) (le-leb (length (take n bytes)) 65552 (omega arith))
-    ∙ ap (part key i true) (take_all 65552 (take n bytes) (omega arith) ∙ cut) ∙ found
+    ap (λ b. part key i b (take sealed_chunk_size (take n bytes))) (le-leb (length (take n bytes)) sealed_chunk_size
+    (omega arith))
+    ∙ ap (part key i true) (take_all sealed_chunk_size (take n bytes) (omega arith) ∙ cut) ∙ found
     ∙ ap (λ t. record { text = t; saved = saved }) (sym (take-append-le (n - 16) new rest (omega arith)))
     ∙ ap (λ k. record { text = take k (new ++ rest); saved = saved }) (sym wide)
 
 -- the same with a byte after it
 pub first_more : (key : Bytes) (i n : ℕ) (bytes piece new rest : Bytes) (saved : Saved) → bytes ≡ piece ++ rest
-    → length piece ≡ 65552 → length bytes ≡ 65553 → 65552 < n → n ≤ 65553 → length new ≡ length piece
-    → part key i false (take 65552 piece) ≡ record { text = take 65536 new; saved = saved }
-    → first_part key i (take n bytes) ≡ record { text = take 65536 (new ++ rest); saved = saved }
+    → length piece ≡ sealed_chunk_size → length bytes ≡ chunk_buf_size → sealed_chunk_size < n → n ≤ chunk_buf_size
+    → length new ≡ length piece
+    → part key i false (take sealed_chunk_size piece) ≡ record { text = take chunk_size new; saved = saved }
+    → first_part key i (take n bytes) ≡ record { text = take chunk_size (new ++ rest); saved = saved }
 first_more key i n bytes piece new rest saved is whole size lt le same found =
     let all : take n bytes ≡ bytes = take_all n bytes (omega arith) in
     ap (first_part key i) all
-    ∙ ap (λ b. part key i b (take 65552 bytes)) (lt-leb (length bytes) 65552 (omega arith))
-    ∙ ap (part key i false) (ap (take 65552) is ∙ take-append-le 65552 piece rest (omega arith)) ∙ found
-    ∙ ap (λ t. record { text = t; saved = saved }) (sym (take-append-le 65536 new rest (omega arith)))
+    ∙ ap (λ b. part key i b (take sealed_chunk_size bytes)) (lt-leb (length bytes) sealed_chunk_size (omega arith))
+    ∙ ap (part key i false) (ap (take sealed_chunk_size) is ∙ take-append-le sealed_chunk_size piece rest (omega arith))
+    ∙ found
+    ∙ ap (λ t. record { text = t; saved = saved }) (sym (take-append-le chunk_size new rest (omega arith)))
 
 -- what follows the piece is as it was
-pub first_rest : (bytes piece new rest : Bytes) → bytes ≡ piece ++ rest → length piece ≡ 65552
-    → length new ≡ length piece → drop 65552 (new ++ rest) ≡ drop 65552 bytes
+pub first_rest : (bytes piece new rest : Bytes) → bytes ≡ piece ++ rest → length piece ≡ sealed_chunk_size
+    → length new ≡ length piece → drop sealed_chunk_size (new ++ rest) ≡ drop sealed_chunk_size bytes
 first_rest bytes piece new rest is whole same =
-    drop_at new rest 65552 (omega arith) ∙ sym (ap (drop 65552) is ∙ drop_at piece rest 65552 (omega arith))
+    drop_at new rest sealed_chunk_size (omega arith) ∙ sym (ap (drop sealed_chunk_size) is
+    ∙ drop_at piece rest sealed_chunk_size (omega arith))
 
 -- one more was counted
 pub counted : (s : Salvaged) {t : Salvaged} (len : ℕ) {saved : Saved} → t ≡ with_part s len saved
@@ -240,24 +250,24 @@ counted s len is =
 -- piece.
 pub record Salvaging (key : Bytes) (s : Salvaged) (ahead : Bytes) (from now : Seen) (old new : Known)
     (before after : KnownLosses) : Type 0 where
-  pub front : List Part
+  pub done : List Part
   pub given : Bytes
   pub gave : Gave (flow from now) given
-  pub reads : (d : Bytes) → parts key 0 (pieces (given ++ d)) ≡ front ++ parts key s.chunks (pieces (ahead ++ d))
-  pub written : Appends old new (salvaged front)
-  pub reported : Reports (told before after) (losses 0 0 front)
-  pub bytes : s.bytes ≡ length (salvaged front)
-  pub chunks : s.chunks ≡ length front
-  pub lost : s.lost ≡ length (losses 0 0 front)
-  pub full : s.bytes ≡ 65536 * s.chunks
+  pub reads : (d : Bytes) → parts key 0 (pieces (given ++ d)) ≡ done ++ parts key s.chunks (pieces (ahead ++ d))
+  pub written : Appends old new (salvaged_text done)
+  pub reported : Reports (losses_of before after) (losses 0 0 done)
+  pub bytes : s.bytes ≡ length (salvaged_text done)
+  pub chunks : s.chunks ≡ length done
+  pub lost : s.lost ≡ length (losses 0 0 done)
+  pub full : s.bytes ≡ chunk_size * s.chunks
   pub lost_bound : s.lost ≤ s.chunks
-  pub read : length given ≡ 65552 * s.chunks + length ahead
+  pub read : length given ≡ sealed_chunk_size * s.chunks + length ahead
   pub short : length ahead ≤ 1
 
 pub salvaging_none : {key : Bytes} {s : Salvaged} {ahead : Bytes} {from : Seen} {old : Known} {before : KnownLosses}
     → s.bytes ≡ 0 → s.chunks ≡ 0 → s.lost ≡ 0 → ahead ≡ [] → Salvaging key s ahead from from old old before before
 salvaging_none {key} {ahead} {from} {old} {before} bytes chunks lost none = record {
-  front = [];
+  done = [];
   given = [];
   gave = gave_none;
   reads = λ d. ap (λ t. parts key 0 (pieces (t ++ d))) (sym none)
@@ -280,28 +290,28 @@ loss_len LastChunk lost = omega arith
 loss_len Nothing lost = omega arith
 
 -- the summary of the parts so far and one more
-snoc_summary : (front : List Part) (s : Salvaged) (y : Part) → s.bytes ≡ length (salvaged front)
-    → s.chunks ≡ length front → s.lost ≡ length (losses 0 0 front)
-    → with_part s (length y.text) y.saved ≡ summary (front ++ y ∷ [])
-snoc_summary front s y bytes chunks lost =
+snoc_summary : (done : List Part) (s : Salvaged) (y : Part) → s.bytes ≡ length (salvaged_text done)
+    → s.chunks ≡ length done → s.lost ≡ length (losses 0 0 done)
+    → with_part s (length y.text) y.saved ≡ summary (done ++ y ∷ [])
+snoc_summary done s y bytes chunks lost =
     let one : List Lost = loss y.saved (record { chunk = s.chunks; start = s.bytes; len = length y.text }) in
-    let text : length (salvaged (front ++ y ∷ [])) ≡ length (salvaged front) + length y.text =
-    ap length (salvaged_snoc front y) ∙ length-append (salvaged front) y.text in
-    let all : losses 0 0 (front ++ y ∷ []) ≡ losses 0 0 front ++ one =
-    losses_snoc 0 0 front y ∙ ap (λ t. losses 0 0 front ++ t)
-    (lost_at y.saved (0 + length front) s.chunks (0 + length (salvaged front)) s.bytes (length y.text) (omega arith)
+    let text : length (salvaged_text (done ++ y ∷ [])) ≡ length (salvaged_text done) + length y.text =
+    ap length (salvaged_snoc done y) ∙ length-append (salvaged_text done) y.text in
+    let all : losses 0 0 (done ++ y ∷ []) ≡ losses 0 0 done ++ one =
+    losses_snoc 0 0 done y ∙ ap (λ t. losses 0 0 done ++ t)
+    (lost_at y.saved (0 + length done) s.chunks (0 + length (salvaged_text done)) s.bytes (length y.text) (omega arith)
     (omega arith)) in
-    let count : length (losses 0 0 (front ++ y ∷ [])) ≡ length (losses 0 0 front) + length one =
-    ap length all ∙ length-append (losses 0 0 front) one in
-    let b : s.bytes + length y.text ≡ length (salvaged (front ++ y ∷ [])) = omega arith in
-    let n : s.chunks + 1 ≡ length (front ++ y ∷ []) = omega (arith, length-append front (y ∷ [])) in
-    let m : s.lost + length one ≡ length (losses 0 0 (front ++ y ∷ [])) = omega arith in
-    same (s.bytes + length y.text) _ (s.chunks + 1) _ (s.lost + length one) _ y.saved _ b n m (sym (last_snoc front y))
+    let count : length (losses 0 0 (done ++ y ∷ [])) ≡ length (losses 0 0 done) + length one =
+    ap length all ∙ length-append (losses 0 0 done) one in
+    let b : s.bytes + length y.text ≡ length (salvaged_text (done ++ y ∷ [])) = omega arith in
+    let n : s.chunks + 1 ≡ length (done ++ y ∷ []) = omega (arith, length-append done (y ∷ [])) in
+    let m : s.lost + length one ≡ length (losses 0 0 (done ++ y ∷ [])) = omega arith in
+    same b n m (sym (last_snoc done y))
   where
-    same : (a b c d e f : ℕ) (g h : Saved) → a ≡ b → c ≡ d → e ≡ f → g ≡ h
+    same : {a b c d e f : ℕ} {g h : Saved} → a ≡ b → c ≡ d → e ≡ f → g ≡ h
         → ◌≡◌ {A = Salvaged} (record { bytes = a; chunks = c; lost = e; last = g })
         (record { bytes = b; chunks = d; lost = f; last = h })
-    same a b c d e f g h p q r t = cc
+    same p q r t = cc
 
 -- the piece that was read: what was held, and what the source then gave
 abbrev pub read_bytes : (held : Bytes) (n : ℕ) (after : Bytes) (now next : Seen)
@@ -309,9 +319,9 @@ abbrev pub read_bytes : (held : Bytes) (n : ℕ) (after : Bytes) (now next : See
 read_bytes held n after now next r = held ++ r.given
 
 -- the whole text of the parts so far, the next and those that follow
-text_next : (front more : List Part) (y : Part)
-    → salvaged (front ++ y ∷ more) ≡ salvaged front ++ (y.text ++ salvaged more)
-text_next front more y = salvaged_append front (y ∷ more)
+text_next : (done more : List Part) (y : Part)
+    → salvaged_text (done ++ y ∷ more) ≡ salvaged_text done ++ (y.text ++ salvaged_text more)
+text_next done more y = salvaged_append done (y ∷ more)
 
 -- ---- the ends
 
@@ -319,19 +329,19 @@ text_next front more y = salvaged_append front (y ∷ more)
 pub saves_many : {key : Bytes} {max : ℕ} {s : Salvaged} {ahead : Bytes} {from now : Seen} {old new : Known}
     {before after : KnownLosses} → Salvaging key s ahead from now old new before after → s.chunks ≡ max
     → OfGiven (flow from now)
-    (λ rest. SavesParts max (parts key 0 (pieces rest)) (moved old new) (told before after) (Err TooManyChunks))
+    (λ rest. SavesParts max (parts key 0 (pieces rest)) (move_of old new) (losses_of before after) (Err TooManyChunks))
 saves_many {key} {max} {s} {ahead} {from} {now} {old} {new} {before} {after} o full =
     of_more o.gave (λ d end.
     let more : List Part = parts key s.chunks (pieces (ahead ++ d)) in
     let some : 0 < length more = parts_some key s.chunks (ahead ++ d) in
-    let len : length (parts key 0 (pieces (o.given ++ d))) ≡ length o.front + length more =
-    ap length (o.reads d) ∙ length-append o.front more in
-    let first : take max (parts key 0 (pieces (o.given ++ d))) ≡ o.front =
-    ap (take max) (o.reads d) ∙ take_at o.front more max (omega (arith, o.chunks)) in (
+    let len : length (parts key 0 (pieces (o.given ++ d))) ≡ length o.done + length more =
+    ap length (o.reads d) ∙ length-append o.done more in
+    let first : take max (parts key 0 (pieces (o.given ++ d))) ≡ o.done =
+    ap (take max) (o.reads d) ∙ take_at o.done more max (omega (arith, o.chunks)) in (
       omega (arith, o.chunks),
       (
-        subst (λ x. Appends old new (salvaged x)) (sym first) o.written,
-        subst (λ x. Reports (told before after) (losses 0 0 x)) (sym first) o.reported,
+        subst (λ x. Appends old new (salvaged_text x)) (sym first) o.written,
+        subst (λ x. Reports (losses_of before after) (losses 0 0 x)) (sym first) o.reported,
       ),
     ))
 
@@ -339,30 +349,30 @@ saves_many {key} {max} {s} {ahead} {from} {now} {old} {new} {before} {after} o f
 pub saves_read : {key : Bytes} (max : ℕ) {s : Salvaged} {ahead : Bytes} {from now next : Seen} {old new : Known}
     {before after : KnownLosses} → Salvaging key s ahead from now old new before after → GaveSome (flow now next)
     → OfGiven (flow from next)
-    (λ rest. SavesParts max (parts key 0 (pieces rest)) (moved old new) (told before after) (Err Read))
+    (λ rest. SavesParts max (parts key 0 (pieces rest)) (move_of old new) (losses_of before after) (Err Read))
 saves_read {key} max {s} {ahead} {from} {now} {next} {old} {new} {before} {after} o some =
     of_then o.gave (of_any some so) (λ d h. h)
   where
-    so : (d : Bytes) → SavesParts max (parts key 0 (pieces (o.given ++ d))) (moved old new) (told before after)
+    so : (d : Bytes) → SavesParts max (parts key 0 (pieces (o.given ++ d))) (move_of old new) (losses_of before after)
         (Err Read)
     so d =
         let more : List Part = parts key s.chunks (pieces (ahead ++ d)) in
-        let first : take s.chunks (parts key 0 (pieces (o.given ++ d))) ≡ o.front =
-        ap (take s.chunks) (o.reads d) ∙ take_at o.front more s.chunks (omega (arith, o.chunks)) in (
+        let first : take s.chunks (parts key 0 (pieces (o.given ++ d))) ≡ o.done =
+        ap (take s.chunks) (o.reads d) ∙ take_at o.done more s.chunks (omega (arith, o.chunks)) in (
           s.chunks,
           (
-            subst (λ x. Appends old new (salvaged x)) (sym first) o.written,
-            subst (λ x. Reports (told before after) (losses 0 0 x)) (sym first) o.reported,
+            subst (λ x. Appends old new (salvaged_text x)) (sym first) o.written,
+            subst (λ x. Reports (losses_of before after) (losses 0 0 x)) (sym first) o.reported,
           ),
         )
 
 -- there the pieces that are allowed were read, and one byte
 pub ends_many : {key : Bytes} {max : ℕ} {s : Salvaged} {ahead : Bytes} {from now : Seen} {old new : Known}
     {before after : KnownLosses} → Salvaging key s ahead from now old new before after → s.chunks ≡ max
-    → EndsAt max 0 (flow from now) (moved old new) TooManyChunks
+    → EndsAt max 0 (flow from now) (move_of old new) TooManyChunks
 ends_many {s} o full = record {
   piece = s.chunks;
-  text = salvaged o.front;
+  text = salvaged_text o.done;
   written = o.written;
   at = inr full;
   gave = (o.given, o.gave, omega (arith, o.read, o.short));
@@ -372,15 +382,16 @@ ends_many {s} o full = record {
 pub ends_write : {key : Bytes} {max : ℕ} {s : Salvaged} {held : Bytes} {n : ℕ} {buf : Bytes} (text : Bytes)
     {from now next : Seen} {old mid new : Known} {before after : KnownLosses}
     → Salvaging key s held from now old mid before after → (r : ReadsAhead held n buf (flow now next))
-    → length buf ≡ 65553 → WritesPart (moved mid new) text → EndsAt max 0 (flow from next) (moved old new) Write
+    → length buf ≡ chunk_buf_size → WritesPart (move_of mid new) text
+    → EndsAt max 0 (flow from next) (move_of old new) Write
 ends_write {s} {held} {n} {buf} text {from} {now} {next} {old} {mid} {new} o r size part =
     let l : length (held ++ r.given) ≡ n = ap length (sym r.is) ∙ length-take-le n buf (omega (arith, r.room)) in
     record {
       piece = s.chunks;
-      text = salvaged o.front ++ take part.0 text;
-      written = Appends-trans old mid new (salvaged o.front) (take part.0 text) o.written part.1;
+      text = salvaged_text o.done ++ take part.0 text;
+      written = Appends-trans old mid new (salvaged_text o.done) (take part.0 text) o.written part.1;
       at = inl
-          (refl, omega (arith, o.full, o.bytes, length-append (salvaged o.front) (take part.0 text)));
+          (refl, omega (arith, o.full, o.bytes, length-append (salvaged_text o.done) (take part.0 text)));
       gave = (
         o.given ++ r.given,
         gave_then o.gave r.gave,
@@ -390,11 +401,11 @@ ends_write {s} {held} {n} {buf} text {from} {now} {next} {old} {mid} {new} o r s
 
 -- the piece that was read is whole, whatever comes
 whole_piece : (held : Bytes) (n : ℕ) (buf : Bytes) (now next : Seen) (r : ReadsAhead held n buf (flow now next))
-    → length buf ≡ 65553 → (d : Bytes) → (IsAtEnd next.to_come → d ≡ [])
-    → (65552 < length (held ++ r.given)) ⊎ (d ≡ [])
+    → length buf ≡ chunk_buf_size → (d : Bytes) → (IsAtEnd next.to_come → d ≡ [])
+    → (sealed_chunk_size < length (held ++ r.given)) ⊎ (d ≡ [])
 whole_piece held n buf now next r size d end =
     let l : length (held ++ r.given) ≡ n = ap length (sym r.is) ∙ length-take-le n buf (omega (arith, r.room)) in
-    elim (cases_lt 65552 n) [
+    elim (cases_lt sealed_chunk_size n) [
       | inl lt ↦ inl (omega arith)
       | inr le ↦ inr (end (r.end (omega arith)))
     ]
@@ -403,124 +414,128 @@ whole_piece held n buf now next r size d end =
 pub saves_write : {key : Bytes} (max : ℕ) {s : Salvaged} {held : Bytes} {n : ℕ} {buf : Bytes} {y : Part}
     {from now next : Seen} {old mid : Known} (new : Known) {before after : KnownLosses}
     → Salvaging key s held from now old mid before after → (r : ReadsAhead held n buf (flow now next))
-    → length buf ≡ 65553
-    → first_part key s.chunks (take n buf) ≡ y → WritesPart (moved mid new) y.text
+    → length buf ≡ chunk_buf_size
+    → first_part key s.chunks (take n buf) ≡ y → WritesPart (move_of mid new) y.text
     → OfGiven (flow from next)
-    (λ rest. SavesParts max (parts key 0 (pieces rest)) (moved old new) (told before after) (Err Write))
+    (λ rest. SavesParts max (parts key 0 (pieces rest)) (move_of old new) (losses_of before after) (Err Write))
 saves_write {key} max {s} {held} {n} {buf} {y} {from} {now} {next} {old} {mid} new {before} {after} o r size is part =
     of_more (gave_then o.gave r.gave) (λ d end.
     let c : Bytes = held ++ r.given in
     let p : first_part key s.chunks c ≡ y = ap (first_part key s.chunks) (sym r.is) ∙ is in
     let next_part = parts_first key s.chunks c d (whole_piece held n buf now next r size d end) in
     let more : List Part = next_part.0 in
-    let all : parts key 0 (pieces ((o.given ++ r.given) ++ d)) ≡ o.front ++ y ∷ more =
+    let all : parts key 0 (pieces ((o.given ++ r.given) ++ d)) ≡ o.done ++ y ∷ more =
     ap (λ t. parts key 0 (pieces t)) (append_assoc o.given r.given d) ∙ o.reads (r.given ++ d)
-    ∙ ap (λ t. o.front ++ parts key s.chunks (pieces t)) (sym (append_assoc held r.given d))
-    ∙ ap (λ t. o.front ++ t) next_part.1 ∙ ap (λ x. o.front ++ x ∷ more) p in
-    let text : salvaged (parts key 0 (pieces ((o.given ++ r.given) ++ d)))
-    ≡ salvaged o.front ++ (y.text ++ salvaged more) =
-    ap salvaged all ∙ text_next o.front more y in
-    let first : take s.chunks (parts key 0 (pieces ((o.given ++ r.given) ++ d))) ≡ o.front =
-    ap (take s.chunks) all ∙ take_at o.front (y ∷ more) s.chunks (omega (arith, o.chunks)) in (
+    ∙ ap (λ t. o.done ++ parts key s.chunks (pieces t)) (sym (append_assoc held r.given d))
+    ∙ ap (λ t. o.done ++ t) next_part.1 ∙ ap (λ x. o.done ++ x ∷ more) p in
+    let text : salvaged_text (parts key 0 (pieces ((o.given ++ r.given) ++ d)))
+    ≡ salvaged_text o.done ++ (y.text ++ salvaged_text more) =
+    ap salvaged_text all ∙ text_next o.done more y in
+    let first : take s.chunks (parts key 0 (pieces ((o.given ++ r.given) ++ d))) ≡ o.done =
+    ap (take s.chunks) all ∙ take_at o.done (y ∷ more) s.chunks (omega (arith, o.chunks)) in (
       s.chunks,
-      done_part new y.text (salvaged more)
-          (record { prefix = salvaged o.front; took = o.written; is = text }) refl part,
-      subst (λ x. Reports (told before after) (losses 0 0 x)) (sym first) o.reported,
+      done_part new y.text (salvaged_text more)
+          (record { prefix = salvaged_text o.done; took = o.written; is = text }) refl part,
+      subst (λ x. Reports (losses_of before after) (losses 0 0 x)) (sym first) o.reported,
     ))
 
 -- one part more was written, and reported if it is lost
-after_part : (front : List Part) (y : Part) (s : Salvaged) (old mid new : Known) (before now after : KnownLosses)
-    → s.bytes ≡ length (salvaged front) → s.chunks ≡ length front
-    → Appends old mid (salvaged front) → Appends mid new y.text
-    → Reports (told before now) (losses 0 0 front)
-    → Reports (told now after) (loss y.saved (record { chunk = s.chunks; start = s.bytes; len = length y.text }))
-    → Appends old new (salvaged (front ++ y ∷ [])) × Reports (told before after) (losses 0 0 (front ++ y ∷ []))
-after_part front y s old mid new before now after bytes chunks put more said one = (
-  subst (Appends old new) (sym (salvaged_snoc front y)) (Appends-trans old mid new (salvaged front) y.text put more),
-  subst (Reports (told before after)) (sym (losses_snoc 0 0 front y ∙ ap (λ t. losses 0 0 front ++ t)
-      (lost_at y.saved (0 + length front) s.chunks (0 + length (salvaged front)) s.bytes (length y.text) (omega arith)
+after_part : (done : List Part) (y : Part) (s : Salvaged) (old mid new : Known) (before now after : KnownLosses)
+    → s.bytes ≡ length (salvaged_text done) → s.chunks ≡ length done
+    → Appends old mid (salvaged_text done) → Appends mid new y.text
+    → Reports (losses_of before now) (losses 0 0 done)
+    → Reports (losses_of now after) (loss y.saved (record { chunk = s.chunks; start = s.bytes; len = length y.text }))
+    → Appends old new (salvaged_text (done ++ y ∷ [])) × Reports (losses_of before after) (losses 0 0 (done ++ y ∷ []))
+after_part done y s old mid new before now after bytes chunks put more said one = (
+  subst (Appends old new) (sym (salvaged_snoc done y)) (Appends-trans old mid new (salvaged_text done) y.text put more),
+  subst (Reports (losses_of before after)) (sym (losses_snoc 0 0 done y ∙ ap (λ t. losses 0 0 done ++ t)
+      (lost_at y.saved (0 + length done) s.chunks (0 + length (salvaged_text done)) s.bytes (length y.text)
+      (omega arith)
       (omega arith))))
-      (reports_then before now after (losses 0 0 front) _ said one),
+      (search (reports_then, said, one)),
 )
 
 -- the last piece was saved
 pub saves_last : {key : Bytes} {max : ℕ} {s t : Salvaged} {held : Bytes} {n : ℕ} {buf : Bytes} {y : Part}
     {from now next : Seen} {old mid : Known} (new : Known) {before said : KnownLosses} (after : KnownLosses) {len : ℕ}
     → Salvaging key s held from now old mid before said → (r : ReadsAhead held n buf (flow now next))
-    → length buf ≡ 65553 → n ≤ 65552 → s.chunks < max → length y.text ≡ len
+    → length buf ≡ chunk_buf_size → n ≤ sealed_chunk_size → s.chunks < max → length y.text ≡ len
     → first_part key s.chunks (take n buf) ≡ y → Appends mid new y.text
-    → Reports (told said after) (loss y.saved (record { chunk = s.chunks; start = s.bytes; len = len }))
+    → Reports (losses_of said after) (loss y.saved (record { chunk = s.chunks; start = s.bytes; len = len }))
     → t ≡ with_part s len y.saved
     → OfGiven (flow from next)
-    (λ rest. SavesParts max (parts key 0 (pieces rest)) (moved old new) (told before after) (Ok t))
+    (λ rest. SavesParts max (parts key 0 (pieces rest)) (move_of old new) (losses_of before after) (Ok t))
 saves_last {key} {max} {s} {t} {held} {n} {buf} {y} {from} {now} {next} {old} {mid} new {before} {said} after
     {len} o r size low within wide is put
     lost sum =
-    let one : Reports (told said after)
+    let one : Reports (losses_of said after)
     (loss y.saved (record { chunk = s.chunks; start = s.bytes; len = length y.text })) = subst
-    (λ k. Reports (told said after) (loss y.saved (record { chunk = s.chunks; start = s.bytes; len = k }))) (sym wide)
+    (λ k. Reports (losses_of said after) (loss y.saved (record { chunk = s.chunks; start = s.bytes; len = k })))
+    (sym wide)
     lost in
     let c : Bytes = held ++ r.given in
     let l : length c ≡ n = ap length (sym r.is) ∙ length-take-le n buf (omega (arith, r.room)) in
-    let all : parts key 0 (pieces (o.given ++ r.given)) ≡ o.front ++ y ∷ [] = o.reads r.given
-    ∙ ap (λ t. o.front ++ t) (parts_last key s.chunks c (omega arith))
-    ∙ ap (λ x. o.front ++ x ∷ []) (ap (first_part key s.chunks) (sym r.is) ∙ is) in
-    let count : length (o.front ++ y ∷ []) ≡ length o.front + 1 = length-append o.front (y ∷ []) in
-    let w = after_part o.front y s old mid new before said after o.bytes o.chunks o.written put o.reported one in
-    let whole : take (length (o.front ++ y ∷ [])) (o.front ++ y ∷ []) ≡ o.front ++ y ∷ [] =
-    take_all (length (o.front ++ y ∷ [])) (o.front ++ y ∷ []) (omega arith) in
+    let all : parts key 0 (pieces (o.given ++ r.given)) ≡ o.done ++ y ∷ [] = o.reads r.given
+    ∙ ap (λ t. o.done ++ t) (parts_last key s.chunks c (omega arith))
+    ∙ ap (λ x. o.done ++ x ∷ []) (ap (first_part key s.chunks) (sym r.is) ∙ is) in
+    let count : length (o.done ++ y ∷ []) ≡ length o.done + 1 = length-append o.done (y ∷ []) in
+    let w = after_part o.done y s old mid new before said after o.bytes o.chunks o.written put o.reported one in
+    let whole : take (length (o.done ++ y ∷ [])) (o.done ++ y ∷ []) ≡ o.done ++ y ∷ [] =
+    take_all (length (o.done ++ y ∷ [])) (o.done ++ y ∷ []) (omega arith) in
     of_ended (gave_then o.gave r.gave) (r.end (omega arith))
-    (subst (λ ps. SavesParts max ps (moved old new) (told before after) (Ok t)) (sym all) (
+    (subst (λ ps. SavesParts max ps (move_of old new) (losses_of before after) (Ok t)) (sym all) (
       omega (arith, o.chunks, within),
       (
-        subst (λ x. Appends old new (salvaged x)) (sym whole) w.0,
-        subst (λ x. Reports (told before after) (losses 0 0 x)) (sym whole) w.1,
+        subst (λ x. Appends old new (salvaged_text x)) (sym whole) w.0,
+        subst (λ x. Reports (losses_of before after) (losses 0 0 x)) (sym whole) w.1,
       ),
-      sum ∙ ap (λ k. with_part s k y.saved) (sym wide) ∙ snoc_summary o.front s y o.bytes o.chunks o.lost,
+      sum ∙ ap (λ k. with_part s k y.saved) (sym wide) ∙ snoc_summary o.done s y o.bytes o.chunks o.lost,
     ))
 
 -- a piece with more after it was saved
 pub salvaging_more : {key : Bytes} {s t : Salvaged} {held ahead : Bytes} {n : ℕ} {buf : Bytes} {y : Part}
     {from now next : Seen} {old mid new : Known} {before said after : KnownLosses} {len : ℕ}
     → Salvaging key s held from now old mid before said → (r : ReadsAhead held n buf (flow now next))
-    → length buf ≡ 65553 → 65552 < n → len ≡ 65536 → length y.text ≡ len
+    → length buf ≡ chunk_buf_size → sealed_chunk_size < n → len ≡ chunk_size → length y.text ≡ len
     → first_part key s.chunks (take n buf) ≡ y → Appends mid new y.text
-    → Reports (told said after) (loss y.saved (record { chunk = s.chunks; start = s.bytes; len = len }))
-    → t ≡ with_part s len y.saved → ahead ≡ drop 65552 buf
+    → Reports (losses_of said after) (loss y.saved (record { chunk = s.chunks; start = s.bytes; len = len }))
+    → t ≡ with_part s len y.saved → ahead ≡ drop sealed_chunk_size buf
     → Salvaging key t ahead from next old new before after
 salvaging_more {key} {s} {t} {held} {ahead} {n} {buf} {y} {from} {now} {next} {old} {mid} {new} {before} {said} {after}
     {len} o r size high whole wide is
     put loses counts rest =
-    let one : Reports (told said after)
+    let one : Reports (losses_of said after)
     (loss y.saved (record { chunk = s.chunks; start = s.bytes; len = length y.text })) = subst
-    (λ k. Reports (told said after) (loss y.saved (record { chunk = s.chunks; start = s.bytes; len = k }))) (sym wide)
+    (λ k. Reports (losses_of said after) (loss y.saved (record { chunk = s.chunks; start = s.bytes; len = k })))
+    (sym wide)
     loses in
     let sum : t ≡ with_part s (length y.text) y.saved = counts ∙ ap (λ k. with_part s k y.saved) (sym wide) in
     let c : Bytes = held ++ r.given in
     let l : length c ≡ n = ap length (sym r.is) ∙ length-take-le n buf (omega (arith, r.room)) in
     let full : buf ≡ c = sym (take_all n buf (omega arith)) ∙ r.is in
-    let tail : drop 65552 c ≡ ahead = ap (drop 65552) (sym full) ∙ sym rest in
-    let one_ahead : length ahead ≡ length c - 65552 = ap length (sym tail) ∙ length-drop 65552 c in
+    let tail : drop sealed_chunk_size c ≡ ahead = ap (drop sealed_chunk_size) (sym full) ∙ sym rest in
+    let one_ahead : length ahead ≡ length c - sealed_chunk_size =
+    ap length (sym tail) ∙ length-drop sealed_chunk_size c in
     let both : length c ≡ length held + length r.given = length-append held r.given in
     let given : length (o.given ++ r.given) ≡ length o.given + length r.given = length-append o.given r.given in
     let p : first_part key s.chunks c ≡ y = ap (first_part key s.chunks) (sym r.is) ∙ is in
-    let w = after_part o.front y s old mid new before said after o.bytes o.chunks o.written put o.reported one in
-    let all : with_part s (length y.text) y.saved ≡ summary (o.front ++ y ∷ []) =
-    snoc_summary o.front s y o.bytes o.chunks o.lost in
+    let w = after_part o.done y s old mid new before said after o.bytes o.chunks o.written put o.reported one in
+    let all : with_part s (length y.text) y.saved ≡ summary (o.done ++ y ∷ []) =
+    snoc_summary o.done s y o.bytes o.chunks o.lost in
     let k : t.chunks ≡ s.chunks + 1 = ap (λ (x : Salvaged). x.chunks) sum in
     let bytes : t.bytes ≡ s.bytes + length y.text = ap (λ (x : Salvaged). x.bytes) sum in
     let lost = ap (λ (x : Salvaged). x.lost) sum in
     record {
-      front = o.front ++ y ∷ [];
+      done = o.done ++ y ∷ [];
       given = o.given ++ r.given;
       gave = gave_then o.gave r.gave;
       reads = λ d. ap (λ t. parts key 0 (pieces t)) (append_assoc o.given r.given d) ∙ o.reads (r.given ++ d)
-          ∙ ap (λ t. o.front ++ parts key s.chunks (pieces t)) (sym (append_assoc held r.given d))
-          ∙ ap (λ t. o.front ++ t) (parts_next key s.chunks c d (omega arith))
-          ∙ ap (λ x. o.front ++ x ∷ parts key (s.chunks + 1) (pieces (drop 65552 c ++ d))) p
-          ∙ ap (λ j. o.front ++ y ∷ parts key j (pieces (drop 65552 c ++ d))) (sym k)
-          ∙ ap (λ t2. o.front ++ y ∷ parts key t.chunks (pieces (t2 ++ d))) tail
-          ∙ sym (append_assoc o.front (y ∷ []) (parts key t.chunks (pieces (ahead ++ d))));
+          ∙ ap (λ t. o.done ++ parts key s.chunks (pieces t)) (sym (append_assoc held r.given d))
+          ∙ ap (λ t. o.done ++ t) (parts_next key s.chunks c d (omega arith))
+          ∙ ap (λ x. o.done ++ x ∷ parts key (s.chunks + 1) (pieces (drop sealed_chunk_size c ++ d))) p
+          ∙ ap (λ j. o.done ++ y ∷ parts key j (pieces (drop sealed_chunk_size c ++ d))) (sym k)
+          ∙ ap (λ t2. o.done ++ y ∷ parts key t.chunks (pieces (t2 ++ d))) tail
+          ∙ sym (append_assoc o.done (y ∷ []) (parts key t.chunks (pieces (ahead ++ d))));
       written = w.0;
       reported = w.1;
       bytes = ap (λ (x : Salvaged). x.bytes) (sum ∙ all);
@@ -542,7 +557,7 @@ salvaging_more {key} {s} {t} {held} {ahead} {n} {buf} {y} {from} {now} {next} {o
 -- the nonce is cut short, or was not read
 pub nonce_salvages : (k : FileKey) (max : ℕ) {from mid : Seen} (old : Known) (lost : KnownLosses) (fault : StreamFault)
     → GivesNonce (flow from mid) (Err fault)
-    → Salvages k max (flow from mid) (moved old old) (told lost lost) (Err fault)
+    → Salvages k max (flow from mid) (move_of old old) (losses_of lost lost) (Err fault)
 nonce_salvages k max {from} {mid} old lost Read h =
     of_any h (λ c. (0, (Appends-nil old, reports_none lost)))
 nonce_salvages k max {from} {mid} old lost NonceTruncated h =
@@ -556,10 +571,17 @@ nonce_salvages k max {from} {mid} old lost Memory h = absurd (cc)
 
 -- what was read with the nonce
 with_nonce : (max : ℕ) (nonce : Bytes) (from mid to : Seen) (old new : Known) (fault : StreamFault)
-    → Gave (flow from mid) nonce → length nonce ≡ 16 → EndsAt max 0 (flow mid to) (moved old new) fault
-    → EndsAt max 16 (flow from to) (moved old new) fault
+    → Gave (flow from mid) nonce → length nonce ≡ 16 → EndsAt max 0 (flow mid to) (move_of old new) fault
+    → EndsAt max 16 (flow from to) (move_of old new) fault
 with_nonce max nonce from mid to old new fault gave size e =
-    let all = gave_more from mid to 16 (0 + (65552 * (e.piece + 1) + 1)) (nonce, gave, omega (arith, size)) e.gave in
+    let all = gave_more from mid to 16 (0 + (sealed_chunk_size * (e.piece + 1) + 1)) (
+      nonce,
+      gave,
+      omega (
+        arith,
+        size,
+      ),
+    ) e.gave in
     record {
       piece = e.piece;
       text = e.text;
@@ -571,23 +593,23 @@ with_nonce max nonce from mid to old new fault gave size e =
 pub payload_ends : (max : ℕ) {nonce : Bytes} {from mid : Seen} (to : Seen) (old new : Known)
     (r : Result Salvaged StreamFault)
     → Gave (flow from mid) nonce → length nonce ≡ 16
-    → IfErr r (λ f. (f ≡ Read) ⊎ EndsAt max 0 (flow mid to) (moved old new) f)
-    → IfErr r (EndsSaving max (flow from to) (moved old new))
+    → IfErr r (λ f. (f ≡ Read) ⊎ EndsAt max 0 (flow mid to) (move_of old new) f)
+    → IfErr r (EndsSaving max (flow from to) (move_of old new))
 payload_ends max {nonce} {from} {mid} to old new (Ok s) gave size h = tt
 payload_ends max {nonce} {from} {mid} to old new (Err fault) gave size (inl e) =
-    subst (EndsSaving max (flow from to) (moved old new)) (sym e) tt
+    subst (EndsSaving max (flow from to) (move_of old new)) (sym e) tt
 payload_ends max {nonce} {from} {mid} to old new (Err fault) gave size (inr e) =
     saving fault (with_nonce max nonce from mid to old new fault gave size e)
   where
-    saving : (f : StreamFault) → EndsAt max 16 (flow from to) (moved old new) f
-        → EndsSaving max (flow from to) (moved old new) f
+    saving : (f : StreamFault) → EndsAt max 16 (flow from to) (move_of old new) f
+        → EndsSaving max (flow from to) (move_of old new) f
     saving Read h = tt
     saving NonceTruncated h = tt
     saving Memory h = tt
-    saving _ h = h
+    saving f h = h
 
 pub nonce_ends : (max : ℕ) (from mid : Seen) (old : Known) (fault : StreamFault)
-    → GivesNonce (flow from mid) (Err fault) → EndsSaving max (flow from mid) (moved old old) fault
+    → GivesNonce (flow from mid) (Err fault) → EndsSaving max (flow from mid) (move_of old old) fault
 nonce_ends max from mid old Read h = tt
 nonce_ends max from mid old NonceTruncated h = tt
 nonce_ends max from mid old Memory h = tt
@@ -601,22 +623,23 @@ nonce_ends max from mid old Write h = absurd (cc)
 pub payload_salvages : (k : FileKey) (max : ℕ) {nonce key : Bytes} {from mid to : Seen} (old new : Known)
     (before after : KnownLosses) (r : Result Salvaged StreamFault) → Gave (flow from mid) nonce → length nonce ≡ 16
     → key ≡ payload_key k nonce
-    → OfGiven (flow mid to) (λ rest. SavesParts max (parts key 0 (pieces rest)) (moved old new) (told before after) r)
-    → Salvages k max (flow from to) (moved old new) (told before after) r
+    → OfGiven (flow mid to) (λ rest. SavesParts max (parts key 0 (pieces rest)) (move_of old new)
+    (losses_of before after) r)
+    → Salvages k max (flow from to) (move_of old new) (losses_of before after) r
 payload_salvages k max {nonce} {key} {from} {mid} {to} old new before after r gave size is h =
     of_then gave h (λ c s.
     let l : length (nonce ++ c) ≡ length nonce + length c = length-append nonce c in
-    let front : take 16 (nonce ++ c) ≡ nonce = take_at nonce c 16 size in
+    let done : take 16 (nonce ++ c) ≡ nonce = take_at nonce c 16 size in
     let back : drop 16 (nonce ++ c) ≡ c = drop_at nonce c 16 size in
     let same : parts key 0 (pieces c) ≡ payload_parts k (nonce ++ c) =
-    ap (λ x. parts x 0 (pieces c)) (is ∙ ap (payload_key k) (sym front))
+    ap (λ x. parts x 0 (pieces c)) (is ∙ ap (payload_key k) (sym done))
     ∙ ap (λ x. parts (payload_key k (take 16 (nonce ++ c))) 0 (pieces x)) (sym back) in
     whole (nonce ++ c) (omega arith) r
-    (subst (λ ps. SavesParts max ps (moved old new) (told before after) r) same s))
+    (subst (λ ps. SavesParts max ps (move_of old new) (losses_of before after) r) same s))
   where
     whole : (c : Bytes) → 16 ≤ length c → (q : Result Salvaged StreamFault)
-        → SavesParts max (payload_parts k c) (moved old new) (told before after) q
-        → SavesPayload k max c (moved old new) (told before after) q
+        → SavesParts max (payload_parts k c) (move_of old new) (losses_of before after) q
+        → SavesPayload k max c (move_of old new) (losses_of before after) q
     whole c long (Ok t) s = (long, s)
     whole c long (Err Read) s = s
     whole c long (Err Write) s = (long, s)

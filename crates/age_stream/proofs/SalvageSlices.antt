@@ -7,42 +7,44 @@ use Rattle.std.proofs.lemmas.List.{length-append, length-drop, length-take, leng
 use Rattle.std.proofs.lemmas.List.Sums.{sum_by-cons}
 use Rattle.age_kdf.specs.Bytes.{Bytes}
 use Rattle.age_header.specs.Device.{Known}
-use Rattle.age_cipher.proofs.OpeningLemmas.{length-sealed, opened_is}
+use Rattle.age_cipher.proofs.OpeningLemmas.{length-sealed_text, opened_is}
 use Rattle.age_header.specs.declared.file_key.FileKey.{FileKey}
 use Rattle.age_stream.specs.Cutting.{IsFilled}
 use Rattle.age_stream.specs.Payload.{chunk_nonce, is_end, payload_key, pieces}
-use Rattle.age_stream.specs.Reading.{opened_at}
-use Rattle.age_stream.specs.Salvage.{Part, lost_part, opening_or, part, parts, payload_parts, salvaged}
+use Rattle.age_stream.specs.Reading.{piece_opening}
+use Rattle.age_stream.specs.Salvage.{Part, lost_part, opening_or, part, parts, payload_parts, salvaged_text}
 use Rattle.age_stream.specs.Slice.{IsSlice, opening, openings}
+use Rattle.age_stream.specs.Sizes.{chunk_size, sealed_chunk_size}
 use Rattle.age_stream.proofs.CuttingLemmas.{is_cut}
 use Rattle.age_stream.proofs.SalvageLemmas.{part-opened}
 
-opened_has_len : (key : Bytes) (i : ℕ) (last : Bool) (c t : Bytes) → opened_at key i last c ≡ Some t
+opened_has_len : (key : Bytes) (i : ℕ) (last : Bool) (c t : Bytes) → piece_opening key i last c ≡ Some t
     → length t ≡ length c - 16
 opened_has_len key i last c t is =
     let l : length c ≡ length t + 16 = ap length (sym ((opened_is key (chunk_nonce i last) [] c t).0 is))
-    ∙ length-sealed key (chunk_nonce i last) [] t in
+    ∙ length-sealed_text key (chunk_nonce i last) [] t in
     omega arith
 
 -- an opening has as many bytes as the piece, less the tag's, and so has what stands for it
 or_len : (key : Bytes) (i : ℕ) (last : Bool) (c : Bytes) (other : Part) → length other.text ≡ length c - 16
-    → length (opening_or last (opened_at key i last c) other).text ≡ length c - 16
-or_len key i last c other same = go (opened_at key i last c) refl
+    → length (opening_or last (piece_opening key i last c) other).text ≡ length c - 16
+or_len key i last c other same = go (piece_opening key i last c) refl
   where
-    go : (o : Known) → opened_at key i last c ≡ o → length (opening_or last o other).text ≡ length c - 16
+    go : (o : Known) → piece_opening key i last c ≡ o → length (opening_or last o other).text ≡ length c - 16
     go None e = same
     go (Some t) e = opened_has_len key i last c t e
 
 pub part_len : (key : Bytes) (i : ℕ) (last : Bool) (c : Bytes) → length (part key i last c).text ≡ length c - 16
 part_len key i last c =
-    or_len key i last c _ (or_len key i (not last) c (lost_part c) (length-replicate (length c - 16) 0))
+    or_len key i last c (opening_or (not last) (piece_opening key i (not last) c) (lost_part c))
+    (or_len key i (not last) c (lost_part c) (length-replicate (length c - 16) 0))
 
 pub salvaged_len : (key : Bytes) (i : ℕ) (cs : List Bytes)
-    → length (salvaged (parts key i cs)) ≡ sum_by (λ piece. length piece - 16) cs
+    → length (salvaged_text (parts key i cs)) ≡ sum_by (λ piece. length piece - 16) cs
 salvaged_len key i [] = refl
 salvaged_len key i (c ∷ cs) =
     let text : Bytes = (part key i (is_end cs) c).text in
-    let rest : Bytes = salvaged (parts key (i + 1) cs) in
+    let rest : Bytes = salvaged_text (parts key (i + 1) cs) in
     let sum : sum_by (λ piece. length piece - 16) (c ∷ cs)
     ≡ (length c - 16) + sum_by (λ piece. length piece - 16) cs = sum_by-cons (λ piece. length piece - 16) c cs in
     let here : length text ≡ length c - 16 = part_len key i (is_end cs) c in
@@ -53,31 +55,31 @@ salvaged_len key i (c ∷ cs) =
 abbrev pub AllFull : List Bytes → Type 0
 AllFull [] = Unit {0}
 AllFull (c ∷ []) = Unit {0}
-AllFull (c ∷ d ∷ more) = (length c ≡ 65552) × AllFull (d ∷ more)
+AllFull (c ∷ d ∷ more) = (length c ≡ sealed_chunk_size) × AllFull (d ∷ more)
 
-full_filled : (cs : List Bytes) → IsFilled 65552 cs → AllFull cs
+full_filled : (cs : List Bytes) → IsFilled sealed_chunk_size cs → AllFull cs
 full_filled [] h = tt
 full_filled (c ∷ []) h = tt
 full_filled (c ∷ d ∷ more) h = (h.0, full_filled (d ∷ more) h.1)
 
 full_pieces : (rest : Bytes) → AllFull (pieces rest)
-full_pieces rest = elim (is_cut 65552 rest (omega arith)).sizes [
+full_pieces rest = elim (is_cut sealed_chunk_size rest (omega arith)).sizes [
   | inl one ↦ subst AllFull (sym one) tt
   | inr filled ↦ full_filled (pieces rest) filled
 ]
 
 -- byte r of what the piece with number n from here opens to, in what is saved
 record IsSavedAt (all text : Bytes) (n r : ℕ) : Type 0 where
-  pub within : 65536 * n + r < length all
-  pub is : get_or all (65536 * n + r) 0 ≡ get_or text r 0
+  pub within : chunk_size * n + r < length all
+  pub is : get_or all (chunk_size * n + r) 0 ≡ get_or text r 0
 
 saved_at : (key : Bytes) (i n r : ℕ) (cs : List Bytes) (text : Bytes) → AllFull cs
     → get_or (openings key i cs) n None ≡ Some text → r < length text
-    → IsSavedAt (salvaged (parts key i cs)) text n r
+    → IsSavedAt (salvaged_text (parts key i cs)) text n r
 saved_at key i n r [] text full is lt = absurd (none-some text is)
 saved_at key i zero r (c ∷ cs) text full is lt =
-    let more : Bytes = salvaged (parts key (i + 1) cs) in
-    let p : salvaged (parts key i (c ∷ cs)) ≡ text ++ more =
+    let more : Bytes = salvaged_text (parts key (i + 1) cs) in
+    let p : salvaged_text (parts key i (c ∷ cs)) ≡ text ++ more =
     ap (λ (x : Part). x.text ++ more) (part-opened key i (is_end cs) c text is) in
     let l : length (text ++ more) ≡ length text + length more = length-append text more in
     subst (λ t. IsSavedAt t text 0 r) (sym p) (record {
@@ -85,41 +87,42 @@ saved_at key i zero r (c ∷ cs) text full is lt =
       is = ap (λ k. get_or (text ++ more) k 0) (zeroth r) ∙ get_or_append_left text more 0 r lt;
     })
   where
-    zeroth : (k : ℕ) → 65536 * 0 + k ≡ k
+    zeroth : (k : ℕ) → chunk_size * 0 + k ≡ k
     zeroth k = omega arith
 saved_at key i (suc n) r (c ∷ []) text full is lt = absurd (none-some text is)
 saved_at key i (suc n) r (c ∷ d ∷ ds) text full is lt =
     let first : Bytes = (part key i false c).text in
-    let more : Bytes = salvaged (parts key (i + 1) (d ∷ ds)) in
+    let more : Bytes = salvaged_text (parts key (i + 1) (d ∷ ds)) in
     let h = saved_at key (i + 1) n r (d ∷ ds) text full.1 is lt in
-    let size : length first ≡ 65536 = omega (arith, part_len key i false c, full.0) in
+    let size : length first ≡ chunk_size = omega (arith, part_len key i false c, full.0) in
     let l : length (first ++ more) ≡ length first + length more = length-append first more in
-    let at : 65536 * suc n + r ≡ length first + (65536 * n + r) = omega arith in
+    let at : chunk_size * suc n + r ≡ length first + (chunk_size * n + r) = omega arith in
     record {
       within = omega (arith, l, h.within);
-      is = ap (λ k. get_or (first ++ more) k 0) at ∙ get_or-append-add first more (65536 * n + r) 0 ∙ h.is;
+      is = ap (λ k. get_or (first ++ more) k 0) at ∙ get_or-append-add first more (chunk_size * n + r) 0 ∙ h.is;
     }
 
-byte_saved : (key rest text : Bytes) (x v : ℕ) → opening key rest (x / 65536) ≡ Some text
-    → slice_get text (x % 65536) ≡ Some v
-    → (x < length (salvaged (parts key 0 (pieces rest)))) × (v ≡ get_or (salvaged (parts key 0 (pieces rest))) x 0)
+byte_saved : (key rest text : Bytes) (x v : ℕ) → opening key rest (x / chunk_size) ≡ Some text
+    → slice_get text (x % chunk_size) ≡ Some v
+    → (x < length (salvaged_text (parts key 0 (pieces rest)))) × (v
+    ≡ get_or (salvaged_text (parts key 0 (pieces rest))) x 0)
 byte_saved key rest text x v opens at =
-    let r : ℕ = x % 65536 in
-    let n : ℕ = x / 65536 in
+    let r : ℕ = x % chunk_size in
+    let n : ℕ = x / chunk_size in
     let h = saved_at key 0 n r (pieces rest) text (full_pieces rest) opens (slice_get_within text r v at) in
-    let sum : 65536 * n + r ≡ x = omega arith in (
+    let sum : chunk_size * n + r ≡ x = omega arith in (
       omega (arith, h.within, sum),
       sym (get_or_from_slice_get text r v 0 at) ∙ sym h.is
-          ∙ ap (λ y. get_or (salvaged (parts key 0 (pieces rest))) y 0) sum,
+          ∙ ap (λ y. get_or (salvaged_text (parts key 0 (pieces rest))) y 0) sum,
     )
 
 pub slice_saved : (k : FileKey) (text xs : Bytes) (at : ℕ)
     → IsSlice (payload_key k (take 16 text)) (drop 16 text) at xs
-    → xs ≡ take (length xs) (drop at (salvaged (payload_parts k text)))
+    → xs ≡ take (length xs) (drop at (salvaged_text (payload_parts k text)))
 slice_saved k text xs at s =
     let key : Bytes = payload_key k (take 16 text) in
     let rest : Bytes = drop 16 text in
-    let p : Bytes = salvaged (parts key 0 (pieces rest)) in
+    let p : Bytes = salvaged_text (parts key 0 (pieces rest)) in
     let d : length (drop at p) ≡ length p - at = length-drop at p in
     let t : length (take (length xs) (drop at p)) ≡ min (length xs) (length (drop at p)) =
     length-take (length xs) (drop at p) in

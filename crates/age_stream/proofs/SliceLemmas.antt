@@ -8,7 +8,7 @@ use Rattle.std.proofs.lemmas.Option.{slice_get-get_or}
 use Rattle.age_kdf.specs.Bytes.{Bytes}
 use Rattle.age_stream.specs.Cutting.{cut}
 use Rattle.age_stream.specs.Payload.{pieces, is_end}
-use Rattle.age_stream.specs.Reading.{opened_at}
+use Rattle.age_stream.specs.Reading.{piece_opening}
 use Rattle.age_stream.proofs.CuttingLemmas.{cut_last}
 use Rattle.age_stream.proofs.ReadingLemmas.{cut_step, is_end_cut}
 use Rattle.age_stream.specs.Slice.{openings, opening, plain_len, IsSlice}
@@ -57,29 +57,29 @@ last_cut size (suc i) p pos = elim (cases_lt size (length p)) [
 ]
 
 openings_at : (key : Bytes) (j i : ℕ) (cs : List Bytes) → i < length cs
-    → get_or (openings key j cs) i None ≡ opened_at key (j + i) (is_end (drop (suc i) cs)) (get_or cs i [])
+    → get_or (openings key j cs) i None ≡ piece_opening key (j + i) (is_end (drop (suc i) cs)) (get_or cs i [])
 openings_at key j i [] lt = absurd (omega arith)
-openings_at key j zero (c ∷ cs) lt = ap (λ n. opened_at key n (is_end cs) c) zero_more
+openings_at key j zero (c ∷ cs) lt = ap (λ n. piece_opening key n (is_end cs) c) zero_more
   where
     zero_more : j ≡ j + 0
     zero_more = omega arith
 openings_at key j (suc i) (c ∷ cs) lt =
     openings_at key (j + 1) i cs (omega arith)
-    ∙ ap (λ n. opened_at key n (is_end (drop (suc i) cs)) (get_or cs i [])) one_more
+    ∙ ap (λ n. piece_opening key n (is_end (drop (suc i) cs)) (get_or cs i [])) one_more
   where
     one_more : j + 1 + i ≡ j + suc i
     one_more = omega arith
 
 -- what piece i opens to, by its offset
 pub opening_at : (key rest : Bytes) (i : ℕ) → i < length (pieces rest)
-    → opening key rest i ≡ opened_at key i (nat_le (length rest) (sealed_chunk_size * (i + 1)))
+    → opening key rest i ≡ piece_opening key i (nat_le (length rest) (sealed_chunk_size * (i + 1)))
     (take sealed_chunk_size (drop (sealed_chunk_size * i) rest))
 opening_at key rest i lt =
     openings_at key 0 i (pieces rest) lt
-    ∙ ap (λ n. opened_at key n (is_end (drop (suc i) (pieces rest))) (get_or (pieces rest) i [])) none
-    ∙ ap (λ b. opened_at key i b (get_or (pieces rest) i []))
+    ∙ ap (λ n. piece_opening key n (is_end (drop (suc i) (pieces rest))) (get_or (pieces rest) i [])) none
+    ∙ ap (λ b. piece_opening key i b (get_or (pieces rest) i []))
     (last_cut sealed_chunk_size i rest (omega arith) ∙ ap (λ n. nat_le (length rest) (sealed_chunk_size * n)) one)
-    ∙ ap (λ x. opened_at key i (nat_le (length rest) (sealed_chunk_size * (i + 1))) x)
+    ∙ ap (λ x. piece_opening key i (nat_le (length rest) (sealed_chunk_size * (i + 1))) x)
     (cut_at sealed_chunk_size i rest (omega arith))
   where
     none : 0 + i ≡ i

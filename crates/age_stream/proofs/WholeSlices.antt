@@ -1,19 +1,19 @@
 -- Slices of a payload that reads whole.
-use Rattle.std.proofs.Common.{◌≡◌, ℕ, List, [], ◌∷◌, ◌++◌, ◌+◌, ◌-◌, ◌*◌, ◌/◌, ◌%◌, ◌<◌, ◌≤◌, length, take, drop, map, get_or, slice_get, slice_index, min, nat_lt, sym, ◌∙◌, ap, arith, refl, inl, inr, suc, zero, true, Some, None, Result, Ok, Err}
+use Rattle.std.proofs.Common.{◌≡◌, ℕ, List, [], ◌∷◌, ◌++◌, ◌+◌, ◌-◌, ◌*◌, ◌/◌, ◌%◌, ◌<◌, ◌≤◌, length, take, drop, map, get_or, slice_get, slice_index, min, sym, ◌∙◌, ap, arith, refl, inl, inr, suc, zero, true, Some, None, Result, Ok, Err}
 use Rattle.std.specs.Prelude.{unwrap_or}
 use Rattle.std.specs.List.{concat, sum_by}
-use Rattle.std.proofs.lemmas.Bool.{cases_lt, le-ltb, cond-false}
+use Rattle.std.proofs.lemmas.Bool.{cases_lt, le-ltb}
 use Rattle.std.proofs.lemmas.Option.{none-some, get_or_from_slice_get, slice_get_within}
 use Rattle.std.proofs.lemmas.List.{length-drop, length-append, length-take, take_at, drop_at, drop_all, get_or-take, get_or-drop, ext_get_or, get_or-map}
 use Rattle.std.proofs.lemmas.List.Sums.{sum_by-cons}
 use Rattle.age_kdf.specs.Bytes.{Bytes}
-use Rattle.age_cipher.specs.Sealing.{sealed}
-use Rattle.age_cipher.proofs.OpeningLemmas.{length-sealed, opened-sealed}
+use Rattle.age_cipher.specs.Sealing.{sealed_text}
+use Rattle.age_cipher.proofs.OpeningLemmas.{length-sealed_text, opened_text-sealed_text}
 use Rattle.age_header.specs.declared.file_key.FileKey.{FileKey}
 use Rattle.age_stream.specs.declared.fault.StreamFault.{StreamFault}
 use Rattle.age_stream.specs.declared.fault.StreamFault.TheVariants.{TooManyChunks}
-use Rattle.age_stream.specs.Payload.{chunks, pieces, chunk_nonce, is_end, sealed_from, payload_key}
-use Rattle.age_stream.specs.Reading.{opened_at, outcome, outcomes, payload_reading, whole}
+use Rattle.age_stream.specs.Payload.{chunks, pieces, chunk_nonce, is_end, sealed_chunks_from, payload_key}
+use Rattle.age_stream.specs.Reading.{piece_opening, outcome, outcomes, payload_reading, whole}
 use Rattle.age_stream.proofs.CuttingLemmas.{is_cut, cut_at_most}
 use Rattle.age_stream.proofs.PayloadLemmas.{ok_payload, pieces_each, each_opens, is_end_each, length_each, at_most_chunks}
 use Rattle.age_stream.proofs.ReadingLemmas.{cut_some}
@@ -23,7 +23,7 @@ use Rattle.age_stream.proofs.SliceLemmas.{cut_at}
 
 -- what is known of a payload that reads whole
 pub record IsWhole (key rest p : Bytes) (max : ℕ) : Type 0 where
-  pub sealed_so : pieces rest ≡ sealed_from key 0 (chunks p)
+  pub sealed_so : pieces rest ≡ sealed_chunks_from key 0 (chunks p)
   pub count : length (chunks p) ≤ max
 
 pub whole_is : (k : FileKey) (b p : Bytes) (max : ℕ) → payload_reading k max b ≡ whole p
@@ -31,35 +31,36 @@ pub whole_is : (k : FileKey) (b p : Bytes) (max : ℕ) → payload_reading k max
 whole_is k b p max h =
     let i = ok_payload k b p max h in
     let key : Bytes = payload_key k i.nonce in
-    let text : Bytes = concat (sealed_from key 0 (chunks p)) in
+    let text : Bytes = concat (sealed_chunks_from key 0 (chunks p)) in
     let head : take 16 b ≡ i.nonce = ap (take 16) i.spelled ∙ take_at i.nonce text 16 i.nonce_len in
     let rest : drop 16 b ≡ text = ap (drop 16) i.spelled ∙ drop_at i.nonce text 16 i.nonce_len in
     record {
       sealed_so = ap pieces rest ∙ pieces_each key (chunks p) (cut_at_most chunk_size p (omega arith))
-          ∙ ap (λ n. sealed_from (payload_key k n) 0 (chunks p)) (sym head);
+          ∙ ap (λ n. sealed_chunks_from (payload_key k n) 0 (chunks p)) (sym head);
       count = i.count;
     }
 
-openings_each : (key : Bytes) (i : ℕ) (ts : List Bytes) → openings key i (sealed_from key i ts) ≡ map Some ts
+openings_each : (key : Bytes) (i : ℕ) (ts : List Bytes) → openings key i (sealed_chunks_from key i ts) ≡ map Some ts
 openings_each key i [] = refl
 openings_each key i (t ∷ ts) =
-    ap (λ b. opened_at key i b (sealed key (chunk_nonce i (is_end ts)) [] t)
-    ∷ openings key (i + 1) (sealed_from key (i + 1) ts)) (is_end_each key (i + 1) ts)
-    ∙ ap (λ o. o ∷ openings key (i + 1) (sealed_from key (i + 1) ts))
-    (opened-sealed key (chunk_nonce i (is_end ts)) [] t)
+    ap (λ b. piece_opening key i b (sealed_text key (chunk_nonce i (is_end ts)) [] t)
+    ∷ openings key (i + 1) (sealed_chunks_from key (i + 1) ts)) (is_end_each key (i + 1) ts)
+    ∙ ap (λ o. o ∷ openings key (i + 1) (sealed_chunks_from key (i + 1) ts))
+    (opened_text-sealed_text key (chunk_nonce i (is_end ts)) [] t)
     ∙ ap (λ x. Some t ∷ x) (openings_each key (i + 1) ts)
 
 plain_each : (key : Bytes) (i : ℕ) (ts : List Bytes)
-    → sum_by (λ piece. length piece - 16) (sealed_from key i ts) ≡ length (concat ts)
+    → sum_by (λ piece. length piece - 16) (sealed_chunks_from key i ts) ≡ length (concat ts)
 plain_each key i [] = refl
 plain_each key i (t ∷ ts) =
-    let l : length (sealed key (chunk_nonce i (is_end ts)) [] t) ≡ length t + 16 =
-    length-sealed key (chunk_nonce i (is_end ts)) [] t in
+    let l : length (sealed_text key (chunk_nonce i (is_end ts)) [] t) ≡ length t + 16 =
+    length-sealed_text key (chunk_nonce i (is_end ts)) [] t in
     let a : length (t ++ concat ts) ≡ length t + length (concat ts) = length-append t (concat ts) in
-    let rest : sum_by (λ piece. length piece - 16) (sealed_from key (i + 1) ts) ≡ length (concat ts) =
+    let rest : sum_by (λ piece. length piece - 16) (sealed_chunks_from key (i + 1) ts) ≡ length (concat ts) =
     plain_each key (i + 1) ts in
-    sum_by-cons (λ piece. length piece - 16) (sealed key (chunk_nonce i (is_end ts)) [] t) (sealed_from key (i + 1) ts)
-    ∙ ap (λ n. (length (sealed key (chunk_nonce i (is_end ts)) [] t) - 16) + n) rest
+    sum_by-cons (λ piece. length piece - 16) (sealed_text key (chunk_nonce i (is_end ts)) [] t) (sealed_chunks_from key
+    (i + 1) ts)
+    ∙ ap (λ n. (length (sealed_text key (chunk_nonce i (is_end ts)) [] t) - 16) + n) rest
     ∙ ap (λ n. (n - 16) + length (concat ts)) l ∙ omega arith
 
 pub whole_len : (k : FileKey) (b p : Bytes) (max : ℕ) → payload_reading k max b ≡ whole p
@@ -96,19 +97,19 @@ whole_opens k b p max h =
     let last : ℕ = length (pieces rest) - 1 in
     let none : 0 + last ≡ last = omega arith in
     let sixteen : length i.nonce ≡ 16 = i.nonce_len in
-    let size : length b ≡ length i.nonce + length (concat (sealed_from (payload_key k i.nonce) 0 (chunks p))) =
-    ap length i.spelled ∙ length-append i.nonce _ in
+    let size : length b ≡ length i.nonce + length (concat (sealed_chunks_from (payload_key k i.nonce) 0 (chunks p))) =
+    ap length i.spelled
+    ∙ length-append i.nonce (concat (sealed_chunks_from (payload_key k i.nonce) 0 (chunks p))) in
     let all : outcomes key max 0 (pieces rest) ≡ map Ok (chunks p) = ap (outcomes key max 0) w.sealed_so
     ∙ each_opens key max 0 (chunks p) (at_most_chunks p) (omega arith) in
     let end : is_end (drop (suc last) (pieces rest)) ≡ true =
     ap is_end (drop_all (suc last) (pieces rest) (omega arith)) in (
       get_or (chunks p) last [],
-      cond-false (nat_lt (length b) 16) _ _ (le-ltb (length b) 16 (omega arith))
-          ∙ ap (λ e. outcome key max last e (last_piece rest)) (sym end)
+      rw (le-ltb (length b) 16 (omega arith)) (ap (λ e. outcome key max last e (last_piece rest)) (sym end)
           ∙ ap (λ m. outcome key max m (is_end (drop (suc last) (pieces rest))) (last_piece rest)) (sym none)
           ∙ sym (outcomes_at key max 0 last (pieces rest) (Err TooManyChunks) (omega arith))
           ∙ ap (λ rs. get_or rs last (Err TooManyChunks)) all
-          ∙ get_or-map Ok (chunks p) last [] (Err TooManyChunks) (omega arith),
+          ∙ get_or-map Ok (chunks p) last [] (Err TooManyChunks) (omega arith)),
     )
 
 got : (cs : List Bytes) (i : ℕ) (t : Bytes) → get_or (map Some cs) i None ≡ Some t → t ≡ get_or cs i []

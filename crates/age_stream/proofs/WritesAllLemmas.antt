@@ -7,20 +7,20 @@ use Rattle.std.proofs.KnownBytes.{Appends-trans, Appends-nil}
 use Rattle.std.proofs.lemmas.Bool.{le-leb, lt-leb, cases_lt}
 use Rattle.std.proofs.lemmas.List.{drop-append-le, take_all, take-append-le}
 use Rattle.age_kdf.specs.Bytes.{Bytes}
-use Rattle.age_header.specs.Device.{Gave, Grew, Known, Seen, WritesPart, flow, moved}
+use Rattle.age_header.specs.Device.{Gave, Grew, Known, Seen, WritesPart, flow, move_of}
 use Rattle.age_header.proofs.DeviceLemmas.{gave_none, gave_then, of_any, of_more, of_still, of_then, done_part}
 use Rattle.age_stream.specs.declared.done.Done.{Done}
 use Rattle.age_stream.specs.declared.fault.StreamFault.{StreamFault}
 use Rattle.age_stream.specs.declared.fault.StreamFault.TheVariants.{ChunkShort, EmptyFinal, BadChunk, TooManyChunks, Read, Write}
 use Rattle.age_stream.specs.Opening.{Advances, EndsAt, IsAtPiece, IsFilled, Loses, OpenerState, OpensNext, WritesAll, WritesReading, left_of, pieces_left, reading_left}
 use Rattle.age_stream.specs.Payload.{pieces}
-use Rattle.age_stream.specs.Reading.{Reading, after_first, first_outcome, outcome, reading_from, stops}
+use Rattle.age_stream.specs.Reading.{Reading, after_first, first_outcome, outcome, reading_from, stop}
 use Rattle.age_stream.specs.Sizes.{chunk_size, sealed_chunk_size, chunk_buf_size}
 use Rattle.age_stream.proofs.ReadingLemmas.{count_last, count_more, then_read, reading_last, reading_more}
 
 -- a text, and then what a reading gives
 abbrev pub before : Bytes → Reading StreamFault → Reading StreamFault
-before text reading = record { front = text ++ reading.front; fault = reading.fault }
+before text reading = record { plaintext = text ++ reading.plaintext; fault = reading.fault }
 
 -- the first piece of c opened to this text
 pub record IsFirst (key : Bytes) (max i : ℕ) (c text : Bytes) (left : Known) : Type 0 where
@@ -35,7 +35,7 @@ first_last key max i c text left le is rest =
     ∙ ap (λ b. outcome key max i b (take sealed_chunk_size c)) (sym yes) ∙ is in
     let none : left ≡ None = rest ∙ ap (λ b. cond b None (Some (drop sealed_chunk_size c))) yes in
     subst (IsFirst key max i c text) (sym none) (record {
-      reads = reading_last key max i c le ∙ ap (λ r. then_read r (record { front = []; fault = None })) all;
+      reads = reading_last key max i c le ∙ ap (λ r. then_read r (record { plaintext = []; fault = None })) all;
       count = count_last c le;
     })
 
@@ -62,9 +62,9 @@ first_ok key max i c text left is rest = elim (cases_lt sealed_chunk_size (lengt
 ]
 
 pub first_err : (key : Bytes) (max i : ℕ) (c : Bytes) (fault : StreamFault) → first_outcome key max i c ≡ Err fault
-    → reading_from key max i c ≡ stops fault
+    → reading_from key max i c ≡ stop fault
 first_err key max i c fault is = elim (cases_lt sealed_chunk_size (length c)) [
-  | inr le ↦ reading_last key max i c le ∙ ap (λ r. then_read r (record { front = []; fault = None }))
+  | inr le ↦ reading_last key max i c le ∙ ap (λ r. then_read r (record { plaintext = []; fault = None }))
       (ap (outcome key max i true) (sym (take_all sealed_chunk_size c le))
       ∙ ap (λ b. outcome key max i b (take sealed_chunk_size c)) (sym (le-leb (length c) sealed_chunk_size le)) ∙ is)
   | inl lt ↦
@@ -111,33 +111,33 @@ after_on c d left is fits = elim (cases_lt sealed_chunk_size (length c)) [
 ]
 
 -- of what was given: the openings of the pieces so far, and what is left, whatever comes
-abbrev IsOpenedIn : (s t : OpenerState) (front given d : Bytes) → Type 0
-IsOpenedIn s t front given d =
+abbrev IsOpenedIn : (s t : OpenerState) (done given d : Bytes) → Type 0
+IsOpenedIn s t done given d =
     (reading_left s.key s.max_chunks s.index (left_of s.held (given ++ d))
-    ≡ before front (reading_left s.key s.max_chunks t.index (left_of t.held d)))
+    ≡ before done (reading_left s.key s.max_chunks t.index (left_of t.held d)))
     × (s.index + length (pieces_left (left_of s.held (given ++ d)))
     ≡ t.index + length (pieces_left (left_of t.held d)))
 
 -- the openings of the pieces so far
 pub record Opened (s t : OpenerState) (bytes : ℕ) (from now : Seen) (old new : Known) : Type 0 where
-  pub front : Bytes
-  pub len : bytes ≡ length front
+  pub done : Bytes
+  pub len : bytes ≡ length done
   pub key : t.key ≡ s.key
   pub max_chunks : t.max_chunks ≡ s.max_chunks
   pub none : t.fault ≡ None
   pub index : s.index ≤ t.index
-  pub written : Appends old new front
-  pub bound : length front ≤ chunk_size * (t.index - s.index)
-  pub full : IfSome t.held (λ ahead. length front ≡ chunk_size * (t.index - s.index))
+  pub written : Appends old new done
+  pub bound : length done ≤ chunk_size * (t.index - s.index)
+  pub full : IfSome t.held (λ ahead. length done ≡ chunk_size * (t.index - s.index))
   pub given : Bytes
   pub gave : Gave (flow from now) given
   pub size : IfSome t.held (λ ahead. length given ≤ sealed_chunk_size * (t.index - s.index) + length ahead)
   pub ended : IfNone t.held (IfSome s.held (λ ahead. IsAtEnd now.to_come))
-  pub reads : (d : Bytes) → IfNone t.held (d ≡ []) → IsOpenedIn s t front given d
+  pub reads : (d : Bytes) → IfNone t.held (d ≡ []) → IsOpenedIn s t done given d
 
 pub opened_none : (s : OpenerState) {from : Seen} {old : Known} → s.fault ≡ None → Opened s s 0 from from old old
 opened_none s {from} {old} none = record {
-  front = [];
+  done = [];
   len = refl;
   key = refl;
   max_chunks = refl;
@@ -189,23 +189,20 @@ held_some t u now next r not adv = go t.held refl
         subst (λ (x : Known). OpensNext t.key t.max_chunks t.index (left_of x adv.given) u.held u.text r) e adv.opens in
         absurd (not none.0)
 
-at_some : (P : Bytes → Type 0) (held : Known) (h : Bytes) → held ≡ Some h → IfSome held P → P h
-at_some P held h is p = subst (λ (x : Known). IfSome x P) is p
-
 -- one piece more
-step_reads : (key : Bytes) (max i : ℕ) {held : Known} (left : Known) {h : Bytes} (c text front : Bytes)
+step_reads : (key : Bytes) (max i : ℕ) {held : Known} (left : Known) {h : Bytes} (c text done : Bytes)
     {all : Reading StreamFault}
     → held ≡ Some h
     → OpensNext key max i (left_of held c) left text (Ok true)
-    → all ≡ before front (reading_left key max i (left_of held c))
-    → all ≡ before (front ++ text) (reading_left key max (i + 1) left)
-step_reads key max i left {h} c text front is opens so =
+    → all ≡ before done (reading_left key max i (left_of held c))
+    → all ≡ before (done ++ text) (reading_left key max (i + 1) left)
+step_reads key max i left {h} c text done is opens so =
     let o : OpensNext key max i (Some (h ++ c)) left text (Ok true) =
     subst (λ (x : Known). OpensNext key max i (left_of x c) left text (Ok true)) is opens in
     let first = first_ok key max i (h ++ c) text left o.1 o.2 in
-    so ∙ ap (λ (x : Known). before front (reading_left key max i (left_of x c))) is ∙ ap (before front) first.reads
-    ∙ ap (λ t. record { front = t; fault = (reading_left key max (i + 1) left).fault })
-    (sym (append_assoc front text (reading_left key max (i + 1) left).front))
+    so ∙ ap (λ (x : Known). before done (reading_left key max i (left_of x c))) is ∙ ap (before done) first.reads
+    ∙ ap (λ t. record { plaintext = t; fault = (reading_left key max (i + 1) left).fault })
+    (sym (append_assoc done text (reading_left key max (i + 1) left).plaintext))
 
 step_count : (key : Bytes) (max i : ℕ) (held left : Known) (h c text : Bytes) → held ≡ Some h
     → OpensNext key max i (left_of held c) left text (Ok true)
@@ -244,7 +241,7 @@ some_fits P held h is = subst (λ (x : Known). IfNone x P) (sym is) tt
 next_reads : (s t u : OpenerState) (n : ℕ) (from now next : Seen) (old new : Known) (o : Opened s t n from now old new)
     (adv : Advances t u (flow now next) (Ok true)) (d : Bytes) → IfNone u.held (d ≡ [])
     → (reading_left s.key s.max_chunks s.index (left_of s.held ((o.given ++ adv.given) ++ d))
-    ≡ before (o.front ++ u.text) (reading_left s.key s.max_chunks (t.index + 1) (left_of u.held d)))
+    ≡ before (o.done ++ u.text) (reading_left s.key s.max_chunks (t.index + 1) (left_of u.held d)))
     × (s.index + length (pieces_left (left_of s.held ((o.given ++ adv.given) ++ d)))
     ≡ t.index + 1 + length (pieces_left (left_of u.held d)))
 next_reads s t u n from now next old new o adv d fits =
@@ -255,10 +252,10 @@ next_reads s t u n from now next old new o adv d fits =
     let past = o.reads (g ++ d) (some_fits (g ++ d ≡ []) t.held h.0 h.1) in
     let more = step_count s.key s.max_chunks t.index t.held (left_of u.held d) h.0 (g ++ d) u.text h.1 opens in
     subst (λ z. (reading_left s.key s.max_chunks s.index (left_of s.held z)
-    ≡ before (o.front ++ u.text) (reading_left s.key s.max_chunks (t.index + 1) (left_of u.held d)))
+    ≡ before (o.done ++ u.text) (reading_left s.key s.max_chunks (t.index + 1) (left_of u.held d)))
     × (s.index + length (pieces_left (left_of s.held z)) ≡ t.index + 1 + length (pieces_left (left_of u.held d))))
     (sym (append_assoc o.given g d)) (
-      step_reads s.key s.max_chunks t.index (left_of u.held d) (g ++ d) u.text o.front h.1 opens past.0,
+      step_reads s.key s.max_chunks t.index (left_of u.held d) (g ++ d) u.text o.done h.1 opens past.0,
       omega (arith, past.1, more),
     )
 
@@ -273,7 +270,7 @@ gave_len : (s t u : OpenerState) (n : ℕ) (from now next : Seen) (old new : Kno
 gave_len s t u n from now next old new r o adv not =
     let h = held_some t u now next r not adv in
     let past : length o.given ≤ sealed_chunk_size * (t.index - s.index) + length h.0 =
-    at_some _ t.held h.0 h.1 o.size in
+    rw h.1 at o.size in
     let filled : IsFilled (Some h.0) adv.given next.to_come =
     subst (λ (x : Known). IsFilled x adv.given next.to_come) h.1 adv.filled in
     omega (arith, past, filled.0, length-append o.given adv.given)
@@ -319,17 +316,17 @@ pub opened_more : {s t : OpenerState} (u : OpenerState) {n : ℕ} {from now next
 opened_more {s} {t} u {n} {from} {now} {next} {a} {b} {c} o adv le put =
     let h = held_some t u now next (Ok true) true_not_false adv in
     let up : u.index ≡ t.index + 1 = adv.keeps.1 in
-    let full : length o.front ≡ chunk_size * (t.index - s.index) = at_some _ t.held h.0 h.1 o.full in
-    let l : length (o.front ++ u.text) ≡ length o.front + length u.text = length-append o.front u.text in
+    let full : length o.done ≡ chunk_size * (t.index - s.index) = rw h.1 at o.full in
+    let l : length (o.done ++ u.text) ≡ length o.done + length u.text = length-append o.done u.text in
     let size = gave_len s t u n from now next a b (Ok true) o adv true_not_false in
     record {
-      front = o.front ++ u.text;
+      done = o.done ++ u.text;
       len = omega (arith, o.len, l);
       key = adv.key ∙ o.key;
       max_chunks = adv.max_chunks ∙ o.max_chunks;
       none = adv.keeps.0;
       index = omega (arith, o.index);
-      written = Appends-trans a b c o.front u.text o.written put;
+      written = Appends-trans a b c o.done u.text o.written put;
       bound = omega (arith, o.index);
       full = next_full u.held adv.keeps.3 up full l o.index;
       given = o.given ++ adv.given;
@@ -338,16 +335,16 @@ opened_more {s} {t} u {n} {from} {now} {next} {a} {b} {c} o adv le put =
       ended = none_map u.held (some_const s.held) (ended_next t u now next adv);
       reads = λ d fits. subst (λ k. (reading_left s.key s.max_chunks s.index
           (left_of s.held ((o.given ++ adv.given) ++ d))
-          ≡ before (o.front ++ u.text) (reading_left s.key s.max_chunks k (left_of u.held d)))
+          ≡ before (o.done ++ u.text) (reading_left s.key s.max_chunks k (left_of u.held d)))
           × (s.index + length (pieces_left (left_of s.held ((o.given ++ adv.given) ++ d)))
           ≡ k + length (pieces_left (left_of u.held d)))) (sym up)
           (next_reads s t u n from now next a b o adv d fits);
     }
   where
     next_full : (held : Known) → IfSome held (λ ahead. (length ahead ≡ 1) × (length u.text ≡ chunk_size))
-        → u.index ≡ t.index + 1 → length o.front ≡ chunk_size * (t.index - s.index)
-        → length (o.front ++ u.text) ≡ length o.front + length u.text → s.index ≤ t.index
-        → IfSome held (λ ahead. length (o.front ++ u.text) ≡ chunk_size * (u.index - s.index))
+        → u.index ≡ t.index + 1 → length o.done ≡ chunk_size * (t.index - s.index)
+        → length (o.done ++ u.text) ≡ length o.done + length u.text → s.index ≤ t.index
+        → IfSome held (λ ahead. length (o.done ++ u.text) ≡ chunk_size * (u.index - s.index))
     next_full None k up full l le = tt
     next_full (Some x) k up full l le = omega (arith, k.1)
 
@@ -360,15 +357,15 @@ opened_more {s} {t} u {n} {from} {now} {next} {a} {b} {c} o adv le put =
 
 -- what was opened, and what comes where the source is not at its end
 reads_on : (s t : OpenerState) (n : ℕ) (from now : Seen) (a b : Known) (o : Opened s t n from now a b) (d : Bytes)
-    → (IsAtEnd now.to_come → d ≡ []) → IsOpenedIn s t o.front o.given d
+    → (IsAtEnd now.to_come → d ≡ []) → IsOpenedIn s t o.done o.given d
 reads_on s t n from now a b o d end = go s.held refl t.held refl
   where
-    go : (first : Known) → s.held ≡ first → (held : Known) → t.held ≡ held → IsOpenedIn s t o.front o.given d
+    go : (first : Known) → s.held ≡ first → (held : Known) → t.held ≡ held → IsOpenedIn s t o.done o.given d
     go first e (Some h) is = o.reads d (some_fits (d ≡ []) t.held h is)
     go (Some k) e None is =
         let ended : IfSome s.held (λ ahead. IsAtEnd now.to_come) =
         subst (λ (x : Known). IfNone x (IfSome s.held (λ ahead. IsAtEnd now.to_come))) is o.ended in
-        o.reads d (none-fits (end (at_some (λ ahead. IsAtEnd now.to_come) s.held k e ended)))
+        o.reads d (none-fits (end (rw e at ended)))
       where
         none-fits : d ≡ [] → IfNone t.held (d ≡ [])
         none-fits e = subst (λ (x : Known). IfNone x (d ≡ [])) (sym is) e
@@ -379,10 +376,10 @@ reads_on s t n from now a b o d end = go s.held refl t.held refl
         let rest : left_of t.held [] ≡ left_of t.held d =
         ap (λ (x : Known). left_of x []) is ∙ ap (λ (x : Known). left_of x d) (sym is) in
         subst (λ (x : Known). (reading_left s.key s.max_chunks s.index x
-        ≡ before o.front (reading_left s.key s.max_chunks t.index (left_of t.held d)))
+        ≡ before o.done (reading_left s.key s.max_chunks t.index (left_of t.held d)))
         × (s.index + length (pieces_left x) ≡ t.index + length (pieces_left (left_of t.held d)))) same
         (subst (λ (x : Known). (reading_left s.key s.max_chunks s.index (left_of s.held (o.given ++ []))
-        ≡ before o.front (reading_left s.key s.max_chunks t.index x))
+        ≡ before o.done (reading_left s.key s.max_chunks t.index x))
         × (s.index + length (pieces_left (left_of s.held (o.given ++ []))) ≡ t.index + length (pieces_left x))) rest
         old)
 
@@ -391,26 +388,26 @@ reads_on s t n from now a b o d end = go s.held refl t.held refl
 -- nothing is left
 pub writes_done : {s t : OpenerState} (u : OpenerState) {n : ℕ} {from now next : Seen} {a b : Known} (done : Done)
     → Opened s t n from now a b → Advances t u (flow now next) (Ok false)
-    → done.bytes ≡ n → done.chunks ≡ t.index - s.index → WritesAll s (flow from next) (moved a b) (Ok done)
+    → done.bytes ≡ n → done.chunks ≡ t.index - s.index → WritesAll s (flow from next) (move_of a b) (Ok done)
 writes_done {s} {t} u {n} {from} {now} {next} {a} {b} done o adv bytes chunks = go t.held refl
   where
     writes : t.held ≡ None → (d : Bytes) → (IsAtEnd now.to_come → d ≡ [])
         → WritesReading (reading_left s.key s.max_chunks s.index (left_of s.held (o.given ++ d)))
-        (length (pieces_left (left_of s.held (o.given ++ d)))) (moved a b) (Ok done)
+        (length (pieces_left (left_of s.held (o.given ++ d)))) (move_of a b) (Ok done)
     writes is d end =
         let past = reads_on s t n from now a b o d end in
         let none : left_of t.held d ≡ None = ap (λ (x : Known). left_of x d) is in
-        let all = past.0 ∙ ap (λ (x : Known). before o.front (reading_left s.key s.max_chunks t.index x)) none in
-        let front : (reading_left s.key s.max_chunks s.index (left_of s.held (o.given ++ d))).front ≡ o.front =
-        ap (λ (r : Reading StreamFault). r.front) all ∙ append-nil o.front in
+        let all = past.0 ∙ ap (λ (x : Known). before o.done (reading_left s.key s.max_chunks t.index x)) none in
+        let done : (reading_left s.key s.max_chunks s.index (left_of s.held (o.given ++ d))).plaintext ≡ o.done =
+        ap (λ (r : Reading StreamFault). r.plaintext) all ∙ append-nil o.done in
         let count : length (pieces_left (left_of t.held d)) ≡ 0 = ap (λ (x : Known). length (pieces_left x)) none in (
           ap (λ (r : Reading StreamFault). r.fault) all,
-          subst (Appends a b) (sym front) o.written,
-          bytes ∙ o.len ∙ ap length (sym front),
+          subst (Appends a b) (sym done) o.written,
+          bytes ∙ o.len ∙ ap length (sym done),
           chunks ∙ omega (arith, past.1, count),
         )
 
-    go : (held : Known) → t.held ≡ held → WritesAll s (flow from next) (moved a b) (Ok done)
+    go : (held : Known) → t.held ≡ held → WritesAll s (flow from next) (move_of a b) (Ok done)
     go (Some h) is =
         let some : OpensNext t.key t.max_chunks t.index (Some (h ++ adv.given)) u.held u.text (Ok false) =
         subst (λ (x : Known). OpensNext t.key t.max_chunks t.index (left_of x adv.given) u.held u.text (Ok false)) is
@@ -421,27 +418,27 @@ writes_done {s} {t} u {n} {from} {now} {next} {a} {b} done o adv bytes chunks = 
         of_still from now next (of_more o.gave (writes is)) (subst (λ x. Grew (flow now next) x) none adv.gave.grew)
 
 -- a prefix of a reading was written
-part_of : {all : Reading StreamFault} (rest : Reading StreamFault) (front part : Bytes) (a b c : Known)
-    → all ≡ before front rest
-    → Appends a b front → (more : Bytes) → rest.front ≡ part ++ more → WritesPart (moved b c) part
-    → WritesPart (moved a c) all.front
-part_of {all} rest front part a b c is put more cut wrote =
+part_of : {all : Reading StreamFault} (rest : Reading StreamFault) (done part : Bytes) (a b c : Known)
+    → all ≡ before done rest
+    → Appends a b done → (more : Bytes) → rest.plaintext ≡ part ++ more → WritesPart (move_of b c) part
+    → WritesPart (move_of a c) all.plaintext
+part_of {all} rest done part a b c is put more cut wrote =
     done_part c part more
-    (record { prefix = front; took = put; is = ap (λ (r : Reading StreamFault). r.front) is }) cut wrote
+    (record { prefix = done; took = put; is = ap (λ (r : Reading StreamFault). r.plaintext) is }) cut wrote
 
 -- a read failed
 pub writes_read : (s t : OpenerState) (n : ℕ) (from now next : Seen) (a b : Known) → Opened s t n from now a b
-    → Loses t.held (flow now next) → WritesAll s (flow from next) (moved a b) (Err Read)
+    → Loses t.held (flow now next) → WritesAll s (flow from next) (move_of a b) (Err Read)
 writes_read s t n from now next a b o lost = go t.held refl
   where
     begins : (h : Bytes) → t.held ≡ Some h → (d : Bytes)
-        → WritesPart (moved a b) (reading_left s.key s.max_chunks s.index (left_of s.held (o.given ++ d))).front
+        → WritesPart (move_of a b) (reading_left s.key s.max_chunks s.index (left_of s.held (o.given ++ d))).plaintext
     begins h is d =
         let past = o.reads d (some_fits (d ≡ []) t.held h is) in
-        part_of (reading_left s.key s.max_chunks t.index (left_of t.held d)) o.front [] a b b past.0
-        o.written _ refl (0, Appends-nil b)
+        let left = reading_left s.key s.max_chunks t.index (left_of t.held d) in
+        part_of left o.done [] a b b past.0 o.written left.plaintext refl (0, Appends-nil b)
 
-    go : (held : Known) → t.held ≡ held → WritesAll s (flow from next) (moved a b) (Err Read)
+    go : (held : Known) → t.held ≡ held → WritesAll s (flow from next) (move_of a b) (Err Read)
     go None is = absurd (subst (λ (x : Known). Loses x (flow now next)) is lost)
     go (Some h) is =
         of_then o.gave (of_any
@@ -450,44 +447,48 @@ writes_read s t n from now next a b o lost = go t.held refl
 -- a write failed
 pub writes_write : {s t : OpenerState} (u : OpenerState) {n : ℕ} {from now next : Seen} {a b : Known} (c : Known)
     → Opened s t n from now a b
-    → Advances t u (flow now next) (Ok true) → WritesPart (moved b c) u.text
-    → WritesAll s (flow from next) (moved a c) (Err Write)
+    → Advances t u (flow now next) (Ok true) → WritesPart (move_of b c) u.text
+    → WritesAll s (flow from next) (move_of a c) (Err Write)
 writes_write {s} {t} u {n} {from} {now} {next} {a} {b} c o adv part =
     of_more (gave_all s t u n from now next a b (Ok true) o adv) (λ d end.
     let past = next_reads s t u n from now next a b o adv d (none_map u.held end (ended_next t u now next adv)) in
     let rest = reading_left s.key s.max_chunks (t.index + 1) (left_of u.held d) in
-    let all = past.0 ∙ ap (λ f. record { front = f; fault = rest.fault }) (append_assoc o.front u.text rest.front) in
-    part_of (before u.text rest) o.front u.text a b c all o.written rest.front refl part)
+    let all = past.0 ∙ ap (λ f. record {
+      plaintext = f;
+      fault =
+          rest.fault;
+    }) (append_assoc o.done u.text rest.plaintext) in
+    part_of (before u.text rest) o.done u.text a b c all o.written rest.plaintext refl part)
 
 pub ends_write : {s t : OpenerState} (u : OpenerState) {n : ℕ} {from now next : Seen} {a b c : Known}
     → Opened s t n from now a b
-    → Advances t u (flow now next) (Ok true) → WritesPart (moved b c) u.text
-    → EndsAt s.max_chunks 0 (flow from next) (moved a c) Write
+    → Advances t u (flow now next) (Ok true) → WritesPart (move_of b c) u.text
+    → EndsAt s.max_chunks 0 (flow from next) (move_of a c) Write
 ends_write {s} {t} u {n} {from} {now} {next} {a} {b} {c} o adv part =
     let h = held_some t u now next (Ok true) true_not_false adv in
-    let full : length o.front ≡ chunk_size * (t.index - s.index) = at_some _ t.held h.0 h.1 o.full in
+    let full : length o.done ≡ chunk_size * (t.index - s.index) = rw h.1 at o.full in
     let len = gave_len s t u n from now next a b (Ok true) o adv true_not_false in
     record {
       piece = t.index - s.index;
-      text = o.front ++ take part.0 u.text;
-      written = Appends-trans a b c o.front (take part.0 u.text) o.written part.1;
-      at = inl (refl, omega (arith, length-append o.front (take part.0 u.text)));
+      text = o.done ++ take part.0 u.text;
+      written = Appends-trans a b c o.done (take part.0 u.text) o.written part.1;
+      at = inl (refl, omega (arith, length-append o.done (take part.0 u.text)));
       gave = (o.given ++ adv.given, gave_all s t u n from now next a b (Ok true) o adv, omega (arith, len));
     }
 
 -- a piece's fault
 stops_writes : (reading : Reading StreamFault) (n max i : ℕ) (a b : Known) (fault : StreamFault) → IsAtPiece max i fault
-    → reading.fault ≡ Some fault → Appends a b reading.front
-    → WritesReading reading n (moved a b) (Err fault)
+    → reading.fault ≡ Some fault → Appends a b reading.plaintext
+    → WritesReading reading n (move_of a b) (Err fault)
 stops_writes reading n max i a b (ChunkShort j) at f w = (f, w)
 stops_writes reading n max i a b (EmptyFinal j) at f w = (f, w)
 stops_writes reading n max i a b (BadChunk j) at f w = (f, w)
 stops_writes reading n max i a b TooManyChunks at f w = (f, w)
-stops_writes reading n max i a b _ at f w = absurd at
+stops_writes reading n max i a b fault at f w = absurd at
 
 pub writes_stop : (s t u : OpenerState) (n : ℕ) (from now next : Seen) (a b : Known) (fault : StreamFault)
     → Opened s t n from now a b → Advances t u (flow now next) (Err fault)
-    → WritesAll s (flow from next) (moved a b) (Err fault)
+    → WritesAll s (flow from next) (move_of a b) (Err fault)
 writes_stop s t u n from now next a b fault o adv =
     let h = held_some t u now next (Err fault) (err_not_ok fault false) adv in
     let g : Bytes = adv.given in
@@ -503,12 +504,12 @@ writes_stop s t u n from now next a b fault o adv =
     let stop = stops-on h.0 g d (at-end h.0 g d filled.1 end) met in
     let left : left_of t.held (g ++ d) ≡ Some (h.0 ++ (g ++ d)) = ap (λ (x : Known). left_of x (g ++ d)) h.1 in
     let all = ap (λ z. reading_left s.key s.max_chunks s.index (left_of s.held z)) (sym same) ∙ past.0
-    ∙ ap (λ (x : Known). before o.front (reading_left s.key s.max_chunks t.index x)) left ∙ ap (before o.front) stop in
-    let front : (reading_left s.key s.max_chunks s.index (left_of s.held ((o.given ++ g) ++ d))).front ≡ o.front =
-    ap (λ (r : Reading StreamFault). r.front) all ∙ append-nil o.front in
+    ∙ ap (λ (x : Known). before o.done (reading_left s.key s.max_chunks t.index x)) left ∙ ap (before o.done) stop in
+    let done : (reading_left s.key s.max_chunks s.index (left_of s.held ((o.given ++ g) ++ d))).plaintext ≡ o.done =
+    ap (λ (r : Reading StreamFault). r.plaintext) all ∙ append-nil o.done in
     stops_writes (reading_left s.key s.max_chunks s.index (left_of s.held ((o.given ++ g) ++ d)))
     (length (pieces_left (left_of s.held ((o.given ++ g) ++ d)))) t.max_chunks t.index a b fault adv.keeps.2
-    (ap (λ (r : Reading StreamFault). r.fault) all) (subst (Appends a b) (sym front) o.written))
+    (ap (λ (r : Reading StreamFault). r.fault) all) (subst (Appends a b) (sym done) o.written))
   where
     at-end : (h g d : Bytes) → (length h + length g < chunk_buf_size → IsAtEnd next.to_come)
         → (IsAtEnd next.to_come → d ≡ [])
@@ -520,19 +521,19 @@ writes_stop s t u n from now next a b fault o adv =
 
     stops-on : (h g d : Bytes) → (sealed_chunk_size < length (h ++ g)) ⊎ (d ≡ [])
         → first_outcome s.key s.max_chunks t.index (h ++ g) ≡ Err fault
-        → reading_left s.key s.max_chunks t.index (Some (h ++ (g ++ d))) ≡ stops fault
+        → reading_left s.key s.max_chunks t.index (Some (h ++ (g ++ d))) ≡ stop fault
     stops-on h g d full met = first_err s.key s.max_chunks t.index (h ++ (g ++ d)) fault
         (ap (first_outcome s.key s.max_chunks t.index) (sym (append_assoc h g d))
         ∙ first_on s.key s.max_chunks t.index (h ++ g) d full ∙ met)
 
 pub ends_stop : (s t u : OpenerState) (n : ℕ) (from now next : Seen) (a b : Known) (fault : StreamFault)
     → Opened s t n from now a b → Advances t u (flow now next) (Err fault)
-    → EndsAt s.max_chunks 0 (flow from next) (moved a b) fault
+    → EndsAt s.max_chunks 0 (flow from next) (move_of a b) fault
 ends_stop s t u n from now next a b fault o adv =
     let len = gave_len s t u n from now next a b (Err fault) o adv (err_not_ok fault false) in
     record {
       piece = t.index;
-      text = o.front;
+      text = o.done;
       written = o.written;
       at = inr (subst (λ m. IsAtPiece m t.index fault) o.max_chunks adv.keeps.2);
       gave = (o.given ++ adv.given, gave_all s t u n from now next a b (Err fault) o adv, omega (arith, len));
@@ -561,12 +562,12 @@ advanced_ok some t u {now} {next} none h = go (advanced t u now next none h)
 pub failed_writes : {s t : OpenerState} (u : OpenerState) {n : ℕ} {from now next : Seen} {a b : Known}
     (fault : StreamFault) → Opened s t n from now a b
     → IfNone t.fault (IsErrOf {T = Bool} (Err fault) Read ⊎ Advances t u (flow now next) (Err fault))
-    → IfNone t.fault (Loses t.held (flow now next)) → WritesAll s (flow from next) (moved a b) (Err fault)
+    → IfNone t.fault (Loses t.held (flow now next)) → WritesAll s (flow from next) (move_of a b) (Err fault)
 failed_writes {s} {t} u {n} {from} {now} {next} {a} {b} fault o h lost = go (advanced t u now next o.none h)
   where
     go : IsErrOf {T = Bool} (Err fault) Read ⊎ Advances t u (flow now next) (Err fault)
-        → WritesAll s (flow from next) (moved a b) (Err fault)
-    go (inl e) = subst (λ f. WritesAll s (flow from next) (moved a b) (Err f)) (sym (same_fault fault e))
+        → WritesAll s (flow from next) (move_of a b) (Err fault)
+    go (inl e) = subst (λ f. WritesAll s (flow from next) (move_of a b) (Err f)) (sym (same_fault fault e))
         (writes_read s t n from now next a b o
         (subst (λ (x : Option StreamFault). IfNone x (Loses t.held (flow now next))) o.none lost))
     go (inr adv) = writes_stop s t u n from now next a b fault o adv
@@ -574,11 +575,11 @@ failed_writes {s} {t} u {n} {from} {now} {next} {a} {b} fault o h lost = go (adv
 pub failed_ends : {s t : OpenerState} (u : OpenerState) {n : ℕ} {from now next : Seen} {a b : Known}
     (fault : StreamFault) → Opened s t n from now a b
     → IfNone t.fault (IsErrOf {T = Bool} (Err fault) Read ⊎ Advances t u (flow now next) (Err fault))
-    → (fault ≡ Read) ⊎ EndsAt s.max_chunks 0 (flow from next) (moved a b) fault
+    → (fault ≡ Read) ⊎ EndsAt s.max_chunks 0 (flow from next) (move_of a b) fault
 failed_ends {s} {t} u {n} {from} {now} {next} {a} {b} fault o h = go (advanced t u now next o.none h)
   where
     go : IsErrOf {T = Bool} (Err fault) Read ⊎ Advances t u (flow now next) (Err fault)
-        → (fault ≡ Read) ⊎ EndsAt s.max_chunks 0 (flow from next) (moved a b) fault
+        → (fault ≡ Read) ⊎ EndsAt s.max_chunks 0 (flow from next) (move_of a b) fault
     go (inl e) = inl (same_fault fault e)
     go (inr adv) = inr (ends_stop s t u n from now next a b fault o adv)
 

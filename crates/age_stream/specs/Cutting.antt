@@ -15,12 +15,12 @@ pub record IsCut (size : ℕ) (text : Bytes) (lists : List Bytes) : Type 0 where
   pub sizes : (lists ≡ [] ∷ []) ⊎ IsFilled size lists
 
 -- the cut of a text, `held` being what its first list has already
-abbrev pub cut_into : (size : ℕ) (held text : Bytes) → List Bytes
-cut_into size held [] = held ∷ []
-cut_into size held (x ∷ text) =
-    if nat_lt (length held) size then cut_into size (held ++ x ∷ []) text
-    else held ∷ cut_into size (x ∷ []) text
+abbrev pub cut_after : (size : ℕ) (held text : Bytes) → List Bytes
+cut_after size held [] = held ∷ []
+cut_after size held (x ∷ text) =
+    if nat_lt (length held) size then cut_after size (held ++ x ∷ []) text
+    else held ∷ cut_after size (x ∷ []) text
 
--- the one cut of a text, as `one_cut` says
+-- the one cut of a text
 abbrev pub cut : (size : ℕ) (text : Bytes) → List Bytes
-cut size text = cut_into size [] text
+cut size text = cut_after size [] text

@@ -89,7 +89,7 @@ IsFilled (Some ahead) given left =
     (length ahead + length given ≤ chunk_buf_size)
     × (length ahead + length given < chunk_buf_size → IsAtEnd left)
 
--- a piece was left, and the source gave some bytes
+-- a piece was left, and the source gave some bytes, perhaps none
 abbrev pub Loses : (held : Option Bytes) (source : Flow) → Type 0
 Loses None source = ⊥
 Loses (Some ahead) source = GaveSome source
@@ -109,7 +109,7 @@ pub record Advances (old new : OpenerState) (source : Flow)
   pub opens : OpensNext old.key old.max_chunks old.index (left_of old.held given) new.held new.text
       r
 
--- the nonce that was read, or the source gave less
+-- the nonce that was read, or the source gave less, or a read failed
 abbrev pub GivesNonce : (source : Flow) (result : Result Bytes StreamFault) → Type 0
 GivesNonce source (Ok nonce) = Gave source nonce
 GivesNonce source (Err Read) = GaveSome source
@@ -117,7 +117,7 @@ GivesNonce source (Err fault) =
     (fault ≡ NonceTruncated) × OfGiven source (λ c. length c < nonce_size)
 
 -- the start of a payload was read: its nonce, under which piece 0 is the opener's next; or there is
--- no whole nonce
+-- no whole nonce, or a read failed
 abbrev pub Starts : (file_key : FileKey) (max : ℕ) (source : Flow)
     (result : Result OpenerState StreamFault) → Type 0
 Starts file_key max source (Ok opener) =
@@ -140,11 +140,12 @@ pieces_left (Some c) = pieces c
 abbrev pub WritesReading : (reading : Reading StreamFault) (n : ℕ) (sink : Moved)
     (result : Result Done StreamFault) → Type 0
 WritesReading reading n sink (Ok done) =
-    (reading.fault ≡ None) × Took sink reading.front × (done.bytes ≡ length reading.front)
+    (reading.fault ≡ None) × Took sink reading.plaintext × (done.bytes ≡ length reading.plaintext)
     × (done.chunks ≡ n)
-WritesReading reading n sink (Err Read) = WritesPart sink reading.front
-WritesReading reading n sink (Err Write) = WritesPart sink reading.front
-WritesReading reading n sink (Err fault) = (reading.fault ≡ Some fault) × Took sink reading.front
+WritesReading reading n sink (Err Read) = WritesPart sink reading.plaintext
+WritesReading reading n sink (Err Write) = WritesPart sink reading.plaintext
+WritesReading reading n sink (Err fault) = (reading.fault ≡ Some fault)
+    × Took sink reading.plaintext
 
 -- the reading of what was held and then of what the source gave was written
 abbrev pub WritesAll : (s : OpenerState) (source : Flow) (sink : Moved)

@@ -4,7 +4,7 @@ use Rattle.std.specs.Int.{bytes_high_first}
 use Rattle.std.specs.List.{concat}
 use Rattle.age_cipher.specs.Bytes.{Key, Nonce}
 use Rattle.age_kdf.specs.Bytes.{Bytes}
-use Rattle.age_cipher.specs.Sealing.{sealed}
+use Rattle.age_cipher.specs.Sealing.{sealed_text}
 use Rattle.age_kdf.specs.Hkdf.{hkdf}
 use Rattle.age_header.specs.declared.file_key.FileKey.{FileKey}
 use Rattle.age_stream.specs.Cutting.{cut}
@@ -30,10 +30,10 @@ is_end [] = true
 is_end (_ ∷ _) = false
 
 -- chunks, each sealed under its number, from number i on
-abbrev pub sealed_from : (key : Key) (i : ℕ) (chunks : List Bytes) → List Bytes
-sealed_from key i [] = []
-sealed_from key i (chunk ∷ more) =
-    sealed key (chunk_nonce i (is_end more)) [] chunk ∷ sealed_from key (i + 1) more
+abbrev pub sealed_chunks_from : (key : Key) (i : ℕ) (chunks : List Bytes) → List Bytes
+sealed_chunks_from key i [] = []
+sealed_chunks_from key i (chunk ∷ more) =
+    sealed_text key (chunk_nonce i (is_end more)) [] chunk ∷ sealed_chunks_from key (i + 1) more
 
 -- the key of the chunks
 unfoldable pub payload_key : (file_key : FileKey) (nonce : Bytes) → Key
@@ -41,7 +41,8 @@ payload_key file_key nonce = hkdf file_key.0 nonce (codes "payload") 32
 
 -- the sealed chunks of a plaintext
 abbrev pub sealed_chunks : (file_key : FileKey) (nonce plain : Bytes) → List Bytes
-sealed_chunks file_key nonce plain = sealed_from (payload_key file_key nonce) 0 (chunks plain)
+sealed_chunks file_key nonce plain = sealed_chunks_from (payload_key file_key nonce) 0
+    (chunks plain)
 
 -- the payload: the nonce, then the sealed chunks
 abbrev pub payload : (file_key : FileKey) (nonce plain : Bytes) → Bytes

@@ -1,7 +1,7 @@
 -- A reader of ranges between two calls, and what its calls do.
 use Rattle.std.specs.Prelude.{ℕ, [], ◌+◌, ◌-◌, ◌*◌, ◌/◌, ◌^◌, ◌<◌, ◌≤◌, ◌≡◌, ◌⊎◌, length, take, drop, min, nat_eq, slice_get, slice_index, ◌%◌, unwrap_or, IsSome, IfSome, IfOk, IfErr, OnErr, MatchResult, ⊤, Bool, false, Option, Some, None, Result, Ok, Err, if◌then◌else◌}
 use Rattle.age_cipher.specs.Bytes.{Key}
-use Rattle.age_header.specs.Device.{CountsFaultIf, CountsIf, Known, Moved, moved_by}
+use Rattle.age_header.specs.Device.{CountsFaultIf, CountsIf, Known, Moved, move_by}
 use Rattle.age_kdf.specs.Bytes.{Bytes}
 use denote.Ref.{MutBor}
 use Rattle.age_header.specs.declared.file_key.FileKey.{FileKey}
@@ -12,7 +12,7 @@ use Rattle.age_stream.specs.declared.ranges.RangeReader.{RangeReader}
 use Rattle.age_stream.specs.Counts.{is_read}
 use Rattle.age_stream.specs.Payload.{payload_key}
 use Rattle.age_stream.specs.Offsets.{GaveAt, StaysGiven}
-use Rattle.age_stream.specs.Reading.{opened_at}
+use Rattle.age_stream.specs.Reading.{piece_opening}
 use Rattle.age_stream.specs.Slice.{opening, plain_len, chunk_len, IsSlice, last_piece, last_outcome, range_outcome}
 use Rattle.age_stream.specs.Sizes.{nonce_size, tag_size, chunk_size, sealed_chunk_size}
 
@@ -29,8 +29,8 @@ pub record RangeState : Type 0 where
   pub opened : ℕ
 
 -- what piece i opens to
-abbrev pub opens_to : (told : Known) (layout : Layout) (i : ℕ) → Option Bytes
-opens_to told layout i = opening layout.key (bytes_from told layout.first) i
+abbrev pub source_opening : (told : Known) (layout : Layout) (i : ℕ) → Option Bytes
+source_opening told layout i = opening layout.key (bytes_from told layout.first) i
 
 -- the text of chunk i, while it is the kept one
 abbrev pub kept_text : (s : RangeState) (i : ℕ) → Bytes
@@ -45,7 +45,7 @@ pub record IsThere (told : Known) (layout : Layout) : Type 0 where
 -- piece opens to
 pub record IsSound (told : Known) (s : RangeState) : Type 0 where
   pub there : IsThere told s.layout
-  pub keeps : (i : ℕ) → s.index ≡ Some i → opens_to told s.layout i ≡ Some (kept_text s i)
+  pub keeps : (i : ℕ) → s.index ≡ Some i → source_opening told s.layout i ≡ Some (kept_text s i)
 
 -- a text was verified as chunk i: it is what a piece opens to at the chunk's number, and this piece
 -- was read at the chunk's offset (C2SP age.md, "Payload")
@@ -53,7 +53,7 @@ pub record IsVerified (gave : (at byte : ℕ) → Type 0) (layout : Layout) (i :
     : Type 0 where
   pub piece : Bytes
   pub read : GaveAt gave (layout.first + sealed_chunk_size * i) piece
-  pub opens : opened_at layout.key i (nat_eq (i + 1) layout.count) piece ≡ Some text
+  pub opens : piece_opening layout.key i (nat_eq (i + 1) layout.count) piece ≡ Some text
 
 -- a reader was opened on the payload at this offset, whether or not the source's contents are
 -- known: its key is that of the nonce that was read there, and its pieces end where the source does
@@ -104,7 +104,8 @@ Fills told s at n old new =
 -- chunk i does not open, or was not read
 abbrev pub IsLost : (told : Known) (s : RangeState) (i : ℕ) (fault : StreamFault) → Type 0
 IsLost told s i fault =
-    (fault ≡ Read) ⊎ ((fault ≡ BadChunk i) × (IsSound told s → opens_to told s.layout i ≡ None))
+    (fault ≡ Read) ⊎ ((fault ≡ BadChunk i) × (IsSound told s → source_opening told s.layout i
+    ≡ None))
 
 -- chunk i is the kept one
 abbrev pub is_kept : (index : Option ℕ) (i : ℕ) → Bool
@@ -247,7 +248,7 @@ abbrev pub StartsRanges : {D : Type 0} (told : D → Known) (given failed : D �
     (max at : ℕ) (old new : D) (r : Result RangeState StreamFault) → Type 0
 StartsRanges told given failed gave found file_key max at old new r =
     OpensRanges file_key max at (told old) r
-    × Probes (moved_by told old new) at (given old) (given new)
+    × Probes (move_by told old new) at (given old) (given new)
     × StaysGiven (gave old) (gave new)
     × MatchResult r
     (λ s. BeginsAt file_key at (gave new) (found new) s × KeepsVerified (gave new) s

@@ -3,7 +3,7 @@
 use Rattle.std.specs.Prelude.{ℕ, List, [], ◌∷◌, ◌++◌, ◌+◌, ◌&&◌, Bool, length, take, drop, nat_lt, nat_le, nat_eq, Option, Some, None, Result, Ok, Err, ok_or, if◌then◌else◌}
 use Rattle.age_cipher.specs.Bytes.{Key}
 use Rattle.age_kdf.specs.Bytes.{Bytes}
-use Rattle.age_cipher.specs.Sealing.{opened}
+use Rattle.age_cipher.specs.Sealing.{opened_text}
 use Rattle.age_header.specs.declared.file_key.FileKey.{FileKey}
 use Rattle.age_stream.specs.declared.fault.StreamFault.{StreamFault}
 use Rattle.age_stream.specs.declared.fault.StreamFault.TheVariants.{NonceTruncated, ChunkShort, EmptyFinal, BadChunk, TooManyChunks}
@@ -11,8 +11,8 @@ use Rattle.age_stream.specs.Payload.{pieces, chunk_nonce, is_end, payload_key}
 use Rattle.age_stream.specs.Sizes.{nonce_size, tag_size, sealed_chunk_size}
 
 -- what piece i opens to under its number
-abbrev pub opened_at : (key : Key) (i : ℕ) (last : Bool) (piece : Bytes) → Option Bytes
-opened_at key i last piece = opened key (chunk_nonce i last) [] piece
+abbrev pub piece_opening : (key : Key) (i : ℕ) (last : Bool) (piece : Bytes) → Option Bytes
+piece_opening key i last piece = opened_text key (chunk_nonce i last) [] piece
 
 -- what piece i gives: the first fault that applies, or its opening
 unfoldable pub outcome : (key : Key) (max i : ℕ) (last : Bool) (piece : Bytes)
@@ -21,7 +21,7 @@ outcome key max i last piece =
     if nat_le max i then Err TooManyChunks
     else if nat_lt (length piece) tag_size then Err (ChunkShort i)
     else if last && nat_lt 0 i && nat_eq (length piece) tag_size then Err (EmptyFinal i)
-    else ok_or (opened_at key i last piece) (BadChunk i)
+    else ok_or (piece_opening key i last piece) (BadChunk i)
 
 -- what each piece gives, numbered from i on
 abbrev pub outcomes : (key : Key) (max i : ℕ) (pieces : List Bytes)
@@ -37,35 +37,35 @@ first_fault (Ok text ∷ more) = first_fault more
 first_fault (Err fault ∷ more) = Some fault
 
 -- the openings before the first fault, joined
-abbrev pub front : {F : Type 0} → List (Result Bytes F) → Bytes
-front [] = []
-front (Ok text ∷ more) = text ++ front more
-front (Err fault ∷ more) = []
+abbrev pub plaintext_of : {F : Type 0} → List (Result Bytes F) → Bytes
+plaintext_of [] = []
+plaintext_of (Ok text ∷ more) = text ++ plaintext_of more
+plaintext_of (Err fault ∷ more) = []
 
 -- what a reading gives: some plaintext, then a fault or the end
 pub record Reading (F : Type 0) : Type 0 where
-  pub front : Bytes
+  pub plaintext : Bytes
   pub fault : Option F
 
 -- a fault before any plaintext
-abbrev pub stops : {F : Type 0} → F → Reading F
-stops fault = record { front = []; fault = Some fault }
+abbrev pub stop : {F : Type 0} → F → Reading F
+stop fault = record { plaintext = []; fault = Some fault }
 
 -- a plaintext to its end
 abbrev pub whole : {F : Type 0} → Bytes → Reading F
-whole plain = record { front = plain; fault = None }
+whole plain = record { plaintext = plain; fault = None }
 
 -- a text read as the pieces from number i on
 abbrev pub reading_from : (key : Key) (max i : ℕ) (rest : Bytes) → Reading StreamFault
 reading_from key max i rest = record {
-  front = front (outcomes key max i (pieces rest));
+  plaintext = plaintext_of (outcomes key max i (pieces rest));
   fault = first_fault (outcomes key max i (pieces rest));
 }
 
 -- a payload read under a file key: its nonce, then its pieces
 abbrev pub payload_reading : (file_key : FileKey) (max : ℕ) (text : Bytes) → Reading StreamFault
 payload_reading file_key max text =
-    if nat_lt (length text) nonce_size then stops NonceTruncated
+    if nat_lt (length text) nonce_size then stop NonceTruncated
     else reading_from (payload_key file_key (take nonce_size text)) max 0 (drop nonce_size text)
 
 -- what the first piece of c gives as piece i; it is the last where no byte follows it

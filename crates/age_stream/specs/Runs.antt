@@ -13,22 +13,22 @@ run_of chunk = record {
 }
 
 -- two runs as one
-abbrev pub spanned : (run next : LostRun) → LostRun
-spanned run next =
+abbrev pub span : (run next : LostRun) → LostRun
+span run next =
     record { first = run.first; last = next.last; start = run.start; end = next.end }
 
 -- a run before others: one with the first of them, if no chunk is between the two
-abbrev pub joined : (run : LostRun) (runs : List LostRun) → List LostRun
-joined run [] = run ∷ []
-joined run (next ∷ more) =
-    if nat_eq next.first (run.last + 1) then spanned run next ∷ more else run ∷ next ∷ more
+abbrev pub runs_from : (run : LostRun) (runs : List LostRun) → List LostRun
+runs_from run [] = run ∷ []
+runs_from run (next ∷ more) =
+    if nat_eq next.first (run.last + 1) then span run next ∷ more else run ∷ next ∷ more
 
 -- the runs of these chunks
 abbrev pub runs : List Lost → List LostRun
 runs [] = []
-runs (chunk ∷ more) = joined (run_of chunk) (runs more)
+runs (chunk ∷ more) = runs_from (run_of chunk) (runs more)
 
 -- the same after a run that may go on
-abbrev pub continued : (run : Option LostRun) (runs : List LostRun) → List LostRun
-continued None runs = runs
-continued (Some run) runs = joined run runs
+abbrev pub runs_after : (run : Option LostRun) (runs : List LostRun) → List LostRun
+runs_after None runs = runs
+runs_after (Some run) runs = runs_from run runs

@@ -14,7 +14,7 @@ use Rattle.age_stream.specs.declared.salvaged.Saved.{Saved}
 use Rattle.age_stream.specs.declared.salvaged.Saved.TheVariants.{Chunk, LastChunk, Zeros, Nothing}
 use Rattle.age_stream.specs.Opening.{EndsAt}
 use Rattle.age_stream.specs.Payload.{is_end, payload_key, pieces}
-use Rattle.age_stream.specs.Reading.{opened_at}
+use Rattle.age_stream.specs.Reading.{piece_opening}
 use Rattle.age_stream.specs.Sizes.{chunk_buf_size, nonce_size, sealed_chunk_size, tag_size}
 
 -- what stands for a piece in the text that was saved
@@ -39,8 +39,8 @@ opening_or last None other = other
 -- others where it is; else zeros.
 abbrev pub part : (key : Key) (i : ℕ) (last : Bool) (piece : Bytes) → Part
 part key i last piece =
-    opening_or last (opened_at key i last piece)
-    (opening_or (not last) (opened_at key i (not last) piece) (lost_part piece))
+    opening_or last (piece_opening key i last piece)
+    (opening_or (not last) (piece_opening key i (not last) piece) (lost_part piece))
 
 -- the parts of these pieces, numbered from i on
 abbrev pub parts : (key : Key) (i : ℕ) (pieces : List Bytes) → List Part
@@ -53,8 +53,8 @@ payload_parts file_key text =
     parts (payload_key file_key (take nonce_size text)) 0 (pieces (drop nonce_size text))
 
 -- the parts, joined
-abbrev pub salvaged : List Part → Bytes
-salvaged parts = concat (map (λ p. p.text) parts)
+abbrev pub salvaged_text : List Part → Bytes
+salvaged_text parts = concat (map (λ p. p.text) parts)
 
 -- the chunk, if zeros are in its place
 abbrev pub loss : (saved : Saved) (lost : Lost) → List Lost
@@ -74,10 +74,10 @@ last_saved [] = Nothing
 last_saved (p ∷ []) = p.saved
 last_saved (p ∷ q ∷ more) = last_saved (q ∷ more)
 
--- how much there is of each
+-- how many bytes, pieces and lost chunks there are, and what the last piece is
 abbrev pub summary : (parts : List Part) → Salvaged
 summary parts = record {
-  bytes = length (salvaged parts);
+  bytes = length (salvaged_text parts);
   chunks = length parts;
   lost = length (losses 0 0 parts);
   last = last_saved parts;
@@ -97,32 +97,33 @@ is_whole_to _ lost = false
 abbrev pub is_whole : (s : Salvaged) → Bool
 is_whole s = is_whole_to s.last s.lost
 
--- the chunks that were reported as lost, if they are known, before a call and after it
+-- the chunks that were reported as lost up to a moment, if they are known
 abbrev pub KnownLosses : Type 0
 KnownLosses = Option (List Lost)
 
-pub record Told : Type 0 where
+-- the same before a call and after it
+pub record LossesMoved : Type 0 where
   pub before : KnownLosses
   pub after : KnownLosses
 
-abbrev pub told : (before after : KnownLosses) → Told
-told before after = record { before = before; after = after }
+abbrev pub losses_of : (before after : KnownLosses) → LossesMoved
+losses_of before after = record { before = before; after = after }
 
-abbrev pub told_by : {L : Type 0} (lost : L → KnownLosses) (old new : L) → Told
-told_by lost old new = told (lost old) (lost new)
+abbrev pub losses_by : {L : Type 0} (lost : L → KnownLosses) (old new : L) → LossesMoved
+losses_by lost old new = losses_of (lost old) (lost new)
 
 -- these chunks were reported, after those that were reported before
-abbrev pub Reports : (losses : Told) (list : List Lost) → Type 0
+abbrev pub Reports : (losses : LossesMoved) (list : List Lost) → Type 0
 Reports losses list = IfSome losses.before (λ past. losses.after ≡ Some (past ++ list))
 
 -- the first n parts were written, and the lost chunks among them reported
-abbrev pub Saves : (n : ℕ) (parts : List Part) (sink : Moved) (lost : Told) → Type 0
+abbrev pub Saves : (n : ℕ) (parts : List Part) (sink : Moved) (lost : LossesMoved) → Type 0
 Saves n parts sink lost =
-    Took sink (salvaged (take n parts)) × Reports lost (losses 0 0 (take n parts))
+    Took sink (salvaged_text (take n parts)) × Reports lost (losses 0 0 (take n parts))
 
 -- What is returned where these are the parts: all were written, or as many as chunks are allowed,
 -- or some where a read failed, and where a write failed a prefix of their text.
-abbrev pub SavesParts : (max : ℕ) (parts : List Part) (sink : Moved) (lost : Told)
+abbrev pub SavesParts : (max : ℕ) (parts : List Part) (sink : Moved) (lost : LossesMoved)
     (r : Result Salvaged StreamFault) → Type 0
 SavesParts max parts sink lost (Ok s) =
     (length parts ≤ max) × Saves (length parts) parts sink lost × (s ≡ summary parts)
@@ -130,12 +131,12 @@ SavesParts max parts sink lost (Err TooManyChunks) =
     (max < length parts) × Saves max parts sink lost
 SavesParts max parts sink lost (Err Read) = (n : ℕ) × Saves n parts sink lost
 SavesParts max parts sink lost (Err Write) =
-    (n : ℕ) × WritesPart sink (salvaged parts) × Reports lost (losses 0 0 (take n parts))
+    (n : ℕ) × WritesPart sink (salvaged_text parts) × Reports lost (losses 0 0 (take n parts))
 SavesParts max parts sink lost (Err _) = ⊥
 
 -- the same of a payload; nothing was written where there is no whole nonce, or no memory
 abbrev pub SavesPayload : (file_key : FileKey) (max : ℕ) (text : Bytes) (sink : Moved)
-    (lost : Told) (r : Result Salvaged StreamFault) → Type 0
+    (lost : LossesMoved) (r : Result Salvaged StreamFault) → Type 0
 SavesPayload file_key max text sink lost (Err NonceTruncated) =
     (length text < nonce_size) × Saves 0 [] sink lost
 SavesPayload file_key max text sink lost (Err Memory) = Saves 0 [] sink lost
@@ -145,7 +146,8 @@ SavesPayload file_key max text sink lost r =
     (nonce_size ≤ length text) × SavesParts max (payload_parts file_key text) sink lost r
 
 -- the same of the bytes that the source gave
-abbrev pub Salvages : (file_key : FileKey) (max : ℕ) (source : Flow) (sink : Moved) (lost : Told)
+abbrev pub Salvages : (file_key : FileKey) (max : ℕ) (source : Flow) (sink : Moved)
+    (lost : LossesMoved)
     (r : Result Salvaged StreamFault) → Type 0
 Salvages file_key max source sink lost r =
     OfGiven source (λ text. SavesPayload file_key max text sink lost r)

@@ -4,13 +4,13 @@ use Rattle.std.specs.Io.KnownBytes.{IsAtEnd}
 use Rattle.std.specs.List.{concat}
 use Rattle.age_cipher.specs.Bytes.{Key}
 use Rattle.age_kdf.specs.Bytes.{Bytes}
-use Rattle.age_cipher.specs.Sealing.{sealed}
+use Rattle.age_cipher.specs.Sealing.{sealed_text}
 use Rattle.age_header.specs.Device.{Flow, GaveAtMost, GaveSome, OfGiven, WritesPart, Moved, Gave, Took}
 use Rattle.age_stream.specs.declared.done.Done.{Done}
 use Rattle.age_stream.specs.declared.fault.StreamFault.{StreamFault}
 use Rattle.age_stream.specs.declared.fault.StreamFault.TheVariants.{Read, Write, TooManyChunks}
-use Rattle.age_stream.specs.Cutting.{cut_into}
-use Rattle.age_stream.specs.Payload.{chunk_nonce, sealed_from}
+use Rattle.age_stream.specs.Cutting.{cut_after}
+use Rattle.age_stream.specs.Payload.{chunk_nonce, sealed_chunks_from}
 use Rattle.age_stream.specs.Sizes.{chunk_size, sealed_chunk_size}
 
 -- a sealer: its key and limit, the number of the next chunk, the text that it holds of it, and the
@@ -27,12 +27,12 @@ abbrev pub at_start : (key : Key) (max : ℕ) → SealerState
 at_start key max = record { key = key; max_chunks = max; index = 0; held = []; fault = None }
 
 -- the sealed chunks from number i on, where `held` is held and `text` still comes
-abbrev pub sealed_after : (key : Key) (i : ℕ) (held text : Bytes) → List Bytes
-sealed_after key i held text = sealed_from key i (cut_into chunk_size held text)
+abbrev pub sealed_chunks_after : (key : Key) (i : ℕ) (held text : Bytes) → List Bytes
+sealed_chunks_after key i held text = sealed_chunks_from key i (cut_after chunk_size held text)
 
 -- what a sealer writes if `text` still comes
 abbrev pub sealed_rest : (s : SealerState) (text : Bytes) → Bytes
-sealed_rest s text = concat (sealed_after s.key s.index s.held text)
+sealed_rest s text = concat (sealed_chunks_after s.key s.index s.held text)
 
 -- A sealer that held `held` before chunk i took `text`, and now holds `now` before chunk j. The
 -- sealed chunks `gone` were written. Whatever `more` follows, the sealed chunks of it all are
@@ -44,7 +44,7 @@ pub record Fed (key : Key) (i j : ℕ) (held text now : Bytes) (sink : Moved) : 
   pub bytes : length held + length text ≡ chunk_size * length gone + length now
   pub written : Took sink (concat gone)
   pub chunks : (more : Bytes)
-      → sealed_after key i held (text ++ more) ≡ gone ++ sealed_after key j now more
+      → sealed_chunks_after key i held (text ++ more) ≡ gone ++ sealed_chunks_after key j now more
 
 -- at least n bytes were written
 abbrev pub WroteAtLeast : (n : ℕ) (sink : Moved) → Type 0
@@ -54,11 +54,13 @@ WroteAtLeast n sink = (text : Bytes) × Took sink text × (n ≤ length text)
 -- the sealed chunks; of too many chunks those with an index below the limit less one.
 abbrev pub StopsIn : (key : Key) (max i : ℕ) (held text : Bytes) (sink : Moved)
     (fault : StreamFault) → Type 0
-StopsIn key max i held text sink Read = WritesPart sink (concat (sealed_after key i held text))
-StopsIn key max i held text sink Write = WritesPart sink (concat (sealed_after key i held text))
+StopsIn key max i held text sink Read = WritesPart sink (concat
+    (sealed_chunks_after key i held text))
+StopsIn key max i held text sink Write = WritesPart sink (concat
+    (sealed_chunks_after key i held text))
 StopsIn key max i held text sink TooManyChunks =
-    (max < i + length (cut_into chunk_size held text))
-    × Took sink (concat (take (max - 1 - i) (sealed_after key i held text)))
+    (max < i + length (cut_after chunk_size held text))
+    × Took sink (concat (take (max - 1 - i) (sealed_chunks_after key i held text)))
 StopsIn key max i held text sink _ = ⊥
 
 -- all that the source gives was read
@@ -112,9 +114,9 @@ abbrev pub SealsAll : (s : SealerState) (source : Flow) (sink : Moved)
     (result : Result Done StreamFault) → Type 0
 SealsAll s source sink (Ok done) =
     OfGiven source (λ text. Took sink (sealed_rest s text)
-    × (s.index + length (cut_into chunk_size s.held text) ≤ s.max_chunks)
+    × (s.index + length (cut_after chunk_size s.held text) ≤ s.max_chunks)
     × (done.bytes ≡ chunk_size * s.index + length s.held + length text)
-    × (done.chunks ≡ s.index + length (cut_into chunk_size s.held text)))
+    × (done.chunks ≡ s.index + length (cut_after chunk_size s.held text)))
 SealsAll s source sink (Err fault) =
     (chunk : ℕ) × Stopped s.key s.max_chunks s.index chunk s.held source sink fault
 
@@ -124,9 +126,9 @@ abbrev pub PutsFull : {A : Type 0} (key : Key) (max i j : ℕ) (bytes after : By
     (r : Result A StreamFault) → Type 0
 PutsFull key max i j bytes after sink r =
     MatchResult r
-    (λ _. (j ≡ i + 1) × Took sink (sealed key (chunk_nonce i false) [] (take chunk_size bytes))
+    (λ _. (j ≡ i + 1) × Took sink (sealed_text key (chunk_nonce i false) [] (take chunk_size bytes))
     × (take 1 after ≡ take 1 (drop chunk_size bytes)))
     (λ fault. (j ≡ i)
     × (((fault ≡ Write)
-    × WritesPart sink (sealed key (chunk_nonce i false) [] (take chunk_size bytes)))
+    × WritesPart sink (sealed_text key (chunk_nonce i false) [] (take chunk_size bytes)))
     ⊎ ((fault ≡ TooManyChunks) × (max ≤ i + 1) × Took sink [])))

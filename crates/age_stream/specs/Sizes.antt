@@ -10,7 +10,7 @@ nonce_size = 16
 abbrev pub chunk_size : ℕ
 chunk_size = 65536
 
--- such a chunk when it is sealed
+-- a full chunk when it is sealed
 abbrev pub sealed_chunk_size : ℕ
 sealed_chunk_size = chunk_size + tag_size
 

@@ -8,13 +8,13 @@ use Rattle.age_header.specs.declared.file_key.FileKey.{FileKey}
 use Rattle.age_stream.specs.declared.fault.StreamFault.{StreamFault}
 use Rattle.age_stream.specs.declared.fault.StreamFault.TheVariants.{NonceTruncated}
 use Rattle.age_stream.specs.Payload.{pieces, is_end, payload_key}
-use Rattle.age_stream.specs.Reading.{opened_at, outcome}
+use Rattle.age_stream.specs.Reading.{piece_opening, outcome}
 use Rattle.age_stream.specs.Sizes.{nonce_size, tag_size, chunk_size}
 
 -- what each piece opens to, numbered from i on
 abbrev pub openings : (key : Key) (i : ℕ) (pieces : List Bytes) → List (Option Bytes)
 openings key i [] = []
-openings key i (piece ∷ more) = opened_at key i (is_end more) piece ∷ openings key (i + 1) more
+openings key i (piece ∷ more) = piece_opening key i (is_end more) piece ∷ openings key (i + 1) more
 
 -- what piece i of what follows the nonce opens to
 abbrev pub opening : (key : Key) (rest : Bytes) (i : ℕ) → Option Bytes

@@ -2,7 +2,7 @@
 use Rattle.std.specs.Prelude.{ℕ, ◌≡◌, ◌≤◌, ◌<◌, ◌≢◌, length, MatchResult, None, Some, Result, Ok, Err}
 use Rattle.age_kdf.specs.Bytes.{Bytes}
 use denote.Ref.{MutBor}
-use Rattle.age_header.specs.Device.{CountsFaultIf, Known, Moved, Took, WritesPart, moved_by}
+use Rattle.age_header.specs.Device.{CountsFaultIf, Known, Moved, Took, WritesPart, move_by}
 use Rattle.age_header.specs.declared.file_key.FileKey.{FileKey}
 use Rattle.age_stream.specs.declared.fault.StreamFault.{StreamFault}
 use Rattle.age_stream.specs.declared.fault.StreamFault.TheVariants.{Memory, Read, Write}
@@ -30,10 +30,10 @@ TakesPiece s t piece sink r =
 abbrev pub StartsWriter : {W : Type 0} (taken : W → Known) (failed : W → ℕ) (file_key : FileKey)
     (nonce : Bytes) (max : ℕ) (old new : W) (r : Result SealerState StreamFault) → Type 0
 StartsWriter taken failed file_key nonce max old new (Ok sealer) =
-    Took (moved_by taken old new) nonce × (failed new ≡ failed old)
+    Took (move_by taken old new) nonce × (failed new ≡ failed old)
     × (sealer ≡ at_start (payload_key file_key nonce) max)
 StartsWriter taken failed file_key nonce max old new (Err fault) =
-    (fault ≡ Write) × WritesPart (moved_by taken old new) nonce
+    (fault ≡ Write) × WritesPart (move_by taken old new) nonce
     × CountsFaultIf is_write (failed old) (failed new) fault
 
 -- memory was refused, and nothing was written

@@ -1,6 +1,6 @@
 //! The chunks of a payload, of which one is kept. The source is passed to each call.
 ghost use Rattle.std.specs.Prelude.{◌≡◌, ◌+◌, ◌-◌, ◌/◌, ◌<◌, ◌≤◌, ◌++◌, length, take, drop, min, Some, None, IfOk, OnOk, OnErr, IfErr, if◌then◌else◌};
-ghost use Rattle.age_header.specs.Device.{CountsIf, moved_by};
+ghost use Rattle.age_header.specs.Device.{CountsIf, move_by};
 ghost use Rattle.age_stream.specs.Counts.{is_read};
 ghost use Rattle.age_stream.specs.Offsets.{StaysGiven};
 ghost use Rattle.age_stream.specs.Ranges.{BeginsAt, IsLost, IsOpenFault, IsSound, KeepsVerified, OpenedAtLeast, OpensRanges, Probes, ReadsRange, is_kept, kept_text};
@@ -95,7 +95,7 @@ impl Chunks {
         payload_at: u64,
         max_chunks: u128,
     ) -> Result<Chunks, StreamFault>
-        ensures probes { Probes (moved_by D.bytes dev.old dev.new) payload_at (D.given dev.old)
+        ensures probes { Probes (move_by D.bytes dev.old dev.new) payload_at (D.given dev.old)
             (D.given dev.new) }
         ensures opens { OpensRanges key.now max_chunks payload_at (D.bytes dev.old) result }
         ensures stays_given { StaysGiven (D.gave dev.old) (D.gave dev.new) }

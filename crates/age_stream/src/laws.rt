@@ -6,7 +6,7 @@ ghost use Rattle.age_header.specs.declared.file_key.FileKey.{FileKey};
 ghost use Rattle.age_stream.specs.Cutting.{cut, IsCut};
 ghost use Rattle.age_stream.specs.Payload.{chunks, payload, payload_key, pieces};
 ghost use Rattle.age_stream.specs.Reading.{payload_reading, whole};
-ghost use Rattle.age_stream.specs.Salvage.{last_saved, losses, payload_parts, salvaged};
+ghost use Rattle.age_stream.specs.Salvage.{last_saved, losses, payload_parts, salvaged_text};
 ghost use Rattle.age_stream.specs.declared.salvaged.Saved.TheVariants.{LastChunk};
 ghost use Rattle.age_stream.specs.Slice.{IsSlice, plain_len, range_outcome};
 ghost use Rattle.age_stream.specs.Sizes.{nonce_size};
@@ -50,7 +50,7 @@ pub fn salvage_is_reading()
     // What is saved of a payload that reads whole is its plaintext.
     ensures whole { (file_key : FileKey) (text plain : Bytes) (max : ℕ)
         → payload_reading file_key max text ≡ whole plain
-        → salvaged (payload_parts file_key text) ≡ plain }
+        → salvaged_text (payload_parts file_key text) ≡ plain }
     // Then no chunk is lost.
     ensures none { (file_key : FileKey) (text plain : Bytes) (max : ℕ)
         → payload_reading file_key max text ≡ whole plain
@@ -61,9 +61,9 @@ pub fn salvage_is_reading()
         → last_saved (payload_parts file_key text) ≡ LastChunk }
     // Of any payload, what is saved of as many pieces as chunks are allowed begins with the text
     // before the first fault.
-    ensures front { (file_key : FileKey) (text : Bytes) (max : ℕ)
-        → (rest : Bytes) × (salvaged (take max (payload_parts file_key text))
-        ≡ (payload_reading file_key max text).front ++ rest) }
+    ensures plaintext { (file_key : FileKey) (text : Bytes) (max : ℕ)
+        → (rest : Bytes) × (salvaged_text (take max (payload_parts file_key text))
+        ≡ (payload_reading file_key max text).plaintext ++ rest) }
 {}
 
 /// What is saved stands at its offset: what a range of a damaged payload reads is there, and there
@@ -73,8 +73,8 @@ pub fn salvage_is_sliced()
     // of what is saved.
     ensures slice { (file_key : FileKey) (text xs : Bytes) (at : ℕ)
         → IsSlice (payload_key file_key (take nonce_size text)) (drop nonce_size text) at xs
-        → xs ≡ take (length xs) (drop at (salvaged (payload_parts file_key text))) }
+        → xs ≡ take (length xs) (drop at (salvaged_text (payload_parts file_key text))) }
     // The length is that of the plaintext, as a reader of ranges finds it.
     ensures len { (file_key : FileKey) (text : Bytes)
-        → length (salvaged (payload_parts file_key text)) ≡ plain_len (drop nonce_size text) }
+        → length (salvaged_text (payload_parts file_key text)) ≡ plain_len (drop nonce_size text) }
 {}

@@ -4,7 +4,7 @@ ghost use Rattle.std.specs.Bool.{OnTrue, OnFalse};
 ghost use Rattle.age_header.specs.Device.{Counts, CountsIf};
 ghost use Rattle.age_stream.specs.Counts.{is_read};
 ghost use Rattle.age_stream.specs.Offsets.{EndsBefore, HasAt, IsPast, StaysGiven, GaveAt};
-ghost use Rattle.age_stream.specs.Ranges.{IsOpenFault, IsThere, IsVerified, JudgesLast, last_len, opens_to};
+ghost use Rattle.age_stream.specs.Ranges.{IsOpenFault, IsThere, IsVerified, JudgesLast, last_len, source_opening};
 ghost use Rattle.age_stream.specs.Slice.{chunk_len};
 ghost use Rattle.age_stream.specs.Sizes.{nonce_size, tag_size, chunk_buf_size};
 
@@ -104,14 +104,15 @@ pub(crate) fn load<D: ReadAt>(
     requires within { i < layout.count }
     ensures stay { D.bytes dev.new ≡ D.bytes dev.old }
     ensures opens { OnOk result (IsThere (D.bytes dev.old) layout
-        → opens_to (D.bytes dev.old) layout i ≡ Some (take (chunk_len layout.plain i) buf.new)) }
+        → source_opening (D.bytes dev.old) layout i
+        ≡ Some (take (chunk_len layout.plain i) buf.new)) }
     ensures stays_given { StaysGiven (D.gave dev.old) (D.gave dev.new) }
     ensures verified { OnOk result (IsVerified (D.gave dev.new) layout i
         (take (chunk_len layout.plain i) buf.new)) }
     ensures lost { IfErr result (λ fault. (fault ≡ StreamFault.Read)
         ⊎ ((fault ≡ StreamFault.BadChunk i)
         × (IsThere (D.bytes dev.old) layout
-        → opens_to (D.bytes dev.old) layout i ≡ None))) }
+        → source_opening (D.bytes dev.old) layout i ≡ None))) }
     ensures given { D.given dev.new ≤ D.given dev.old + (chunk_len layout.plain i + tag_size) }
     ensures count { CountsIf is_read (D.failed dev.old) (D.failed dev.new) result }
 {

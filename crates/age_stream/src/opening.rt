@@ -2,8 +2,8 @@
 ghost use Rattle.std.specs.Prelude.{◌≡◌, ◌≢◌, ◌⊎◌, ◌<◌, ◌≤◌, ◌+◌, ◌-◌, ◌^◌, ◌++◌, ◌&&◌, [], length, take, drop, Some, None, Ok, Err, IfOk, OnOk, OnErr, IfErr, IfSome, IfNone, IsErrOf, MatchResult, nat_lt, nat_eq, true};
 ghost use Rattle.std.specs.Bool.{OnTrue, OnFalse};
 ghost use Rattle.age_kdf.specs.Bytes.{Bytes};
-ghost use Rattle.age_cipher.specs.Sealing.{opened};
-ghost use Rattle.age_header.specs.Device.{CountsIf, GaveAtMost, GaveSome, flow_by, moved_by};
+ghost use Rattle.age_cipher.specs.Sealing.{opened_text};
+ghost use Rattle.age_header.specs.Device.{CountsIf, GaveAtMost, GaveSome, flow_by, move_by};
 ghost use Rattle.age_stream.specs.Counts.{is_read, is_write};
 ghost use Rattle.age_stream.specs.Opening.{Advances, EndsAt, GivesNonce, GivesText, IsAtPiece, IsSpentAfter, Loses, ReadsPiece, Starts, WritesAll};
 ghost use Rattle.age_stream.specs.Reading.{outcome};
@@ -67,7 +67,8 @@ impl ChunkOpener {
         buf: ChunkBuf,
     ) -> Result<ChunkOpener, StreamFault>
         requires { max_chunks ≤ most_chunks }
-        // The nonce was read, under which piece 0 is the next; or there is no whole nonce.
+        // The nonce was read, under which piece 0 is the next; or there is no whole nonce, or a
+        // read failed.
         ensures starts { Starts key.now max_chunks (flow_by S.to_come S.gave source.old source.new)
             result }
         // At most 16 bytes were read, but for a failed read.
@@ -118,12 +119,13 @@ impl ChunkOpener {
         ensures keeps { IfNone self.old.fault (IfErr result (λ f. self.new.fault ≡ Some f)) }
         ensures count { IfNone self.old.fault
             (CountsIf is_read (S.failed source.old) (S.failed source.new) result) }
-        // The next piece of what is left is opened at its number, or its fault returned; after the
-        // last there is none. Of any source, known or not, text and fault are those of the bytes
-        // which it gave, joined in order; nothing is read after the end and left out.
+        // Unless a read failed: the next piece of what is left is opened at its number, or its
+        // fault returned; after the last there is none. Of any source, known or not, text and fault
+        // are those of the bytes which it gave, joined in order; nothing is read after the end and
+        // left out.
         ensures opens { IfNone self.old.fault (IsErrOf result StreamFault.Read
             ⊎ Advances self.old self.new (flow_by S.to_come S.gave source.old source.new) result) }
-        // On a fault a piece was left, and the source gave some bytes.
+        // On a fault a piece was left, and the source gave some bytes, perhaps none.
         ensures lost { IfNone self.old.fault
             (OnErr result (Loses self.old.held
             (flow_by S.to_come S.gave source.old source.new))) }
@@ -171,10 +173,10 @@ impl ChunkOpener {
     ) -> Result<Done, StreamFault>
         requires { self.fault ≡ None }
         ensures writes_all { WritesAll self (flow_by S.to_come S.gave source.old source.new)
-            (moved_by W.taken out.old out.new) result }
+            (move_by W.taken out.old out.new) result }
         ensures ends { IfErr result (λ f. (f ≡ StreamFault.Read)
             ⊎ EndsAt self.max_chunks 0 (flow_by S.to_come S.gave source.old source.new)
-            (moved_by W.taken out.old out.new) f) }
+            (move_by W.taken out.old out.new) f) }
         ensures reads { CountsIf is_read (S.failed source.old) (S.failed source.new) result }
         ensures writes { CountsIf is_write (W.failed out.old) (W.failed out.new) result }
     {
@@ -340,9 +342,10 @@ pub(crate) fn open_prefix(key: &[u8; 32], nonce: &[u8; 12], bytes: &mut [u8], en
     ensures len { length bytes.new ≡ length bytes.old }
     ensures rest { drop (end - tag_size) bytes.new ≡ drop (end - tag_size) bytes.old }
     ensures unchanged { OnFalse result (bytes.new ≡ bytes.old) }
-    ensures opened { OnTrue result (opened key.now nonce.now [] (take end bytes.old)
+    ensures opened { OnTrue result (opened_text key.now nonce.now [] (take end bytes.old)
         ≡ Some (take (end - tag_size) bytes.new)) }
-    ensures refused { OnFalse result (opened key.now nonce.now [] (take end bytes.old) ≡ None) }
+    ensures refused { OnFalse result (opened_text key.now nonce.now [] (take end bytes.old)
+        ≡ None) }
 {
     let (prefix, _) = bytes.split_at_mut(end);
     let (text, mac) = prefix.split_at_mut(end - TAG_SIZE);

@@ -1,7 +1,7 @@
 //! Reading a payload chunk by chunk from a caller's source.
 ghost use Rattle.std.specs.Prelude.{◌≡◌, ◌⊎◌, ◌≤◌, [], Ok, Err, Some, None, IfOk, IfErr, IfSome, IfNone, IsErrOf, ⊤};
 ghost use Rattle.std.specs.Borrow.{sem, follows_so};
-ghost use Rattle.age_header.specs.Device.{CountsIf, flow_by, moved_by};
+ghost use Rattle.age_header.specs.Device.{CountsIf, flow_by, move_by};
 ghost use Rattle.age_stream.specs.Counts.{is_read, is_write};
 ghost use Rattle.age_stream.specs.Opening.{Advances, EndsAt, IsSpentAfter, WritesAll};
 ghost use Rattle.age_stream.specs.Reader.{Lends, StartsReader, is_lent};
@@ -170,16 +170,17 @@ impl<'a, S: Source> StreamReader<'a, S> {
         ensures kept_fault { IfSome self.entry.opener.fault (λ f.
             (result ≡ Err f) × (self.exit.0.now ≡ self.entry.input.now) × (out.new ≡ out.old)) }
         // The openings of the pieces left were written up to the first fault, which is returned; on
-        // Ok the counts are the length of the written text and the number of its pieces.
+        // Ok the counts are the length of the written text and the number of its pieces. If a
+        // device failed, a prefix of them was written.
         ensures writes_all { IfNone self.entry.opener.fault (WritesAll self.entry.opener
             (flow_by S.to_come S.gave self.entry.input.now self.exit.0.now)
-            (moved_by W.taken out.old out.new) result) }
-        // At which piece a fault was met, what had been written, and how much of the source had
-        // been read.
+            (move_by W.taken out.old out.new) result) }
+        // Of a fault but a failed read: at which piece it was met, what had been written, and how
+        // much of the source had been read.
         ensures ends { IfNone self.entry.opener.fault (IfErr result (λ f. (f ≡ StreamFault.Read)
             ⊎ EndsAt self.entry.opener.max_chunks 0
             (flow_by S.to_come S.gave self.entry.input.now self.exit.0.now)
-            (moved_by W.taken out.old out.new) f)) }
+            (move_by W.taken out.old out.new) f)) }
         ensures reads { IfNone self.entry.opener.fault
             (CountsIf is_read (S.failed self.entry.input.now) (S.failed self.exit.0.now) result) }
         ensures writes { IfNone self.entry.opener.fault

@@ -1,6 +1,6 @@
 //! Chunks that are lost one after another.
 ghost use Rattle.std.specs.Prelude.{◌≡◌, ◌<◌, ◌+◌, ◌^◌, ◌∷◌, ◌++◌, List, option_to_list};
-ghost use Rattle.age_stream.specs.Runs.{continued, runs};
+ghost use Rattle.age_stream.specs.Runs.{runs_after, runs};
 
 use crate::salvaged::Lost;
 
@@ -23,8 +23,8 @@ pub struct LostRun {
 pub fn join_lost(run: &mut Option<LostRun>, chunk: Lost) -> Option<LostRun>
     requires { chunk.start + chunk.len < 2 ^ 128 }
     // Whatever chunks follow, the runs from now on are the one that is returned and those after it.
-    ensures { (rest : List Lost) → continued run.old (runs (chunk ∷ rest))
-        ≡ option_to_list result ++ continued run.new (runs rest) }
+    ensures { (rest : List Lost) → runs_after run.old (runs (chunk ∷ rest))
+        ≡ option_to_list result ++ runs_after run.new (runs rest) }
 {
     let end = chunk.start + chunk.len as u128;
     let alone = LostRun {

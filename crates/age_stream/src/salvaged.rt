@@ -1,6 +1,6 @@
 //! What was saved of a payload, and what was lost.
 ghost use Rattle.std.specs.Prelude.{◌≡◌, [], ◌∷◌};
-ghost use Rattle.age_stream.specs.Salvage.{KnownLosses, Reports, is_cut, is_whole, told_by};
+ghost use Rattle.age_stream.specs.Salvage.{KnownLosses, Reports, is_cut, is_whole, losses_by};
 
 /// What was saved of one piece of a payload.
 #[derive(Clone, Copy, Debug, Drop, PartialEq, Eq)]
@@ -69,5 +69,5 @@ pub trait Losses {
 
     /// Reports one more lost chunk.
     fn lose(&mut self, chunk: Lost)
-        ensures { Reports (told_by lost self.old self.new) (chunk ∷ []) };
+        ensures { Reports (losses_by lost self.old self.new) (chunk ∷ []) };
 }

@@ -1,12 +1,12 @@
 //! Saving the chunks that open of a damaged payload.
 ghost use Rattle.std.specs.Prelude.{◌≡◌, ◌⊎◌, ◌<◌, ◌≤◌, ◌+◌, ◌-◌, ◌^◌, length, take, drop, Some, None, Ok, Err, IfOk, OnErr, IfErr};
 ghost use Rattle.std.specs.Io.KnownBytes.{IsAtEnd};
-ghost use Rattle.age_header.specs.Device.{Counts, CountsIf, GaveSome, OfGiven, flow_by, moved_by};
+ghost use Rattle.age_header.specs.Device.{Counts, CountsIf, GaveSome, OfGiven, flow_by, move_by};
 ghost use Rattle.age_header.specs.Filling.{Filled};
 ghost use Rattle.age_stream.specs.Counts.{is_read, is_write};
 ghost use Rattle.age_stream.specs.Opening.{EndsAt};
 ghost use Rattle.age_stream.specs.Payload.{pieces};
-ghost use Rattle.age_stream.specs.Salvage.{EndsSaving, IsOfPieces, ReadsAhead, Reports, Salvages, SavesParts, first_part, loss, part, parts, told_by, with_part};
+ghost use Rattle.age_stream.specs.Salvage.{EndsSaving, IsOfPieces, ReadsAhead, Reports, Salvages, SavesParts, first_part, loss, part, parts, losses_by, with_part};
 ghost use Rattle.age_stream.specs.Sizes.{chunk_size, sealed_chunk_size, most_chunks, tag_size, chunk_buf_size};
 
 use crate::buffer::ChunkBuf;
@@ -40,10 +40,10 @@ pub fn salvage_payload<S: Source, W: Sink, L: Losses>(
 ) -> Result<Salvaged, StreamFault>
     requires { max_chunks ≤ most_chunks }
     // Each chunk that opens was written at its offset, zeros for each other, and each lost chunk
-    // was reported, in order.
+    // was reported, in order. On a fault only a beginning of this.
     ensures salvages { Salvages key.now max_chunks
-        (flow_by S.to_come S.gave source.old source.new) (moved_by W.taken out.old out.new)
-        (told_by L.lost losses.old losses.new) result }
+        (flow_by S.to_come S.gave source.old source.new) (move_by W.taken out.old out.new)
+        (losses_by L.lost losses.old losses.new) result }
     // Where no chunk is lost none was reported.
     ensures silent { IfOk result (λ s. s.lost ≡ 0 → losses.new ≡ losses.old) }
     // Without a nonce, or memory, nothing was written or reported.
@@ -54,7 +54,7 @@ pub fn salvage_payload<S: Source, W: Sink, L: Losses>(
     // If it ended at a piece, or at a write after 65,536 i bytes: at most the nonce, the pieces up
     // to and including piece i and one byte were read.
     ensures took { IfErr result (EndsSaving max_chunks
-        (flow_by S.to_come S.gave source.old source.new) (moved_by W.taken out.old out.new)) }
+        (flow_by S.to_come S.gave source.old source.new) (move_by W.taken out.old out.new)) }
 {
     let Ok(buf) = ChunkBuf::new(alloc) else {
         return Err(StreamFault::Memory);
@@ -80,12 +80,12 @@ fn save_pieces<S: Source, W: Sink, L: Losses>(
     requires size { length bytes.old ≡ chunk_buf_size }
     requires small { max ≤ most_chunks }
     ensures saves { OfGiven (flow_by S.to_come S.gave source.old source.new)
-        (λ rest. SavesParts max (parts key.now 0 (pieces rest)) (moved_by W.taken out.old out.new)
-        (told_by L.lost losses.old losses.new) result) }
+        (λ rest. SavesParts max (parts key.now 0 (pieces rest)) (move_by W.taken out.old out.new)
+        (losses_by L.lost losses.old losses.new) result) }
     ensures silent { IfOk result (λ s. s.lost ≡ 0 → losses.new ≡ losses.old) }
     ensures pieces { IfErr result IsOfPieces }
     ensures ends { IfErr result (λ f. (f ≡ StreamFault.Read) ⊎ EndsAt max 0
-        (flow_by S.to_come S.gave source.old source.new) (moved_by W.taken out.old out.new) f) }
+        (flow_by S.to_come S.gave source.old source.new) (move_by W.taken out.old out.new) f) }
     ensures reads { CountsIf is_read (S.failed source.old) (S.failed source.new) result }
     ensures writes { CountsIf is_write (W.failed out.old) (W.failed out.new) result }
 {
@@ -195,7 +195,7 @@ fn note<L: Losses>(done: &mut Salvaged, losses: &mut L, len: usize, saved: Saved
     requires chunks { done.old.chunks + 1 < 2 ^ 128 }
     requires lost { done.old.lost ≤ done.old.chunks }
     ensures counts { done.new ≡ with_part done.old len saved }
-    ensures reports { Reports (told_by L.lost losses.old losses.new)
+    ensures reports { Reports (losses_by L.lost losses.old losses.new)
         (loss saved (record { chunk = done.old.chunks; start = done.old.bytes; len = len })) }
     ensures silent { done.new.lost ≡ 0 → losses.new ≡ losses.old }
 {

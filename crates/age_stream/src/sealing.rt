@@ -1,8 +1,8 @@
 //! Sealing a payload's chunks, one after another.
 ghost use Rattle.std.specs.Prelude.{◌≡◌, ◌⊎◌, ◌<◌, ◌≤◌, ◌+◌, ◌-◌, ◌^◌, ◌++◌, [], length, take, Some, None, Ok, Err, IfOk, OnOk, OnErr, IfErr, IfSome, IfNone, MatchResult};
 ghost use Rattle.std.specs.Io.KnownBytes.{Appends, IsAtEnd};
-ghost use Rattle.age_cipher.specs.Sealing.{sealed};
-ghost use Rattle.age_header.specs.Device.{Counts, CountsIf, GaveSome, Writes, flow_by, moved_by};
+ghost use Rattle.age_cipher.specs.Sealing.{sealed_text};
+ghost use Rattle.age_header.specs.Device.{Counts, CountsIf, GaveSome, Writes, flow_by, move_by};
 ghost use Rattle.age_header.specs.Filling.{Filled};
 ghost use Rattle.age_stream.specs.Counts.{is_read, is_write};
 ghost use Rattle.age_stream.specs.Sealing.{Fills, IsFed, PutsFull, Stopped, TakesAll, FinishesBy};
@@ -114,7 +114,7 @@ impl ChunkSealer {
         // follow are the payload's. Too many chunks are refused at the first byte of the first
         // chunk over the limit. At most 65,536 bytes are held.
         ensures takes { IfNone self.old.fault (TakesAll self.old self.new
-            (flow_by S.to_come S.gave plain.old plain.new) (moved_by W.taken out.old out.new)
+            (flow_by S.to_come S.gave plain.old plain.new) (move_by W.taken out.old out.new)
             result) }
         ensures reads { IfNone self.old.fault
             (CountsIf is_read (S.failed plain.old) (S.failed plain.new) result) }
@@ -149,10 +149,10 @@ impl ChunkSealer {
     pub fn finish<W: Sink>(self, out: &mut W) -> Result<Done, StreamFault>
         // A fault that is kept is returned, and the sink is not written to.
         ensures kept_fault { IfSome self.fault (λ f. (result ≡ Err f) × (out.new ≡ out.old)) }
-        // The last chunk is what was held; the counts are the text's length and the number of its
-        // chunks.
+        // The last chunk is what was held, or a prefix of it after a failed write; the counts are
+        // the text's length and the number of its chunks.
         ensures text { IfNone self.fault
-            (FinishesBy self (moved_by W.taken out.old out.new) result) }
+            (FinishesBy self (move_by W.taken out.old out.new) result) }
         ensures writes { IfNone self.fault
             (CountsIf is_write (W.failed out.old) (W.failed out.new) result) }
     {
@@ -198,10 +198,10 @@ fn feed<S: Source, W: Sink>(
     ensures len { IfOk result (λ n. n ≤ chunk_size) }
     ensures fed { MatchResult result
         (λ n. IsFed key.now index.old index.new (take len bytes.old) (take n bytes.new)
-        (flow_by S.to_come S.gave plain.old plain.new) (moved_by W.taken out.old out.new)
+        (flow_by S.to_come S.gave plain.old plain.new) (move_by W.taken out.old out.new)
         × IsAtEnd (S.to_come plain.new))
         (Stopped key.now max index.old index.new (take len bytes.old)
-        (flow_by S.to_come S.gave plain.old plain.new) (moved_by W.taken out.old out.new)) }
+        (flow_by S.to_come S.gave plain.old plain.new) (move_by W.taken out.old out.new)) }
     ensures reads { CountsIf is_read (S.failed plain.old) (S.failed plain.new) result }
     ensures writes { CountsIf is_write (W.failed out.old) (W.failed out.new) result }
 {
@@ -257,7 +257,7 @@ fn put_full<W: Sink>(
     ensures size { length bytes.new ≡ chunk_buf_size }
     ensures within { index.new < max }
     ensures puts { PutsFull key.now max index.old index.new bytes.old bytes.new
-        (moved_by W.taken out.old out.new) result }
+        (move_by W.taken out.old out.new) result }
     ensures writes { CountsIf is_write (W.failed out.old) (W.failed out.new) result }
 {
     if *index + 1 >= max {
@@ -287,8 +287,8 @@ fn put_sealed<W: Sink>(
     requires len { len ≤ chunk_size }
     requires small { i < most_chunks }
     ensures size { length bytes.new ≡ chunk_buf_size }
-    ensures text { Writes (moved_by W.taken out.old out.new) result
-        (sealed key.now (chunk_nonce i last) [] (take len bytes.old)) }
+    ensures text { Writes (move_by W.taken out.old out.new) result
+        (sealed_text key.now (chunk_nonce i last) [] (take len bytes.old)) }
     ensures count { Counts (W.failed out.old) (W.failed out.new) result }
 {
     let (piece, _) = bytes.split_at_mut(len + TAG_SIZE);
@@ -305,7 +305,8 @@ pub fn seal_chunk(key: &[u8; 32], i: u128, last: bool, chunk: &mut [u8])
     ensures len { length chunk.new ≡ length chunk.old }
     // The buffer has the chunk, sealed at its number.
     ensures sealed { chunk.new
-        ≡ sealed key.now (chunk_nonce i last) [] (take (length chunk.old - tag_size) chunk.old) }
+        ≡ sealed_text key.now (chunk_nonce i last) [] (take
+        (length chunk.old - tag_size) chunk.old) }
 {
     let len = chunk.len() - TAG_SIZE;
     let (text, end) = chunk.split_at_mut(len);

@@ -1,6 +1,6 @@
 //! Writing a payload piece by piece to a caller's sink.
 ghost use Rattle.std.specs.Prelude.{◌≡◌, ◌⊎◌, ◌≤◌, Ok, Err, IfOk, IfErr, IfSome, IfNone};
-ghost use Rattle.age_header.specs.Device.{CountsIf, Writes, flow_by, moved_by};
+ghost use Rattle.age_header.specs.Device.{CountsIf, Writes, flow_by, move_by};
 ghost use Rattle.age_stream.specs.Counts.{is_read, is_write};
 ghost use Rattle.age_stream.specs.Sealing.{FinishesBy, SealsAll};
 ghost use Rattle.age_stream.specs.Writer.{IsRefusedMemory, StartsWriter, TakesPiece};
@@ -169,7 +169,7 @@ impl<'a, W: Sink> StreamWriter<'a, W> {
         // Whatever still comes, all that will be written is as before; or a fault was met, of the
         // sink or too many chunks.
         ensures takes { IfNone self.old.sealer.fault (TakesPiece self.old.sealer self.new.sealer
-            piece.now (moved_by W.taken self.old.out.now self.new.out.now) result) }
+            piece.now (move_by W.taken self.old.out.now self.new.out.now) result) }
         ensures count { IfNone self.old.sealer.fault
             (CountsIf is_write (W.failed self.old.out.now) (W.failed self.new.out.now) result) }
     {
@@ -191,7 +191,7 @@ impl<'a, W: Sink> StreamWriter<'a, W> {
         // source was read.
         ensures seals { IfNone self.entry.sealer.fault (SealsAll self.entry.sealer
             (flow_by S.to_come S.gave plain.old plain.new)
-            (moved_by W.taken self.entry.out.now self.exit.0.now) result) }
+            (move_by W.taken self.entry.out.now self.exit.0.now) result) }
         ensures reads { IfNone self.entry.sealer.fault
             (CountsIf is_read (S.failed plain.old) (S.failed plain.new) result) }
         ensures writes { IfNone self.entry.sealer.fault
@@ -214,10 +214,10 @@ impl<'a, W: Sink> StreamWriter<'a, W> {
         // A fault that is kept is returned, and the sink is not written to.
         ensures kept_fault { IfSome self.entry.sealer.fault
             (λ f. (result ≡ Err f) × (self.exit.0.now ≡ self.entry.out.now)) }
-        // The last chunk is what was held; the counts are the text's length and the number of its
-        // chunks.
+        // The last chunk is what was held, or a prefix of it after a failed write; the counts are
+        // the text's length and the number of its chunks.
         ensures text { IfNone self.entry.sealer.fault (FinishesBy self.entry.sealer
-            (moved_by W.taken self.entry.out.now self.exit.0.now) result) }
+            (move_by W.taken self.entry.out.now self.exit.0.now) result) }
         ensures count { IfNone self.entry.sealer.fault
             (CountsIf is_write (W.failed self.entry.out.now) (W.failed self.exit.0.now) result) }
     {
@@ -236,7 +236,7 @@ impl<'a, W: Sink> StreamWriter<'a, W> {
 
 /// Writes the nonce.
 fn put_nonce<W: Sink>(nonce: &[u8; 16], out: &mut W) -> Result<(), StreamFault>
-    ensures text { Writes (moved_by W.taken out.old out.new) result nonce.now }
+    ensures text { Writes (move_by W.taken out.old out.new) result nonce.now }
     ensures fault { IfErr result (λ fault. fault ≡ StreamFault.Write) }
     ensures count { CountsIf is_write (W.failed out.old) (W.failed out.new) result }
 {

@@ -2,6 +2,7 @@
 use Rattle.std.proofs.Common.{◌≡◌, ◌∙◌, ap, refl, sym, subst, codes, List, Option, Some, None}
 use Rattle.std.specs.Prelude.{option_map}
 use Rattle.std.specs.Option.{option_map_or}
+use Rattle.std.specs.String.{string_bytes}
 use Rattle.clap.specs.Words.{Row, Text}
 use Rattle.age_words.specs.JobOf.{IsJobOf, IsPiped, Makes, header_limit, number_or}
 use Rattle.age_job.specs.declared.job.Command.{Command}
@@ -25,8 +26,8 @@ piped command words job (rows, is, input, output) (faultless, of) =
     let made = subst (λ (o : Option (Text × List Row)). IsJobOf o job) is of in
     record {
       is = one_command (sym made.0);
-      input = none_mapped _ (made.1.input ∙ input);
-      output = none_mapped _ (made.1.output ∙ output);
+      input = none_mapped string_bytes (made.1.input ∙ input);
+      output = none_mapped string_bytes (made.1.output ∙ output);
       max_header = made.1.max_header ∙ ap (λ (o : Option (Text × List Row)).
           option_map_or (λ named. number_or DEFAULT_MAX_HEADER (codes "max-header") named.1) o DEFAULT_MAX_HEADER)
           (sym is);

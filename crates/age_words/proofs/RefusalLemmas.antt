@@ -5,26 +5,25 @@ use Rattle.clap.specs.Words.{IsAmong, Kinds, Text, fault_of, kind_of}
 use Rattle.clap.specs.declared.error.Error.{Error}
 use Rattle.clap.specs.declared.error.kind.ErrorKind.{ErrorKind}
 use Rattle.age_words.specs.CommandLine.{agep}
-use Rattle.age_words.specs.JobOf.{AreWrong, AskForText, IsShown, Reads, shows}
+use Rattle.age_words.specs.JobOf.{AreWrong, AskForText, IsShown, Reads, is_display}
 use Rattle.age_words.specs.declared.fault.WordsFault.TheVariants.{Refused}
 
 among : (p : ErrorKind → Bool) (k : ErrorKind) (kinds : Kinds) → IsAmong k kinds → p k ≡ true → list_any p kinds ≡ true
 among p k [] h e = absurd h
 among p k (x ∷ xs) (inl is) e = ap (λ (b : Bool). b || list_any p xs) (ap p (sym is) ∙ e)
-among p k (x ∷ xs) (inr later) e = or_true (p x) _ (among p k xs later e)
+among p k (x ∷ xs) (inr later) e = or_true (p x) (among p k xs later e)
   where
-    or_true : (a b : Bool) → b ≡ true → (a || b) ≡ true
-    or_true true b e = refl
-    or_true false b e = e
+    or_true : (a : Bool) {b : Bool} → b ≡ true → (a || b) ≡ true
+    or_true true e = refl
+    or_true false e = e
 
 pub shown : (words : List Text) (error : Error) → Reads words (Err (Refused error)) → IsShown error → AskForText words
-shown words error h e = among shows (kind_of error) (fault_of agep words) h e
+shown words error h e = among is_display (kind_of error) (fault_of agep words) h e
 
 pub wrong : (words : List Text) (error : Error) → Reads words (Err (Refused error)) → (IsShown error → ⊥)
     → AreWrong words
-wrong words error h e =
-    among (λ k. not (shows k)) (kind_of error) (fault_of agep words) h (is_not (shows (kind_of error)) e)
+wrong words error h e = among (λ k. not (is_display k)) (kind_of error) (fault_of agep words) h (is_not e)
   where
-    is_not : (b : Bool) → (b ≡ true → ⊥) → not b ≡ true
-    is_not true f = absurd (f refl)
-    is_not false f = refl
+    is_not : {b : Bool} → (b ≡ true → ⊥) → not b ≡ true
+    is_not {b = true} f = absurd (f refl)
+    is_not {b = false} f = refl

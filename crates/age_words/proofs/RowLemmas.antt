@@ -29,45 +29,40 @@ copies_take xs {i} d old text low h is same =
     ∙ ap (λ (z : Text). take i (map (λ a. a.now) xs) ++ z ∷ []) (same ∙ sym at)
     ∙ sym (take_more (map (λ a. a.now) xs) i [] low')
 
-pub number_read : (E : Type 0) (G : List ℕ → Result ℕ E → Type 0) (o : Option Text) (r : Option ℕ) (d : ℕ)
+pub number_read : {E : Type 0} (G : List ℕ → Result ℕ E → Type 0) {o : Option Text} {r : Option ℕ} (d : ℕ)
     → (o ≡ None → r ≡ None) → ((t : List ℕ) → o ≡ Some t → ReadsOne G t r)
     → ((u : List ℕ) (x : Result ℕ E) → G u x → ParsesUnsigned 64 10 u x)
     → IfSome o (λ t. (least : ℕ) × (most : ℕ) × IsUnsignedIn least most t)
     → unwrap_or r d ≡ option_map_or number_of o d
-number_read E G None r d none value only h = ap (λ x. unwrap_or x d) (none refl)
-number_read E G (Some t) (Some n) d none value only h = (only t (Ok n) (value t refl)).1
-number_read E G (Some t) None d none value only h =
+number_read G {o = None} d none value only h = ap (λ x. unwrap_or x d) (none refl)
+number_read G {o = Some t} {r = Some n} d none value only h = (only t (Ok n) (value t refl)).1
+number_read G {o = Some t} {r = None} d none value only h =
     let e = value t refl in absurd (only t (Err e.0) e.1 (h.2.0, h.2.1))
 
-pub flag_read : (E : Type 0) (o : Option Text) (r : Option Bool)
+pub flag_read : (E : Type 0) {o : Option Text} {r : Option Bool}
     → (o ≡ None → r ≡ None) → ((t : List ℕ) → o ≡ Some t → ReadsOne (ParsesBool {E = E}) t r)
     → unwrap_or r false ≡ option_map_or (λ t. bytes_eq t (codes "true")) o false
-flag_read E None r none value = ap (λ x. unwrap_or x false) (none refl)
-flag_read E (Some t) (Some true) none value = sym ((bytes_eq-Decides t (codes "true")).1 (value t refl))
-flag_read E (Some t) (Some false) none value = sym (ap (λ x. bytes_eq x (codes "true")) (value t refl))
-flag_read E (Some t) None none value = go (bytes_eq t (codes "true")) refl
+flag_read E {o = None} none value = ap (λ x. unwrap_or x false) (none refl)
+flag_read E {o = Some t} {r = Some true} none value = sym ((bytes_eq-Decides t (codes "true")).1 (value t refl))
+flag_read E {o = Some t} {r = Some false} none value = sym (ap (λ x. bytes_eq x (codes "true")) (value t refl))
+flag_read E {o = Some t} {r = None} none value = go refl
   where
-    go : (b : Bool) → bytes_eq t (codes "true") ≡ b → false ≡ b
-    go false e = refl
-    go true e = absurd ((value t refl).1.0 ((bytes_eq-Decides t (codes "true")).0 e))
+    go : {b : Bool} → bytes_eq t (codes "true") ≡ b → false ≡ b
+    go {b = false} e = refl
+    go {b = true} e = absurd ((value t refl).1.0 ((bytes_eq-Decides t (codes "true")).0 e))
 
 pub has_number : (least most : ℕ) (o : Option Text) → IfSome o (IsUnsignedIn least most)
     → IfSome o (λ t. (least : ℕ) × (most : ℕ) × IsUnsignedIn least most t)
 has_number least most None h = h
 has_number least most (Some t) h = (least, most, h)
 
-pub in_range : {least most : ℕ} (d : ℕ) (o : Option Text) → IfSome o (IsUnsignedIn least most)
+pub in_range : {least most d : ℕ} (o : Option Text) → IfSome o (IsUnsignedIn least most)
     → least ≤ d → d ≤ most → IsBetween least most (option_map_or number_of o d)
-in_range d None h low high = (low, high)
-in_range d (Some t) h low high = (h.2, h.3)
+in_range None h low high = (low, high)
+in_range (Some t) h low high = (h.2, h.3)
 
 abbrev pub nows : List (Bor Text) → List Text
 nows xs = map (λ t. t.now) xs
-
-pub values_or_none : (o : Option (Bor (List (Bor Text)))) (d : Bor (List (Bor Text))) → d.now ≡ []
-    → nows (unwrap_or o d).now ≡ unwrap_or (option_map (λ s. nows s.now) o) []
-values_or_none None d e = ap nows e
-values_or_none (Some s) d e = refl
 
 pub names_input : {A : Type 0} (f : A → Text) (command : Command) (o : Option A) {v : Option Text} → option_map f o ≡ v
     → NamesInput command v → NamesInput command o

@@ -1,7 +1,7 @@
 -- Where `clap` finds no fault in the words, a subcommand of the program was named, and its values
 -- make a job.
-use Rattle.std.proofs.Common.{◌≡◌, ◌∙◌, ◌<◌, ◌⊎◌, inl, inr, ℕ, Bool, cond, true, false, true≢false, not, ◌&&◌, ◌||◌, ◌==◌, refl, sym, ap, subst, List, [], ◌∷◌, ◌++◌, length, Option, Some, None, IfSome, codes, arith, nat_lt, length-append, unwrap_or, lt-ltb, ltb-true}
-use Rattle.std.proofs.lemmas.Bool.{eqb-true, ne_eqb}
+use Rattle.std.proofs.Common.{◌≡◌, ◌∙◌, ◌<◌, ◌⊎◌, inl, inr, ℕ, Bool, cond, true, false, true≢false, not, ◌&&◌, ◌||◌, ◌==◌, refl, sym, ap, subst, List, [], ◌∷◌, ◌++◌, length, Option, Some, None, IfSome, codes, arith, nat_lt, length-append, unwrap_or, ltb-true}
+use Rattle.std.proofs.lemmas.Bool.{ne_eqb}
 use Rattle.std.proofs.lemmas.Slice.Eq.{bytes_eq-Decides}
 use Rattle.std.specs.Prelude.{if◌then◌else◌, is_some, slice_get, option_and_then, option_map, ⊤}
 use Rattle.std.specs.List.{find, list_all, list_any}
@@ -14,7 +14,7 @@ use Rattle.clap.specs.Simple.{Shape, argument_words, built, entered, is_simple, 
 use Rattle.clap.specs.Takes.{is_given}
 use Rattle.clap.specs.Values.{IsUnsignedIn, is_request, refused_kind}
 use Rattle.clap.specs.ValueTests.{accepts}
-use Rattle.clap.specs.Walk.{Row, Rule, Text, action_of, answers_to, at_row, default_rows, first_of, is_empty, most_values, nothing_held, reading_by, row_text, rows_after, stop_after, used_as, values_or_missing, with_values, without, has_row, more_values}
+use Rattle.clap.specs.Walk.{Row, Rule, Text, action_of, answers_to, at_row, default_rows, first_of, is_empty, most_values, nothing_held, reading_by, row_text, rows_after, stop_after, used_as, values_or_missing, with_values, without, has_row, more_values, used, with_default}
 use Rattle.clap.proofs.ValueTestLemmas.{accepts-Accepts}
 use Rattle.clap.specs.declared.builder.action.ArgAction.{ArgAction}
 use Rattle.clap.specs.declared.builder.action.ArgAction.TheVariants.{Set, Append, SetTrue, SetFalse, Count}
@@ -23,6 +23,7 @@ use Rattle.clap.specs.declared.builder.value_parser.Reading.TheVariants.{AsWritt
 use Rattle.clap.specs.declared.builder.value_parser.ValueParser.{ValueParser}
 use Rattle.clap.specs.declared.builder.value_parser.ValueParser.TheVariants as vp
 use Rattle.clap.specs.declared.error.kind.ErrorKind.{ErrorKind}
+use Rattle.clap.specs.declared.error.kind.ErrorKind.TheVariants.{InvalidValue}
 use Rattle.clap.specs.declared.parser.matches.ValueSource.{ValueSource}
 use Rattle.clap.specs.declared.parser.matches.ValueSource.TheVariants.{DefaultValue, CommandLine}
 use Rattle.age_words.specs.CommandLine.{agep}
@@ -31,7 +32,8 @@ use Rattle.age_words.specs.JobOf.{HasNumber, IsTaken, name_of}
 use Rattle.age_job.specs.declared.job.Command.{Command}
 use Rattle.age_job.specs.declared.job.Command.TheVariants.{Encrypt, Decrypt, Inspect, Range, Rewrap, Salvage}
 use Rattle.age_job.specs.declared.ranges.TheConstants.{LEAST_HEADER, LEAST_WORK, MOST_HEADER, MOST_OFFSET, MOST_WORK}
-use Rattle.age_words.proofs.LevelLemmas.{DefaultsWell, Each, UsesWell, first_none, level_ok, second_none, test_fails}
+use Rattle.age_words.proofs.Booleans.{both, neither, not_false, not_true, same_number}
+use Rattle.age_words.proofs.LevelLemmas.{DefaultsWell, Each, UsesWell, both_none, level_ok, test_fails}
 
 -- what the values of an option have to pass
 abbrev parser_for : Text → ValueParser
@@ -71,10 +73,6 @@ abbrev is_good : Rule → Bool
 is_good a = covers (parser_for a.id) (parser_of_value a.parser)
     && (not a.ignore_case && (is_as_written (reading_by a) && (not (is_count (action_of a)) && has_value a)))
 
-both : {a b : Bool} → (a && b) ≡ true → (a ≡ true) × (b ≡ true)
-both {a = true} e = (refl, e)
-both {a = false} e = absurd (true≢false (sym e))
-
 -- ---- lists
 
 each_append : {X : Type 0} (P : X → Type 0) (xs ys : List X) → Each P xs → Each P ys → Each P (xs ++ ys)
@@ -87,12 +85,12 @@ at_row_passes : (id : Text) (change : Row → List Row) (missing rows : List Row
     → ((r : Row) → bytes_eq r.id id ≡ true → RowPasses r → Each RowPasses (change r)) → Each RowPasses missing
     → Each RowPasses rows → Each RowPasses (at_row id change missing rows)
 at_row_passes id change missing [] c m q = m
-at_row_passes id change missing (r ∷ rs) c m q = go (at_row_passes id change missing rs c m q.1) (bytes_eq r.id id) refl
+at_row_passes id change missing (r ∷ rs) c m q = go (at_row_passes id change missing rs c m q.1) refl
   where
-    go : Each RowPasses (at_row id change missing rs) → (b : Bool) → bytes_eq r.id id ≡ b
+    go : Each RowPasses (at_row id change missing rs) → {b : Bool} → bytes_eq r.id id ≡ b
         → Each RowPasses (cond b (change r ++ rs) (r ∷ at_row id change missing rs))
-    go rest true e = each_append RowPasses (change r) rs (c r e q.0) q.1
-    go rest false e = (q.0, rest)
+    go rest {b = true} e = each_append RowPasses (change r) rs (c r e q.0) q.1
+    go rest {b = false} e = (q.0, rest)
 
 without_passes : (id : Text) (rows : List Row) → Each RowPasses rows → Each RowPasses (without id rows)
 without_passes id rows q = at_row_passes id (λ _. []) [] rows (λ r e p. tt) tt q
@@ -101,8 +99,7 @@ with_values_passes : (id : Text) {how : Reading} (s : ValueSource) (values : Lis
     → how ≡ AsWritten
     → 0 < length values → Each (Passes id) values → Each RowPasses rows
     → Each RowPasses (with_values id how s values rows)
-with_values_passes id s values rows written some pass q =
-    at_row_passes id (more_values s values) _ rows more ((written, some, pass), tt) q
+with_values_passes id s values rows written some pass q = search (at_row_passes, more)
   where
     more : (r : Row) → bytes_eq r.id id ≡ true → RowPasses r → Each RowPasses (more_values s values r)
     more r e p =
@@ -121,8 +118,8 @@ accepts_too : (p q : ValueParser) (v : Text) → covers p q ≡ true → accepts
 accepts_too vp.String q v f h = refl
 accepts_too (vp.Unsigned a b) (vp.Unsigned x y) v f h =
     let same = both f in
-    let first : a ≡ x = eqb-true a x same.0 in
-    let second : b ≡ y = eqb-true b y same.1 in
+    let first : a ≡ x = same_number same.0 in
+    let second : b ≡ y = same_number same.1 in
     rw (first, second) h
 accepts_too p q v f h = absurd (true≢false (sym f))
 
@@ -134,8 +131,8 @@ values_pass : (id : Text) (parser : ValueParser) (values : List Text) → covers
     → values_kinds false parser values ≡ [] → Each (Passes id) values
 values_pass id parser [] fits e = tt
 values_pass id parser (v ∷ vs) fits e = (
-  accepts_too (parser_for id) parser v fits (test_passes _ (first_none _ e)),
-  values_pass id parser vs fits (second_none _ e),
+  accepts_too (parser_for id) parser v fits (test_passes (refused_kind parser) (both_none e).0),
+  values_pass id parser vs fits (both_none e).1,
 )
 
 -- what the test says of a rule
@@ -146,13 +143,9 @@ record IsGood (a : Rule) : Type 0 where
   no_count : is_count (action_of a) ≡ false
   value : has_value a ≡ true
 
-not_true : {b : Bool} → not b ≡ true → b ≡ false
-not_true {b = false} e = refl
-not_true {b = true} e = cc
-
-reads : (r : Reading) → is_as_written r ≡ true → r ≡ AsWritten
-reads AsWritten e = refl
-reads r e = absurd (true≢false (sym e))
+reads : {r : Reading} → is_as_written r ≡ true → r ≡ AsWritten
+reads {r = AsWritten} e = refl
+reads {r} e = absurd (true≢false (sym e))
 
 good_of : (a : Rule) → is_good a ≡ true → IsGood a
 good_of a e =
@@ -163,60 +156,60 @@ good_of a e =
     record {
       covered = p.0;
       exact = not_true q.0;
-      written = reads _ r.0;
+      written = reads r.0;
       no_count = not_true t.0;
       value = t.1;
     }
 
-faults_pass : (a : Rule) → IsGood a → (values : List Text) → values_fault a values ≡ [] → Each (Passes a.id) values
-faults_pass a g values e = values_pass a.id (parser_of_value a.parser) values g.covered (rw g.exact at e)
+faults_pass : {a : Rule} → IsGood a → (values : List Text) → values_fault a values ≡ [] → Each (Passes a.id) values
+faults_pass {a} g values e = values_pass a.id (parser_of_value a.parser) values g.covered (rw g.exact at e)
 
-stored : (again : Bool) (a : Rule) → IsGood a → (x : ArgAction) → is_count x ≡ false
+given_passes : {a : Rule} → IsGood a → (s : ValueSource) (values : List Text) (rows : List Row)
+    → nat_lt 0 (length values) ≡ true
+    → values_fault a values ≡ [] → Each RowPasses rows
+    → Each RowPasses (with_values a.id (reading_by a) s values rows)
+given_passes {a} g s values rows some e q =
+    with_values_passes a.id s values rows g.written (ltb-true 0 (length values) some) (faults_pass g values e) q
+
+stored : (again : Bool) {a : Rule} → IsGood a → (x : ArgAction) → is_count x ≡ false
     → (values : List Text) (rows : List Row)
     → (is_request x || nat_lt 0 (length values)) ≡ true
     → action_fault x again a values rows ≡ [] → Each RowPasses rows
     → Each RowPasses (used_as x a.id (reading_by a) values rows)
-stored again a g Set c values rows some e q =
-    with_values_passes a.id CommandLine values (without a.id rows) g.written (ltb-true _ _ some)
-    (faults_pass a g values (second_none _ e)) (without_passes a.id rows q)
-stored again a g SetTrue c values rows some e q =
-    with_values_passes a.id CommandLine values (without a.id rows) g.written (ltb-true _ _ some)
-    (faults_pass a g values (second_none _ e)) (without_passes a.id rows q)
-stored again a g SetFalse c values rows some e q =
-    with_values_passes a.id CommandLine values (without a.id rows) g.written (ltb-true _ _ some)
-    (faults_pass a g values (second_none _ e)) (without_passes a.id rows q)
-stored again a g Append c values rows some e q =
-    with_values_passes a.id CommandLine values rows g.written (ltb-true _ _ some) (faults_pass a g values e) q
-stored again a g Count c values rows some e q = absurd (true≢false c)
-stored again a g x c values rows some e q = q
+stored again {a} g Set c values rows some e q =
+    given_passes g CommandLine values (without a.id rows) some (both_none e).1 (without_passes a.id rows q)
+stored again {a} g SetTrue c values rows some e q =
+    given_passes g CommandLine values (without a.id rows) some (both_none e).1 (without_passes a.id rows q)
+stored again {a} g SetFalse c values rows some e q =
+    given_passes g CommandLine values (without a.id rows) some (both_none e).1 (without_passes a.id rows q)
+stored again g Append c values rows some e q = given_passes g CommandLine values rows some e q
+stored again g Count c values rows some e q = absurd (true≢false c)
+stored again g x c values rows some e q = q
 
-head_fails : {b : Bool} (k : ErrorKind) (rest : Kinds) → cond b (k ∷ []) rest ≡ [] → b ≡ false
-head_fails {b = false} k rest e = refl
-head_fails {b = true} k rest e = cc
-
-or_other : (b : Bool) {c : Bool} → (b || c) ≡ true → (b && true) ≡ false → c ≡ true
-or_other false e f = e
-or_other true e f = absurd (true≢false f)
+or_other : {b c : Bool} → (b || c) ≡ true → (b && true) ≡ false → (b ≡ false) × (c ≡ true)
+or_other {b = false} e f = (refl, e)
+or_other {b = true} e f = absurd (true≢false f)
 
 one_value : (a : Rule) (values : List Text)
     → (nat_lt 0 (unwrap_or_range a.range).start_inclusive || nat_lt 0 (length a.missing)) ≡ true
     → range_kinds (unwrap_or_range a.range).start_inclusive (most_values a) (length values) ≡ []
-    → 0 < length (values_or_missing a values)
-one_value a (v ∷ vs) some e = omega arith
-one_value a [] some e = ltb-true _ _ (or_other _ some (head_fails _ _ e))
+    → nat_lt 0 (length (values_or_missing a values)) ≡ true
+one_value a (v ∷ vs) some e = grind arith
+one_value a [] some e = (or_other some (test_fails InvalidValue [] e).0).1
 
 some_value : (a : Rule) (values : List Text) (b : Bool)
     → (b || (nat_lt 0 (unwrap_or_range a.range).start_inclusive || nat_lt 0 (length a.missing))) ≡ true
     → range_kinds (unwrap_or_range a.range).start_inclusive (most_values a) (length values) ≡ []
     → (b || nat_lt 0 (length (values_or_missing a values))) ≡ true
 some_value a values true h e = refl
-some_value a values false h e = lt-ltb _ _ (one_value a values h e)
+some_value a values false h e = one_value a values h e
 
 used_well : (again : Bool) (a : Rule) → is_good a ≡ true → UsesWell again RowPasses a
 used_well again a good values rows e q =
     let g = good_of a good in
-    stored again a g (action_of a) g.no_count (values_or_missing a values) rows
-    (some_value a values (is_request (action_of a)) g.value (first_none _ e)) (second_none _ e) q
+    let n = both_none e in
+    stored again g (action_of a) g.no_count (values_or_missing a values) rows
+    (some_value a values (is_request (action_of a)) g.value n.0) n.1 q
 
 defaults_well : (again : Bool) (a : Rule) → is_good a ≡ true → DefaultsWell again RowPasses a
 defaults_well again a good rows e q = go (has_row a.id rows) e
@@ -225,10 +218,7 @@ defaults_well again a good rows e q = go (has_row a.id rows) e
         (values_fault a values) ≡ []
         → Each RowPasses (default_rows a.id (reading_by a) values rows)
     given [] f = q
-    given (v ∷ vs) f =
-        let g = good_of a good in
-        with_values_passes a.id DefaultValue (v ∷ vs) rows g.written (omega arith)
-        (faults_pass a g (v ∷ vs) (second_none _ f)) q
+    given (v ∷ vs) f = given_passes (good_of a good) DefaultValue (v ∷ vs) rows (grind arith) (both_none f).1 q
 
     tested : (values : List Text) → cond (is_empty values) [] (given_default_fault a values) ≡ []
         → Each RowPasses (default_rows a.id (reading_by a) values rows)
@@ -245,12 +235,12 @@ defaults_well again a good rows e q = go (has_row a.id rows) e
 find_passes : (id : Text) (rows : List Row) → Each RowPasses rows
     → IfSome (find (λ r. bytes_eq r.id id) rows) (λ r. (r.id ≡ id) × RowPasses r)
 find_passes id [] q = tt
-find_passes id (r ∷ rs) q = go (find_passes id rs q.1) (bytes_eq r.id id) refl
+find_passes id (r ∷ rs) q = go (find_passes id rs q.1) refl
   where
-    go : IfSome (find (λ r. bytes_eq r.id id) rs) (λ r. (r.id ≡ id) × RowPasses r) → (b : Bool) → bytes_eq r.id id ≡ b
+    go : IfSome (find (λ r. bytes_eq r.id id) rs) (λ r. (r.id ≡ id) × RowPasses r) → {b : Bool} → bytes_eq r.id id ≡ b
         → IfSome (cond b (Some r) (find (λ r. bytes_eq r.id id) rs)) (λ r. (r.id ≡ id) × RowPasses r)
-    go rest true e = ((bytes_eq-Decides r.id id).0 e, q.0)
-    go rest false e = rest
+    go rest {b = true} e = ((bytes_eq-Decides r.id id).0 e, q.0)
+    go rest {b = false} e = rest
 
 has_number : {least most : ℕ} (id : Text) (rows : List Row) → parser_for id ≡ vp.Unsigned least most
     → Each RowPasses rows → HasNumber least most id rows
@@ -271,29 +261,21 @@ has_number {least} {most} id rows p q = go (find (λ r. bytes_eq r.id id) rows) 
 
 -- ---- what is required is there
 
-neither : {a b : Bool} → (a || b) ≡ false → (a ≡ false) × (b ≡ false)
-neither {a = false} e = (refl, e)
-neither {a = true} e = absurd (true≢false e)
-
-not_false : {b : Bool} → not b ≡ false → b ≡ true
-not_false {b = true} e = refl
-not_false {b = false} e = absurd (true≢false e)
-
 wanted_given : (id : Text) (rules : List Rule) (rows : List Row)
     → list_any (λ a. a.required && not (is_given a.id rows)) rules ≡ false
     → list_any (λ a. a.required && bytes_eq a.id id) rules ≡ true → is_given id rows ≡ true
 wanted_given id [] rows none some = absurd (true≢false (sym some))
-wanted_given id (a ∷ rest) rows none some = go (wanted_given id rest rows) a.required (bytes_eq a.id id) refl none some
+wanted_given id (a ∷ rest) rows none some = go (wanted_given id rest rows) a.required refl none some
   where
     go : (list_any (λ a. a.required && not (is_given a.id rows)) rest ≡ false
         → list_any (λ a. a.required && bytes_eq a.id id) rest ≡ true → is_given id rows ≡ true)
-        → (r b : Bool) → bytes_eq a.id id ≡ b
+        → (r : Bool) {b : Bool} → bytes_eq a.id id ≡ b
         → (r && not (is_given a.id rows) || list_any (λ a. a.required && not (is_given a.id rows)) rest) ≡ false
         → (r && b || list_any (λ a. a.required && bytes_eq a.id id) rest) ≡ true → is_given id rows ≡ true
-    go ih true true e n f = ap (λ (i : Text). is_given i rows) (sym ((bytes_eq-Decides a.id id).0 e))
+    go ih true {b = true} e n f = ap (λ (i : Text). is_given i rows) (sym ((bytes_eq-Decides a.id id).0 e))
         ∙ not_false (neither n).0
-    go ih true false e n f = ih (neither n).1 f
-    go ih false b e n f = ih n f
+    go ih true {b = false} e n f = ih (neither n).1 f
+    go ih false e n f = ih n f
 
 given_first : (id : Text) (rows : List Row) → Each RowPasses rows → is_given id rows ≡ true
     → is_some (first_of id rows) ≡ true
@@ -309,10 +291,11 @@ given_first id rows q g = go (find (λ r. bytes_eq r.id id) rows) (find_passes i
     go None h e = cc
     go (Some r) h e = first r.values h.1.1
 
-wanted_kind : (a b : Bool) {c : Bool} → Rattle.clap.specs.Kinds.check_kinds a b c ≡ [] → c ≡ false
-wanted_kind true b e = cc
-wanted_kind false true e = cc
-wanted_kind false false {c} e = test_fails _ _ e
+wanted_kind : {a b c : Bool} → Rattle.clap.specs.Kinds.check_kinds a b c ≡ [] → (a ≡ false) × (b ≡ false) × (c ≡ false)
+wanted_kind {a = true} e = cc
+wanted_kind {a = false} {b = true} e = cc
+wanted_kind {a = false} {b = false} {c = true} e = cc
+wanted_kind {a = false} {b = false} {c = false} e = (refl, refl, refl)
 
 -- ---- a subcommand
 
@@ -348,24 +331,24 @@ all_make = (
   ),
 )
 
-each_of : {X : Type 0} (P : X → Type 0) (xs : List X) → ((x : X) → P x) → Each P xs
-each_of P [] p = tt
-each_of P (x ∷ xs) p = (p x, each_of P xs p)
+each_of : {X : Type 0} {P : X → Type 0} (xs : List X) → ((x : X) → P x) → Each P xs
+each_of [] p = tt
+each_of (x ∷ xs) p = (p x, each_of xs p)
 
-each_good : (P : Rule → Type 0) (rules : List Rule) → ((a : Rule) → is_good a ≡ true → P a)
+each_good : {P : Rule → Type 0} (rules : List Rule) → ((a : Rule) → is_good a ≡ true → P a)
     → list_all is_good rules ≡ true → Each P rules
-each_good P [] p e = tt
-each_good P (a ∷ rest) p e = let h = both e in (p a h.0, each_good P rest p h.1)
+each_good [] p e = tt
+each_good (a ∷ rest) p e = let h = both e in (p a h.0, each_good rest p h.1)
 
 found_where : {X : Type 0} (U : X → Type 0) (p : X → Bool) (xs : List X) → Each U xs
     → IfSome (find p xs) (λ x. (p x ≡ true) × U x)
 found_where U p [] h = tt
-found_where U p (x ∷ xs) h = go (p x) refl (found_where U p xs h.1)
+found_where U p (x ∷ xs) h = go refl (found_where U p xs h.1)
   where
-    go : (b : Bool) → p x ≡ b → IfSome (find p xs) (λ x. (p x ≡ true) × U x)
+    go : {b : Bool} → p x ≡ b → IfSome (find p xs) (λ x. (p x ≡ true) × U x)
         → IfSome (cond b (Some x) (find p xs)) (λ x. (p x ≡ true) × U x)
-    go true e i = (e, h.0)
-    go false e i = i
+    go {b = true} e i = (e, h.0)
+    go {b = false} e i = i
 
 names_input : (command : Command) (s : Shape) (rows : List Row) → wants command s ≡ true → Each RowPasses rows
     → list_any (λ a. a.required && not (is_given a.id rows)) s.rules ≡ false
@@ -377,34 +360,34 @@ names_input Rewrap s rows w q n = tt
 names_input Salvage s rows w q n = tt
 names_input Range s rows w q n = given_first (codes "input") rows q (wanted_given (codes "input") s.rules rows n w)
 
-level_taken : (command : Command) (s : Shape) (words : List Text) → is_good_for command s ≡ true
+level_taken : {command : Command} (s : Shape) (words : List Text) → is_good_for command s ≡ true
     → level_fault s [] nothing_held words false [] ≡ []
     → IsTaken command (rows_after s.rules [] words)
-level_taken command s words good e =
+level_taken {command} s words good e =
     let g = both good in
     let h = both g.1 in
-    let level = level_ok s [] RowPasses (λ _. ⊤) (each_good _ s.rules (used_well s.args_override_self) h.0)
-    (each_good _ s.rules (defaults_well s.args_override_self) h.0) (λ _ _. tt) words false [] e in
-    let wanted = wanted_kind _ _ level.2 in
-    let none = negated s.subcommand_negates_reqs _ (not_true g.0) wanted in
+    let rows = rows_after s.rules [] words in
+    let level = level_ok s [] RowPasses (λ _. ⊤) (each_good s.rules (used_well s.args_override_self) h.0)
+    (each_good s.rules (defaults_well s.args_override_self) h.0) (λ _ _. tt) words false [] e in
+    let none = negated (not_true g.0) (wanted_kind level.2).2 in
     record {
-      work = has_number _ _ refl level.0;
-      max_work = has_number _ _ refl level.0;
-      max_header = has_number _ _ refl level.0;
-      at = has_number _ _ refl level.0;
-      len = has_number _ _ refl level.0;
-      input = names_input command s _ h.1 level.0 none;
+      work = has_number (codes "work") rows refl level.0;
+      max_work = has_number (codes "max-work") rows refl level.0;
+      max_header = has_number (codes "max-header") rows refl level.0;
+      at = has_number (codes "at") rows refl level.0;
+      len = has_number (codes "len") rows refl level.0;
+      input = names_input command s rows h.1 level.0 none;
     }
   where
-    negated : (b c : Bool) → b ≡ false → (not (b && false) && c) ≡ false → c ≡ false
-    negated false c e f = f
-    negated true c e f = absurd (true≢false e)
+    negated : {b c : Bool} → b ≡ false → (not (b && false) && c) ≡ false → c ≡ false
+    negated {b = false} e f = f
+    negated {b = true} e f = absurd (true≢false e)
 
 abbrev pub Taken : Text → List Row → Type 0
 Taken name rows = (command : Command) × (name ≡ name_of command) × IsTaken command rows
 
 anything : (rows : List Row) → Each (λ (r : Row). ⊤) rows
-anything rows = each_of (λ _. ⊤) rows (λ _. tt)
+anything rows = each_of rows (λ _. tt)
 
 no_help : (words : List Text) (has : Bool) (below : Kinds)
     → level_fault (built agep).top (names_of (built agep)) nothing_held words has below ≡ []
@@ -412,67 +395,69 @@ no_help : (words : List Text) (has : Bool) (below : Kinds)
     (λ p. bytes_eq p.0 (codes "help") ≡ false)
 no_help words has below none =
     (level_ok (built agep).top (names_of (built agep)) (λ _. ⊤) (λ name. bytes_eq name (codes "help") ≡ false)
-    (each_of (UsesWell (built agep).top.args_override_self (λ _. ⊤)) (built agep).top.rules
-    (λ a values rows e q. anything _))
-    (each_of (DefaultsWell (built agep).top.args_override_self (λ _. ⊤)) (built agep).top.rules
-    (λ a rows e q. anything _))
-    (λ name e. plain _ e) words has below none).1
+    (each_of {P = UsesWell (built agep).top.args_override_self (λ _. ⊤)} (built agep).top.rules
+    (λ a values rows e q. anything (used a values rows)))
+    (each_of {P = DefaultsWell (built agep).top.args_override_self (λ _. ⊤)} (built agep).top.rules
+    (λ a rows e q. anything (with_default rows a)))
+    (λ name e. plain e) words has below none).1
   where
-    plain : (b : Bool) → (b && true) ≡ false → b ≡ false
-    plain false e = refl
-    plain true e = e
+    plain : {b : Bool} → (b && true) ≡ false → b ≡ false
+    plain {b = false} e = refl
+    plain {b = true} e = e
 
 -- `help` is entered by its name alone
 is_help : (s : Shape) (word : Text) → s.name ≡ codes "help" → s.aliases ≡ [] → answers_to word (label_of s) ≡ true
     → bytes_eq word (codes "help") ≡ true
 is_help s word name none e =
     let plain : (bytes_eq (codes "help") word || false) ≡ true = subst (λ (l : Text × List Text). answers_to word l ≡ true) both_are e in
-    (bytes_eq-Decides word (codes "help")).1 (sym ((bytes_eq-Decides (codes "help") word).0 (one _ plain)))
+    (bytes_eq-Decides word (codes "help")).1 (sym ((bytes_eq-Decides (codes "help") word).0 (one plain)))
   where
     both_are : label_of s ≡ (codes "help", [])
     both_are = λ i. (name i, none i)
 
-    one : (b : Bool) → (b || false) ≡ true → b ≡ true
-    one true e = refl
-    one false e = e
+    one : {b : Bool} → (b || false) ≡ true → b ≡ true
+    one {b = true} e = refl
+    one {b = false} e = e
 
-pair_same : (a b : Text) (x y : List Row) → ◌≡◌ {A = Option (Text × List Row)} (Some (a, x)) (Some (b, y)) → (a ≡ b)
+pair_same : {a b : Text} {x y : List Row} → ◌≡◌ {A = Option (Text × List Row)} (Some (a, x)) (Some (b, y)) → (a ≡ b)
     × (x ≡ y)
-pair_same a b x y e = (
+pair_same {a} {x} e = (
   ap (λ (o : Option (Text × List Row)). (unwrap_or o (a, x)).0) e,
   ap
       (λ (o : Option (Text × List Row)). (unwrap_or o (a, x)).1) e,
 )
 
-at_shape : (name : Text) (rows : List Row) (p : Text × List Text) → bytes_eq p.0 (codes "help") ≡ false
+at_shape : {name : Text} {rows : List Row} (p : Text × List Text) → bytes_eq p.0 (codes "help") ≡ false
     → (o : Option Shape)
     → IfSome o (λ s. (answers_to p.0 (label_of s) ≡ true) × (Makes s × (s.aliases ≡ [])))
     → option_map_or (λ s. level_fault s [] nothing_held p.1 false []) o [] ≡ []
     → option_map (λ s. rows_at s p.1) o ≡ Some (name, rows) → Taken name rows
-at_shape name rows p not_help None h e f = cc
-at_shape name rows p not_help (Some s) h e f =
-    let same = pair_same s.name name (rows_after s.rules [] p.1) rows f in
+at_shape p not_help None h e f = cc
+at_shape p not_help (Some s) h e f =
+    let same = pair_same f in
     elim h.1.0 [
       | inl help ↦ absurd (true≢false (sym (is_help s p.0 help h.1.1 h.0) ∙ not_help))
-      | inr made ↦ (made.0, sym same.0 ∙ made.1, subst (IsTaken made.0) same.1 (level_taken made.0 s p.1 made.2 e))
+      | inr made ↦ (made.0, sym same.0 ∙ made.1, subst (IsTaken made.0) same.1 (level_taken s p.1 made.2 e))
     ]
 
-at_stop : (name : Text) (rows : List Row) (o : Option (Text × List Text))
+at_stop : {name : Text} {rows : List Row} (o : Option (Text × List Text))
     → IfSome o (λ p. bytes_eq p.0 (codes "help") ≡ false)
     → entered_fault (built agep) o ≡ [] → entered (built agep) o ≡ Some (name, rows) → Taken name rows
-at_stop name rows None h e f = cc
-at_stop name rows (Some p) h e f =
-    at_shape name rows p h (find (λ s. answers_to p.0 (label_of s)) (built agep).subs)
+at_stop None h e f = cc
+at_stop (Some p) h e f =
+    at_shape p h (find (λ s. answers_to p.0 (label_of s)) (built agep).subs)
     (found_where (λ s. Makes s × (s.aliases ≡ [])) (λ s. answers_to p.0 (label_of s)) (built agep).subs all_make) e
     f
 
 -- where there is no fault, the subcommand that was named is a command of the program, and its values
 -- make a job
-pub taken : (words : List Text) (name : Text) (rows : List Row) → fault_of agep words ≡ []
+pub taken : (words : List Text) {name : Text} {rows : List Row} → fault_of agep words ≡ []
     → subcommand_of agep words ≡ Some (name, rows) → Taken name rows
-taken words name rows none is =
-    at_stop name rows (stop_after (built agep).top.rules (names_of (built agep)) (argument_words agep words))
-    (no_help _ _ _ none) (first_none _ (second_none _ none)) is
+taken words none is =
+    let given = argument_words agep words in
+    let stop = stop_after (built agep).top.rules (names_of (built agep)) given in
+    at_stop stop (no_help given (is_some (entered (built agep) stop)) (entered_fault (built agep) stop) none)
+    (both_none (both_none none).1).0 is
 
 -- ---- the name of a command
 

@@ -24,20 +24,20 @@ pub record Named (words : List Text) (name : Text) (rows : List Row) : Type 0 wh
   pub faultless : fault_of agep words ≡ []
   pub taken : Taken name rows
 
-pub named : (command : Command) (words : List Text) (m : ArgMatches) (name : Text) (rows : List Row)
+pub named : (command : Command) {words : List Text} (m : ArgMatches) {name : Text} {rows : List Row}
     → app_of command ≡ agep
     → HasMatchesOf (app_of command) words m
     → (is_simple_and_free (app_of command) ≡ true → fault_of (app_of command) words ≡ [])
     → Some name ≡ subcommand_name_of m → Some rows ≡ option_map (λ p. p.1) (subcommand_rows_of m)
     → Named words name rows
-named command words m name rows app matches kinds is_name are_rows =
+named command {words} m {name} {rows} app matches kinds is_name are_rows =
     let simple = ap is_simple app ∙ agep_is_simple in
     let is : subcommand_of agep words ≡ Some (name, rows) =
     sym ((matches simple).1 ∙ ap (λ (a : App). subcommand_of a words) app)
-    ∙ subcommand_is m name rows is_name are_rows in
+    ∙ subcommand_is m is_name are_rows in
     let faultless : fault_of agep words ≡ [] = sym (ap (λ (a : App). fault_of a words) app)
     ∙ kinds (ap is_simple_and_free app ∙ agep_is_free) in
-    record { is = is; faultless = faultless; taken = taken words name rows faultless is }
+    record { is = is; faultless = faultless; taken = taken words faultless is }
 
 help_fault : fault_of agep (codes "agep" ∷ codes "--help" ∷ []) ≡ DisplayHelp ∷ []
 unfolding clap_on_literals
@@ -51,27 +51,27 @@ short_fault : (program : Text) → fault_of agep (program ∷ codes "help" ∷ c
 unfolding clap_on_literals
 short_fault program = refl
 
-help_is : (words : List Text) → AsksForHelp words → fault_of agep words ≡ DisplayHelp ∷ InvalidSubcommand ∷ []
-help_is words (program, option, is, inl long) =
+help_is : {words : List Text} → AsksForHelp words → fault_of agep words ≡ DisplayHelp ∷ InvalidSubcommand ∷ []
+help_is (program, option, is, inl long) =
     ap (fault_of agep) is
     ∙ (ap (λ (o : Text). fault_of agep (program ∷ codes "help" ∷ o ∷ [])) long ∙ long_fault program)
-help_is words (program, option, is, inr short) =
+help_is (program, option, is, inr short) =
     ap (fault_of agep) is
     ∙ (ap (λ (o : Text). fault_of agep (program ∷ codes "help" ∷ o ∷ [])) short ∙ short_fault program)
 
-pub help_read : (words : List Text) (result : Result Job WordsFault) → AsksForHelp words
+pub help_read : {words : List Text} (result : Result Job WordsFault) → AsksForHelp words
     → Reads (codes "agep" ∷ codes "--help" ∷ []) result → Reads words result
-help_read words (Ok job) asks h = let none = sym help_fault ∙ h.0 in cc
-help_read words (Err Memory) asks h = tt
-help_read words (Err (Refused error)) asks h = elim (rw help_fault at h) [
-  | inl is ↦ rw (help_is words asks) (inl is)
+help_read (Ok job) asks h = let none = sym help_fault ∙ h.0 in cc
+help_read (Err Memory) asks h = tt
+help_read (Err (Refused error)) asks h = elim (rw help_fault at h) [
+  | inl is ↦ rw (help_is asks) (inl is)
   | inr bad ↦ absurd bad
 ]
 
-pub made : (words : List Text) (name : Text) (rows : List Row) (job : Job) → Named words name rows
+pub made : {words : List Text} {name : Text} {rows : List Row} {job : Job} → Named words name rows
     → name ≡ name_of job.command → JobOf rows job
     → Reads words (Ok job)
-made words name rows job n is of =
+made {job} n is of =
     (n.faultless, subst (λ (o : Option (Text × List Row)). IsJobOf o job) (sym n.is) (is, of))
 
 pub refusal : (words : List Text) (command : Command) (error : Error) (result : Result Job WordsFault)
@@ -88,19 +88,17 @@ refusal words command error (Err (Refused refused)) app becomes kinds =
       | inr among ↦ subst (λ (e : Error). IsAmong (kind_of e) (fault_of agep words)) (sym becomes.0) among
     ]
 
-pub asks : (words : List (Bor Text)) (d e : Bor Text) → length words ≡ 3
+pub asks : (words : List (Bor Text)) (d e : Bor Text) {option : Text} → length words ≡ 3
     → bytes_eq (get_or words 1 d).now (codes "help") ≡ true
-    → (bytes_eq (get_or words 2 e).now (codes "--help") ≡ true) ⊎ (bytes_eq (get_or words 2 e).now (codes "-h") ≡ true) → AsksForHelp (map (λ w. w.now) words)
-asks [] d e n help option = absurd (omega arith)
-asks (p ∷ []) d e n help option = absurd (omega arith)
-asks (p ∷ h ∷ []) d e n help option = absurd (omega arith)
-asks (p ∷ h ∷ o ∷ []) d e n help option = (
+    → bytes_eq (get_or words 2 e).now option ≡ true → (option ≡ codes "--help") ⊎ (option ≡ codes "-h")
+    → AsksForHelp (map (λ w. w.now) words)
+asks [] d e n help same is = absurd (omega arith)
+asks (p ∷ []) d e n help same is = absurd (omega arith)
+asks (p ∷ h ∷ []) d e n help same is = absurd (omega arith)
+asks (p ∷ h ∷ o ∷ []) d e {option} n help same is = (
   p.now,
   o.now,
   ap (λ (t : Text). p.now ∷ t ∷ o.now ∷ []) ((bytes_eq-Decides h.now (codes "help")).0 help),
-  elim option [
-    | inl long ↦ inl ((bytes_eq-Decides o.now (codes "--help")).0 long)
-    | inr short ↦ inr ((bytes_eq-Decides o.now (codes "-h")).0 short)
-  ],
+  subst (λ (t : Text). (t ≡ codes "--help") ⊎ (t ≡ codes "-h")) (sym ((bytes_eq-Decides o.now option).0 same)) is,
 )
-asks (p ∷ h ∷ o ∷ x ∷ xs) d e n help option = absurd (omega arith)
+asks (p ∷ h ∷ o ∷ x ∷ xs) d e n help same is = absurd (omega arith)

@@ -102,22 +102,22 @@ header_limit words =
     (subcommand_of agep words) DEFAULT_MAX_HEADER
 
 -- the reason is that help or the version is asked for
-abbrev pub shows : (reason : ErrorKind) → Bool
-shows DisplayHelp = true
-shows DisplayVersion = true
-shows reason = false
+abbrev pub is_display : (reason : ErrorKind) → Bool
+is_display DisplayHelp = true
+is_display DisplayVersion = true
+is_display reason = false
 
 -- the error has help or the version to show
 abbrev pub IsShown : (error : Error) → Type 0
-IsShown error = shows (kind_of error) ≡ true
+IsShown error = is_display (kind_of error) ≡ true
 
 -- the words ask for help or the version
 abbrev pub AskForText : (words : List Text) → Type 0
-AskForText words = list_any shows (fault_of agep words) ≡ true
+AskForText words = list_any is_display (fault_of agep words) ≡ true
 
 -- something is wrong with the words
 abbrev pub AreWrong : (words : List Text) → Type 0
-AreWrong words = list_any (λ reason. not (shows reason)) (fault_of agep words) ≡ true
+AreWrong words = list_any (λ reason. not (is_display reason)) (fault_of agep words) ≡ true
 
 -- the fault that an error of `clap` becomes
 abbrev pub Becomes : (error : Error) (fault : WordsFault) → Type 0

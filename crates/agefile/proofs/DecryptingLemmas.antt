@@ -1,7 +1,7 @@
 -- Opening the sealed chunks of a payload into a buffer.
 use Rattle.std.proofs.Common.{◌≡◌, ◌⊎◌, ℕ, ◌+◌, ◌-◌, ◌*◌, ◌<◌, ◌≤◌, [], ◌++◌, length, take, drop, min, nat_le, sym, ◌∙◌, ap, ap₂, refl, subst, arith, inl, inr, append_assoc, length-append, length-drop, Option, Some, None, Result, Ok, Err}
 use Rattle.std.specs.Prelude.{option_map}
-use Rattle.std.proofs.lemmas.Bool.{le-leb, lt-leb, cond-false, cond-true}
+use Rattle.std.proofs.lemmas.Bool.{le-leb, lt-leb}
 use Rattle.std.proofs.lemmas.List.{append-nil, drop-drop, drop_at, length-take-le, take-append-drop, take_all, take_at}
 use Rattle.age_kdf.specs.Bytes.{Bytes}
 use Rattle.age_stream.specs.declared.fault.StreamFault.{StreamFault}
@@ -10,7 +10,7 @@ use Rattle.age_stream.specs.Reading.{Reading, after_first, first_outcome, outcom
 use Rattle.age_stream.specs.Sizes.{chunk_size, sealed_chunk_size}
 use Rattle.age_stream.proofs.WritesAllLemmas.{before, first_err, first_ok}
 use Rattle.age_file.specs.declared.fault.Fault.{Fault}
-use Rattle.age_file.specs.Verdict.{Answering, IsVerdict, judged, stream_fault}
+use Rattle.age_file.specs.Verdict.{Answering, IsVerdict, reading_after, stream_fault}
 use Rattle.agefile.specs.declared.report.Report.{Report}
 use Rattle.agefile.specs.declared.start.Start.{Start}
 use Rattle.agefile.specs.Codes.{code_of}
@@ -86,11 +86,11 @@ faulty (Err f) fault old new h = let same : f ≡ fault = cc (h.0) in (ap Err sa
 
 -- what is given, by a buffer that begins with it
 given : {reading : Reading StreamFault} {old new : Bytes} {len : ℕ} (text : Bytes) (fault : Option StreamFault)
-    → reading ≡ record { front = text ++ []; fault = fault } → len ≡ length text
+    → reading ≡ record { plaintext = text ++ []; fault = fault } → len ≡ length text
     → new ≡ text ++ drop (length text) old → GivesReading reading old new len fault
 given {reading} {old} {new} {len} text fault is size put =
     subst (λ r. GivesReading r old new len fault)
-    (sym (is ∙ ap (λ t. record { front = t; fault = fault }) (append-nil text)))
+    (sym (is ∙ ap (λ t. record { plaintext = t; fault = fault }) (append-nil text)))
     (record { length_so = size; fault_so = refl; buffer = put })
 
 -- a chunk had a fault
@@ -111,12 +111,13 @@ put : (old out mid new front text : Bytes) (len n : ℕ) → length front ≡ le
     → n ≡ length text → mid ≡ text ++ drop n (drop len out) → new ≡ take len out ++ mid
     → new ≡ (front ++ text) ++ drop (length (front ++ text)) old
 put old out mid new front text len n size was count is joined =
-    let begun : take len out ≡ front = ap (take len) was ∙ take_at front _ len size in
-    let behind : drop len out ≡ drop (length front) old = ap (drop len) was ∙ drop_at front _ len size in
+    let kept : Bytes = drop (length front) old in
+    let begun : take len out ≡ front = ap (take len) was ∙ take_at front kept len size in
+    let behind : drop len out ≡ kept = ap (drop len) was ∙ drop_at front kept len size in
     let all : length front + n ≡ length (front ++ text) = omega (arith, count, length-append front text) in
     joined ∙ ap₂ ◌++◌ begun (is ∙ ap (λ d. text ++ d)
     (ap (drop n) behind ∙ drop-drop n (length front) old ∙ ap (λ k. drop k old) all))
-    ∙ sym (append_assoc front text _)
+    ∙ sym (append_assoc front text (drop (length (front ++ text)) old))
 
 -- the last chunk opened
 pub read_ends : {key sealed old left room : Bytes} (out : Bytes) (at len number n : ℕ) (mid : Bytes) {new : Bytes}
@@ -128,13 +129,11 @@ read_ends {key} {sealed} {old} {left} {room} out at len number n mid {new} r lef
     let o = opened (first_outcome key limits.max_chunks number (drop at sealed)) n (drop len out) mid
     (first_there key sealed out left room mid at len number (Ok n) left_is room_is gives) in
     let none : None ≡ after_first (drop at sealed) =
-    sym (cond-true (nat_le (length (drop at sealed)) sealed_chunk_size) None
-    (Some (drop sealed_chunk_size (drop at sealed)))
-    (le-leb _ sealed_chunk_size last)) in
+    rw (le-leb (length (drop at sealed)) sealed_chunk_size last) refl in
     let f = first_ok key limits.max_chunks number (drop at sealed) o.0 None o.1 none in
     given (r.text ++ o.0) None
     (r.reads ∙ ap (before r.text) f.reads
-    ∙ ap (λ t. record { front = t; fault = None }) (sym (append_assoc r.text o.0 [])))
+    ∙ ap (λ t. record { plaintext = t; fault = None }) (sym (append_assoc r.text o.0 [])))
     (omega (arith, o.2, r.count, length-append r.text o.0))
     (put old out mid new r.text o.0 len n r.count r.is o.2 o.3 joined)
 
@@ -149,8 +148,7 @@ read_more {key} {sealed} {old} {left} {room} out at len number n mid {new} r lef
     (first_there key sealed out left room mid at len number (Ok n) left_is room_is gives) in
     let next : Bytes = drop sealed_chunk_size (drop at sealed) in
     let some : Some next ≡ after_first (drop at sealed) =
-    sym (cond-false (nat_le (length (drop at sealed)) sealed_chunk_size) None (Some next)
-    (lt-leb _ sealed_chunk_size more)) in
+    rw (lt-leb (length (drop at sealed)) sealed_chunk_size more) refl in
     let f = first_ok key limits.max_chunks number (drop at sealed) o.0 (Some next) o.1 some in
     let tail : Reading StreamFault = reading_from key limits.max_chunks (number + 1) next in
     record {
@@ -162,7 +160,7 @@ read_more {key} {sealed} {old} {left} {room} out at len number n mid {new} r lef
       room = r.room;
       is = put old out mid new r.text o.0 len n r.count r.is o.2 o.3 joined;
       reads = r.reads ∙ ap (before r.text) f.reads
-          ∙ ap (λ t. record { front = t; fault = tail.fault }) (sym (append_assoc r.text o.0 tail.front))
+          ∙ ap (λ t. record { plaintext = t; fault = tail.fault }) (sym (append_assoc r.text o.0 tail.plaintext))
           ∙ ap (λ c. before (r.text ++ o.0) (reading_from key limits.max_chunks (number + 1) c))
           (drop-drop sealed_chunk_size at sealed);
     }
@@ -170,25 +168,25 @@ read_more {key} {sealed} {old} {left} {room} out at len number n mid {new} r lef
 -- ---- the whole file
 
 -- the chunks were opened
-reading_fits : (reading : Reading StreamFault) (v : Reading Fault) (old new : Bytes) (report : Report) (code len : ℕ)
+reading_fits : {reading : Reading StreamFault} (v : Reading Fault) (old new : Bytes) (report : Report) (code len : ℕ)
     (fault : Option StreamFault)
-    → v ≡ record { front = reading.front; fault = option_map stream_fault reading.fault }
+    → v ≡ record { plaintext = reading.plaintext; fault = option_map stream_fault reading.fault }
     → GivesReading reading old new len fault → length new ≡ length old
     → report ≡ report_of len (option_map stream_fault fault) → code ≡ code_of (option_map stream_fault fault)
-    → Fits v.front v.fault old new report code
-reading_fits reading v old new report code len fault is gives size reported returned =
-    subst (λ (r : Reading Fault). Fits r.front r.fault old new report code) (sym is)
+    → Fits v.plaintext v.fault old new report code
+reading_fits {reading} v old new report code len fault is gives size reported returned =
+    subst (λ (r : Reading Fault). Fits r.plaintext r.fault old new report code) (sym is)
     (record {
       fits = omega (
         arith,
         size,
         ap length gives.buffer,
-        length-append reading.front (drop (length reading.front) old),
-        length-drop (length reading.front) old,
+        length-append reading.plaintext (drop (length reading.plaintext) old),
+        length-drop (length reading.plaintext) old,
       );
       returned = returned ∙ ap (λ f. code_of (option_map stream_fault f)) gives.fault_so;
       reported = reported ∙ ap (λ n. report_of n (option_map stream_fault fault)) gives.length_so
-          ∙ ap (λ f. report_of (length reading.front) (option_map stream_fault f)) gives.fault_so;
+          ∙ ap (λ f. report_of (length reading.plaintext) (option_map stream_fault f)) gives.fault_so;
       buffer = gives.buffer;
     })
 
@@ -203,7 +201,7 @@ decrypts_opened answers rest old new len start fault (inl memory) back room give
 decrypts_opened answers {b} rest old new {report} {code} len start fault
     (inr (header, verdict, is)) back room gives size
     reported returned =
-    let v : Reading Fault = judged limits answers b header in
+    let v : Reading Fault = reading_after limits answers b header in
     let judged_so : IsVerdict limits answers b v = record { header = header; header_verdict = verdict; is = refl } in
     let from : IsVerdictFrom b v (Ok start) = verdict_from answers b (Ok start) v (header, verdict, is) judged_so in
     let mine : GivesReading (reading_from start.key limits.max_chunks 0 (drop start.first b)) old new len fault =
@@ -213,7 +211,7 @@ decrypts_opened answers {b} rest old new {report} {code} len start fault
     inr (
       Ok start,
       (header, verdict, is),
-      inr (there, (v, judged_so, reading_fits _ v old new report code len fault from mine size reported returned)),
+      inr (there, (v, judged_so, reading_fits v old new report code len fault from mine size reported returned)),
     )
 
 pub no_room : (answers : Answering) {b : Bytes} (rest : Bytes) {old : Bytes} {report : Report} (room : ℕ)

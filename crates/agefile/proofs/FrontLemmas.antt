@@ -1,7 +1,7 @@
 -- What is found in a beginning of a file: in one that holds its header and its nonce, as its first 65,552 bytes do, and
 -- in one that ends within them.
-use Rattle.std.proofs.Common.{◌≡◌, ◌≢◌, ◌⊎◌, ℕ, ◌+◌, ◌-◌, ◌<◌, ◌≤◌, List, ◌++◌, length, take, drop, min, nat_lt, sym, ◌∙◌, ap, refl, subst, arith, inl, inr, append_assoc, length-append, length-drop, length-take, take-append-drop, codes, Result, Ok, Err}
-use Rattle.std.proofs.lemmas.Bool.{cases_lt, le-ltb, lt-ltb, cond-false, cond-true}
+use Rattle.std.proofs.Common.{◌≡◌, ◌≢◌, ◌⊎◌, ℕ, ◌+◌, ◌-◌, ◌<◌, ◌≤◌, List, ◌++◌, length, take, drop, min, sym, ◌∙◌, ap, refl, subst, arith, inl, inr, append_assoc, length-append, length-drop, length-take, take-append-drop, codes, Result, Ok, Err}
+use Rattle.std.proofs.lemmas.Bool.{cases_lt, le-ltb, lt-ltb}
 use Rattle.std.proofs.lemmas.List.{drop-take, take-append-le, take-take, take_all}
 use Rattle.age_kdf.specs.Bytes.{Bytes}
 use Rattle.age_header.specs.declared.fault.HeaderFault.TheVariants.{Truncated}
@@ -16,7 +16,7 @@ use Rattle.age_header.specs.declared.file_key.FileKey.{FileKey}
 use Rattle.age_stream.specs.Payload.{payload_key}
 use Rattle.age_file.specs.declared.fault.Fault.{Fault}
 use Rattle.age_file.specs.declared.fault.Fault.TheVariants.{HeaderTruncated, NonceTruncated}
-use Rattle.age_file.specs.Verdict.{Answering, parts_of, unlocked}
+use Rattle.age_file.specs.Verdict.{Answering, parts_of, header_key}
 use Rattle.agefile.specs.declared.payload.Payload.{Payload}
 use Rattle.agefile.specs.declared.report.Report.{Report}
 use Rattle.agefile.specs.declared.start.Start.{Start}
@@ -30,7 +30,7 @@ use Rattle.agefile.proofs.UnlockLemmas.{found_start, opened_start, under}
 
 start_there : (len : ℕ) (rest : Bytes) (k : FileKey) → 16 ≤ length rest
     → start_under len rest (Ok k) ≡ Ok (record { first = len + 16; key = payload_key k (take 16 rest) })
-start_there len rest k ge = cond-false (nat_lt (length rest) 16) _ _ (le-ltb (length rest) 16 ge)
+start_there len rest k ge = rw (le-ltb (length rest) 16 ge) refl
 
 -- the first sixteen say where the chunks start
 start_in : (len m : ℕ) (rest : Bytes) (key : Result FileKey Fault) → 16 ≤ m
@@ -66,7 +66,7 @@ whole_start answers b start (Err e, verdict, is) = (Err e, whole_verdict b (Err 
 whole_start answers b start (Ok found, verdict, is) =
     let there = whole_verdict b (Ok found) verdict in
     let fits : length found.text ≤ limits.max_header = (headers.begins_found b limits.max_header found there).fits in
-    let key = unlocked answers (parts_of found) in
+    let key = header_key answers (parts_of found) in
     (Ok found, there, is ∙ start_behind (length found.text) front_size b key (omega arith))
 
 longer : (answers : Answering) (n : ℕ) (b : Bytes) (s : Start) → IsStart answers (take n b) (Ok s)
@@ -75,7 +75,7 @@ longer answers n b s (Err e, verdict, is) = absurd (cc)
 longer answers n b s (Ok found, verdict, is) =
     let w = headers.begins_found (take n b) limits.max_header found verdict in
     let len : ℕ = length found.text in
-    let key = unlocked answers (parts_of found) in
+    let key = header_key answers (parts_of found) in
     let long = (under len (drop len (take n b)) key s is).long in (
       Ok found,
       headers.found_begins b limits.max_header found (record {
@@ -105,7 +105,7 @@ shorter : (answers : Answering) (n : ℕ) (b : Bytes) (s : Start) → s.first �
 shorter answers n b s within (Err e, verdict, is) = absurd (cc)
 shorter answers n b s within (Ok found, verdict, is) =
     let len : ℕ = length found.text in
-    let key = unlocked answers (parts_of found) in
+    let key = header_key answers (parts_of found) in
     let first = first_of len (drop len b) key s is in
     (Ok found, found_within n b found verdict (omega arith), is ∙ sym (start_behind len n b key (omega arith)))
 
@@ -221,8 +221,8 @@ short_start answers n b s low (Err e, verdict, is) = absurd (cc)
 short_start answers n b s low (Ok found, verdict, is) =
     let len : ℕ = length found.text in
     let rest : Bytes = drop len (take n b) in
-    let u = under len (drop len b) (unlocked answers (parts_of found)) s is in
-    let first = first_of len (drop len b) (unlocked answers (parts_of found)) s is in
+    let u = under len (drop len b) (header_key answers (parts_of found)) s is in
+    let first = first_of len (drop len b) (header_key answers (parts_of found)) s is in
     elim (cases_lt n len) [
       | inl short ↦ inl (Err Truncated, cut_short b limits.max_header n found verdict short, refl)
       | inr ge ↦
@@ -230,8 +230,7 @@ short_start answers n b s low (Ok found, verdict, is) =
           inr (
             Ok found,
             found_within n b found verdict ge,
-            sym (cond-true (nat_lt (length rest) 16) _ _ (lt-ltb (length rest) 16 few))
-                ∙ ap (start_under len rest) (sym u.unlocks),
+            rw (u.unlocks, lt-ltb (length rest) 16 few) refl,
           )
     ]
 

@@ -26,7 +26,7 @@ use Rattle.agefile.specs.declared.inspecting.Summary.{Summary}
 use Rattle.agefile.specs.declared.report.Report.{Report}
 use Rattle.agefile.specs.Codes.{fault_code}
 use Rattle.agefile.specs.Report.{Refuses, Returns, report_of}
-use Rattle.agefile.specs.Inspect.{GivesStanzas, HeaderOf, Inspected, InspectsStanzas, joined}
+use Rattle.agefile.specs.Inspect.{GivesStanzas, HeaderOf, Inspected, InspectsStanzas, arguments_text}
 use Rattle.agefile.specs.Sizes.{limits, front_size}
 
 -- what a reader returned
@@ -133,14 +133,14 @@ join_map : {X : Type 0} (f : X → Bytes) (xs : List X)
 join_map f [] = refl
 join_map f (x ∷ xs) = ap (λ t. (32 ∷ [] ++ f x) ++ t) (join_map f xs)
 
-joined_map : {X : Type 0} (f : X → Bytes) (xs : List X) → join_by f (32 ∷ []) xs ≡ joined (map f xs)
+joined_map : {X : Type 0} (f : X → Bytes) (xs : List X) → join_by f (32 ∷ []) xs ≡ arguments_text (map f xs)
 joined_map f [] = refl
 joined_map f (x ∷ xs) = ap (λ t. f x ++ t) (join_map f xs)
 
 pub joined_text : {X E : Type 0} (f : X → Bytes) (xs : List X) {args : List Bytes} (r : Result (String Global) E)
     → map f xs ≡ args
-    → IfOk r (λ t. string_bytes t ≡ join_by f (32 ∷ []) xs) → IfOk r (λ t. string_bytes t ≡ joined args)
-joined_text f xs (Ok t) same h = h ∙ joined_map f xs ∙ ap joined same
+    → IfOk r (λ t. string_bytes t ≡ join_by f (32 ∷ []) xs) → IfOk r (λ t. string_bytes t ≡ arguments_text args)
+joined_text f xs (Ok t) same h = h ∙ joined_map f xs ∙ ap arguments_text same
 joined_text f xs (Err e) same h = tt
 
 -- ---- the stanzas of a header

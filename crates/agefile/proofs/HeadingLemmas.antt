@@ -1,9 +1,9 @@
 -- A header that is made of a text of stanzas, and a new file that begins with it.
-use Rattle.std.proofs.Common.{◌≡◌, ◌≢◌, ℕ, ◌+◌, ◌-◌, ◌<◌, ◌≤◌, Bool, true, false, List, [], ◌∷◌, ◌++◌, length, take, replicate, codes, nat_lt, cond, sym, ◌∙◌, ap, refl, subst, arith, inl, inr, length-append, append_assoc, Vec, Result, Ok, Err}
+use Rattle.std.proofs.Common.{◌≡◌, ◌≢◌, ℕ, ◌+◌, ◌-◌, ◌<◌, ◌≤◌, Bool, true, false, List, [], ◌∷◌, ◌++◌, length, take, replicate, codes, cond, sym, ◌∙◌, ap, refl, subst, arith, inl, inr, length-append, append_assoc, Vec, Result, Ok, Err}
 use Rattle.std.specs.Prelude.{String, IfOk, slice_index}
 use Rattle.std.specs.Global.{Global}
 use Rattle.std.specs.String.{string_bytes}
-use Rattle.std.proofs.lemmas.Bool.{cases_lt, le-ltb, lt-ltb, cond-false, cond-true}
+use Rattle.std.proofs.lemmas.Bool.{cases_lt, le-ltb, lt-ltb}
 use Rattle.std.proofs.lemmas.List.{append-nil, append_cancel_left, nil_from_length, take_at}
 use Rattle.age_kdf.specs.Bytes.{Bytes}
 use Rattle.age_header.specs.Base64.{IsBase64, base64_of}
@@ -20,7 +20,7 @@ use Rattle.age_file.specs.AgeFile.{is_mixed, AgeFile}
 use Rattle.age_file.specs.Verdict.{header_fault}
 use Rattle.age_file.specs.NewFile.{IsHeading}
 use Rattle.age_file.proofs.DecryptLemmas.{err_err}
-use Rattle.agefile.specs.Heading.{FindsMac, HasStanzas, MakesHeader, ReadsAs, framed, given, in_text, lines_in, probe, stanzas_in, unless_mixed}
+use Rattle.agefile.specs.Heading.{FindsMac, HasStanzas, MakesHeader, ReadsAs, heading, gathering_of, in_text, lines_in, probe, stanzas_in, unless_mixed}
 use Rattle.agefile.specs.Inspect.{HeaderOf}
 use Rattle.agefile.specs.Sizes.{file_len, limits, sealed_len}
 use Rattle.age_recipient.proofs.HeaderSizeLemmas.{b64_size, key_header, pass_header}
@@ -48,13 +48,13 @@ pub mac_early : (text rest front : Bytes) (h : HeaderParts) (k : FileKey) {fault
     → front ≡ take (length (probe text) - length rest) (probe text) → fault ≡ BadLine (lines_in front - 1)
     → FindsMac text k (Err fault)
 mac_early text rest front h k {fault} f some is count =
-    let size : length (probe text) ≡ length f.text + length rest = ap length f.front ∙ length-append f.text rest in
+    let size : length (probe text) ≡ length f.text + length rest = ap length f.begins ∙ length-append f.text rest in
     let len : length (probe text) - length rest ≡ length f.text = omega (arith, size) in
-    let same : front ≡ f.text = is ∙ ap (λ n. take n (probe text)) len ∙ ap (take (length f.text)) f.front
+    let same : front ≡ f.text = is ∙ ap (λ n. take n (probe text)) len ∙ ap (take (length f.text)) f.begins
     ∙ take_at f.text rest (length f.text) refl in
     let less : length f.text < length (probe text) = omega (arith, size, some) in
     let early : stanzas_in text (Ok (found_of (probe text) rest h f)) ≡ Err (BadLine (lines_in f.text - 1)) =
-    cond-true (nat_lt (length f.text) (length (probe text))) _ _ (lt-ltb _ _ less) in
+    rw (lt-ltb (length f.text) (length (probe text)) less) refl in
     inr (
       Err (BadLine (lines_in f.text - 1)),
       (Ok (found_of (probe text) rest h f), f.verdict, ap unless_mixed (sym early)),
@@ -65,16 +65,16 @@ mac_early text rest front h k {fault} f some is count =
 whole_text : (text rest : Bytes) (h : HeaderParts) (s : Result (List StanzaParts) Fault) → Fronts (probe text) rest h
     → length rest ≡ 0 → s ≡ unless_mixed (Ok h.stanzas) → ReadsAs text s
 whole_text text rest h s f none is =
-    let size : length (probe text) ≡ length f.text + length rest = ap length f.front ∙ length-append f.text rest in
+    let size : length (probe text) ≡ length f.text + length rest = ap length f.begins ∙ length-append f.text rest in
     let whole : stanzas_in text (Ok (found_of (probe text) rest h f)) ≡ Ok h.stanzas =
-    cond-false (nat_lt (length f.text) (length (probe text))) _ _ (le-ltb _ _ (omega (arith, size, none))) in
+    rw (le-ltb (length f.text) (length (probe text)) (omega (arith, size, none))) refl in
     (Ok (found_of (probe text) rest h f), f.verdict, is ∙ ap unless_mixed (sym whole))
 
 pub mac_mixed : (text rest : Bytes) (h : HeaderParts) (k : FileKey) → Fronts (probe text) rest h → length rest ≡ 0
     → is_mixed h.stanzas ≡ true → FindsMac text k (Err MixedPassphrase)
 mac_mixed text rest h k f none mixed =
     let one : Result (List StanzaParts) Fault = Err MixedPassphrase in
-    inr (one, whole_text text rest h one f none (sym (cond-true (is_mixed h.stanzas) _ _ mixed)), refl)
+    inr (one, whole_text text rest h one f none (rw mixed refl), refl)
 
 pub mac_made : (text rest : Bytes) {mac : Bytes} (h : HeaderParts) (k : FileKey)
     → Fronts (probe text) rest h → length rest ≡ 0
@@ -82,7 +82,7 @@ pub mac_made : (text rest : Bytes) {mac : Bytes} (h : HeaderParts) (k : FileKey)
     → FindsMac text k (Ok mac)
 mac_made text rest h k f none mixed is =
     let one : Result (List StanzaParts) Fault = Ok h.stanzas in
-    inr (one, whole_text text rest h one f none (sym (cond-false (is_mixed h.stanzas) _ _ mixed)), ap Ok is)
+    inr (one, whole_text text rest h one f none (rw mixed refl), ap Ok is)
 
 -- ---- the header
 
@@ -96,7 +96,7 @@ header_none fault some (inr (Err f, reads, is)) =
 unmixed : (b : Bool) (xs ss : List StanzaParts)
     → ◌≡◌ {A = Result (List StanzaParts) Fault} (cond b (Err MixedPassphrase) (Ok xs)) (Ok ss) → (b ≡ false) × (xs ≡ ss)
 unmixed true xs ss e = absurd (cc)
-unmixed false xs ss e = (refl, ok_ok xs ss e)
+unmixed false xs ss e = (refl, ok_ok e)
 
 -- what is known of a text whose probe was read to its end
 pub record Reads (text : Bytes) (ss : List StanzaParts) : Type 0 where
@@ -116,7 +116,7 @@ read_whole text found ss h ge eq =
     sym (append-nil found.text) ∙ ap (λ r. found.text ++ r) (sym (nil_from_length b.rest (omega (arith, size, ge))))
     ∙ sym b.prefix in
     let late : stanzas_in text (Ok found) ≡ Ok found.stanzas =
-    cond-false (nat_lt (length found.text) (length (probe text))) _ _ (le-ltb _ _ ge) in
+    rw (le-ltb (length found.text) (length (probe text)) ge) refl in
     let u = unmixed (is_mixed found.stanzas) found.stanzas ss (sym (eq ∙ ap unless_mixed late)) in
     record {
       alone = subst (λ xs. is_mixed xs ≡ false) u.1 u.0;
@@ -130,7 +130,7 @@ reads text ss (Err reason, h, eq) = absurd (cc)
 reads text ss (Ok found, h, eq) = elim (cases_lt (length found.text) (length (probe text))) [
   | inl lt ↦
       let early : stanzas_in text (Ok found) ≡ Err (BadLine (lines_in found.text - 1)) =
-      cond-true (nat_lt (length found.text) (length (probe text))) _ _ (lt-ltb _ _ lt) in
+      rw (lt-ltb (length found.text) (length (probe text)) lt) refl in
       let clash : ◌≡◌ {A = Result (List StanzaParts) Fault} (Ok ss) (Err (BadLine (lines_in found.text - 1))) = eq
       ∙ ap unless_mixed early in
       absurd (cc)
@@ -146,7 +146,7 @@ same_front {a} b {c} d e len =
     let size : length c ≡ length a = omega (arith, ap length e, length-append a b, length-append c d, len) in
     sym (take_at a b (length a) refl) ∙ ap (take (length a)) e ∙ take_at c d (length a) size
 
-framed_size : (text characters : Bytes) → length characters ≡ 43 → length (framed text characters) ≡ length text + 70
+framed_size : (text characters : Bytes) → length characters ≡ 43 → length (heading text characters) ≡ length text + 70
 framed_size text characters len =
     omega (
       arith,
@@ -161,24 +161,24 @@ framed_size text characters len =
 -- the text between the version line and the end line is the header's
 pub same_body : (text mac : Bytes) (ss : List StanzaParts) (h : Head ss mac (probe text)) → text ≡ h.body
 same_body text mac ss h =
-    let mine : length (line (codes "--- " ++ replicate 43 65)) ≡ 48 = refl in
+    let mine : Bytes = line (codes "--- " ++ replicate 43 65) in
+    let theirs : Bytes = line (codes "--- " ++ h.characters) in
     let sized : length h.characters ≡ 43 = omega (arith, b64_size mac h.characters h.mac_text, h.mac_len) in
-    let theirs : length (line (codes "--- " ++ h.characters)) ≡ 48 =
+    let long : length mine ≡ length theirs =
     omega (arith, sized, length-line (codes "--- " ++ h.characters), length-append (codes "--- ") h.characters) in
-    let front : version_line ++ text ≡ version_line ++ h.body = same_front _ _ h.spelled (mine ∙ sym theirs) in
-    append_cancel_left version_line text h.body front
+    append_cancel_left version_line text h.body (same_front mine theirs h.spelled long)
 
 -- the same text with the right MAC is the header
 heading_of : (text mac characters : Bytes) (k : FileKey) (ss : List StanzaParts) → Reads text ss
     → mac ≡ header_mac k.0 ss → IsBase64 mac characters → length mac ≡ 32
-    → IsHeading limits k (given ss) ss (framed text characters)
+    → IsHeading limits k (gathering_of ss) ss (heading text characters)
 heading_of text mac characters k ss r is bytes len =
     let sized : length characters ≡ 43 = omega (arith, b64_size mac characters bytes, len) in
     let fits : length (probe text) ≤ limits.max_header = r.fits in
     record {
       gives = refl;
       unmixed = r.alone;
-      head = subst (λ m. Head ss m (framed text characters)) is
+      head = subst (λ m. Head ss m (heading text characters)) is
           (record {
             body = text;
             characters = characters;
@@ -193,15 +193,15 @@ heading_of text mac characters k ss r is bytes len =
 
 pub header_made : {text : Bytes} (mac characters : Bytes) {k : FileKey} {made : Vec ℕ Global} → text ≢ []
     → FindsMac text k (Ok mac) → IsBase64 mac characters → length mac ≡ 32
-    → made.items ≡ framed text characters → MakesHeader text k (Ok made)
+    → made.items ≡ heading text characters → MakesHeader text k (Ok made)
 header_made mac characters some (inl memory) bytes len spelled = absurd (cc)
 header_made mac characters some (inr (Err f, h, is)) bytes len spelled = absurd (cc)
 header_made {text} mac characters {k} some (inr (Ok ss, h, is)) bytes len spelled =
     inr (
       Ok ss,
       inr (some, h),
-      subst (IsHeading limits k (given ss) ss) (sym spelled)
-          (heading_of text mac characters k ss (reads text ss h) (ok_ok mac (header_mac k.0 ss) is) bytes len),
+      subst (IsHeading limits k (gathering_of ss) ss) (sym spelled)
+          (heading_of text mac characters k ss (reads text ss h) (ok_ok is) bytes len),
     )
 
 pub characters_known : {E : Type 0} (mac : Bytes) (r : Result (String Global) E) → ((i : ℕ) → slice_index mac i < 256)
@@ -211,7 +211,7 @@ characters_known mac (Ok t) bytes is = subst (IsBase64 mac) (sym is) (characters
 characters_known mac (Err e) bytes is = tt
 
 pub framed_text : (first text characters : Bytes) {all : Bytes} → first ≡ codes "age-encryption.org/v1" ++ 10 ∷ []
-    → all ≡ (((first ++ text) ++ codes "--- ") ++ characters) ++ 10 ∷ [] → all ≡ framed text characters
+    → all ≡ (((first ++ text) ++ codes "--- ") ++ characters) ++ 10 ∷ [] → all ≡ heading text characters
 unfolding version_line
 framed_text first text characters same is =
     is ∙ ap (λ x. (((x ++ text) ++ codes "--- ") ++ characters) ++ 10 ∷ []) same

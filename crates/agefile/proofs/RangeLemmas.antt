@@ -2,9 +2,9 @@
 use Rattle.std.proofs.Common.{◌≡◌, ℕ, [], ◌++◌, ◌+◌, ◌-◌, ◌*◌, ◌/◌, ◌%◌, ◌<◌, length, take, drop, min, nat_le, sym, ◌∙◌, ap, arith, true, Bool, Some, Ok, subst}
 use Rattle.std.proofs.lemmas.List.{length-drop, length-take, drop-drop, take_all, take_min}
 use Rattle.age_kdf.specs.Bytes.{Bytes}
-use Rattle.age_cipher.proofs.OpeningLemmas.{length-sealed, opened-sealed}
+use Rattle.age_cipher.proofs.OpeningLemmas.{length-sealed_text, opened_text-sealed_text}
 use Rattle.age_stream.specs.Payload.{pieces, chunk_nonce}
-use Rattle.age_stream.specs.Reading.{opened_at, outcome}
+use Rattle.age_stream.specs.Reading.{piece_opening, outcome}
 use Rattle.age_stream.specs.Slice.{IsSlice, last_outcome, opening, plain_len}
 use Rattle.age_stream.specs.Sizes.{chunk_size, sealed_chunk_size}
 use Rattle.age_stream.proofs.JudgesLastLemmas.{last_is, piece_count, some_or_none}
@@ -12,7 +12,7 @@ use Rattle.age_stream.proofs.PayloadLemmas.{outcome_opens}
 use Rattle.age_stream.proofs.SliceLemmas.{opening_at, plain_count, slice_on}
 use Rattle.agefile.specs.declared.ranges.Ranges.{Ranges}
 use Rattle.agefile.specs.Sizes.{limits}
-use Rattle.agefile.specs.Ranges.{gives, last_index, piece_at, piece_len, plain_of}
+use Rattle.agefile.specs.Ranges.{piece_outcome, last_index, piece_at, piece_len, plain_of}
 
 -- how many bytes are left from the first sealed chunk on
 left : (r : Ranges) (b : Bytes) → length b ≡ r.first + r.sealed_len → length (drop r.first b) ≡ r.sealed_len
@@ -57,14 +57,14 @@ len_there r b text size h =
     let o = outcome_opens r.key limits.max_chunks last true (drop (sealed_chunk_size * last) rest) text
     (sym (last_is r.key limits.max_chunks rest last is) ∙ h) in
     let len : length (drop (sealed_chunk_size * last) rest) ≡ length text + 16 = ap length o.sealed_so
-    ∙ length-sealed r.key (chunk_nonce last true) [] text in
+    ∙ length-sealed_text r.key (chunk_nonce last true) [] text in
     let count : plain_len rest + 16 * (last + 1) ≡ length rest =
     plain_count last rest (some_or_none last (length rest) is) (omega arith) (omega arith) in
     omega arith
 
 pub slice_there : (r : Ranges) (b text : Bytes) (at : ℕ) → length b ≡ r.first + r.sealed_len
     → at < plain_of r.sealed_len
-    → gives r (at / chunk_size) (piece_at r b (at / chunk_size)) ≡ Ok text
+    → piece_outcome r (at / chunk_size) (piece_at r b (at / chunk_size)) ≡ Ok text
     → (at % chunk_size < length text) × IsSlice r.key (drop r.first b) at (drop (at % chunk_size) text)
 slice_there r b text at size within h =
     let rest : Bytes = drop r.first b in
@@ -83,10 +83,11 @@ slice_there r b text at size within h =
     let o = outcome_opens r.key limits.max_chunks i flag piece text
     (ap (outcome r.key limits.max_chunks i flag) (sym there) ∙ h) in
     let len : length piece ≡ length text + 16 = ap length o.sealed_so
-    ∙ length-sealed r.key (chunk_nonce i flag) [] text in
+    ∙ length-sealed_text r.key (chunk_nonce i flag) [] text in
     let opens : opening r.key rest i ≡ Some text =
-    opening_at r.key rest i (omega arith) ∙ ap (λ m. opened_at r.key i (nat_le m (sealed_chunk_size * (i + 1))) piece) n
-    ∙ ap (opened_at r.key i flag) o.sealed_so ∙ opened-sealed r.key (chunk_nonce i flag) [] text in
+    opening_at r.key rest i (omega arith) ∙ ap (λ m. piece_opening r.key i (nat_le m (sealed_chunk_size *
+    (i + 1))) piece) n
+    ∙ ap (piece_opening r.key i flag) o.sealed_so ∙ opened_text-sealed_text r.key (chunk_nonce i flag) [] text in
     let t : length (drop skip text) ≡ length text - skip = length-drop skip text in
     let part : IsSlice r.key rest at ([] ++ take (length text - skip) (drop skip text)) =
     slice_on r.key rest [] text at i skip (length text - skip) (omega arith) opens (omega arith) (omega arith)

@@ -5,10 +5,10 @@ use Rattle.std.specs.List.{concat}
 use Rattle.std.proofs.lemmas.Bool.{le-leb, lt-leb}
 use Rattle.std.proofs.lemmas.List.{drop-drop, length-take-le, nil_from_length, take_all, take_at}
 use Rattle.age_kdf.specs.Bytes.{Bytes}
-use Rattle.age_cipher.specs.Sealing.{sealed}
-use Rattle.age_cipher.proofs.OpeningLemmas.{length-sealed}
+use Rattle.age_cipher.specs.Sealing.{sealed_text}
+use Rattle.age_cipher.proofs.OpeningLemmas.{length-sealed_text}
 use Rattle.age_header.specs.declared.file_key.FileKey.{FileKey}
-use Rattle.age_stream.specs.Payload.{chunk_nonce, chunks, payload, sealed_from}
+use Rattle.age_stream.specs.Payload.{chunk_nonce, chunks, payload, sealed_chunks_from}
 use Rattle.age_stream.specs.Sizes.{chunk_size, sealed_chunk_size}
 use Rattle.age_stream.proofs.CuttingLemmas.{cut_last}
 use Rattle.age_stream.proofs.ReadingLemmas.{cut_step, is_end_cut}
@@ -26,21 +26,22 @@ use Rattle.agefile.proofs.SizeLemmas.{chunks_size, first_cut}
 -- the first chunk is sealed at the start of the room
 abbrev pub SealsFirst : (key : Bytes) (number : ℕ) (left room new : Bytes) → Type 0
 SealsFirst key number left room new =
-    new ≡ sealed key (chunk_nonce number (nat_le (length left) chunk_size)) [] (take chunk_size left)
+    new ≡ sealed_text key (chunk_nonce number (nat_le (length left) chunk_size)) [] (take chunk_size left)
     ++ drop (min (length left) chunk_size + 16) room
 
 pub first_sealed : (key : Bytes) (number size : ℕ) (left : Bytes) {text : Bytes} (front back : Bytes)
     {chunk rest : Bytes} (room : Bytes)
     → size ≡ min (length left) chunk_size → text ≡ take size left → front ≡ text → length back ≡ 16
-    → chunk ≡ sealed key (chunk_nonce number (nat_le (length left) chunk_size)) []
+    → chunk ≡ sealed_text key (chunk_nonce number (nat_le (length left) chunk_size)) []
     (take (length (front ++ back) - 16) (front ++ back)) → rest ≡ drop (size + 16) room
     → SealsFirst key number left room (chunk ++ rest)
 first_sealed key number size left front back {rest} room sized is copied tag sealed_so behind =
     let same : take (length (front ++ back) - 16) (front ++ back) ≡ take chunk_size left =
     take_at front back (length (front ++ back) - 16) (omega (arith, tag, length-append front back)) ∙ copied ∙ is
     ∙ first_cut chunk_size size left sized in
-    ap (λ c. c ++ rest) (sealed_so ∙ ap (sealed key (chunk_nonce number (nat_le (length left) chunk_size)) []) same)
-    ∙ ap (λ r. sealed key (chunk_nonce number (nat_le (length left) chunk_size)) [] (take chunk_size left) ++ r)
+    ap (λ c. c ++ rest) (sealed_so ∙ ap (sealed_text key (chunk_nonce number (nat_le
+    (length left) chunk_size)) []) same)
+    ∙ ap (λ r. sealed_text key (chunk_nonce number (nat_le (length left) chunk_size)) [] (take chunk_size left) ++ r)
     (behind ∙ ap (λ n. drop (n + 16) room) sized)
 
 -- ---- one chunk after another
@@ -61,8 +62,8 @@ pub record IsSealedTo (key plain out : Bytes) (at done number : ℕ) : Type 0 wh
   pub sealed_so : done ≡ sealed_chunk_size * number
   pub count : length text ≡ done
   pub some : (number ≡ 0) ⊎ (at < length plain)
-  pub seals : concat (sealed_from key 0 (chunks plain))
-      ≡ text ++ concat (sealed_from key number (chunks (drop at plain)))
+  pub seals : concat (sealed_chunks_from key 0 (chunks plain))
+      ≡ text ++ concat (sealed_chunks_from key number (chunks (drop at plain)))
 
 -- the last one fills the buffer
 last_fills : (key plain out : Bytes) (at done number : ℕ) → IsSealedTo key plain out at done number
@@ -79,20 +80,24 @@ pub seals_end : {key plain from room : Bytes} (out mid : Bytes) {new : Bytes} (a
     → IsSealedTo key plain out at done number → length out ≡ length plain + 16 * chunk_count (length plain)
     → from ≡ drop at plain → room ≡ drop done out → length (drop at plain) ≤ chunk_size
     → SealsFirst key number from room mid → new ≡ take done out ++ mid
-    → new ≡ concat (sealed_from key 0 (chunks plain))
+    → new ≡ concat (sealed_chunks_from key 0 (chunks plain))
 seals_end {key} {plain} {from} {room} out mid at done number r size from_is room_is last sealed_so joined =
     let left : Bytes = drop at plain in
     let fills = last_fills key plain out at done number r size last in
     let skip : ℕ = min (length left) chunk_size + 16 in
     let none : drop skip (drop done out) ≡ [] =
-    nil_from_length _ (omega (arith, fills, last, length-drop done out, length-drop skip (drop done out))) in
-    let one : mid ≡ sealed key (chunk_nonce number true) [] left ++ [] =
+    nil_from_length (drop skip (drop done out))
+    (omega (arith, fills, last, length-drop done out, length-drop skip (drop done out))) in
+    let one : mid ≡ sealed_text key (chunk_nonce number true) [] left ++ [] =
     sealed_there key plain out from room mid at done number from_is room_is sealed_so
-    ∙ ap (λ d. sealed key (chunk_nonce number (nat_le (length left) chunk_size)) [] (take chunk_size left) ++ d) none
-    ∙ ap (λ b. sealed key (chunk_nonce number b) [] (take chunk_size left) ++ []) (le-leb (length left) chunk_size last)
-    ∙ ap (λ t. sealed key (chunk_nonce number true) [] t ++ []) (take_all chunk_size left last) in
-    let rest : concat (sealed_from key number (chunks left)) ≡ sealed key (chunk_nonce number true) [] left ++ [] =
-    ap (λ cs. concat (sealed_from key number cs)) (cut_last chunk_size left last) in
+    ∙ ap (λ d. sealed_text key (chunk_nonce number (nat_le (length left) chunk_size)) [] (take chunk_size left)
+    ++ d) none
+    ∙ ap (λ b. sealed_text key (chunk_nonce number b) [] (take chunk_size left)
+    ++ []) (le-leb (length left) chunk_size last)
+    ∙ ap (λ t. sealed_text key (chunk_nonce number true) [] t ++ []) (take_all chunk_size left last) in
+    let rest : concat (sealed_chunks_from key number (chunks left))
+    ≡ sealed_text key (chunk_nonce number true) [] left ++ [] =
+    ap (λ cs. concat (sealed_chunks_from key number cs)) (cut_last chunk_size left last) in
     joined ∙ ap₂ ◌++◌ r.begins (one ∙ sym rest) ∙ sym r.seals
 
 pub seals_more : {key plain from room : Bytes} (out mid : Bytes) {new : Bytes} (at done number : ℕ)
@@ -103,19 +108,18 @@ seals_more {key} {plain} {from} {room} out mid {new} at done number r from_is ro
     let left : Bytes = drop at plain in
     let next : Bytes = drop chunk_size left in
     let text : Bytes = take chunk_size left in
-    let one : Bytes = sealed key (chunk_nonce number false) [] text in
+    let one : Bytes = sealed_text key (chunk_nonce number false) [] text in
     let after : Bytes = drop (min (length left) chunk_size + 16) (drop done out) in
     let full : length text ≡ chunk_size = length-take-le chunk_size left (omega (arith, more)) in
-    let long : length one ≡ length text + 16 = length-sealed key (chunk_nonce number false) [] text in
+    let long : length one ≡ length text + 16 = length-sealed_text key (chunk_nonce number false) [] text in
     let count : length (r.text ++ one) ≡ done + sealed_chunk_size =
     omega (arith, full, long, r.count, length-append r.text one) in
     let put : mid ≡ one ++ after = sealed_there key plain out from room mid at done number from_is room_is sealed_so
-    ∙ ap (λ b. sealed key (chunk_nonce number b) [] text ++ after) (lt-leb (length left) chunk_size more) in
-    let rest : concat (sealed_from key number (chunks left))
-    ≡ one ++ concat (sealed_from key (number + 1) (chunks next)) =
-    ap (λ cs. concat (sealed_from key number cs)) (cut_step chunk_size left (omega arith) more)
-    ∙ ap (λ b. sealed key (chunk_nonce number b) [] text ++ concat (sealed_from key (number + 1) (chunks next)))
-    (is_end_cut chunk_size [] next) in
+    ∙ ap (λ b. sealed_text key (chunk_nonce number b) [] text ++ after) (lt-leb (length left) chunk_size more) in
+    let later : Bytes = concat (sealed_chunks_from key (number + 1) (chunks next)) in
+    let rest : concat (sealed_chunks_from key number (chunks left)) ≡ one ++ later =
+    ap (λ cs. concat (sealed_chunks_from key number cs)) (cut_step chunk_size left (omega arith) more)
+    ∙ ap (λ b. sealed_text key (chunk_nonce number b) [] text ++ later) (is_end_cut chunk_size [] next) in
     record {
       text = r.text ++ one;
       begins = ap (take (done + sealed_chunk_size))
@@ -125,8 +129,8 @@ seals_more {key} {plain} {from} {room} out mid {new} at done number r from_is ro
       sealed_so = omega (arith, r.sealed_so);
       count = count;
       some = inr (omega (arith, more, length-drop at plain));
-      seals = r.seals ∙ ap (λ t. r.text ++ t) rest ∙ sym (append_assoc r.text one _)
-          ∙ ap (λ c. (r.text ++ one) ++ concat (sealed_from key (number + 1) (chunks c)))
+      seals = r.seals ∙ ap (λ t. r.text ++ t) rest ∙ sym (append_assoc r.text one later)
+          ∙ ap (λ c. (r.text ++ one) ++ concat (sealed_chunks_from key (number + 1) (chunks c)))
           (drop-drop chunk_size at plain);
     }
 

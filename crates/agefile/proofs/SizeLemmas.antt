@@ -4,22 +4,22 @@ use Rattle.std.specs.List.{concat, AllByRecursion}
 use Rattle.std.proofs.lemmas.Bool.{cases_lt}
 use Rattle.std.proofs.lemmas.List.{take_min}
 use Rattle.age_kdf.specs.Bytes.{Bytes}
-use Rattle.age_cipher.proofs.OpeningLemmas.{length-sealed}
+use Rattle.age_cipher.proofs.OpeningLemmas.{length-sealed_text}
 use Rattle.age_header.specs.declared.file_key.FileKey.{FileKey}
-use Rattle.age_stream.proofs.CuttingLemmas.{is_cut, AtMost, cut_at_most, concat-cut_into}
+use Rattle.age_stream.proofs.CuttingLemmas.{is_cut, AtMost, cut_at_most, concat-cut_after}
 use Rattle.age_stream.proofs.ReadingLemmas.{cut_count}
-use Rattle.age_cipher.specs.Sealing.{sealed}
+use Rattle.age_cipher.specs.Sealing.{sealed_text}
 use Rattle.agefile.specs.Sizes.{chunk_count, limits, opened_len, plain_len_at_most}
-use Rattle.age_stream.specs.Payload.{chunks, is_end, payload, payload_key, chunk_nonce, sealed_from, pieces}
+use Rattle.age_stream.specs.Payload.{chunks, is_end, payload, payload_key, chunk_nonce, sealed_chunks_from, pieces}
 use Rattle.age_stream.specs.Sizes.{chunk_size, sealed_chunk_size}
 use Rattle.age_header.specs.declared.fault.HeaderFault.{HeaderFault}
 use Rattle.age_header.specs.Verdict.{Found, HeaderVerdict}
 use Rattle.age_stream.specs.declared.fault.StreamFault.{StreamFault}
 use Rattle.age_stream.specs.declared.fault.StreamFault.TheVariants.{NonceTruncated}
-use Rattle.age_stream.specs.Reading.{Reading, front, outcome, outcomes, payload_reading, reading_from, stops}
+use Rattle.age_stream.specs.Reading.{Reading, plaintext_of, outcome, outcomes, payload_reading, reading_from, stop}
 use Rattle.age_stream.proofs.PayloadLemmas.{outcome_opens, result_cases}
 use Rattle.age_file.specs.declared.fault.Fault.{Fault}
-use Rattle.age_file.specs.Verdict.{Answering, IsVerdict, judged, read_under}
+use Rattle.age_file.specs.Verdict.{Answering, IsVerdict, header_key, parts_of, reading_after, reading_under}
 use Rattle.age_recipient.proofs.HeaderSizeLemmas.{least_header}
 
 -- the first of the pieces of this size, by as many bytes as it has
@@ -33,25 +33,25 @@ chunks_size plain = cut_count chunk_size ((length plain - 1) / chunk_size) plain
     (elim (cases_lt 0 (length plain)) [ inl some ↦ inr (omega arith) | inr none ↦ inl (omega arith) ]) (omega arith)
 
 sealed_size : (key : Bytes) (i : ℕ) (cs : List Bytes)
-    → length (concat (sealed_from key i cs)) ≡ length (concat cs) + 16 * length cs
+    → length (concat (sealed_chunks_from key i cs)) ≡ length (concat cs) + 16 * length cs
 sealed_size key i [] = refl
 sealed_size key i (c ∷ more) =
-    let one = length-sealed key (chunk_nonce i (is_end more)) [] c in
+    let one = length-sealed_text key (chunk_nonce i (is_end more)) [] c in
     let rest = sealed_size key (i + 1) more in
     omega (
       arith,
-      length-append (sealed key (chunk_nonce i (is_end more)) [] c) (concat (sealed_from key (i + 1) more)),
+      length-append (sealed_text key (chunk_nonce i (is_end more)) [] c) (concat (sealed_chunks_from key (i + 1) more)),
       length-append c (concat more),
     )
 
 pub payload_size : (k : FileKey) (nonce plain : Bytes)
     → length (payload k nonce plain) ≡ length nonce + (length plain + 16 * chunk_count (length plain))
 payload_size k nonce plain =
-    let sealed = sealed_size (payload_key k nonce) 0 (chunks plain) in
+    let sealed_text = sealed_size (payload_key k nonce) 0 (chunks plain) in
     let join : length (concat (chunks plain)) ≡ length plain =
     ap length (is_cut chunk_size plain (omega arith)).joined in
     let count = chunks_size plain in
-    omega (arith, length-append nonce (concat (sealed_from (payload_key k nonce) 0 (chunks plain))))
+    omega (arith, length-append nonce (concat (sealed_chunks_from (payload_key k nonce) 0 (chunks plain))))
 
 -- ---- the plaintext of a verdict
 
@@ -69,7 +69,7 @@ small (c ∷ []) h = (h, tt)
 small (c ∷ d ∷ more) h = (let full : length c ≡ sealed_chunk_size = h.0 in omega arith, small (d ∷ more) h.1)
 
 front_comes : (key : Bytes) (max i : ℕ) (cs : List Bytes) → AreSmall cs
-    → Comes (length (front (outcomes key max i cs))) (length (concat cs))
+    → Comes (length (plaintext_of (outcomes key max i cs))) (length (concat cs))
 front_comes key max i [] all = (0, omega arith, omega arith)
 front_comes key max i (c ∷ more) all = elim (result_cases (outcome key max i (is_end more) c)) [
   | inl some ↦
@@ -77,58 +77,60 @@ front_comes key max i (c ∷ more) all = elim (result_cases (outcome key max i (
       let size : length c ≤ sealed_chunk_size = all.0 in
       let len : length c ≡ length some.0 + 16 =
       ap length (outcome_opens key max i (is_end more) c some.0 some.1).sealed_so
-      ∙ length-sealed key (chunk_nonce i (is_end more)) [] some.0 in
-      let low : length (front (outcomes key max (i + 1) more)) ≤ chunk_size * rest.0 = rest.1 in
-      let high : length (front (outcomes key max (i + 1) more)) + 16 * rest.0 ≤ length (concat more) = rest.2 in
-      let both = length-append some.0 (front (outcomes key max (i + 1) more)) in
+      ∙ length-sealed_text key (chunk_nonce i (is_end more)) [] some.0 in
+      let low : length (plaintext_of (outcomes key max (i + 1) more)) ≤ chunk_size * rest.0 = rest.1 in
+      let high : length (plaintext_of (outcomes key max (i + 1) more)) + 16 * rest.0 ≤ length (concat more) = rest.2 in
+      let both = length-append some.0 (plaintext_of (outcomes key max (i + 1) more)) in
       let sum = length-append c (concat more) in
-      subst (λ (r : Result Bytes StreamFault). Comes (length (front (r ∷ outcomes key max (i + 1) more)))
+      subst (λ (r : Result Bytes StreamFault). Comes (length (plaintext_of (r ∷ outcomes key max (i + 1) more)))
       (length (c ++ concat more))) (sym some.1)
       (rest.0 + 1, omega arith, omega arith)
-  | inr none ↦ subst (λ (r : Result Bytes StreamFault). Comes (length (front (r ∷ outcomes key max (i + 1) more)))
+  | inr none ↦ subst (λ (r : Result Bytes StreamFault). Comes (length (plaintext_of (r ∷ outcomes key max
+      (i + 1) more)))
       (length (c ++ concat more))) (sym none.1)
       (0, omega arith, omega arith)
 ]
 
-comes_at_most : (n r most : ℕ) → Comes n r → r ≤ most → n ≤ opened_len most
-comes_at_most n r most (m, low, high) le = elim (cases_lt (most / sealed_chunk_size) m) [
+comes_at_most : {n : ℕ} (r most : ℕ) → Comes n r → r ≤ most → n ≤ opened_len most
+comes_at_most r most (m, low, high) le = elim (cases_lt (most / sealed_chunk_size) m) [
   | inl above ↦ omega arith
   | inr within ↦ omega arith
 ]
 
 -- the plaintext of what follows a header
 payload_at_most : (k : FileKey) (max most : ℕ) (text : Bytes) → length text - 16 ≤ most
-    → length (payload_reading k max text).front ≤ opened_len most
+    → length (payload_reading k max text).plaintext ≤ opened_len most
 payload_at_most k max most text le =
     let rest : Bytes = drop 16 text in
-    let join : length (concat (pieces rest)) ≡ length rest = ap length (concat-cut_into sealed_chunk_size [] rest) in
+    let join : length (concat (pieces rest)) ≡ length rest = ap length (concat-cut_after sealed_chunk_size [] rest) in
     let size : length rest ≡ length text - 16 = length-drop 16 text in
     let comes = front_comes (payload_key k (take 16 text)) max 0 (pieces rest)
     (small (pieces rest) (cut_at_most sealed_chunk_size rest (omega arith))) in
-    let opens : length (reading_from (payload_key k (take 16 text)) max 0 rest).front ≤ opened_len most =
-    comes_at_most _ (length (concat (pieces rest))) most comes (omega arith) in
+    let opens : length (reading_from (payload_key k (take 16 text)) max 0 rest).plaintext ≤ opened_len most =
+    comes_at_most (length (concat (pieces rest))) most comes (omega arith) in
     elim (nat_lt (length text) 16) as (λ t. length
-    (cond t (stops NonceTruncated) (reading_from (payload_key k (take 16 text)) max 0 rest)).front
+    (cond t (stop NonceTruncated) (reading_from (payload_key k (take 16 text)) max 0 rest)).plaintext
     ≤ opened_len most) [
       | true ↦ omega arith
       | false ↦ opens
     ]
 
 under_at_most : (rest : Bytes) (most : ℕ) (key : Result FileKey Fault) → length rest - 16 ≤ most
-    → length (read_under limits rest key).front ≤ opened_len most
+    → length (reading_under limits rest key).plaintext ≤ opened_len most
 under_at_most rest most (Err fault) le = omega arith
 under_at_most rest most (Ok k) le = payload_at_most k limits.max_chunks most rest le
 
 judged_at_most : (answers : Answering) (b : Bytes) (header : Result Found HeaderFault)
     → HeaderVerdict b limits.max_header header
-    → length (judged limits answers b header).front ≤ plain_len_at_most (length b)
+    → length (reading_after limits answers b header).plaintext ≤ plain_len_at_most (length b)
 judged_at_most answers b (Err fault) h = omega arith
 judged_at_most answers b (Ok found) h =
     let least = least_header found.stanzas found.mac found.text h.head in
-    under_at_most (drop (length found.text) b) (length b - 86) _ (omega (arith, length-drop (length found.text) b))
+    under_at_most (drop (length found.text) b) (length b - 86) (header_key answers (parts_of found))
+    (omega (arith, length-drop (length found.text) b))
 
 pub verdict_at_most : (answers : Answering) (b : Bytes) (verdict : Reading Fault) → IsVerdict limits answers b verdict
-    → length verdict.front ≤ plain_len_at_most (length b)
+    → length verdict.plaintext ≤ plain_len_at_most (length b)
 verdict_at_most answers b verdict is =
-    subst (λ (v : Reading Fault). length v.front ≤ plain_len_at_most (length b)) (sym is.is)
+    subst (λ (v : Reading Fault). length v.plaintext ≤ plain_len_at_most (length b)) (sym is.is)
     (judged_at_most answers b is.header is.header_verdict)

@@ -5,10 +5,10 @@ use Rattle.age_kdf.specs.Bytes.{Bytes}
 use Rattle.age_header.specs.declared.file_key.FileKey.{FileKey}
 use Rattle.age_stream.specs.declared.fault.StreamFault.TheVariants as stream
 use Rattle.age_stream.specs.Payload.{payload_key, pieces, is_end}
-use Rattle.age_stream.specs.Reading.{Reading, reading_from, stops, first_fault, front, outcome, outcomes, whole}
+use Rattle.age_stream.specs.Reading.{Reading, reading_from, stop, first_fault, plaintext_of, outcome, outcomes, whole}
 use Rattle.age_file.specs.declared.fault.Fault.{Fault}
 use Rattle.age_file.specs.declared.fault.Fault.TheVariants.{NonceTruncated, OutOfMemory}
-use Rattle.age_file.specs.Verdict.{Answering, IsVerdict, parts_of, read_under, unlocked, with_file_fault, stream_fault}
+use Rattle.age_file.specs.Verdict.{Answering, IsVerdict, parts_of, reading_under, header_key, with_file_fault, stream_fault}
 use Rattle.agefile.specs.declared.payload.Payload.{Payload}
 use Rattle.agefile.specs.declared.report.Report.{Report}
 use Rattle.agefile.specs.declared.start.Start.{Start}
@@ -33,12 +33,12 @@ use Rattle.agefile.specs.Part as part
 
 -- what the verdict is, where the start is known
 abbrev pub IsVerdictFrom : Bytes → Reading Fault → Result Start Fault → Type 0
-IsVerdictFrom b v (Err fault) = v ≡ stops fault
+IsVerdictFrom b v (Err fault) = v ≡ stop fault
 IsVerdictFrom b v (Ok start) =
     v ≡ with_file_fault (reading_from start.key limits.max_chunks 0 (drop start.first b))
 
 payload_from : (b : Bytes) (n : ℕ) (k : FileKey) (v : Reading Fault) (t : Bool)
-    → v ≡ with_file_fault (cond t (stops stream.NonceTruncated)
+    → v ≡ with_file_fault (cond t (stop stream.NonceTruncated)
     (reading_from (payload_key k (take 16 (drop n b))) limits.max_chunks 0 (drop 16 (drop n b))))
     → IsVerdictFrom b v (cond t (Err NonceTruncated)
     (Ok (record { first = n + 16; key = payload_key k (take 16 (drop n b)) })))
@@ -46,7 +46,8 @@ payload_from b n k v true is = is
 payload_from b n k v false is = is ∙ ap
     (λ x. with_file_fault (reading_from (payload_key k (take 16 (drop n b))) limits.max_chunks 0 x)) (drop-drop 16 n b)
 
-under_from : (b : Bytes) (n : ℕ) (v : Reading Fault) (key : Result FileKey Fault) → v ≡ read_under limits (drop n b) key
+under_from : (b : Bytes) (n : ℕ) (v : Reading Fault) (key : Result FileKey Fault) → v
+    ≡ reading_under limits (drop n b) key
     → IsVerdictFrom b v (start_under n (drop n b) key)
 under_from b n v (Err fault) is = is
 under_from b n v (Ok k) is = payload_from b n k v (nat_lt (length (drop n b)) 16) is
@@ -57,21 +58,21 @@ verdict_from answers b start v (Err e, verdict, is) h =
     subst (IsVerdictFrom b v) (sym is) (judged_is answers b v (Err e) verdict h)
 verdict_from answers b start v (Ok found, verdict, is) h =
     subst (IsVerdictFrom b v) (sym is)
-    (under_from b (length found.text) v (unlocked answers (parts_of found))
+    (under_from b (length found.text) v (header_key answers (parts_of found))
     (judged_is answers b v (Ok found) verdict h))
 
 -- ---- the laws
 
 refused_by : (b : Bytes) (p : Payload) (report : Report) (code : ℕ) (v : Reading Fault) (start : Result Start Fault)
     → StartsAt start p report code → IsVerdictFrom b v start → code ≢ 0
-    → (v.front ≡ []) × (code_of v.fault ≡ code) × (report ≡ report_of 0 v.fault)
+    → (v.plaintext ≡ []) × (code_of v.fault ≡ code) × (report ≡ report_of 0 v.fault)
 refused_by b p report code v (Ok start) opens from some = absurd (some opens.0)
 refused_by b p report code v (Err fault) opens from some = refusal fault v opens from
 
 pub opening_refused : (answers : Answering) (b : Bytes) (p : Payload) (report : Report) (code : ℕ) (v : Reading Fault)
     → Opens answers (take front_size b) p report code
     → IsVerdict limits answers b v → code ≢ 0 → code ≢ 17
-    → (v.front ≡ []) × (code_of v.fault ≡ code) × (report ≡ report_of 0 v.fault)
+    → (v.plaintext ≡ []) × (code_of v.fault ≡ code) × (report ≡ report_of 0 v.fault)
 opening_refused answers b p report code v opens h some other =
     let (start, is, gives) = found_start answers (take front_size b) p report code opens other in
     refused_by b p report code v start gives (verdict_from answers b start v (whole_start answers b start is) h) some
@@ -79,7 +80,7 @@ opening_refused answers b p report code v opens h some other =
 pub steps_read : (answers : Answering) (b : Bytes) (p : Payload) (report : Report) (text : Bytes) (code place : ℕ)
     (v : Reading Fault) → Opens answers (take front_size b) p report 0
     → OpensRun p (pieces (drop report.len b)) text code place → IsVerdict limits answers b v
-    → (v.front ≡ text) × ((code_of v.fault ≡ code) × ((report_of 0 v.fault).place ≡ place))
+    → (v.plaintext ≡ text) × ((code_of v.fault ≡ code) × ((report_of 0 v.fault).place ≡ place))
 steps_read answers b p report text code place v opens run h =
     let (start, is, at) = opened_start answers (take front_size b) p report opens in
     let from : IsVerdictFrom b v (Ok start) =
@@ -88,7 +89,7 @@ steps_read answers b p report text code place v opens run h =
     subst (λ r. OpensRun r (pieces (drop start.first b)) text code place) at.2
     (subst (λ (x : Report). OpensRun p (pieces (drop x.len b)) text code place) at.1 run) in
     let reads = payload_reads start.key (drop start.first b) text code place there in (
-      ap (λ (r : Reading Fault). r.front) from ∙ sym reads.0,
+      ap (λ (r : Reading Fault). r.plaintext) from ∙ sym reads.0,
       (
         ap (λ (r : Reading Fault). code_of r.fault) from ∙ sym reads.1.0,
         ap (λ (r : Reading Fault). (report_of 0 r.fault).place) from ∙ sym reads.1.1,
@@ -116,7 +117,7 @@ opened_range answers b r report (Ok start, inr is, inr (le, returned, new, place
 pub refused_range : (answers : Answering) (b : Bytes) (r : Ranges) (report : Report) (code : ℕ) (v : Reading Fault)
     → OpensRanges answers (take front_size b) (length b) r report code
     → IsVerdict limits answers b v → code ≢ 0 → code ≢ 17
-    → (v.front ≡ []) × (code_of v.fault ≡ code) × (report ≡ report_of 0 v.fault)
+    → (v.plaintext ≡ []) × (code_of v.fault ≡ code) × (report ≡ report_of 0 v.fault)
 refused_range answers b r report code v (start, inl memory, opens) h some other =
     let refused : OpensAt (length b) (Err OutOfMemory) r report code =
     subst (λ s. OpensAt (length b) s r report code) memory opens in
@@ -135,18 +136,17 @@ refused_range answers b r report code v (Ok start, inr is, inr (le, returned, ne
 record IsOpened (o : Result Bytes StreamFault) (after : Bytes) (report : Report) : Type 0 where
   text : Bytes
   is : o ≡ Ok text
-  front : take report.len after ≡ text
+  text_is : take report.len after ≡ text
 
-opened_ok : (chunk after : Bytes) (report : Report) (o : Result Bytes StreamFault) → Opened chunk after report 0 o
+opened_ok : (chunk after : Bytes) (report : Report) {o : Result Bytes StreamFault} → Opened chunk after report 0 o
     → IsOpened o after report
-opened_ok chunk after report (Ok text) (zero_is, reported, buffer) =
+opened_ok chunk after report {o = Ok text} (zero_is, reported, buffer) =
     record {
       text = text;
       is = refl;
-      front = ap (λ (x : Report). take x.len after) reported
-          ∙ ap (take (length text)) buffer ∙ take-append_seam text _;
+      text_is = rw (reported, buffer, take-append_seam) refl;
     }
-opened_ok chunk after report (Err fault) refused = absurd (some_code (stream_fault fault) (sym refused.returned))
+opened_ok chunk after report {o = Err fault} refused = absurd (some_code (stream_fault fault) (sym refused.returned))
 
 payload_opens : (p new : Payload) (piece after : Bytes) (last : Bool) (report : Report)
     → OpensNext p new piece after last report 0
@@ -154,7 +154,7 @@ payload_opens : (p new : Payload) (piece after : Bytes) (last : Bool) (report : 
     × ((new.key ≡ p.key) × (new.number ≡ p.number + 1))
 payload_opens p new piece after last report step =
     let s = fitting (may_open p (length piece) last) step in
-    (opened_ok piece after report _ s.0, (ap (λ (q : Payload). q.key) s.1, ap (λ (q : Payload). q.number) s.1))
+    (opened_ok piece after report s.0, (ap (λ (q : Payload). q.key) s.1, ap (λ (q : Payload). q.number) s.1))
 
 part_opened : (p new : Part) (piece after : Bytes) (report : Report) → part.OpensNext p new piece after report 0
     → IsOpened (outcome p.key limits.max_chunks p.number false piece) after report
@@ -179,7 +179,7 @@ part_opens p (c ∷ more) text (new, after, report, step, (rest, joined, run)) =
     let tail : OpenTo p.key (p.number + 1) more rest =
     subst (λ k. OpenTo k (p.number + 1) more rest) s.1.0
     (subst (λ n. OpenTo new.key n more rest) s.1.1 (part_opens new more rest run)) in
-    (s.0.text, rest, s.0.is, joined ∙ ap (λ t. t ++ rest) s.0.front, tail)
+    (s.0.text, rest, s.0.is, joined ∙ ap (λ t. t ++ rest) s.0.text_is, tail)
 
 -- what some calls come to
 abbrev OpensTo : Payload → Payload → List Bytes → Bytes → Type 0
@@ -190,12 +190,12 @@ some_open : (old new : Payload) (cs : List Bytes) (text : Bytes) → OpensSome o
 some_open old new cs text (inl (piece, after, report, one, step, is)) =
     let s = payload_opens old new piece after false report step in
     subst (λ xs. OpensTo old new xs text) (sym one)
-    ((s.0.text, [], s.0.is, is ∙ s.0.front ∙ sym (append-nil s.0.text), refl), s.1)
-some_open old new cs text (inr (given, report, inl (_, refused, none), run)) =
+    ((s.0.text, [], s.0.is, is ∙ s.0.text_is ∙ sym (append-nil s.0.text), refl), s.1)
+some_open old new cs text (inr (given, report, inl (wrong, refused, none), run)) =
     absurd (omega (arith, refused.returned))
-some_open old new cs text (inr (given, report, inr (_, inl (many, refused, none)), run)) =
+some_open old new cs text (inr (given, report, inr (may, inl (many, refused, none)), run)) =
     absurd (omega (arith, refused.returned))
-some_open old new cs text (inr (given, report, inr (_, inr taken), run)) = (
+some_open old new cs text (inr (given, report, inr (may, inr taken), run)) = (
   subst (λ (q : Part). OpenTo q.key q.number cs text) taken.given (part_opens given cs text run),
   (ap (λ (q : Payload). q.key) taken.payload, ap (λ (q : Payload). q.number) taken.payload),
 )
@@ -231,8 +231,8 @@ groups_open old new (cs ∷ more) text (mid, mine, rest, joined, some, on) =
 -- what the outcomes are, where these pieces open and more follow
 abbrev GoesOn : Bytes → ℕ → List Bytes → Bytes → List Bytes → Type 0
 GoesOn key i cs text ds =
-    (front (outcomes key limits.max_chunks i (cs ++ ds))
-    ≡ text ++ front (outcomes key limits.max_chunks (i + length cs) ds))
+    (plaintext_of (outcomes key limits.max_chunks i (cs ++ ds))
+    ≡ text ++ plaintext_of (outcomes key limits.max_chunks (i + length cs) ds))
     × (first_fault (outcomes key limits.max_chunks i (cs ++ ds))
     ≡ first_fault (outcomes key limits.max_chunks (i + length cs) ds))
 
@@ -240,8 +240,8 @@ goes_on : (key : Bytes) (i : ℕ) (cs : List Bytes) (text d : Bytes) (ds : List 
     → GoesOn key i cs text (d ∷ ds)
 goes_on key i [] text d ds none =
     let same : i ≡ i + 0 = omega arith in (
-      ap (λ n. front (outcomes key limits.max_chunks n (d ∷ ds))) same
-          ∙ ap (λ t. t ++ front (outcomes key limits.max_chunks (i + 0) (d ∷ ds))) (sym none),
+      ap (λ n. plaintext_of (outcomes key limits.max_chunks n (d ∷ ds))) same
+          ∙ ap (λ t. t ++ plaintext_of (outcomes key limits.max_chunks (i + 0) (d ∷ ds))) (sym none),
       ap (λ n. first_fault (outcomes key limits.max_chunks n (d ∷ ds))) same,
     )
 goes_on key i (c ∷ cs) text d ds (t, rest, is, joined, on) =
@@ -250,9 +250,10 @@ goes_on key i (c ∷ cs) text d ds (t, rest, is, joined, on) =
     ap (λ e. outcome key limits.max_chunks i e c) (is_end_on cs ds d) ∙ is in
     let os : List (Result Bytes StreamFault) = outcomes key limits.max_chunks (i + 1) (cs ++ d ∷ ds) in
     let count : i + 1 + length cs ≡ i + length (c ∷ cs) = omega arith in (
-      ap (λ o. front (o ∷ os)) here ∙ ap (λ x. t ++ x) next.0 ∙ sym (append_assoc t rest _)
-          ∙ ap (λ x. x ++ front (outcomes key limits.max_chunks (i + 1 + length cs) (d ∷ ds))) (sym joined)
-          ∙ ap (λ n. text ++ front (outcomes key limits.max_chunks n (d ∷ ds))) count,
+      ap (λ o. plaintext_of (o ∷ os)) here ∙ ap (λ x. t ++ x) next.0
+          ∙ sym (append_assoc t rest (plaintext_of (outcomes key limits.max_chunks (i + 1 + length cs) (d ∷ ds))))
+          ∙ ap (λ x. x ++ plaintext_of (outcomes key limits.max_chunks (i + 1 + length cs) (d ∷ ds))) (sym joined)
+          ∙ ap (λ n. text ++ plaintext_of (outcomes key limits.max_chunks n (d ∷ ds))) count,
       ap (λ o. first_fault (o ∷ os)) here ∙ next.1
           ∙ ap (λ n. first_fault (outcomes key limits.max_chunks n (d ∷ ds))) count,
     )
@@ -274,15 +275,15 @@ pub opened_so_far : (answers : Answering) (b : Bytes) (p new : Payload) (report 
     (text next : Bytes) (more : List Bytes) (v : Reading Fault)
     → Opens answers (take front_size b) p report 0 → OpensGroups p new groups text
     → pieces (drop report.len b) ≡ all_of groups ++ next ∷ more → IsVerdict limits answers b v
-    → take (length text) v.front ≡ text
+    → take (length text) v.plaintext ≡ text
 opened_so_far answers b p new report groups text next more v opens run cut h =
     let g = groups_open p new groups text run in
     let on = goes_on p.key p.number (all_of groups) text next more g.0 in
-    let front_is : v.front ≡ text ++ front
+    let plaintext_is : v.plaintext ≡ text ++ plaintext_of
     (outcomes p.key limits.max_chunks (p.number + length (all_of groups)) (next ∷ more)) =
-    ap (λ (x : Reading Fault). x.front) (by_payload answers b p report v opens h)
-    ∙ ap (λ cs. front (outcomes p.key limits.max_chunks p.number cs)) cut ∙ on.0 in
-    ap (take (length text)) front_is ∙ take-append_seam text _
+    ap (λ (x : Reading Fault). x.plaintext) (by_payload answers b p report v opens h)
+    ∙ ap (λ cs. plaintext_of (outcomes p.key limits.max_chunks p.number cs)) cut ∙ on.0 in
+    rw (plaintext_is, take-append_seam) refl
 
 pub opened_whole : (answers : Answering) (b : Bytes) (p mid new : Payload) (report last_report : Report)
     (groups : List (List Bytes)) (text last after : Bytes) (v : Reading Fault)
@@ -298,14 +299,14 @@ opened_whole answers b p mid new report last_report groups text last after v ope
     ap (λ k. outcome k limits.max_chunks n true last) (sym g.1.0)
     ∙ ap (λ i. outcome mid.key limits.max_chunks i true last) (sym g.1.1) ∙ s.0.is in
     let on = goes_on p.key p.number (all_of groups) text last [] g.0 in
-    let front_is : front (outcomes p.key limits.max_chunks n (last ∷ [])) ≡ take last_report.len after =
-    ap (λ x. front (x ∷ [])) o ∙ append-nil s.0.text ∙ sym s.0.front in
+    let plaintext_is : plaintext_of (outcomes p.key limits.max_chunks n (last ∷ [])) ≡ take last_report.len after =
+    ap (λ x. plaintext_of (x ∷ [])) o ∙ append-nil s.0.text ∙ sym s.0.text_is in
     let fault_is : first_fault (outcomes p.key limits.max_chunks n (last ∷ [])) ≡ None =
     ap (λ x. first_fault (x ∷ [])) o in
     by_payload answers b p report v opens h
-    ∙ ap (λ cs. read_as (front (outcomes p.key limits.max_chunks p.number cs))
+    ∙ ap (λ cs. read_as (plaintext_of (outcomes p.key limits.max_chunks p.number cs))
     (first_fault (outcomes p.key limits.max_chunks p.number cs))) cut
-    ∙ ap₂ read_as (on.0 ∙ ap (λ t. text ++ t) front_is) (on.1 ∙ fault_is)
+    ∙ ap₂ read_as (on.0 ∙ ap (λ t. text ++ t) plaintext_is) (on.1 ∙ fault_is)
   where
     read_as : Bytes → Option StreamFault → Reading Fault
-    read_as t f = record { front = t; fault = option_map stream_fault f }
+    read_as t f = record { plaintext = t; fault = option_map stream_fault f }

@@ -8,7 +8,7 @@ use Rattle.age_header.specs.declared.stanza.StanzaError.{StanzaError}
 use Rattle.age_header.specs.declared.stanza.StanzaError.TheVariants.{NoArgs, EmptyArg, BadByte, Memory}
 use Rattle.age_header.specs.Header.{AreArguments, IsArgument, IsStanza, StanzaParts, version_line}
 use Rattle.age_header.specs.Stanza.{IsStanzaError}
-use Rattle.age_header.specs.Text.{IsHeaderValue, IsWhole, signed, stanza_text}
+use Rattle.age_header.specs.Text.{IsHeaderValue, IsWhole, signed_text, stanza_text}
 use Rattle.age_header.proofs.LengthLemmas.{length-version_line}
 use Rattle.age_header.proofs.TextLemmas.{stanza_text_is}
 use Rattle.agefile.specs.declared.report.Report.{Report}
@@ -16,12 +16,12 @@ use Rattle.agefile.specs.Giving.{Gives}
 use Rattle.agefile.specs.Report.{Returns}
 use Rattle.agefile.specs.Wrapping.{GivesOwn, GivesText, refusal_code, words}
 
-spelled : (ss : List StanzaParts) → signed ss ≡ version_line ++ (flat_map stanza_text ss ++ codes "---")
-unfolding signed
+spelled : (ss : List StanzaParts) → signed_text ss ≡ version_line ++ (flat_map stanza_text ss ++ codes "---")
+unfolding signed_text
 spelled ss = append_assoc version_line (flat_map stanza_text ss) (codes "---")
 
 -- the header through `---` has at least 25 bytes
-pub signed_least : (ss : List StanzaParts) → 25 ≤ length (signed ss)
+pub signed_least : (ss : List StanzaParts) → 25 ≤ length (signed_text ss)
 signed_least ss =
     omega (
       arith,
@@ -32,19 +32,20 @@ signed_least ss =
     )
 
 -- what stands between the version line and `---`
-between : (ss : List StanzaParts) → drop 22 (take (length (signed ss) - 3) (signed ss)) ≡ flat_map stanza_text ss
+between : (ss : List StanzaParts) → drop 22 (take (length (signed_text ss) - 3) (signed_text ss))
+    ≡ flat_map stanza_text ss
 between ss =
     let body : Bytes = flat_map stanza_text ss in
-    let split : signed ss ≡ (version_line ++ body) ++ codes "---" = spelled ss
+    let split : signed_text ss ≡ (version_line ++ body) ++ codes "---" = spelled ss
     ∙ sym (append_assoc version_line body (codes "---")) in
-    let front : length (version_line ++ body) ≡ length (signed ss) - 3 =
+    let front : length (version_line ++ body) ≡ length (signed_text ss) - 3 =
     omega (arith, ap length split, length-append (version_line ++ body) (codes "---")) in
-    ap (drop 22) (ap (take (length (signed ss) - 3)) split
-    ∙ take_at (version_line ++ body) (codes "---") (length (signed ss) - 3) front)
+    ap (drop 22) (ap (take (length (signed_text ss) - 3)) split
+    ∙ take_at (version_line ++ body) (codes "---") (length (signed_text ss) - 3) front)
     ∙ drop_at version_line body 22 length-version_line
 
 pub text_given : (s : StanzaParts) (ss : List StanzaParts) {mac : Bytes} (text : Bytes) {part old new : Bytes}
-    {report : Report} {code : ℕ} → ss ≡ s ∷ [] → IsHeaderValue ss mac → text ≡ signed ss
+    {report : Report} {code : ℕ} → ss ≡ s ∷ [] → IsHeaderValue ss mac → text ≡ signed_text ss
     → part ≡ drop 22 (take (length text - 3) text) → Gives part None old new report code
     → GivesText s old new report code
 text_given s ss text {part} {old} {new} {report} {code} one whole is cut gives =

@@ -31,5 +31,5 @@ Gives text fault old new report code =
     Fits text fault old new report code ⊎ Exceeds (length text) old new report code
 
 -- the answers of one identity of this meaning
-abbrev pub alone : (List StanzaParts → Unwrapped) → Answering
-alone meaning = λ stanzas. meaning stanzas ∷ []
+abbrev pub one_answer : (List StanzaParts → Unwrapped) → Answering
+one_answer meaning = λ stanzas. meaning stanzas ∷ []

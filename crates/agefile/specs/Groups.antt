@@ -3,7 +3,7 @@
 -- order, and at once.
 use Rattle.std.specs.Prelude.{◌≡◌, ◌⊎◌, ◌++◌, ◌+◌, ℕ, false, List, [], ◌∷◌, length, take, ◌≢◌}
 use Rattle.age_kdf.specs.Bytes.{Bytes}
-use Rattle.age_cipher.specs.Sealing.{sealed}
+use Rattle.age_cipher.specs.Sealing.{sealed_text}
 use Rattle.age_stream.specs.Payload.{chunk_nonce, is_end}
 use Rattle.age_stream.specs.Sizes.{tag_size}
 use Rattle.agefile.specs.declared.part.Part.{Part}
@@ -38,10 +38,10 @@ SealsRun p (text ∷ more) out code =
     ⊎ ((step_code ≢ ok) × ((out ≡ []) × (code ≡ step_code))))
 
 -- chunks, each sealed under its number from number i on, none of them as the last
-abbrev pub sealed_open : (key : Bytes) (i : ℕ) (texts : List Bytes) → List Bytes
-sealed_open key i [] = []
-sealed_open key i (text ∷ more) =
-    sealed key (chunk_nonce i false) [] text ∷ sealed_open key (i + 1) more
+abbrev pub unended_chunks : (key : Bytes) (i : ℕ) (texts : List Bytes) → List Bytes
+unended_chunks key i [] = []
+unended_chunks key i (text ∷ more) =
+    sealed_text key (chunk_nonce i false) [] text ∷ unended_chunks key (i + 1) more
 
 -- Calls of a part on these texts in order, each followed by 16 bytes, which all returned 0: the
 -- sealed chunks that they gave, joined.

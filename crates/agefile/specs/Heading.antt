@@ -19,12 +19,12 @@ use Rattle.agefile.specs.declared.report.Report.{Report}
 use Rattle.agefile.specs.Codes.{out_of_memory}
 use Rattle.agefile.specs.Giving.{Exceeds, Fits, Gives}
 use Rattle.agefile.specs.Sizes.{limits}
-use Rattle.agefile.specs.Payload.{before_first, closed, phase_writing}
+use Rattle.agefile.specs.Payload.{before_first, closed_payload, phase_writing}
 use Rattle.agefile.specs.Report.{Refuses, Returns}
 
 -- a text between the version line and an end line with these characters
-abbrev pub framed : (text characters : Bytes) → Bytes
-framed text characters = version_line ++ text ++ line (codes "--- " ++ characters)
+abbrev pub heading : (text characters : Bytes) → Bytes
+heading text characters = version_line ++ text ++ line (codes "--- " ++ characters)
 
 -- how many characters of base64 a MAC has
 abbrev pub mac_characters : ℕ
@@ -32,7 +32,7 @@ mac_characters = 43
 
 -- the same with an end line that has some MAC, whose characters are all `A`
 abbrev pub probe : Bytes → Bytes
-probe text = framed text (replicate mac_characters 65)
+probe text = heading text (replicate mac_characters 65)
 
 -- how many lines end in a text
 abbrev pub lines_in : Bytes → ℕ
@@ -69,13 +69,13 @@ HasStanzas text stanzas =
     ((text ≡ []) × (stanzas ≡ Err NoRecipients)) ⊎ ((text ≢ []) × ReadsAs text stanzas)
 
 -- these stanzas are given
-abbrev pub given : List StanzaParts → Gathering
-given stanzas = λ gathered. gathered ≡ Ok stanzas
+abbrev pub gathering_of : List StanzaParts → Gathering
+gathering_of stanzas = λ gathered. gathered ≡ Ok stanzas
 
 -- the header of stanzas under a file key, with its MAC; or the fault for which there is none
 abbrev pub Signs : (k : FileKey) (stanzas : Result (List StanzaParts) Fault)
     (result : Result (Vec ℕ Global) Fault) → Type 0
-Signs k (Ok stanzas) (Ok text) = IsHeading limits k (given stanzas) stanzas text.items
+Signs k (Ok stanzas) (Ok text) = IsHeading limits k (gathering_of stanzas) stanzas text.items
 Signs k (Ok stanzas) (Err fault) = ⊥
 Signs k (Err fault) result = result ≡ Err fault
 
@@ -118,15 +118,15 @@ abbrev pub BeginsMade : (made : Result (Vec ℕ Global) Fault) (k : FileKey) (no
 BeginsMade (Ok header) k nonce old new payload report code =
     (Fits (header.items ++ nonce) None old new report code
     × (payload ≡ before_first (payload_key k nonce) phase_writing))
-    ⊎ (Exceeds (length (header.items ++ nonce)) old new report code × (payload ≡ closed))
+    ⊎ (Exceeds (length (header.items ++ nonce)) old new report code × (payload ≡ closed_payload))
 BeginsMade (Err fault) k nonce old new payload report code =
-    Refuses fault old new report code × (payload ≡ closed)
+    Refuses fault old new report code × (payload ≡ closed_payload)
 
 -- what beginning a file of a text of stanzas gives; or out of memory
 abbrev pub BeginsFile : (stanzas file_key nonce old new : Bytes) (payload : Payload)
     (report : Report) (code : ℕ) → Type 0
 BeginsFile stanzas file_key nonce old new payload report code =
     let k : FileKey = record { 0 = file_key } in
-    (Returns out_of_memory None old new report code × (payload ≡ closed))
+    (Returns out_of_memory None old new report code × (payload ≡ closed_payload))
     ⊎ ((made : Result (Vec ℕ Global) Fault) × MakesHeader stanzas k made
     × BeginsMade made k nonce old new payload report code)

@@ -46,17 +46,22 @@ Inspected b old new report code =
     × SumsUp verdict old new report code)
 
 -- the arguments of a stanza, joined by single spaces
-abbrev pub joined : List Bytes → Bytes
-joined args = join_by (λ arg. arg) (32 ∷ []) args
+abbrev pub arguments_text : List Bytes → Bytes
+arguments_text args = join_by (λ arg. arg) (32 ∷ []) args
 
 -- what a stanza is summed up as
 abbrev pub stanza_summary : StanzaParts → StanzaSummary
 stanza_summary s =
-    record { args = length s.args; args_len = length (joined s.args); body_len = length s.body }
+    record {
+      args = length s.args;
+      args_len = length
+          (arguments_text s.args);
+      body_len = length s.body;
+    }
 
 -- the text of a list of stanzas: of each its arguments, joined by single spaces, and its body
-abbrev pub listed : List StanzaParts → Bytes
-listed stanzas = flat_map (λ s. joined s.args ++ s.body) stanzas
+abbrev pub list_text : List StanzaParts → Bytes
+list_text stanzas = flat_map (λ s. arguments_text s.args ++ s.body) stanzas
 
 -- how many bytes this text has, and how many stanzas there are
 abbrev pub report_of_list : (sizes : List StanzaSummary) (text : Bytes) → Report
@@ -92,7 +97,7 @@ GivesList sizes before after text old new report code =
 abbrev pub GivesStanzas : (stanzas : List StanzaParts) (before after : List StanzaSummary)
     (old new : Bytes) (report : Report) (code : ℕ) → Type 0
 GivesStanzas stanzas before after old new report code =
-    GivesList (map stanza_summary stanzas) before after (listed stanzas) old new report code
+    GivesList (map stanza_summary stanzas) before after (list_text stanzas) old new report code
 
 -- the stanzas of a header are given; or the header's fault is returned, and nothing is given
 abbrev pub StanzasOf : (verdict : Result Found HeaderFault) (before after : List StanzaSummary)

@@ -12,8 +12,8 @@ use Rattle.agefile.specs.Payload.{phase_closed, phase_reading, phase_writing, ph
 use Rattle.agefile.specs.Report.{Refuses, Returns, Steps, report_of}
 
 -- nothing is open
-abbrev pub closed : Part
-closed = record { key = replicate 32 0; number = 0; left = 0; state = phase_closed; spare = 0 }
+abbrev pub closed_part : Part
+closed_part = record { key = replicate 32 0; number = 0; left = 0; state = phase_closed; spare = 0 }
 
 -- the next chunks of a payload, so many
 abbrev pub next_of : (p : Payload) (count : ℕ) → Part
@@ -40,10 +40,10 @@ abbrev pub TakesPart : (old new : Payload) (count : ℕ) (part : Part) (report :
     → Type 0
 TakesPart old new count part report code =
     ((may_take old count ≡ false) × Returns out_of_order None old new report code
-    × (part ≡ closed))
+    × (part ≡ closed_part))
     ⊎ ((may_take old count ≡ true)
     × (((limits.max_chunks < old.number + count) × Refuses TooManyChunks old new report code
-    × (part ≡ closed))
+    × (part ≡ closed_part))
     ⊎ IsTaken old new count part report code))
 
 -- a part is a payload with a count

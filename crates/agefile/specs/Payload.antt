@@ -6,7 +6,7 @@ use Rattle.agefile.specs.declared.payload.Payload.{Payload}
 use Rattle.agefile.specs.declared.report.Report.{Report}
 use Rattle.agefile.specs.Codes.{ok}
 use Rattle.agefile.specs.Report.{Steps, Refuses, report_of}
-use Rattle.age_cipher.specs.Sealing.{sealed}
+use Rattle.age_cipher.specs.Sealing.{sealed_text}
 use Rattle.age_stream.specs.declared.fault.StreamFault.{StreamFault}
 use Rattle.age_stream.specs.Payload.{chunk_nonce}
 use Rattle.age_stream.specs.Reading.{outcome}
@@ -57,7 +57,7 @@ abbrev pub SealsAs : (key : Bytes) (number : ℕ) (last : Bool) (chunk after : B
     (report : Report) (code : ℕ) → Type 0
 SealsAs key number last chunk after report code =
     ((number < limits.max_chunks) × (code ≡ ok) × (report ≡ report_of (length chunk) None)
-    × (after ≡ sealed key (chunk_nonce number last) [] (take (length chunk - tag_size) chunk)))
+    × (after ≡ sealed_text key (chunk_nonce number last) [] (take (length chunk - tag_size) chunk)))
     ⊎ ((limits.max_chunks ≤ number) × Refuses TooManyChunks chunk after report code)
 
 -- a full chunk, or the last and no longer
@@ -69,8 +69,14 @@ abbrev pub has_text : (number len : ℕ) → Bool
 has_text number len = nat_lt tag_size len || (nat_eq len tag_size && nat_eq number 0)
 
 -- nothing is open
-abbrev pub closed : Payload
-closed = record { key = replicate 32 0; number = 0; state = phase_closed; spare = replicate 2 0 }
+abbrev pub closed_payload : Payload
+closed_payload = record {
+  key = replicate 32 0;
+  number = 0;
+  state = phase_closed;
+  spare = replicate
+      2 0;
+}
 
 -- before chunk 0, for reading or writing
 abbrev pub before_first : (key : Bytes) (phase : ℕ) → Payload

@@ -40,12 +40,12 @@ abbrev pub plain_of : ℕ → ℕ
 plain_of sealed = sealed - tag_size * (last_index sealed + 1)
 
 -- no payload
-abbrev pub closed : Ranges
-closed = record { key = replicate 32 0; first = 0; sealed_len = 0; state = state_closed }
+abbrev pub closed_ranges : Ranges
+closed_ranges = record { key = replicate 32 0; first = 0; sealed_len = 0; state = state_closed }
 
 -- the payload from its start to the end of a file of `file_len` bytes
-abbrev pub opened : (start : Start) (file_len : ℕ) → Ranges
-opened start file_len =
+abbrev pub ranges_from : (start : Start) (file_len : ℕ) → Ranges
+ranges_from start file_len =
     record {
       key = start.key;
       first = start.first;
@@ -63,11 +63,11 @@ piece_report r i =
 abbrev pub OpensAt : (file_len : ℕ) (start : Result Start Fault) (new : Ranges) (report : Report)
     (code : ℕ) → Type 0
 OpensAt file_len (Ok start) new report code =
-    ((file_len < start.first) × Returns out_of_order None closed new report code)
-    ⊎ ((start.first ≤ file_len) × (code ≡ ok) × (new ≡ opened start file_len)
-    × (report ≡ piece_report (opened start file_len) (last_index (file_len - start.first))))
+    ((file_len < start.first) × Returns out_of_order None closed_ranges new report code)
+    ⊎ ((start.first ≤ file_len) × (code ≡ ok) × (new ≡ ranges_from start file_len)
+    × (report ≡ piece_report (ranges_from start file_len) (last_index (file_len - start.first))))
 OpensAt file_len (Err fault) new report code =
-    Refuses fault closed new report code
+    Refuses fault closed_ranges new report code
 
 -- what opening a file of `file_len` bytes with this front gives
 abbrev pub OpensRanges : (answers : Answering) (front : Bytes) (file_len : ℕ) (new : Ranges)
@@ -81,8 +81,8 @@ abbrev pub piece_at : (r : Ranges) (b : Bytes) (i : ℕ) → Bytes
 piece_at r b i = take (piece_len r.sealed_len i) (drop (r.first + sealed_chunk_size * i) b)
 
 -- what these bytes give as piece i
-abbrev pub gives : (r : Ranges) (i : ℕ) (piece : Bytes) → Result Bytes StreamFault
-gives r i piece =
+abbrev pub piece_outcome : (r : Ranges) (i : ℕ) (piece : Bytes) → Result Bytes StreamFault
+piece_outcome r i piece =
     outcome r.key limits.max_chunks i (nat_le r.sealed_len (sealed_chunk_size * (i + 1))) piece
 
 -- what the last piece gives, verified: on its text the plaintext's length is known

@@ -7,7 +7,7 @@ use Rattle.age_header.specs.Verdict.{Found, HeaderVerdict}
 use Rattle.age_header.specs.declared.file_key.FileKey.{FileKey}
 use Rattle.age_file.specs.declared.fault.Fault.{Fault}
 use Rattle.age_file.specs.declared.fault.Fault.TheVariants.{OutOfMemory, NonceTruncated}
-use Rattle.age_file.specs.Verdict.{Answering, header_fault, parts_of, unlocked}
+use Rattle.age_file.specs.Verdict.{Answering, header_fault, parts_of, header_key}
 use Rattle.agefile.specs.declared.report.Report.{Report}
 use Rattle.agefile.specs.declared.unlocking.Unlocked.{Unlocked}
 use Rattle.agefile.specs.Codes.{ok}
@@ -20,8 +20,8 @@ use Rattle.age_header.specs.Header.{StanzaParts}
 use Rattle.age_recipient.specs.declared.unwrapped.Unwrapped.{Unwrapped}
 use Rattle.age_recipient.specs.declared.unwrapped.Unwrapped.TheVariants.{Key}
 use Rattle.agefile.specs.declared.payload.Payload.{Payload}
-use Rattle.agefile.specs.Giving.{alone}
-use Rattle.agefile.specs.Payload.{before_first, closed, phase_reading}
+use Rattle.agefile.specs.Giving.{one_answer}
+use Rattle.agefile.specs.Payload.{before_first, closed_payload, phase_reading}
 
 -- a file key with the length of its header
 abbrev pub with_len : (len : ℕ) (key : Result FileKey Fault) → Result Unlocked Fault
@@ -32,7 +32,7 @@ with_len len (Ok key) = Ok (record { header_len = len; key = key })
 abbrev pub key_of : (answers : Answering) (result : Result Found HeaderFault)
     → Result Unlocked Fault
 key_of answers (Err fault) = Err (header_fault fault)
-key_of answers (Ok found) = with_len (length found.text) (unlocked answers (parts_of found))
+key_of answers (Ok found) = with_len (length found.text) (header_key answers (parts_of found))
 
 -- the same of the header in front of b
 abbrev pub IsKey : (answers : Answering) (b : Bytes) (key : Result Unlocked Fault) → Type 0
@@ -73,7 +73,8 @@ abbrev pub start_of : (answers : Answering) (b : Bytes) (result : Result Found H
     → Result Start Fault
 start_of answers b (Err fault) = Err (header_fault fault)
 start_of answers b (Ok found) =
-    start_under (length found.text) (drop (length found.text) b) (unlocked answers (parts_of found))
+    start_under (length found.text) (drop (length found.text) b) (header_key answers
+    (parts_of found))
 
 -- the same, whatever the header verdict is
 abbrev pub IsStart : (answers : Answering) (b : Bytes) (start : Result Start Fault) → Type 0
@@ -91,7 +92,7 @@ gives_key file_key stanzas = Key (record { 0 = file_key })
 
 -- the answers of this identity alone
 abbrev pub by_file_key : Bytes → Answering
-by_file_key file_key = alone (gives_key file_key)
+by_file_key file_key = one_answer (gives_key file_key)
 
 -- chunk 0 is the payload's next, and the report has its offset; or the fault is returned
 abbrev pub StartsAt : (start : Result Start Fault) (new : Payload) (report : Report) (code : ℕ)
@@ -100,7 +101,7 @@ StartsAt (Ok start) new report code =
     (code ≡ ok) × (report ≡ report_of start.first None)
     × (new ≡ before_first start.key phase_reading)
 StartsAt (Err fault) new report code =
-    Refuses fault closed new report code
+    Refuses fault closed_payload new report code
 
 -- what opening the file with this front gives
 abbrev pub Opens : (answers : Answering) (front : Bytes) (new : Payload) (report : Report)

@@ -52,7 +52,7 @@ DecryptsFrom answers b (Ok start) old new report code =
     let room = opened_len (length b - start.first) in
     Exceeds room old new report code
     ⊎ ((room ≤ length old) × ((verdict : Reading Fault) × IsVerdict limits answers b verdict
-    × Fits verdict.front verdict.fault old new report code))
+    × Fits verdict.plaintext verdict.fault old new report code))
 
 -- what decrypting b gives; or out of memory
 abbrev pub Decrypts : (answers : Answering) (b old new : Bytes) (report : Report) (code : ℕ)
@@ -74,6 +74,6 @@ GivesFirst (Err fault) old new result = (result ≡ Err fault) × (new ≡ old)
 -- fault are returned
 pub record GivesReading (reading : Reading StreamFault) (old new : Bytes) (len : ℕ)
     (fault : Option StreamFault) : Type 0 where
-  pub length_so : len ≡ length reading.front
+  pub length_so : len ≡ length reading.plaintext
   pub fault_so : fault ≡ reading.fault
-  pub buffer : new ≡ reading.front ++ drop (length reading.front) old
+  pub buffer : new ≡ reading.plaintext ++ drop (length reading.plaintext) old

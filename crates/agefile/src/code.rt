@@ -14,13 +14,13 @@ pub(crate) const OUT_OF_MEMORY: u32 = 17;
 /// `buffer is too small` for the output.
 pub(crate) const TOO_SMALL: u32 = 21;
 
-/// `work factor is not 1 to 30`, or its maximum is not.
+/// `work factor must be 1 to 30`, and its maximum too.
 pub(crate) const WORK_FACTOR: u32 = 22;
 
 /// `no such stanza or offset, or a call out of order`, which does not fit the state.
 pub(crate) const OUT_OF_ORDER: u32 = 23;
 
-/// `stanza arguments are not words` of visible characters, joined by single spaces.
+/// `stanza arguments must be visible ASCII, one space apart`.
 pub(crate) const BAD_ARGUMENTS: u32 = 25;
 
 /// `passphrase is empty`: a file for it could be opened by everybody.

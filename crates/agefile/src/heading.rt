@@ -5,7 +5,7 @@ ghost use Rattle.std.specs.String.{string_bytes};
 ghost use Rattle.age_header.specs.Base64.{IsBase64};
 ghost use Rattle.age_header.specs.Header.{mac_size};
 ghost use Rattle.age_kdf.specs.Bytes.{Bytes};
-ghost use Rattle.agefile.specs.Heading.{BeginsFile, FindsMac, GivesHeader, MakesHeader, framed, in_text, lines_in, probe};
+ghost use Rattle.agefile.specs.Heading.{BeginsFile, FindsMac, GivesHeader, MakesHeader, heading, in_text, lines_in, probe};
 ghost use Rattle.agefile.specs.Report.{Refuses};
 
 use crate::code::{OK, OUT_OF_MEMORY, fault_code};
@@ -128,7 +128,7 @@ fn characters_of(alloc: Global, mac: &[u8; 32]) -> Result<String, AllocError>
 
 /// A text between the version line and an end line with these characters.
 fn framed(alloc: Global, text: &[u8], characters: &[u8]) -> Result<Vec<u8>, AllocError>
-    ensures { IfOk result (λ all. all.items ≡ framed text.now characters.now) }
+    ensures { IfOk result (λ all. all.items ≡ heading text.now characters.now) }
 {
     let mut all = Vec::from_slice(alloc, b"age-encryption.org/v1\n")?;
     all.extend_from_slice(text)?;

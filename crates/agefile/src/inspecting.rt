@@ -3,7 +3,7 @@
 ghost use Rattle.std.specs.Prelude.{◌≡◌, take, IfOk};
 ghost use Rattle.std.specs.String.{string_bytes};
 ghost use Rattle.age_kdf.specs.Bytes.{Bytes};
-ghost use Rattle.agefile.specs.Inspect.{HeaderOf, Inspected, joined, stanza_summary};
+ghost use Rattle.agefile.specs.Inspect.{HeaderOf, Inspected, arguments_text, stanza_summary};
 ghost use Rattle.agefile.specs.Sizes.{front_size};
 
 use crate::code::{OK, fault_code};
@@ -74,7 +74,7 @@ pub extern "C" fn agefile_inspect(
 
 /// The sizes of a stanza whose arguments are joined to this text.
 pub(crate) fn stanza_summary(stanza: &Stanza, text: &[u8]) -> StanzaSummary
-    requires { text.now ≡ joined stanza.now.args }
+    requires { text.now ≡ arguments_text stanza.now.args }
     ensures { result ≡ stanza_summary stanza.now }
 {
     StanzaSummary {
@@ -86,7 +86,7 @@ pub(crate) fn stanza_summary(stanza: &Stanza, text: &[u8]) -> StanzaSummary
 
 /// The arguments of a stanza, joined by single spaces.
 pub(crate) fn joined(alloc: Global, stanza: &Stanza) -> Result<String, AllocError>
-    ensures { IfOk result (λ text. string_bytes text ≡ joined stanza.now.args) }
+    ensures { IfOk result (λ text. string_bytes text ≡ arguments_text stanza.now.args) }
 {
     stanza.args().join(alloc, " ")
 }

@@ -4,7 +4,7 @@ ghost use Rattle.std.specs.Prelude.{Ok, List, [], ◌∷◌, drop, length, take,
 ghost use Rattle.std.specs.List.{concat};
 ghost use Rattle.age_kdf.specs.Bytes.{Bytes};
 ghost use Rattle.age_header.specs.Header.{IsStanza, StanzaParts};
-ghost use Rattle.age_stream.specs.Payload.{chunks, pieces, sealed_from};
+ghost use Rattle.age_stream.specs.Payload.{chunks, pieces, sealed_chunks_from};
 ghost use Rattle.age_stream.specs.Reading.{Reading, outcome, whole};
 ghost use Rattle.age_stream.specs.Sizes.{chunk_size, nonce_size, tag_size};
 ghost use Rattle.age_stream.specs.Slice.{IsSlice, last_outcome, plain_len};
@@ -17,12 +17,12 @@ ghost use Rattle.agefile.specs.declared.ranges.Ranges.{Ranges};
 ghost use Rattle.agefile.specs.declared.report.Report.{Report};
 ghost use Rattle.agefile.specs.Codes.{code_of, fault_code, ok, out_of_memory, too_many_chunks};
 ghost use Rattle.agefile.specs.WholeFiles.{IsNewFile};
-ghost use Rattle.agefile.specs.Groups.{OpensGroups, OpensRun, SealsGroups, SealsRun, all_of, sealed_open};
+ghost use Rattle.agefile.specs.Groups.{OpensGroups, OpensRun, SealsGroups, SealsRun, all_of, unended_chunks};
 ghost use Rattle.agefile.specs.Heading.{BeginsFile};
 ghost use Rattle.agefile.specs.Sizes.{limits, front_size};
 ghost use Rattle.agefile.specs.Unlock.{IsStart, Opens, Unlocks, by_file_key};
 ghost use Rattle.agefile.specs.Payload.{OpensNext, SealsNext};
-ghost use Rattle.agefile.specs.Ranges.{OpensRanges, gives, last_index, piece_at, plain_of};
+ghost use Rattle.agefile.specs.Ranges.{OpensRanges, piece_outcome, last_index, piece_at, plain_of};
 ghost use Rattle.agefile.specs.Report.{report_of};
 
 /// Reading a file in steps returns what decrypting it returns. The front of 65,552 bytes of a file
@@ -34,12 +34,13 @@ pub fn steps_read()
         (v : Reading Fault)
         → Opens answers (take front_size b) p report code → IsVerdict limits answers b v
         → code ≢ ok → code ≢ out_of_memory
-        → (v.front ≡ []) × (code_of v.fault ≡ code) × (report ≡ report_of 0 v.fault) }
+        → (v.plaintext ≡ []) × (code_of v.fault ≡ code) × (report ≡ report_of 0 v.fault) }
     ensures read { (answers : Answering) (b : Bytes) (p : Payload) (report : Report) (text : Bytes)
         (code place : ℕ) (v : Reading Fault)
         → Opens answers (take front_size b) p report ok
         → OpensRun p (pieces (drop report.len b)) text code place → IsVerdict limits answers b v
-        → (v.front ≡ text) × ((code_of v.fault ≡ code) × ((report_of 0 v.fault).place ≡ place)) }
+        → (v.plaintext ≡ text) × ((code_of v.fault ≡ code) × ((report_of 0 v.fault).place
+        ≡ place)) }
 {}
 
 /// Writing a file in steps writes what encrypting writes: the header and the nonce that begin it
@@ -64,7 +65,7 @@ pub fn ranges_in_steps()
         (v : Reading Fault)
         → OpensRanges answers (take front_size b) (length b) r report code
         → IsVerdict limits answers b v → code ≢ ok → code ≢ out_of_memory
-        → (v.front ≡ []) × (code_of v.fault ≡ code) × (report ≡ report_of 0 v.fault) }
+        → (v.plaintext ≡ []) × (code_of v.fault ≡ code) × (report ≡ report_of 0 v.fault) }
     ensures opened { (answers : Answering) (b : Bytes) (r : Ranges) (report : Report)
         → OpensRanges answers (take front_size b) (length b) r report ok
         → IsStart answers b (Ok (record { first = r.first; key = r.key }))
@@ -78,7 +79,7 @@ pub fn ranges_in_steps()
         → plain_len (drop r.first b) ≡ plain_of r.sealed_len }
     ensures slice { (r : Ranges) (b text : Bytes) (at : ℕ) → length b ≡ r.first + r.sealed_len
         → at < plain_of r.sealed_len
-        → gives r (at / chunk_size) (piece_at r b (at / chunk_size)) ≡ Ok text
+        → piece_outcome r (at / chunk_size) (piece_at r b (at / chunk_size)) ≡ Ok text
         → (at % chunk_size < length text)
         × IsSlice r.key (drop r.first b) at (drop (at % chunk_size) text) }
 {}
@@ -90,13 +91,14 @@ pub fn ranges_in_steps()
 pub fn parts_seal()
     ensures so_far { (old new : Payload) (groups : List (List Bytes)) (out : Bytes)
         → SealsGroups old new groups out
-        → (out ≡ concat (sealed_open old.key old.number (all_of groups)))
+        → (out ≡ concat (unended_chunks old.key old.number (all_of groups)))
         × ((new.key ≡ old.key) × (new.number ≡ old.number + length (all_of groups))) }
     ensures whole { (old mid new : Payload) (groups : List (List Bytes))
         (out text room after : Bytes) (report : Report) → SealsGroups old mid groups out
         → length room ≡ tag_size
         → SealsNext mid new (text ++ room) after true report ok
-        → out ++ after ≡ concat (sealed_from old.key old.number (all_of groups ++ text ∷ [])) }
+        → out ++ after ≡ concat (sealed_chunks_from old.key old.number (all_of groups
+        ++ text ∷ [])) }
 {}
 
 /// A file that encrypting writes is an age file of this plaintext for its file key, whatever the
@@ -121,7 +123,7 @@ pub fn unlocked_opens()
         (v : Reading Fault)
         → Unlocks answers b old new report code → IsVerdict limits answers b v
         → code ≢ ok → code ≢ out_of_memory
-        → (v.front ≡ []) × (code_of v.fault ≡ code) × (report ≡ report_of 0 v.fault) }
+        → (v.plaintext ≡ []) × (code_of v.fault ≡ code) × (report ≡ report_of 0 v.fault) }
     ensures opens { (answers : Answering) (b old new : Bytes) (report : Report) (v : Reading Fault)
         → Unlocks answers b old new report ok → IsVerdict limits answers b v
         → IsVerdict limits (by_file_key new) b v }
@@ -136,7 +138,7 @@ pub fn parts_open()
         (groups : List (List Bytes)) (text next : Bytes) (more : List Bytes) (v : Reading Fault)
         → Opens answers (take front_size b) p report ok → OpensGroups p new groups text
         → pieces (drop report.len b) ≡ all_of groups ++ next ∷ more → IsVerdict limits answers b v
-        → take (length text) v.front ≡ text }
+        → take (length text) v.plaintext ≡ text }
     ensures whole { (answers : Answering) (b : Bytes) (p mid new : Payload)
         (report last_report : Report) (groups : List (List Bytes)) (text last after : Bytes)
         (v : Reading Fault) → Opens answers (take front_size b) p report ok

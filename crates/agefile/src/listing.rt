@@ -2,7 +2,7 @@
 
 ghost use Rattle.std.specs.Prelude.{◌≡◌, ◌⊎◌, ◌++◌, map, take, IfOk, OnOk};
 ghost use Rattle.age_kdf.specs.Bytes.{Bytes};
-ghost use Rattle.agefile.specs.Inspect.{GivesList, GivesStanzas, InspectsStanzas, joined, listed, stanza_summary};
+ghost use Rattle.agefile.specs.Inspect.{GivesList, GivesStanzas, InspectsStanzas, arguments_text, list_text, stanza_summary};
 ghost use Rattle.agefile.specs.Sizes.{front_size};
 ghost use Rattle.agefile.specs.Codes.{out_of_memory};
 ghost use Rattle.agefile.specs.Report.{Returns};
@@ -94,7 +94,7 @@ fn give_list(
 /// The sizes of these stanzas, and their text.
 fn listing_of(alloc: Global, found: &[Stanza]) -> Result<(Vec<StanzaSummary>, Vec<u8>), AllocError>
     ensures { IfOk result (λ l. (l.0.items ≡ map stanza_summary found.now)
-        × (l.1.items ≡ listed found.now)) }
+        × (l.1.items ≡ list_text found.now)) }
 {
     let mut sizes = Vec::with_capacity(alloc, found.len())?;
     let mut text = Vec::new(alloc);
@@ -112,7 +112,7 @@ fn list_stanza(
 ) -> Result<StanzaSummary, AllocError>
     ensures sizes { IfOk result (λ s. s ≡ stanza_summary stanza.now) }
     ensures text { OnOk result (text.new.items
-        ≡ text.old.items ++ (joined stanza.now.args ++ stanza.now.body)) }
+        ≡ text.old.items ++ (arguments_text stanza.now.args ++ stanza.now.body)) }
 {
     let args = joined(alloc, stanza)?;
     text.extend_from_slice(args.as_bytes())?;

@@ -2,7 +2,7 @@
 //! seal.
 
 ghost use Rattle.std.specs.Prelude.{◌≡◌, ◌<◌};
-ghost use Rattle.agefile.specs.Part.{OpensNext, SealsNext, TakesPart, closed, may_take, payload_of, with_payload};
+ghost use Rattle.agefile.specs.Part.{OpensNext, SealsNext, TakesPart, closed_part, may_take, payload_of, with_payload};
 
 use crate::code::{OK, OUT_OF_ORDER, fault_code};
 use crate::payload::{Payload, agefile_open_next, agefile_seal_next};
@@ -29,7 +29,7 @@ pub struct Part {
 impl Part {
     /// Nothing is open.
     fn closed() -> Part
-        ensures { result ≡ closed }
+        ensures { result ≡ closed_part }
     {
         Part {
             key: [0; 32],

@@ -5,7 +5,7 @@ ghost use Rattle.std.specs.Bool.{OnFalse, OnTrue};
 ghost use Rattle.age_stream.specs.Reading.{outcome};
 ghost use Rattle.agefile.specs.Sizes.{limits};
 ghost use Rattle.agefile.specs.Unlock.{by_file_key};
-ghost use Rattle.agefile.specs.Ranges.{GivesFrom, OpensAt, OpensRanges, Verified, closed, gives, has_byte, last_index, may_open, may_verify, piece_len, piece_report, plain_of};
+ghost use Rattle.agefile.specs.Ranges.{GivesFrom, OpensAt, OpensRanges, Verified, closed_ranges, piece_outcome, has_byte, last_index, may_open, may_verify, piece_len, piece_report, plain_of};
 ghost use Rattle.agefile.specs.Report.{Returns, report_of};
 ghost use Rattle.age_stream.specs.Sizes.{chunk_size};
 ghost use Rattle.agefile.specs.Codes.{ok, out_of_order};
@@ -45,7 +45,7 @@ pub struct Ranges {
 impl Ranges {
     /// No payload.
     fn closed() -> Ranges
-        ensures { result ≡ closed }
+        ensures { result ≡ closed_ranges }
     {
         Ranges {
             key: [0; 32],
@@ -58,7 +58,7 @@ impl Ranges {
 
 /// No payload.
 fn stay_closed(ranges: &mut Ranges, report: &mut Report) -> u32
-    ensures { Returns out_of_order None closed ranges.new report.new result }
+    ensures { Returns out_of_order None closed_ranges ranges.new report.new result }
 {
     *ranges = Ranges::closed();
     *report = Report::default();
@@ -222,7 +222,7 @@ pub extern "C" fn agefile_ranges_chunk(
     // or its fault is returned and the chunk is unchanged.
     ensures gives { OnTrue (may_open ranges.now at chunk.old)
         (GivesFrom at chunk.old chunk.new report.new result
-        (gives ranges.now (at / chunk_size) chunk.old)) }
+        (piece_outcome ranges.now (at / chunk_size) chunk.old)) }
 {
     *report = Report::of_len(0);
     let len = chunk.len();

@@ -2,8 +2,8 @@
 
 ghost use Rattle.std.specs.Prelude.{◌≡◌, ◌+◌, ◌*◌, ◌≤◌, ◌++◌, [], drop, length, min, nat_le, take};
 ghost use Rattle.std.specs.List.{concat};
-ghost use Rattle.age_cipher.specs.Sealing.{sealed};
-ghost use Rattle.age_stream.specs.Payload.{chunk_nonce, chunks, payload, sealed_from};
+ghost use Rattle.age_cipher.specs.Sealing.{sealed_text};
+ghost use Rattle.age_stream.specs.Payload.{chunk_nonce, chunks, payload, sealed_chunks_from};
 ghost use Rattle.age_stream.specs.Sizes.{chunk_size, tag_size};
 ghost use Rattle.agefile.specs.WholeFiles.{Encrypts};
 ghost use Rattle.agefile.specs.Sizes.{chunk_count, file_len};
@@ -66,7 +66,7 @@ fn write_file(header: &[u8], plain: &[u8], key: &FileKey, nonce: &[u8; 16], file
 /// Seals the chunks of a plaintext into a buffer of their length.
 fn seal_chunks(key: &[u8; 32], plain: &[u8], out: &mut [u8])
     requires { length out.old ≡ length plain.now + tag_size * chunk_count (length plain.now) }
-    ensures { out.new ≡ concat (sealed_from key.now 0 (chunks plain.now)) }
+    ensures { out.new ≡ concat (sealed_chunks_from key.now 0 (chunks plain.now)) }
 {
     let mut at = 0;
     let mut done = 0;
@@ -88,7 +88,7 @@ fn seal_chunks(key: &[u8; 32], plain: &[u8], out: &mut [u8])
 fn seal_first(key: &[u8; 32], number: u64, left: &[u8], room: &mut [u8])
     requires { min (length left.now) chunk_size + tag_size ≤ length room.old }
     ensures { room.new
-        ≡ sealed key.now (chunk_nonce number (nat_le (length left.now) chunk_size)) []
+        ≡ sealed_text key.now (chunk_nonce number (nat_le (length left.now) chunk_size)) []
         (take chunk_size left.now) ++ drop (min (length left.now) chunk_size + tag_size) room.old }
 {
     let size = left.len().min(CHUNK_SIZE);

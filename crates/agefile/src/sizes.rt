@@ -21,10 +21,10 @@ use age_stream::{CHUNK_SIZE, NONCE_SIZE, SEALED_CHUNK_SIZE, TAG_SIZE};
 
 /// The header of a file under a key, 156 bytes, and its payload's nonce. Under a passphrase the
 /// header is six or seven bytes shorter.
-const FRONT: u64 = 172;
+const KEYED_START: u64 = 172;
 
 /// The shortest header, 70 bytes without its stanzas, and its payload's nonce.
-const LEAST_FRONT: u64 = 86;
+const SHORTEST_START: u64 = 86;
 
 /// A buffer size that suffices for the file of a plaintext of this many bytes with one stanza of
 /// `agefile_wrap_key` or `agefile_wrap_passphrase`. It is the length under a key, saturating at the
@@ -46,7 +46,7 @@ pub extern "C" fn agefile_sealed_len(plain_len: u64) -> u64
         → IsNewFile stanza file_key nonce plain file → length file < sealed_len plain_len }
 {
     let chunks = plain_len.saturating_sub(1) / CHUNK_SIZE as u64 + 1;
-    FRONT
+    KEYED_START
         .saturating_add(plain_len)
         .saturating_add(TAG_SIZE as u64 * chunks)
 }
@@ -55,13 +55,14 @@ pub extern "C" fn agefile_sealed_len(plain_len: u64) -> u64
 /// plaintext before a fault.
 #[unsafe(no_mangle)]
 pub extern "C" fn agefile_plain_len_at_most(file_len: u64) -> u64
-    // Capped at the largest u64.
+    // What pieces open to that fill the file after the shortest header and the nonce.
     ensures value { result ≡ plain_len_at_most file_len }
     // No verdict's plaintext is longer.
     ensures suffices { (answers : Answering) (b : Bytes) (verdict : Reading Fault)
-        → length b ≡ file_len → IsVerdict limits answers b verdict → length verdict.front ≤ result }
+        → length b ≡ file_len → IsVerdict limits answers b verdict → length verdict.plaintext
+        ≤ result }
 {
-    opened_len(file_len.saturating_sub(LEAST_FRONT))
+    opened_len(file_len.saturating_sub(SHORTEST_START))
 }
 
 /// The most that sealed chunks of this many bytes in all open to.

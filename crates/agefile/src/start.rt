@@ -1,6 +1,6 @@
 //! The offset of a file's first sealed chunk, and the key of its chunks.
 
-ghost use Rattle.agefile.specs.Giving.{alone};
+ghost use Rattle.agefile.specs.Giving.{one_answer};
 ghost use Rattle.agefile.specs.Unlock.{FindsStart};
 
 use crate::unlocking::key_for;
@@ -21,7 +21,7 @@ pub(crate) fn start_for(
     front: &[u8],
     identity: Box<dyn Identity>,
 ) -> Result<Start, Fault>
-    ensures { FindsStart (alone (meaning identity)) front.now result }
+    ensures { FindsStart (one_answer (meaning identity)) front.now result }
 {
     let found = match key_for(alloc, front, identity) {
         Ok(found) => found,

@@ -5,7 +5,7 @@ ghost use Rattle.age_kdf.specs.Bytes.{Bytes};
 ghost use Rattle.age_recipient.specs.KeyedHolders.{key_unwraps};
 ghost use Rattle.age_recipient.specs.PassphraseHolders.{WorkFits, pass_unwraps};
 ghost use Rattle.agefile.specs.Codes.{bad_work_factor};
-ghost use Rattle.agefile.specs.Giving.{alone};
+ghost use Rattle.agefile.specs.Giving.{one_answer};
 ghost use Rattle.agefile.specs.Sizes.{front_size};
 ghost use Rattle.agefile.specs.Report.{Returns};
 ghost use Rattle.agefile.specs.Unlock.{FindsKey, GivesKey, Unlocks};
@@ -48,11 +48,11 @@ pub extern "C" fn agefile_unlock_passphrase(
     // The file key that the secret chooses, once the header's MAC under it was verified, and the
     // header's length; otherwise the first fault up to the MAC, or 17, with `file_key` unchanged.
     ensures fit { WorkFits max_work
-        → Unlocks (alone (pass_unwraps (record { pass = pass.now; max = max_work }))) front.now
+        → Unlocks (one_answer (pass_unwraps (record { pass = pass.now; max = max_work }))) front.now
         file_key.old file_key.new report.new result }
     // The front of 65,552 bytes is enough: the same holds of the file.
     ensures file { (b : Bytes) → front.now ≡ take front_size b → WorkFits max_work
-        → Unlocks (alone (pass_unwraps (record { pass = pass.now; max = max_work }))) b
+        → Unlocks (one_answer (pass_unwraps (record { pass = pass.now; max = max_work }))) b
         file_key.old file_key.new report.new result }
     // A maximum that is not 1 to 30 returns 22, and no other one does.
     ensures unfit { (WorkFits max_work → ⊥)
@@ -81,11 +81,11 @@ pub extern "C" fn agefile_unlock_key(
 ) -> u32
     // The file key that the secret chooses, once the header's MAC under it was verified, and the
     // header's length; otherwise the first fault up to the MAC, or 17, with `file_key` unchanged.
-    ensures front { Unlocks (alone (key_unwraps key.now)) front.now file_key.old file_key.new
+    ensures front { Unlocks (one_answer (key_unwraps key.now)) front.now file_key.old file_key.new
         report.new result }
     // The front of 65,552 bytes is enough: the same holds of the file.
     ensures file { (b : Bytes) → front.now ≡ take front_size b
-        → Unlocks (alone (key_unwraps key.now)) b file_key.old file_key.new report.new result }
+        → Unlocks (one_answer (key_unwraps key.now)) b file_key.old file_key.new report.new result }
 {
     give_key(key_for_key(alloc, front, key), file_key, report)
 }
@@ -116,7 +116,8 @@ fn key_for_passphrase(
     max_work: u8,
 ) -> Option<Result<Unlocked, Fault>>
     ensures some { IfSome result (λ key. WorkFits max_work
-        × FindsKey (alone (pass_unwraps (record { pass = pass.now; max = max_work }))) front.now
+        × FindsKey (one_answer (pass_unwraps (record { pass = pass.now; max = max_work })))
+        front.now
         key) }
     ensures none { IfNone result (WorkFits max_work → ⊥) }
 {
@@ -133,7 +134,7 @@ fn key_for_passphrase(
 
 /// Finds the file key for a key of 32 bytes.
 fn key_for_key(alloc: Global, front: &[u8], key: &[u8; 32]) -> Result<Unlocked, Fault>
-    ensures { FindsKey (alone (key_unwraps key.now)) front.now result }
+    ensures { FindsKey (one_answer (key_unwraps key.now)) front.now result }
 {
     match Box::new(alloc, KeyIdentity::new(*key)) {
         Ok(identity) => key_for(alloc, front, identity),
@@ -147,7 +148,7 @@ pub(crate) fn key_for(
     front: &[u8],
     identity: Box<dyn Identity>,
 ) -> Result<Unlocked, Fault>
-    ensures { FindsKey (alone (meaning identity)) front.now result }
+    ensures { FindsKey (one_answer (meaning identity)) front.now result }
 {
     match vec![in alloc; identity] {
         Ok(identities) => find_key(alloc, front, identities.as_slice()),

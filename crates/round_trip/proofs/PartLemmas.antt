@@ -6,17 +6,17 @@ use Rattle.std.proofs.lemmas.Bool.{cases_lt}
 use Rattle.std.proofs.lemmas.Grind.{flat_map-append}
 use Rattle.std.proofs.lemmas.List.{append-nil, drop-drop, length-append, length-drop, take_all, take_more}
 use Rattle.age_file.specs.Words.{Bytes}
-use Rattle.age_cipher.specs.Sealing.{sealed}
-use Rattle.age_cipher.proofs.OpeningLemmas.{opened-sealed}
+use Rattle.age_cipher.specs.Sealing.{sealed_text}
+use Rattle.age_cipher.proofs.OpeningLemmas.{opened_text-sealed_text}
 use Rattle.age_header.proofs.VerdictUniqueLemmas as headers
 use Rattle.age_header.specs.Device.{CountsFaultIf, Known}
 use Rattle.age_header.specs.Header.{StanzaParts}
 use Rattle.age_recipient.specs.declared.unwrapped.Unwrapped.{Unwrapped}
 use Rattle.age_stream.specs.declared.layout.Layout.{Layout}
 use Rattle.age_stream.specs.Cutting.{IsFilled}
-use Rattle.age_stream.specs.Payload.{chunk_nonce, chunks, is_end, payload_key, pieces, sealed_from}
-use Rattle.age_stream.specs.Ranges.{HasPlain, IsSound, RangeState, opens_to}
-use Rattle.age_stream.specs.Reading.{opened_at, payload_reading, whole}
+use Rattle.age_stream.specs.Payload.{chunk_nonce, chunks, is_end, payload_key, pieces, sealed_chunks_from}
+use Rattle.age_stream.specs.Ranges.{HasPlain, IsSound, RangeState, source_opening}
+use Rattle.age_stream.specs.Reading.{piece_opening, payload_reading, whole}
 use Rattle.age_stream.specs.Slice.{opening, openings}
 use Rattle.age_stream.specs.Sizes.{chunk_size}
 use Rattle.age_stream.proofs.CuttingLemmas.{is_cut}
@@ -27,19 +27,19 @@ use Rattle.age_file.specs.declared.fault.Fault.TheVariants.{OutOfMemory, Read}
 use Rattle.age_file.specs.AgeFile.{Bounds}
 use Rattle.age_file.specs.Device.{is_read}
 use Rattle.age_file.specs.Ranges.{IsRangesOf, MissesRanges}
-use Rattle.age_file.specs.Verdict.{Answering, IsVerdict, judged, read_under}
+use Rattle.age_file.specs.Verdict.{Answering, IsVerdict, reading_after, reading_under}
 use Rattle.age_file.proofs.FileLemmas.{with_file_fault_whole}
 use Rattle.round_trip.specs.declared.slicing.Range.{Range}
 use Rattle.round_trip.specs.Slices.{AddsPart, IsSliced, part, parts}
 
 -- what sealed chunks open to
-opened_each : (key : Bytes) (i : ℕ) (ts : List Bytes) → openings key i (sealed_from key i ts) ≡ map Some ts
+opened_each : (key : Bytes) (i : ℕ) (ts : List Bytes) → openings key i (sealed_chunks_from key i ts) ≡ map Some ts
 opened_each key i [] = refl
 opened_each key i (t ∷ ts) =
-    ap (λ b. opened_at key i b (sealed key (chunk_nonce i (is_end ts)) [] t)
-    ∷ openings key (i + 1) (sealed_from key (i + 1) ts)) (is_end_each key (i + 1) ts)
-    ∙ ap (λ o. o ∷ openings key (i + 1) (sealed_from key (i + 1) ts))
-    (opened-sealed key (chunk_nonce i (is_end ts)) [] t)
+    ap (λ b. piece_opening key i b (sealed_text key (chunk_nonce i (is_end ts)) [] t)
+    ∷ openings key (i + 1) (sealed_chunks_from key (i + 1) ts)) (is_end_each key (i + 1) ts)
+    ∙ ap (λ o. o ∷ openings key (i + 1) (sealed_chunks_from key (i + 1) ts))
+    (opened_text-sealed_text key (chunk_nonce i (is_end ts)) [] t)
     ∙ ap (λ x. Some t ∷ x) (opened_each key (i + 1) ts)
 
 none_within : (cs : List Bytes) (i : ℕ) → i < length cs → get_or (map Some cs) i None ≡ None → ⊥
@@ -84,9 +84,9 @@ sliced_of : (laws : SlicedLaws) (limits : Bounds) (answers : Answering) (b p : B
 sliced_of laws limits answers b p s given given2 v r =
     let n : ℕ = length r.found.text in
     let reads : payload_reading r.key limits.max_chunks (drop n b) ≡ whole p =
-    with_file_fault_whole (v.is ∙ ap (judged limits answers b)
+    with_file_fault_whole (v.is ∙ ap (reading_after limits answers b)
     (headers.one_verdict b limits.max_header v.header (Ok r.found) v.header_verdict r.header)
-    ∙ ap (read_under limits (drop n b)) r.chosen) in
+    ∙ ap (reading_under limits (drop n b)) r.chosen) in
     let w = whole_is r.key (drop n b) p limits.max_chunks reads in
     let key : Bytes = payload_key r.key (take 16 (drop n b)) in
     let rest : drop s.layout.first b ≡ drop 16 (drop n b) = ap (λ m. drop m b) r.opened.first
@@ -131,7 +131,7 @@ lost_part {told} {s2} {plain} range old new {fault} stay same keeps sound sliced
         | inr bad ↦
             let size : s2.layout.plain ≡ length plain = ap (λ (l : Layout). l.plain) same ∙ sliced.len in
             let lt : chunk_size * bad.0 < s2.layout.plain = bad.2 in
-            absurd (sliced.opens bad.0 (omega arith) (subst (λ l. opens_to told l bad.0 ≡ None) same bad.3))
+            absurd (sliced.opens bad.0 (omega arith) (subst (λ l. source_opening told l bad.0 ≡ None) same bad.3))
       ]
     ]
 

@@ -2,7 +2,7 @@
 use Rattle.std.proofs.Common.{◌≡◌, ◌∙◌, ◌^◌, ◌<◌, ◌≤◌, ℕ, List, [], ◌∷◌, length, map, sym, ap, subst, arith, refl, inl, inr, Some, Result, Ok, Err}
 use Rattle.std.specs.Prelude.{IfErr, IfOk}
 use Rattle.age_file.specs.Words.{Bytes}
-use Rattle.age_header.specs.Device.{CountsFaultIf, Known, Flow, moved}
+use Rattle.age_header.specs.Device.{CountsFaultIf, Known, Flow, move_of}
 use Rattle.age_header.specs.declared.fault.HeaderFault.{HeaderFault}
 use Rattle.age_header.specs.Header.{StanzaParts}
 use Rattle.age_header.specs.Mac.{header_mac}
@@ -23,7 +23,7 @@ use Rattle.age_file.specs.Copying.{most_copied}
 use Rattle.age_file.specs.Device.{is_read}
 use Rattle.age_file.specs.NewFile.{Gathered, Gathering, IsRefusal}
 use Rattle.age_file.specs.Rewrap.{IsRefusedBy, RefusesRewrap, Rewrapped, Rewraps, RewrapsText}
-use Rattle.age_file.specs.Verdict.{Answering, IsVerdict, parts_of, unlocked}
+use Rattle.age_file.specs.Verdict.{Answering, IsVerdict, parts_of, header_key}
 use Rattle.age_file.proofs.FileLemmas.{file_whole, key_unlocked}
 use Rattle.round_trip.specs.Losses.{IsUnwritten}
 use Rattle.round_trip.proofs.TripLemmas.{gathered_one}
@@ -45,7 +45,7 @@ header_is limits answers k stanzas plain b file r chosen h =
 
 unlocked_is : (limits : Bounds) (answers : Answering) (k : FileKey) (stanzas : List StanzaParts) (plain b : Bytes)
     (file : AgeFile limits k stanzas plain b)
-    → choice (answers stanzas) ≡ Ok k → unlocked answers (parts_of (found_of limits k stanzas plain b file)) ≡ Ok k
+    → choice (answers stanzas) ≡ Ok k → header_key answers (parts_of (found_of limits k stanzas plain b file)) ≡ Ok k
 unlocked_is limits answers k stanzas plain b file chosen =
     key_unlocked answers (parts_of (found_of limits k stanzas plain b file)) k
     (record { unmixed = file.unmixed; chosen = chosen; mac = refl })
@@ -60,7 +60,7 @@ pub key_is : (limits : Bounds) (answers : Answering) (k : FileKey) (stanzas : Li
 key_is limits answers k stanzas plain b c file chosen is =
     let same : is.found ≡ found_of limits k stanzas plain b file =
     cc (header_is limits answers k stanzas plain b file (Ok is.found) chosen is.header) in
-    ok_key is.key k (sym is.chosen ∙ ap (λ f. unlocked answers (parts_of f)) same
+    ok_key is.key k (sym is.chosen ∙ ap (λ f. header_key answers (parts_of f)) same
     ∙ unlocked_is limits answers k stanzas plain b file chosen)
 
 -- such a file is refused for its new header alone
@@ -84,7 +84,7 @@ refused_by limits answers gathered k stanzas plain b fault file chosen h =
 unrewrapped : (limits : Bounds) (answers : Answering) (gathered : FileKey → Gathering) (k : FileKey)
     (stanzas : List StanzaParts) (plain b : Bytes) (fault : Fault) (old new : Known) → length b < 2 ^ 64
     → AgeFile limits k stanzas plain b → choice (answers stanzas) ≡ Ok k → CountsFaultIf is_read 0 0 fault
-    → RewrapsText limits answers gathered b (moved old new) (Err fault)
+    → RewrapsText limits answers gathered b (move_of old new) (Err fault)
     → IsUnwritten (IsRefusal limits k (gathered k)) limits plain fault
 unrewrapped limits answers gathered k stanzas plain b OutOfMemory old new short file chosen count h = inl (inl refl)
 unrewrapped limits answers gathered k stanzas plain b Write old new short file chosen count h = inl (inr refl)
@@ -100,7 +100,7 @@ pub unrewrapped_one : {X Y : Type 0} {limits : Bounds} (meaning : X → List Sta
     {b : Bytes} {fault : Fault} (old new : Known) → length b < 2 ^ 64 → xs ≡ x ∷ [] → ys ≡ y ∷ []
     → CountsFaultIf is_read 0 0 fault → {source : Flow} → source.before.to_come ≡ Some b
     → Rewraps limits (λ s. map (λ i. meaning i s) xs) (λ key. Gathered (map (λ r. wraps r key) ys) (map labels ys))
-    source (moved old new) (Err fault)
+    source (move_of old new) (Err fault)
     → (stanzas : List StanzaParts) (k : FileKey) (plain : Bytes) → AgeFile limits k stanzas plain b
     → meaning x stanzas ≡ Key k
     → IsUnwritten (IsRefusal limits k (Gathered (wraps y k ∷ []) (labels y ∷ []))) limits plain fault
@@ -109,27 +109,28 @@ unrewrapped_one {limits} meaning {x} wraps labels {ys} {y} {b} {fault} old new s
     unrewrapped limits (λ s. meaning x s ∷ []) (λ key. Gathered (wraps y key ∷ []) (labels y ∷ [])) k stanzas plain b
     fault old new short file (ap (λ u. choice (u ∷ [])) means) count
     (of_known (λ z. RewrapsText limits (λ s. meaning x s ∷ []) (λ key. Gathered (wraps y key ∷ []) (labels y ∷ [])) z
-    (moved old new) (Err fault)) source b come
+    (move_of old new) (Err fault)) source b come
     (subst (λ z. Rewraps limits (λ s. meaning x s ∷ []) (λ key. Gathered (map (λ r. wraps r key) z) (map labels z))
-    source (moved old new) (Err fault)) to
+    source (move_of old new) (Err fault)) to
     (subst (λ z. Rewraps limits (λ s. map (λ i. meaning i s) z)
-    (λ key. Gathered (map (λ r. wraps r key) ys) (map labels ys)) source (moved old new) (Err fault)) list h)))
+    (λ key. Gathered (map (λ r. wraps r key) ys) (map labels ys)) source (move_of old new) (Err fault)) list h)))
 
 -- what was written of one recipient
 pub rewrapped_one : {X Y : Type 0} {limits : Bounds} (meaning : X → List StanzaParts → Unwrapped) {xs : List X} {x : X}
     (wraps : Y → FileKey → Result (List StanzaParts) ℕ) (labels : Y → Labels) {ys : List Y} {y : Y}
     {b c : Bytes} → xs ≡ x ∷ [] → ys ≡ y ∷ [] → {source : Flow} → source.before.to_come ≡ Some b
     → Rewraps limits (λ s. map (λ i. meaning i s) xs) (λ key. Gathered (map (λ r. wraps r key) ys) (map labels ys))
-    source (moved (Some []) (Some c)) (Ok tt)
+    source (move_of (Some []) (Some c)) (Ok tt)
     → (is : Rewrapped limits (λ s. meaning x s ∷ []) b c) × (wraps y is.key ≡ Ok is.stanzas)
 rewrapped_one {limits} meaning {x} wraps labels {ys} {y} {b} {c} list to {source} come h =
     let t = of_known
     (λ z. RewrapsText limits (λ s. meaning x s ∷ []) (λ key. Gathered (wraps y key ∷ []) (labels y ∷ [])) z
-    (moved (Some []) (Some c)) (Ok tt)) source b come
+    (move_of (Some []) (Some c)) (Ok tt)) source b come
     (subst (λ z. Rewraps limits (λ s. meaning x s ∷ []) (λ key. Gathered (map (λ r. wraps r key) z) (map labels z))
-    source (moved (Some []) (Some c)) (Ok tt)) to
+    source (move_of (Some []) (Some c)) (Ok tt)) to
     (subst (λ z. Rewraps limits (λ s. map (λ i. meaning i s) z)
-    (λ key. Gathered (map (λ r. wraps r key) ys) (map labels ys)) source (moved (Some []) (Some c)) (Ok tt)) list h)) in
+    (λ key. Gathered (map (λ r. wraps r key) ys) (map labels ys)) source (move_of (Some []) (Some c))
+    (Ok tt)) list h)) in
     let is : c ≡ t.0 = t.2 in
     subst (λ z. (is : Rewrapped limits (λ s. meaning x s ∷ []) b z) × (wraps y is.key ≡ Ok is.stanzas)) (sym is)
     (t.1.0, gathered_one (wraps y t.1.0.key) (labels y ∷ []) t.1.0.stanzas t.1.1)

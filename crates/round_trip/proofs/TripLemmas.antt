@@ -3,7 +3,7 @@ use Rattle.std.proofs.Common.{◌≡◌, ◌∙◌, ℕ, List, [], ◌∷◌, �
 use Rattle.std.specs.Prelude.{IfErr}
 use Rattle.std.proofs.lemmas.List.{append-nil}
 use Rattle.std.proofs.lemmas.Option.{none-some}
-use Rattle.age_header.specs.Device.{CountsFaultIf, Flow, moved}
+use Rattle.age_header.specs.Device.{CountsFaultIf, Flow, move_of}
 use Rattle.age_header.proofs.DeviceLemmas.{of_known}
 use Rattle.age_file.specs.declared.fault.Fault.{Fault}
 use Rattle.age_file.specs.declared.fault.Fault.TheVariants.{TooManyChunks, Read, Write, OutOfMemory}
@@ -28,11 +28,11 @@ gathered_one (Err code) meant stanzas (place, apart, e) = cc
 
 pub file_of_one : (limits : Bounds) (fresh : Fresh) {wrapped : Result (List StanzaParts) ℕ} (meant : List Labels)
     (plain file : Bytes) (done : Done) → {source : Flow} → source.before.to_come ≡ Some plain
-    → EncryptsGiven limits fresh (Gathered (wrapped ∷ []) meant) source (moved (Some []) (Some file)) (Ok done)
+    → EncryptsGiven limits fresh (Gathered (wrapped ∷ []) meant) source (move_of (Some []) (Some file)) (Ok done)
     → (stanzas : List StanzaParts) × (wrapped ≡ Ok stanzas) × AgeFile limits fresh.file_key stanzas plain file
 file_of_one limits fresh {wrapped} meant plain file done {source} come given =
     let h = of_known
-    (λ x. EncryptsText limits fresh (Gathered (wrapped ∷ []) meant) x (moved (Some []) (Some file)) (Ok done))
+    (λ x. EncryptsText limits fresh (Gathered (wrapped ∷ []) meant) x (move_of (Some []) (Some file)) (Ok done))
     source plain come given in
     let is : file ≡ h.0 = h.2 in (
       h.1.stanzas,
@@ -48,24 +48,25 @@ pub text_of_whole : (limits : Bounds) {answers : Answering} (b plain text : Byte
     → IsOnce limits answers b
     → IsVerdict limits answers b (whole plain)
     → {source : Flow} → source.before.to_come ≡ Some b
-    → Decrypts limits answers source (moved (Some []) (Some text)) (Ok done)
+    → Decrypts limits answers source (move_of (Some []) (Some text)) (Ok done)
     → text ≡ plain
 text_of_whole limits {answers} b plain text done once is {source} come decrypts =
-    let h = of_known (λ x. DecryptsText limits answers x (moved (Some []) (Some text)) (Ok done)) source b come decrypts
+    let h = of_known (λ x. DecryptsText limits answers x (move_of (Some []) (Some text))
+    (Ok done)) source b come decrypts
     in
-    h.3 ∙ ap (λ (v : Reading Fault). v.front) (once h.0 (whole plain) h.1 is)
+    h.3 ∙ ap (λ (v : Reading Fault). v.plaintext) (once h.0 (whole plain) h.1 is)
 
 -- what is read whole has no fault
 no_fault : (limits : Bounds) (answers : Answering) (b plain : Bytes) (fault : Fault) (old new : Known)
     → IsOnce limits answers b
-    → IsVerdict limits answers b (whole plain) → GivesVerdict limits answers b (moved old new) (Err fault) → ⊥
+    → IsVerdict limits answers b (whole plain) → GivesVerdict limits answers b (move_of old new) (Err fault) → ⊥
 no_fault limits answers b plain fault old new once is h =
     none-some fault (ap (λ (v : Reading Fault). v.fault) (once (whole plain) h.0 is h.1) ∙ h.2)
 
 pub lost_of_whole : (limits : Bounds) (answers : Answering) (b plain : Bytes) (fault : Fault) (old new : Known)
     → IsOnce limits answers b
     → IsVerdict limits answers b (whole plain) → CountsFaultIf is_read 0 0 fault
-    → DecryptsText limits answers b (moved old new) (Err fault) → IsMemoryFault fault
+    → DecryptsText limits answers b (move_of old new) (Err fault) → IsMemoryFault fault
 lost_of_whole limits answers b plain OutOfMemory old new once is count h = inl refl
 lost_of_whole limits answers b plain Write old new once is count h = inr refl
 lost_of_whole limits answers b plain Read old new once is count h = absurd (omega arith)
@@ -78,17 +79,17 @@ pub lost_of_one : {X : Type 0} {limits : Bounds} (meaning : X → List StanzaPar
     → IsVerdict limits (λ s. meaning x s ∷ []) b (whole plain)
     → CountsFaultIf is_read 0 0 fault
     → {source : Flow} → source.before.to_come ≡ Some b
-    → Decrypts limits (λ s. map (λ i. meaning i s) xs) source (moved old new) (Err fault) → IsMemoryFault fault
+    → Decrypts limits (λ s. map (λ i. meaning i s) xs) source (move_of old new) (Err fault) → IsMemoryFault fault
 lost_of_one {limits} meaning {x} {b} {plain} {fault} old new list once is count {source} come h =
     lost_of_whole limits (λ s. meaning x s ∷ []) b plain fault old new once is count
-    (of_known (λ z. DecryptsText limits (λ s. meaning x s ∷ []) z (moved old new) (Err fault)) source b come
-    (subst (λ z. Decrypts limits (λ s. map (λ i. meaning i s) z) source (moved old new) (Err fault)) list h))
+    (of_known (λ z. DecryptsText limits (λ s. meaning x s ∷ []) z (move_of old new) (Err fault)) source b come
+    (subst (λ z. Decrypts limits (λ s. map (λ i. meaning i s) z) source (move_of old new) (Err fault)) list h))
 
 -- why no file was written from memory
 unwritten : (limits : Bounds) (fresh : Fresh) (gathered : Gathering) (plain : Bytes) (fault : Fault) (old new : Known)
     → CountsFaultIf is_read 0 0 fault
     → RefusesFirst limits fresh.file_key gathered fault
-    → EncryptsText limits fresh gathered plain (moved old new) (Err fault)
+    → EncryptsText limits fresh gathered plain (move_of old new) (Err fault)
     → IsUnwritten (IsRefusal limits fresh.file_key gathered) limits plain fault
 unwritten limits fresh gathered plain OutOfMemory old new count refused h = inl (inl refl)
 unwritten limits fresh gathered plain Write old new count refused h = inl (inr refl)
@@ -102,14 +103,15 @@ pub unwritten_of_one : {X : Type 0} (limits : Bounds) (fresh : Fresh) (wraps : X
     (old new : Known) → xs ≡ x ∷ [] → CountsFaultIf is_read 0 0 fault
     → RefusesFirst limits fresh.file_key (Gathered (map wraps xs) (map labels xs)) fault
     → {source : Flow} → source.before.to_come ≡ Some plain
-    → EncryptsGiven limits fresh (Gathered (map wraps xs) (map labels xs)) source (moved old new) (Err fault)
+    → EncryptsGiven limits fresh (Gathered (map wraps xs) (map labels xs)) source (move_of old new) (Err fault)
     → IsUnwritten (IsRefusal limits fresh.file_key (Gathered (wraps x ∷ []) (labels x ∷ []))) limits plain fault
 unwritten_of_one limits fresh wraps labels {x} {plain} {fault} old new list count refused {source} come h =
     unwritten limits fresh (Gathered (wraps x ∷ []) (labels x ∷ [])) plain fault old new count
     (subst (λ z. RefusesFirst limits fresh.file_key (Gathered (map wraps z) (map labels z)) fault) list refused)
-    (of_known (λ z. EncryptsText limits fresh (Gathered (wraps x ∷ []) (labels x ∷ [])) z (moved old new) (Err fault))
+    (of_known (λ z. EncryptsText limits fresh (Gathered (wraps x ∷ []) (labels x ∷ [])) z (move_of old new) (Err fault))
     source plain come
-    (subst (λ z. EncryptsGiven limits fresh (Gathered (map wraps z) (map labels z)) source (moved old new) (Err fault))
+    (subst (λ z. EncryptsGiven limits fresh (Gathered (map wraps z) (map labels z)) source (move_of old new)
+    (Err fault))
     list h))
 
 -- a loss where no header is refused

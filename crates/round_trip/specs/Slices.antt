@@ -1,7 +1,7 @@
 -- Ranges of a plaintext, read one after another.
 use Rattle.std.specs.Prelude.{ℕ, ◌≡◌, ◌*◌, ◌<◌, ◌++◌, ◌⊎◌, List, ⊤, None, length, take, drop, flat_map, Result, Ok, Err}
 use Rattle.age_stream.specs.declared.layout.Layout.{Layout}
-use Rattle.age_stream.specs.Ranges.{HasPlain, RangeState, opens_to, range_len}
+use Rattle.age_stream.specs.Ranges.{HasPlain, RangeState, source_opening, range_len}
 use Rattle.age_stream.specs.Sizes.{chunk_size}
 use Rattle.age_file.specs.declared.fault.Fault.{Fault}
 use Rattle.age_file.specs.declared.fault.Fault.TheVariants.{BadChunk, OutOfMemory, Read}
@@ -21,7 +21,7 @@ pub record IsSliced (told : Known) (layout : Layout) (plain : Bytes) : Type 0 wh
   pub len : layout.plain ≡ length plain
   pub slice : (at : ℕ) (xs : Bytes) → HasPlain told layout at xs
       → xs ≡ take (length xs) (drop at plain)
-  pub opens : (i : ℕ) → chunk_size * i < length plain → opens_to told layout i ≡ None → ⊥
+  pub opens : (i : ℕ) → chunk_size * i < length plain → source_opening told layout i ≡ None → ⊥
 
 -- a range of an opened file was appended; or an allocation was refused, a read failed, or a chunk
 -- of it does not open
@@ -32,4 +32,4 @@ AddsPart told s at len old new (Ok _) =
     × (new ≡ old ++ xs)
 AddsPart told s at len old new (Err fault) =
     (fault ≡ OutOfMemory) ⊎ ((fault ≡ Read) ⊎ ((i : ℕ) × (fault ≡ BadChunk i)
-    × (chunk_size * i < s.layout.plain) × (opens_to told s.layout i ≡ None)))
+    × (chunk_size * i < s.layout.plain) × (source_opening told s.layout i ≡ None)))

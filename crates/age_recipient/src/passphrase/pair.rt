@@ -34,7 +34,7 @@ impl PassPair {
         work: u8,
         max: u8,
     ) -> Result<PassPair, PassError>
-        // A pair's work factor is at most its maximum.
+        // A pair's work factor is from 1 to its maximum, and that at most 30.
         ensures fits { IfOk result (λ _. PairFits work max) }
         // The recipient that these arguments make.
         ensures recipient { IfOk result (λ pair. ⟦<PassPair as Matched>⟧.the_recipient pair

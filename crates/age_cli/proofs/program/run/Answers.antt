@@ -1,5 +1,5 @@
-use Rattle.std.proofs.Common.{ap, refl, inl, inr, map}
-use Rattle.age_cli.proofs.ProgramLemmas.{answered, failed, refused, stays_known}
+use Rattle.std.proofs.Common.{◌≡◌, ap, refl, inl, inr, map}
+use Rattle.age_cli.proofs.ProgramLemmas.{answered, failed, refused, stays_known, unused}
 use Rattle.age_cli.proofs.program.run.Goals as goal
 
 pub returns-in-Ok-clause-finishes : goal.returns-in-Ok-clause-finishes
@@ -19,19 +19,28 @@ returns-in-Ok-clause-begins g c =
 
 pub returns-in-Err-clause-refused : goal.returns-in-Err-clause-refused
 returns-in-Err-clause-refused g c = λ two.
-    let r = refused (map (λ word. word.now) c.args.words.now) _ c.in-Err.fault c.answer_refusal.result
-    c.in-Err.ensures.reads c.answer_refusal.ensures.answers two in
+    let r = refused (map (λ word. word.now) c.args.words.now) (c.answer_refusal.new.out ≡ c.args.out.now)
+    c.in-Err.fault c.answer_refusal.result c.in-Err.ensures.reads c.answer_refusal.ensures.answers two in
     (refl, r.0, r.1)
 
 pub returns-in-Err-clause-finishes : goal.returns-in-Err-clause-finishes
 returns-in-Err-clause-finishes g c = λ none.
-    inl (answered (map (λ word. word.now) c.args.words.now) _ c.in-Err.fault c.answer_refusal.result
-    c.in-Err.ensures.reads c.answer_refusal.ensures.answers none)
+    inl (answered (map (λ word. word.now) c.args.words.now) (c.answer_refusal.new.out ≡ c.args.out.now)
+    c.in-Err.fault c.answer_refusal.result c.in-Err.ensures.reads c.answer_refusal.ensures.answers none)
 
 pub returns-in-Err-clause-begins : goal.returns-in-Err-clause-begins
 returns-in-Err-clause-begins g c = λ one.
-    elim (failed (map (λ word. word.now) c.args.words.now) _ c.in-Err.fault c.answer_refusal.result
-    c.in-Err.ensures.reads c.answer_refusal.ensures.answers one) [
+    elim (failed (map (λ word. word.now) c.args.words.now) (c.answer_refusal.new.out ≡ c.args.out.now)
+    c.in-Err.fault c.answer_refusal.result c.in-Err.ensures.reads c.answer_refusal.ensures.answers one) [
       | inl asks ↦ inl asks
       | inr same ↦ inr (inl (stays_known (ap g.W.Write.contents same)))
     ]
+
+pub returns-in-Ok-clause-streams : goal.returns-in-Ok-clause-streams
+returns-in-Ok-clause-streams g c =
+    inr (inr (c.in-Ok.job, c.in-Ok.ensures.reads, c.run_job.ensures.input, c.run_job.ensures.output))
+
+pub returns-in-Err-clause-streams : goal.returns-in-Err-clause-streams
+returns-in-Err-clause-streams g c =
+    unused (map (λ word. word.now) c.args.words.now) c.in-Err.fault c.answer_refusal.result c.in-Err.ensures.reads
+    c.answer_refusal.ensures.answers refl

@@ -3,9 +3,7 @@ use Rattle.age_commands.proofs.OutputLemmas.{prefix_left, prefix_flushed}
 use Rattle.age_commands.proofs.buffered_sink.flush.Goals as goal
 
 pub returns-in_err-write_held-clause-part : goal.returns-in_err-write_held-clause-part
-returns-in_err-write_held-clause-part g c =
-    let prefix = prefix_left _ _ _ _ c.write_held.ensures.bytes in
-    search rules
+returns-in_err-write_held-clause-part g c = search (rules, prefix_left, c.write_held.ensures.bytes)
 
 pub returns-in-Err-clause-part : goal.returns-in-Err-clause-part
 returns-in-Err-clause-part g c = search (prefix_flushed, c.write_held.ensures.bytes, c.flush.ensures.bytes)

@@ -23,5 +23,6 @@ returns-clause-bytes g c =
     c.truncate.ensures.items ∙ ap (take left) moved ∙ ap (λ k. take k (paste all 0 (drop n all) left)) from_none
     ∙ prefix
     ∙ ap (drop n) c.as_mut_slice.ensures.value in
-    append_known-moved _ _ _ _ _ (rw same at c.write_out-written.ensures.bytes)
-    (sym (take-append-drop n held) ∙ ap (λ l. take n held ++ l) (sym rest))
+    let all : held ≡ take n held ++ c.truncate.new.self.items =
+    sym (take-append-drop n held) ∙ ap (λ l. take n held ++ l) (sym rest) in
+    search (append_known-moved, rw same at c.write_out-written.ensures.bytes, all)

@@ -12,7 +12,9 @@ loop-written-preserved g c =
     let whole : take (length bytes - written) rest ≡ rest =
     take_all (length bytes - written) rest (omega (arith, length-drop written bytes)) in
     let more = rw whole at c.in-Ok.ensures.bytes.0 in
-    let both = Appends-trans _ _ _ (take written bytes) (take c.in-Ok.n rest) c.loop-written.invariant.appended more in
+    let has = g.W.Write.contents in
+    let both = Appends-trans (has c.args.out.now) (has c.loop-written.out) (has c.write_some.new.out)
+    (take written bytes) (take c.in-Ok.n rest) c.loop-written.invariant.appended more in
     record {
       within = omega (arith, length-drop written bytes, c.in-Ok.ensures.bound);
       appended = rw (take-add written c.in-Ok.n bytes) both;

@@ -1,19 +1,16 @@
-use Rattle.std.proofs.Common.{[], ap, sym, ◌∙◌}
-use Rattle.std.proofs.lemmas.List.{get_or_default}
+use Rattle.age_recipient.specs.Answer.{decision_from}
 use Rattle.age_recipient.specs.KeyedHolders.{key_unwraps}
-use Rattle.age_recipient.proofs.AnswerLemmas.{decided_step}
+use Rattle.age_commands.proofs.SecretLemmas.{keys_step}
 use Rattle.age_commands.proofs.identity.unwrap_by_keys.Goals as goal
 
 pub returns-in-Err : goal.returns-in-Err
 returns-in-Err c =
-    let answer = c.in_ok-unwrap.ensures ∙ ap (λ k. key_unwraps k c.args.stanzas.now) c.new.ensures in
-    let low = c.loop-key-test.true in
-    sym (c.in-Err.ensures.decides _) ∙ (sym
-    (decided_step _ _ _ low (get_or_default _ _ [] _ low) answer) ∙ c.loop-key.invariant)
+    let answer = rw c.new.ensures at c.in_ok-unwrap.ensures in
+    keys_step (λ k. key_unwraps k c.args.stanzas.now) c.args.keys.now c.loop-key.so_far (λ more. c.in-Err.decision)
+    c.loop-key-test.true answer c.in-Err.ensures.decides c.loop-key.invariant
 
 pub loop-key-preserved : goal.loop-key-preserved
 loop-key-preserved c =
-    let answer = c.in_ok-unwrap.ensures ∙ ap (λ k. key_unwraps k c.args.stanzas.now) c.new.ensures in
-    let low = c.loop-key-test.true in
-    sym (c.in-Ok.ensures.continues _) ∙ (sym
-    (decided_step _ _ _ low (get_or_default _ _ [] _ low) answer) ∙ c.loop-key.invariant)
+    let answer = rw c.new.ensures at c.in_ok-unwrap.ensures in
+    keys_step (λ k. key_unwraps k c.args.stanzas.now) c.args.keys.now c.loop-key.so_far (decision_from c.in-Ok.next)
+    c.loop-key-test.true answer c.in-Ok.ensures.continues c.loop-key.invariant

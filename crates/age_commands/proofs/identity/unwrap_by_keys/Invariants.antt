@@ -1,11 +1,11 @@
 -- What is decided so far, and by the keys to come.
 use Rattle.std.proofs.Common.{◌≡◌, map, drop}
-use Rattle.age_recipient.specs.Answer.{decided_from}
+use Rattle.age_recipient.specs.Answer.{decision_from}
 use Rattle.age_recipient.specs.KeyedHolders.{key_unwraps}
 use Rattle.age_commands.specs.Secret.{keys_unwrap}
 use Rattle.age_commands.proofs.identity.unwrap_by_keys.Given as goal
 
 abbrev pub invariant-loop-key : goal.invariant-loop-key
 invariant-loop-key l =
-    decided_from l.so_far (drop l.key-index (map (λ key. key_unwraps key l.stanzas) l.keys))
+    decision_from l.so_far (drop l.key-index (map (λ key. key_unwraps key l.stanzas) l.keys))
     ≡ keys_unwrap l.keys l.stanzas

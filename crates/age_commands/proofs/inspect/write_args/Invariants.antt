@@ -1,10 +1,10 @@
 use Rattle.std.proofs.Common.{map, take}
 use Rattle.std.specs.String.{string_bytes}
 use Rattle.std.specs.Io.KnownBytes.{Appends}
-use Rattle.age_commands.specs.Inspect.{spaced}
+use Rattle.age_commands.specs.Inspect.{spaced_arguments}
 use Rattle.age_commands.proofs.inspect.write_args.Given as goal
 
 abbrev pub invariant-loop-arg : goal.invariant-loop-arg
 invariant-loop-arg g l =
     Appends (g.W.Write.contents l.fn.out) (g.W.Write.contents l.out)
-    (spaced (map string_bytes (take l.arg-index l.args)))
+    (spaced_arguments (map string_bytes (take l.arg-index l.args)))

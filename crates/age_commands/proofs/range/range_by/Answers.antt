@@ -1,5 +1,5 @@
-use Rattle.std.proofs.Common.{◌∙◌, rules, subst, sym}
-use Rattle.age_header.specs.Device.{CountsIf, moved}
+use Rattle.std.proofs.Common.{◌≡◌, ◌∙◌, ◌∷◌, [], rules, subst, sym}
+use Rattle.age_header.specs.Device.{CountsIf, move_by}
 use Rattle.age_file.specs.Device.{is_read}
 use Rattle.age_commands.specs.Range.{WritesAny}
 use Rattle.age_commands.proofs.RangeLemmas.{ranged, unopened}
@@ -8,39 +8,41 @@ use Rattle.age_commands.proofs.range.range_by.Goals as goal
 
 pub returns-in-Ok-opened_ranges-clause-known : goal.returns-in-Ok-opened_ranges-clause-known
 returns-in-Ok-opened_ranges-clause-known g c =
-    ranged (λ i. (goal.Identity-dyn g (i.vtable, i.value)).meaning i.value) c.args.identity
-    c.args.job.now.at c.args.job.now.len _ _ _ _ (search rules)
-    c.limits_of.ensures c.in-Ok-opened_ranges.ensures.ranges.0
-    (rw c.as_slice.ensures.value at c.in-Ok-opened_ranges.ensures.ranges.1) c.write_range-written.ensures.known
+    let one : c.as_slice.result.now ≡ c.args.identity ∷ [] = search rules in
+    let opened = c.in-Ok-opened_ranges.ensures.ranges in
+    let given = g.D.ReadAt.given in
+    let sink = move_by g.W.Sink.taken c.args.out.now c.write_range-written.new.out in
+    ranged (λ i. (goal.Identity-dyn g (i.vtable, i.value)).meaning i.value) c.args.identity c.args.job.now.at
+    c.args.job.now.len (given c.args.input.now) (given c.in-Ok-opened_ranges.reader.dev.now) sink
+    c.write_range-written.result one c.limits_of.ensures opened.0 opened.1 c.write_range-written.ensures.known
 
 pub returns-in-Ok-opened_ranges-clause-any : goal.returns-in-Ok-opened_ranges-clause-any
 returns-in-Ok-opened_ranges-clause-any g c =
     let same = c.into_inner-source.ensures.same_reference ∙ c.write_range-written.ensures.same_reference
     ∙ c.in-Ok-opened_ranges.ensures.same_reference in
-    verified.ranged (λ i. (goal.Identity-dyn g (i.vtable, i.value)).meaning i.value)
-    c.args.identity _ (search rules)
-    c.limits_of.ensures (rw c.as_slice.ensures.value at c.in-Ok-opened_ranges.ensures.ranges.2)
+    let one : c.as_slice.result.now ≡ c.args.identity ∷ [] = search rules in
+    verified.ranged (λ i. (goal.Identity-dyn g (i.vtable, i.value)).meaning i.value) c.args.identity
+    c.in-Ok-opened_ranges.reader.dev.now one c.limits_of.ensures c.in-Ok-opened_ranges.ensures.ranges.2
     (subst (λ d. WritesAny (g.D.ReadAt.gave d) c.in-Ok-opened_ranges.reader.chunks c.args.job.now.at c.args.job.now.len
-    (moved (g.W.Sink.taken c.args.out.now) (g.W.Sink.taken c.write_range-written.new.out)) c.write_range-written.result)
+    (move_by g.W.Sink.taken c.args.out.now c.write_range-written.new.out) c.write_range-written.result)
     (sym c.into_inner-source.ensures.unchanged ∙ (search rules))
     (c.write_range-written.ensures.any c.in-Ok-opened_ranges.ensures.ranges.3))
 
 pub returns-clause-known : goal.returns-clause-known
 returns-clause-known g c =
+    let one : c.as_slice.result.now ≡ c.args.identity ∷ [] = search rules in
     rw c.fault.ensures.fault
     (unopened (λ i. (goal.Identity-dyn g (i.vtable, i.value)).meaning i.value) c.args.identity
-    c.args.job.now.at c.args.job.now.len _ _ (search rules)
-    c.limits_of.ensures (rw c.as_slice.ensures.value at c.in-Err.ensures.refuses.misses))
+    c.args.job.now.at c.args.job.now.len (g.D.ReadAt.bytes c.args.input.now) (g.W.Sink.taken c.args.out.now) one
+    c.limits_of.ensures c.in-Err.ensures.refuses.misses)
 
 pub returns-clause-any : goal.returns-clause-any
 returns-clause-any g c =
-    rw c.fault.ensures.fault
-    (verified.unopened c.args.job.now.at c.args.job.now.len c.in-Err.ensures.refuses.named)
+    rw c.fault.ensures.fault (verified.unopened c.args.job.now.at c.args.job.now.len c.in-Err.ensures.refuses.named)
 
 pub returns-clause-writes : goal.returns-clause-writes
 returns-clause-writes g c =
-    rw c.fault.ensures.fault
-    (verified.opens_unwritten _ c.in-Err.ensures.refuses.named)
+    rw c.fault.ensures.fault (search (verified.opens_unwritten, c.in-Err.ensures.refuses.named))
 
 pub returns-in-Ok-opened_ranges-clause-reads : goal.returns-in-Ok-opened_ranges-clause-reads
 returns-in-Ok-opened_ranges-clause-reads g c =

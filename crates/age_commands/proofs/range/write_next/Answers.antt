@@ -1,4 +1,4 @@
-use Rattle.std.proofs.Common.{rules, inr, refl}
+use Rattle.std.proofs.Common.{drop, rules, inr, refl}
 use Rattle.age_commands.proofs.RangeLemmas.{stopped, written, written_part}
 use Rattle.age_commands.proofs.VerifiedLemmas as verified
 use Rattle.age_commands.proofs.range.write_next.Goals as goal
@@ -9,15 +9,15 @@ returns-in-Err-clause-known g c = λ sound.
 
 pub returns-in-Ok-write_all-clause-known : goal.returns-in-Ok-write_all-clause-known
 returns-in-Ok-write_all-clause-known g c = λ sound.
-    written c.read_range.new.buf _ (search rules) (c.in-Ok.ensures.reads.filled.1 sound)
-    c.in-Ok-write_all.ensures.text
+    search (rules, written, c.in-Ok.ensures.reads.filled.1 sound, c.in-Ok-write_all.ensures.text)
 
 pub returns-in-Err-write_all-clause-known : goal.returns-in-Err-write_all-clause-known
 returns-in-Err-write_all-clause-known g c = λ sound.
+    let rest = drop c.min-most.result c.args.piece.now in
     inr (
       inr refl,
-      written_part _ c.read_range.new.buf _ (search rules)
-          (c.in-Ok.ensures.reads.filled.1 sound) (search rules) c.in-Err-write_all.ensures.text.1,
+      written_part c.read_range.new.buf rest (search rules)
+          (c.in-Ok.ensures.reads.filled.1 sound) (search rules) c.in-Err-write_all.ensures.text,
     )
 
 pub returns-in-Err-clause-any : goal.returns-in-Err-clause-any
@@ -26,12 +26,12 @@ returns-in-Err-clause-any g c = λ keeps.
 
 pub returns-in-Ok-write_all-clause-any : goal.returns-in-Ok-write_all-clause-any
 returns-in-Ok-write_all-clause-any g c = λ keeps.
-    verified.written c.read_range.new.buf _ (search rules)
-    (c.in-Ok.ensures.reads.verified keeps) c.in-Ok-write_all.ensures.text
+    search (rules, verified.written, c.in-Ok.ensures.reads.verified keeps, c.in-Ok-write_all.ensures.text)
 
 pub returns-in-Err-write_all-clause-any : goal.returns-in-Err-write_all-clause-any
-returns-in-Err-write_all-clause-any g c = λ keeps. (
-  inr (inr refl),
-  verified.written_part _ c.read_range.new.buf _ (search rules)
-      (c.in-Ok.ensures.reads.verified keeps) (search rules) c.in-Err-write_all.ensures.text.1,
-)
+returns-in-Err-write_all-clause-any g c = λ keeps.
+    let rest = drop c.min-most.result c.args.piece.now in (
+      inr (inr refl),
+      verified.written_part c.read_range.new.buf rest (search rules)
+          (c.in-Ok.ensures.reads.verified keeps) (search rules) c.in-Err-write_all.ensures.text,
+    )

@@ -1,7 +1,5 @@
-use Rattle.std.proofs.Common.{◌≤◌, ◌<◌, ◌≡◌, ◌∙◌, ◌+◌, ◌-◌, ◌%◌, ℕ, ap, arith, min, subst, sym}
-use Rattle.age_header.specs.Device.{Known}
+use Rattle.std.proofs.Common.{◌≤◌, ◌<◌, ◌≡◌, ◌∙◌, ◌+◌, ◌-◌, ◌%◌, ℕ, ap, arith, min}
 use Rattle.age_stream.specs.declared.layout.Layout.{Layout}
-use Rattle.age_stream.specs.Ranges.{IsSound}
 use Rattle.age_stream.specs.Sizes.{chunk_size}
 use Rattle.age_commands.proofs.RangeLemmas.{failed_on, joined, some_on, whole_on}
 use Rattle.age_commands.proofs.VerifiedLemmas as verified
@@ -17,10 +15,8 @@ returns-in-Err-clause-any g c = λ keeps.
 pub returns-in-Err-clause-known : goal.returns-in-Err-clause-known
 returns-in-Err-clause-known g c = λ sound.
     let inv = c.loop-left.invariant in
-    failed_on c.args.at c.args.len c.loop-left.at c.loop-left.left inv.stay inv.same inv.end inv.begin
-    inv.some inv.whole (inv.written sound)
-    (c.in-Err.ensures.known (subst (λ (k : Known). IsSound k c.loop-left.reader.chunks) (sym inv.stay)
-    (inv.sound sound)))
+    failed_on c.args.at c.args.len c.loop-left.at c.loop-left.left inv.stay inv.same inv.end inv.begin inv.some
+    inv.whole (inv.written sound) (c.in-Err.ensures.known (rw inv.stay (inv.sound sound)))
 
 pub loop-left-preserved : goal.loop-left-preserved
 loop-left-preserved g c =
@@ -41,15 +37,12 @@ loop-left-preserved g c =
       same_reference = c.write_next.ensures.same_reference ∙ inv.same_reference;
       stay = c.in-Ok.ensures.stay ∙ inv.stay;
       same = c.in-Ok.ensures.same ∙ inv.same;
-      sound = λ sound. subst (λ (k : Known). IsSound k c.write_next.new.reader.chunks) inv.stay
-          (c.in-Ok.ensures.sound (subst (λ (k : Known). IsSound k c.loop-left.reader.chunks) (sym inv.stay)
-          (inv.sound sound)));
-      some = some_on _ _ _ number end begin inv.some;
-      whole = whole_on _ _ number;
+      sound = λ sound. rw inv.stay at (c.in-Ok.ensures.sound (rw inv.stay (inv.sound sound)));
+      some = search (some_on, number, end, begin, inv.some);
+      whole = search (whole_on, number);
       written = λ sound. joined c.args.at (c.loop-left.at - c.args.at) c.loop-left.at c.in-Ok.n
           (c.loop-left.at + c.in-Ok.n - c.args.at) inv.stay inv.same (omega arith) (omega arith) (inv.written sound)
-          (c.in-Ok.ensures.known (subst (λ (k : Known). IsSound k c.loop-left.reader.chunks) (sym inv.stay)
-          (inv.sound sound)));
+          (c.in-Ok.ensures.known (rw inv.stay (inv.sound sound)));
       given = λ at byte was. c.write_next.ensures.stays_given at byte (inv.given at byte was);
       keeps = λ keeps. c.write_next.ensures.keeps_verified (inv.keeps keeps);
       verified = λ keeps. verified.joined c.args.at (c.loop-left.at - c.args.at) c.loop-left.at c.in-Ok.n

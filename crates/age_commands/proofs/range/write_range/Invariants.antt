@@ -5,7 +5,7 @@ use Rattle.age_stream.specs.Sizes.{chunk_size}
 use Rattle.age_commands.specs.Range.{WritesPlain, WritesVerified}
 use Rattle.age_commands.proofs.RangeLemmas.{IsWhole}
 use Rattle.age_commands.proofs.range.write_range.Given as goal
-use Rattle.age_header.specs.Device.{moved_by}
+use Rattle.age_header.specs.Device.{move_by}
 
 abbrev pub invariant-loop-left : goal.invariant-loop-left
 invariant-loop-left g l =
@@ -23,13 +23,13 @@ invariant-loop-left g l =
       some : l.at - l.fn.at ≤ range_len s l.fn.at l.fn.len;
       whole : IsWhole s.layout.plain l.fn.at l.at l.left;
       written : IsSound told s
-          → WritesPlain told s.layout l.fn.at (l.at - l.fn.at) (moved_by g.W.Sink.taken l.fn.out l.out);
+          → WritesPlain told s.layout l.fn.at (l.at - l.fn.at) (move_by g.W.Sink.taken l.fn.out l.out);
       given : StaysGiven (g.D.ReadAt.gave l.fn.reader.dev.now) (g.D.ReadAt.gave l.reader.dev.now);
       keeps : KeepsVerified (g.D.ReadAt.gave l.fn.reader.dev.now) s
           → KeepsVerified (g.D.ReadAt.gave l.reader.dev.now) l.reader.chunks;
       verified : KeepsVerified (g.D.ReadAt.gave l.fn.reader.dev.now) s
           → WritesVerified (g.D.ReadAt.gave l.reader.dev.now) s.layout l.fn.at (l.at - l.fn.at)
-          (moved_by g.W.Sink.taken l.fn.out l.out);
+          (move_by g.W.Sink.taken l.fn.out l.out);
       reads : g.D.ReadAt.failed l.reader.dev.now ≡ g.D.ReadAt.failed l.fn.reader.dev.now;
       writes : g.W.Sink.failed l.out ≡ g.W.Sink.failed l.fn.out;
     }

@@ -9,8 +9,7 @@ loop-key-preserved c =
     let added : c.append.new.self.items ≡ c.loop-key.stanzas.items ++ c.in_ok-one.one.items = search rules in
     let wraps = rw c.new.ensures at c.in_ok-one.ensures in
     let one : c.in_ok-one.one.items ≡ keyed_stanza key c.args.salt c.args.file_key.now ∷ [] = cc wraps in
-    wrapped_more (λ k. keyed_stanza k c.args.salt c.args.file_key.now) c.args.keys.now c.loop-key.key-index
-    c.loop-key-test.true added one c.loop-key.invariant
+    search (wrapped_more, c.loop-key-test.true, added, one, c.loop-key.invariant)
 
 pub returns : goal.returns
 returns c =

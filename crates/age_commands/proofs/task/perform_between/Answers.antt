@@ -3,20 +3,21 @@ use Rattle.age_commands.proofs.VerifiedLemmas.{ranges_unseen}
 use Rattle.age_commands.proofs.task.perform_between.Goals as goal
 
 pub returns-in_default-clause-performs : goal.returns-in_default-clause-performs
-returns-in_default-clause-performs g c = no_memory c.args.job.now c.args.task _ _
+returns-in_default-clause-performs g c = search no_memory
 
 pub returns-in_default-file_source-clause-performs : goal.returns-in_default-file_source-clause-performs
-returns-in_default-file_source-clause-performs g c = no_memory c.args.job.now c.args.task _ _
+returns-in_default-file_source-clause-performs g c = search no_memory
 
 pub returns-in_default-header_source-clause-performs : goal.returns-in_default-header_source-clause-performs
-returns-in_default-header_source-clause-performs g c = no_memory c.args.job.now c.args.task _ _
+returns-in_default-header_source-clause-performs g c = search no_memory
 
 pub returns-in_default-source_at_offsets-clause-performs : goal.returns-in_default-source_at_offsets-clause-performs
-returns-in_default-source_at_offsets-clause-performs g c = no_memory c.args.job.now c.args.task _ _
+returns-in_default-source_at_offsets-clause-performs g c = search no_memory
 
 pub returns-in-Ok-source_at_offsets-clause-performs : goal.returns-in-Ok-source_at_offsets-clause-performs
 returns-in-Ok-source_at_offsets-clause-performs g c =
-    rw c.in-Range.is (ranges_unseen c.args.job.now c.in-Range.secret c.range_of.ensures.any)
+    rw c.in-Range.is (ranges_unseen c.args.job.now c.in-Range.secret (g.R.Read.remaining c.args.input.now)
+    c.range_of.ensures.any)
 
 pub returns-in_default-file_source-2-clause-performs : goal.returns-in_default-file_source-2-clause-performs
-returns-in_default-file_source-2-clause-performs g c = no_memory c.args.job.now c.args.task _ _
+returns-in_default-file_source-2-clause-performs g c = search no_memory

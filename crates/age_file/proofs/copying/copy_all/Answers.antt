@@ -5,10 +5,7 @@ use Rattle.age_file.proofs.copying.copy_all.Goals as goal
 
 pub returns-in-Ok-true-clause-copies : goal.returns-in-Ok-true-clause-copies
 returns-in-Ok-true-clause-copies g c =
-    copied_after _ _ (seen_by g.S.Source.to_come g.S.Source.gave c.copy_piece.new.input) _ _
-    (g.W.Sink.taken c.copy_piece.new.out) _
-    c.in-Ok-true.field-0 c.copy_pieces.result c.in-Ok-true.field-0-test c.in-Ok-true.ensures.copies
-    c.copy_pieces.ensures.copies
+    search (copied_after, c.in-Ok-true.field-0-test, c.in-Ok-true.ensures.copies, c.copy_pieces.ensures.copies)
 
 pub returns-in-Err-clause-copies : goal.returns-in-Err-clause-copies
 returns-in-Err-clause-copies g c =

@@ -1,5 +1,4 @@
-use Rattle.std.proofs.Common.{◌∙◌, length}
-use Rattle.age_header.specs.Device.{seen_by}
+use Rattle.std.proofs.Common.{◌∙◌}
 use Rattle.age_file.proofs.CopiesLemmas.{copied_all, copied_beyond, copied_failed, copied_more}
 use Rattle.age_file.proofs.copying.copy_pieces.Goals as goal
 
@@ -14,16 +13,12 @@ loop-copied-preserved g c = record {
 
 pub returns-in-Ok-false-clause-copies : goal.returns-in-Ok-false-clause-copies
 returns-in-Ok-false-clause-copies g c =
-    copied_all _ _ c.in-Ok-false.field-0 c.in-Ok-false.field-0-test
-    c.loop-copied.invariant.copied c.in-Ok-false.ensures.copies
+    search (copied_all, c.in-Ok-false.field-0-test, c.loop-copied.invariant.copied, c.in-Ok-false.ensures.copies)
 
 pub returns-in-Err-clause-copies : goal.returns-in-Err-clause-copies
 returns-in-Err-clause-copies g c =
-    copied_failed (length c.loop-copied.buf) (seen_by g.S.Source.to_come g.S.Source.gave c.copy_piece.new.input) _
-    c.in-Err.fault c.loop-copied.invariant.copied c.in-Err.ensures.copies
+    search (copied_failed, c.loop-copied.invariant.copied, c.in-Err.ensures.copies)
 
 pub returns-clause-copies : goal.returns-clause-copies
 returns-clause-copies g c =
-    copied_beyond (seen_by g.S.Source.to_come g.S.Source.gave c.loop-copied.input) c.loop-copied.copied
-    c.loop-copied-test.false
-    c.loop-copied.invariant.copied
+    search (copied_beyond, c.loop-copied-test.false, c.loop-copied.invariant.copied)

@@ -11,7 +11,7 @@ returns-in_err-write_header-clause-text g c =
       h.0,
       h.1,
       rw (err_from_is_err_and c.from_residual.result c.from_residual.ensures.1).1
-          (done_part _ h.0 c.args.nonce.now (done_start text) refl h.2),
+          (done_part (g.W.Sink.taken c.write_header.new.out) h.0 c.args.nonce.now (done_start text) refl h.2),
     )
 
 pub returns-clause-text : goal.returns-clause-text
@@ -19,4 +19,4 @@ returns-clause-text g c =
     let h = c.in_ok-write_header.ensures.text in
     let text : Bytes = h.0 ++ c.args.nonce.now in
     let one = done_more h.0 (done_start text) refl h.2 in
-    (h.0, h.1, writes_last _ c.write_all.result one c.write_all.ensures.text)
+    (h.0, h.1, search (writes_last, one, c.write_all.ensures.text))

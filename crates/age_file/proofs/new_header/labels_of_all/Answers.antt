@@ -6,8 +6,9 @@ loop-recipient-init g c = rw c.new-all.ensures.items tt
 
 pub loop-recipient-preserved : goal.loop-recipient-preserved
 loop-recipient-preserved g c =
-    collects _ _ _ c.loop-recipient-test.true c.recipient-item.is
-    c.in_ok-labels_of.ensures c.in_ok-push.ensures.items c.loop-recipient.invariant
+    let low = c.loop-recipient-test.true in
+    let items = c.in_ok-push.ensures.items in
+    search (collects, low, c.recipient-item.is, c.in_ok-labels_of.ensures, items, c.loop-recipient.invariant)
 
 pub returns : goal.returns
-returns g c = collects_all _ _ _ c.loop-recipient-test.false c.loop-recipient.invariant
+returns g c = search (collects_all, c.loop-recipient-test.false, c.loop-recipient.invariant)

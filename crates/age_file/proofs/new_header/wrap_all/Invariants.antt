@@ -1,10 +1,10 @@
 use Rattle.std.proofs.Common.{◌≡◌, map, drop}
-use Rattle.age_file.specs.NewFile.{preceded_by, gathered_from}
+use Rattle.age_file.specs.NewFile.{with_stanzas, gathering_from}
 use Rattle.age_file.proofs.new_header.wrap_all.Given as goal
 
 -- what was gathered, followed by what is left, is what there is to gather
 abbrev pub invariant-loop-i : goal.invariant-loop-i
 invariant-loop-i g l =
-    preceded_by l.all.items (gathered_from l.i
+    with_stanzas l.all.items (gathering_from l.i
     (drop l.i (map (λ r. (goal.Recipient-dyn g (r.vtable, r.value)).wraps r.value l.key) l.recipients)))
-    ≡ gathered_from 0 (map (λ r. (goal.Recipient-dyn g (r.vtable, r.value)).wraps r.value l.key) l.recipients)
+    ≡ gathering_from 0 (map (λ r. (goal.Recipient-dyn g (r.vtable, r.value)).wraps r.value l.key) l.recipients)

@@ -1,5 +1,5 @@
-use Rattle.std.proofs.Common.{◌∙◌, ap, drop, option_map, sym, subst}
-use Rattle.age_file.specs.Ranges.{AtState, GaveHeader, IsOpenFault, IsWithin, MissesHeader}
+use Rattle.std.proofs.Common.{◌∙◌, ap, drop, option_map, refl, sym, subst}
+use Rattle.age_file.specs.Ranges.{IsWithin}
 use Rattle.age_file.proofs.RangeLemmas.{range_header_found, header_gave, header_missed, header_named}
 use Rattle.age_file.proofs.ranges.header_at.Goals as goal
 
@@ -7,8 +7,7 @@ pub returns-in-Ok-clause-header : goal.returns-in-Ok-clause-header
 returns-in-Ok-clause-header g c =
     let told = ap g.D.ReadAt.bytes (sym c.into_parts-dev.ensures.unchanged) ∙ c.into_parts-dev.ensures.bytes in
     range_header_found c.args.limits.now g.K.Origin.bytes c.into_parts-dev.result.1 c.in-Ok.header
-    (ap (λ (s : AtState _). option_map (drop s.at) (g.D.ReadAt.bytes s.dev)) c.new-source.ensures
-    ∙ ap (option_map (drop 0)) (sym c.requires.bytes))
+    (rw (c.new-source.ensures, c.requires.bytes) refl)
     (ap (λ n. option_map (drop n) (g.D.ReadAt.bytes c.inspect.new.input.dev)) (sym c.into_parts-dev.ensures.at)
     ∙ ap (option_map (drop c.into_parts-dev.result.1)) told)
     (subst (λ t. IsWithin t c.into_parts-dev.result.1) c.into_parts-dev.ensures.bytes c.into_parts-dev.ensures.within)
@@ -16,20 +15,15 @@ returns-in-Ok-clause-header g c =
 
 pub returns-in-Ok-clause-first : goal.returns-in-Ok-clause-first
 returns-in-Ok-clause-first g c =
-    subst (λ n. GaveHeader c.args.limits.now (g.D.ReadAt.gave c.into_parts-dev.result.0.now) n c.in-Ok.header)
-    (sym c.into_parts-dev.ensures.at)
-    (subst (λ d. GaveHeader c.args.limits.now (g.D.ReadAt.gave d) c.inspect.new.input.at c.in-Ok.header)
-    (sym c.into_parts-dev.ensures.unchanged)
+    rw (c.into_parts-dev.ensures.at, c.into_parts-dev.ensures.unchanged)
     (header_gave (λ s. option_map (drop s.at) (g.D.ReadAt.bytes s.dev)) g.D.ReadAt.gave
-    (ap (λ (s : AtState _). s.at) c.new-source.ensures) c.in-Ok.ensures.verdict))
+    (rw c.new-source.ensures refl) c.in-Ok.ensures.verdict)
 
 pub returns-in-Err-clause-misses : goal.returns-in-Err-clause-misses
 returns-in-Err-clause-misses g c =
-    subst (MissesHeader c.args.limits.now g.K.Origin.bytes) (sym c.of.ensures.fault)
+    rw c.of.ensures.fault
     (header_missed c.args.limits.now g.K.Origin.bytes c.in-Err.fault
-    (ap (λ (s : AtState _). option_map (drop s.at) (g.D.ReadAt.bytes s.dev)) c.new-source.ensures
-    ∙ ap (option_map (drop 0)) (sym c.requires.bytes)) c.in-Err.ensures.verdict)
+    (rw (c.new-source.ensures, c.requires.bytes) refl) c.in-Err.ensures.verdict)
 
 pub returns-in-Err-clause-named : goal.returns-in-Err-clause-named
-returns-in-Err-clause-named g c = subst IsOpenFault (sym c.of.ensures.fault)
-    (header_named c.args.limits.now c.in-Err.fault c.in-Err.ensures.verdict)
+returns-in-Err-clause-named g c = rw c.of.ensures.fault (search (header_named, c.in-Err.ensures.verdict))

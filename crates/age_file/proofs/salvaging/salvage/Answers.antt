@@ -1,5 +1,7 @@
-use Rattle.std.proofs.Common.{Ok, Err}
-use Rattle.age_header.specs.Device.{seen_by}
+use Rattle.std.proofs.Common.{Err, sym}
+use Rattle.age_header.specs.Device.{move_by}
+use Rattle.age_stream.specs.Salvage.{losses_by}
+use Rattle.age_file.specs.Verdict.{answers_by}
 use Rattle.age_file.proofs.DecryptLemmas.{reads_file}
 use Rattle.age_file.proofs.SalvageLaws.{quiet_pieces}
 use Rattle.age_file.proofs.SalvageLemmas.{inspect_salvages, locked_salvages, payload_salvages, salvage_takes}
@@ -7,29 +9,32 @@ use Rattle.age_file.proofs.salvaging.salvage.Goals as goal
 
 pub returns-in-Err-clause-salvages : goal.returns-in-Err-clause-salvages
 returns-in-Err-clause-salvages g c =
-    inspect_salvages _ _ _ _ c.in-Err.ensures.verdict
+    search (inspect_salvages, c.in-Err.ensures.verdict)
 
 pub returns-in-Err-unlock_header-clause-salvages : goal.returns-in-Err-unlock_header-clause-salvages
 returns-in-Err-unlock_header-clause-salvages g c =
-    locked_salvages _ _ _ _ c.in-Ok.ensures.verdict c.in-Err-unlock_header.ensures.key
+    search (locked_salvages, c.in-Ok.ensures.verdict, c.in-Err-unlock_header.ensures.key)
 
 pub returns-in-Ok-salvage_payload-clause-salvages : goal.returns-in-Ok-salvage_payload-clause-salvages
 returns-in-Ok-salvage_payload-clause-salvages g c =
-    payload_salvages _ _ _ (Ok c.in-Ok-salvage_payload.salvaged) c.in-Ok.ensures.verdict
-    c.in-Ok-unlock_header.ensures.key c.max_chunks.ensures.value c.in-Ok-salvage_payload.ensures.salvages
+    let max = c.max_chunks.ensures.value in
+    let salvages = c.in-Ok-salvage_payload.ensures.salvages in
+    search (payload_salvages, c.in-Ok.ensures, c.in-Ok-unlock_header.ensures.key, max, salvages)
 
 pub returns-clause-salvages : goal.returns-clause-salvages
 returns-clause-salvages g c =
+    let answers = answers_by c.args.identities.now
+    (λ i s. (goal.Identity-dyn g (i.vtable, i.value)).meaning i.value s) in
     rw c.stream_fault.ensures
-    (payload_salvages _ _ _ (Err c.in-Err-salvage_payload.fault) c.in-Ok.ensures.verdict
-    c.in-Ok-unlock_header.ensures.key
-    c.max_chunks.ensures.value c.in-Err-salvage_payload.ensures.salvages)
+    (payload_salvages (Err c.in-Err-salvage_payload.fault) answers
+    (move_by g.W.Sink.taken c.args.out.now c.salvage_payload.new.out)
+    (losses_by g.L.Losses.lost c.args.losses.now c.salvage_payload.new.losses) c.in-Ok.ensures.verdict
+    c.in-Ok-unlock_header.ensures.key c.max_chunks.ensures.value c.in-Err-salvage_payload.ensures.salvages)
 
 pub returns-clause-took : goal.returns-clause-took
 returns-clause-took g c =
     rw c.stream_fault.ensures
-    (salvage_takes _ _ _ c.in-Err-salvage_payload.fault c.in-Ok.ensures.verdict c.max_chunks.ensures.value
-    c.in-Err-salvage_payload.ensures.took)
+    (search (salvage_takes, c.in-Ok.ensures, c.max_chunks.ensures, c.in-Err-salvage_payload.ensures))
 
 pub returns-clause-quiet : goal.returns-clause-quiet
 returns-clause-quiet g c =
@@ -38,6 +43,5 @@ returns-clause-quiet g c =
 
 pub returns-clause-reads : goal.returns-clause-reads
 returns-clause-reads g c =
-    rw c.stream_fault.ensures
-    (rw c.in-Ok.ensures.reads at
-    (reads_file _ c.in-Err-salvage_payload.fault c.in-Err-salvage_payload.ensures.reads))
+    rw (c.stream_fault.ensures, sym c.in-Ok.ensures.reads)
+    (search (reads_file, c.in-Err-salvage_payload.ensures.reads))

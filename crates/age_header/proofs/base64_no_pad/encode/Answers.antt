@@ -8,4 +8,4 @@ pub returns : goal.returns
 unfolding base64_of
 returns c =
     let plain = encode_of_unpadded c.args.engine.now c.args.bytes.now c.requires.unpadded c.requires.characters in
-    IfOk-weaker c.encode.result _ _ (λ text is. is ∙ plain) c.encode.ensures.text
+    search (IfOk-weaker, plain, ◌∙◌, c.encode.ensures.text)

@@ -11,10 +11,8 @@ loop-at-preserved g c =
     let whole : take (length p - at) (drop at p) ≡ drop at p =
     take_all (length p - at) (drop at p) (omega (arith, length-drop at p)) in
     let bytes = rw whole at c.in_ok-at.ensures.bytes.0 in
-    let both = Appends-trans _ _ _ (take at p) (take c.in_ok-at.field-0 (drop at p)) c.loop-at.invariant.written
-    bytes in
     record {
       within = omega (arith, length-drop at p, c.in_ok-at.ensures.bound);
-      written = rw (take-add at c.in_ok-at.field-0 p) both;
+      written = rw (take-add at c.in_ok-at.field-0 p) (search (Appends-trans, c.loop-at.invariant.written, bytes));
       count = c.in_ok-at.ensures.count ∙ c.loop-at.invariant.count;
     }

@@ -3,4 +3,4 @@ use Rattle.age_header.proofs.lines.read_line.Goals as goal
 
 pub returns-then-is_err-clause-lost : goal.returns-then-is_err-clause-lost
 returns-then-is_err-clause-lost g c =
-    some_then c.loop.invariant.bytes (record { bytes = _; grew = c.in-Ok.ensures.gave })
+    some_then c.loop.invariant.bytes (search (c.in-Ok.ensures.gave))

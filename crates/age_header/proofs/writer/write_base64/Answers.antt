@@ -1,5 +1,6 @@
-use Rattle.std.proofs.Common.{◌≡◌, length, arith}
+use Rattle.std.proofs.Common.{◌≡◌, length, take, arith}
 use Rattle.base64.specs.GeneralPurpose.{encoded_size_of}
+use Rattle.age_header.specs.Base64.{base64_of}
 use Rattle.age_header.proofs.TextLemmas.{encoded, encoded_size_plain}
 use Rattle.age_header.proofs.writer.write_base64.Goals as goal
 
@@ -8,5 +9,6 @@ returns-clause-text g c =
     let size = encoded_size_plain c.args.engine.now (length c.args.bytes.now) c.requires.plain in
     let len : c.in-Ok.len ≡ encoded_size_of c.args.engine.now (length c.args.bytes.now) =
     cc (c.in-Ok.ensures.fits (omega (arith, c.requires.short))) in
-    let same = encoded c.args.bytes.now _ c.requires.plain c.in-Ok.ensures.written len in
+    let same : take c.in-Ok.len c.encode_slice.new.output ≡ base64_of c.args.bytes.now =
+    search (encoded, c.requires.plain, c.in-Ok.ensures.written, len) in
     rw (← same) c.write_all.ensures.text

@@ -1,50 +1,55 @@
-use Rattle.std.proofs.Common.{◌∙◌, ◌++◌, flat_map, refl, codes, append_assoc}
+use Rattle.std.proofs.Common.{◌∙◌, ◌++◌, ◌+◌, drop, flat_map, refl, codes, append_assoc}
 use Rattle.std.proofs.lemmas.List.{drop_all}
 use Rattle.age_kdf.specs.Bytes.{Bytes}
 use Rattle.age_header.specs.Header.{argument_line, version_line}
-use Rattle.age_header.specs.Text.{body_text, stanza_text, signed}
+use Rattle.age_header.specs.Text.{body_text, stanza_text, signed_text}
 use Rattle.age_header.proofs.TextLemmas.{stanza_step}
 use Rattle.std.proofs.lemmas.Result.{err_from_is_err_and}
 use Rattle.age_header.proofs.DeviceLemmas.{done_start, done_more, done_part, writes_last}
 use Rattle.age_header.proofs.writer.write_signed.Goals as goal
 
 pub returns-in_err-write_all-clause-text : goal.returns-in_err-write_all-clause-text
-unfolding signed version_line
+unfolding signed_text version_line
 returns-in_err-write_all-clause-text g c =
     let ss = c.args.stanzas.now in
     let rest : Bytes = flat_map stanza_text ss ++ codes "---" in
     rw (err_from_is_err_and c.from_residual.result c.from_residual.ensures.1).1
-    (done_part _ version_line rest (done_start (signed ss))
+    (done_part (g.W.Sink.taken c.write_all.new.out) version_line rest (done_start (signed_text ss))
     (append_assoc version_line (flat_map stanza_text ss) (codes "---")) c.in_err-write_all.ensures.text)
 
 pub loop-stanza-init : goal.loop-stanza-init
-unfolding signed version_line
+unfolding signed_text version_line
 loop-stanza-init g c =
     let ss = c.args.stanzas.now in
     let rest : Bytes = flat_map stanza_text ss ++ codes "---" in
     record {
-      written = done_more version_line (done_start (signed ss))
+      written = done_more version_line (done_start (signed_text ss))
           (append_assoc version_line (flat_map stanza_text ss) (codes "---")) c.in_ok-write_all.ensures.text;
       count = c.in_ok-write_all.ensures.count;
     }
 
 pub returns-in_err-write_args-clause-text : goal.returns-in_err-write_args-clause-text
 returns-in_err-write_args-clause-text g c =
+    let rest : Bytes =
+    flat_map stanza_text (drop (c.loop-stanza.stanza-index + 1) c.args.stanzas.now) ++ codes "---" in
     let s = c.stanza-item.result in
     let step = stanza_step c.args.stanzas.now c.loop-stanza.stanza-index s c.loop-stanza-test.true c.stanza-item.is in
     let failed = rw c.args-in-loop-stanza.ensures.value at c.in_err-write_args.ensures.text in
     rw (err_from_is_err_and c.from_residual-in_err-write_args.result c.from_residual-in_err-write_args.ensures.1).1
-    (done_part _ (argument_line s.args) _ c.loop-stanza.invariant.written step failed)
+    (done_part (g.W.Sink.taken c.write_args.new.out) (argument_line s.args) (body_text s.body ++ rest)
+    c.loop-stanza.invariant.written step failed)
 
 pub returns-in_err-write_body-clause-text : goal.returns-in_err-write_body-clause-text
 returns-in_err-write_body-clause-text g c =
+    let rest : Bytes =
+    flat_map stanza_text (drop (c.loop-stanza.stanza-index + 1) c.args.stanzas.now) ++ codes "---" in
     let s = c.stanza-item.result in
     let step = stanza_step c.args.stanzas.now c.loop-stanza.stanza-index s c.loop-stanza-test.true c.stanza-item.is in
     let wrote = rw c.args-in-loop-stanza.ensures.value at c.in_ok-write_args.ensures.text in
     let one = done_more (argument_line s.args) c.loop-stanza.invariant.written step wrote in
     let failed = rw c.body.ensures.value at c.in_err-write_body.ensures.text in
     rw (err_from_is_err_and c.from_residual-in_err-write_body.result c.from_residual-in_err-write_body.ensures.1).1
-    (done_part _ (body_text s.body) _ one refl failed)
+    (done_part (g.W.Sink.taken c.write_body.new.out) (body_text s.body) rest one refl failed)
 
 pub loop-stanza-preserved : goal.loop-stanza-preserved
 loop-stanza-preserved g c =
@@ -62,4 +67,4 @@ pub returns-clause-text : goal.returns-clause-text
 returns-clause-text g c =
     let none = drop_all c.loop-stanza.stanza-index c.args.stanzas.now c.loop-stanza-test.false in
     let done = rw none at c.loop-stanza.invariant.written in
-    writes_last _ c.write_all-2.result done c.write_all-2.ensures.text
+    search (writes_last, done, c.write_all-2.ensures.text)

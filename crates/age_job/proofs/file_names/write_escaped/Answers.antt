@@ -9,5 +9,5 @@ pub returns : goal.returns
 returns g c = λ plain _.
     let end = YieldsList-end (YieldsList-from_chars c.args.text.now c.utf8.text cc) c.loop-c.yielded _
     c.loop-c.yielded_by _ _ c.in-None.is c.next.ensures.steps in
-    has_written_of_eq _ _ _ _ _ (ap (flat_map (escaped_char c.args.exact)) (sym (map-id c.loop-c.yielded) ∙ end.0))
-    (c.loop-c.invariant plain)
+    let same = ap (flat_map (escaped_char c.args.exact)) (sym (map-id c.loop-c.yielded) ∙ end.0) in
+    search (has_written_of_eq, same, c.loop-c.invariant plain)

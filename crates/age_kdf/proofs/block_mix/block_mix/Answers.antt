@@ -1,11 +1,11 @@
 use Rattle.std.proofs.Common.{◌≡◌, ◌+◌, ◌*◌, ◌-◌, ◌++◌, length, take, drop, arith, rules, ◌∙◌, ap, ap₂, refl}
 use Rattle.age_kdf.proofs.ListLemmas.{filled}
-use Rattle.age_kdf.specs.BlockMix.{mixed, evens, odds, block_mix}
+use Rattle.age_kdf.specs.BlockMix.{x_after, evens, odds, block_mix}
 use Rattle.age_kdf.proofs.BlockMixLemmas.{mixed_next, block_written, evens_next, odds_next}
 use Rattle.age_kdf.proofs.block_mix.block_mix.Goals as goal
 
 pub pairs-init : goal.pairs-init
-unfolding mixed evens odds
+unfolding x_after evens odds
 pairs-init c =
     let many : length c.args.from.now - (32 * c.args.r - 16) ≡ 16 = omega arith in
     let at_is : 32 * c.args.r - 16 ≡ 16 * (2 * c.args.r - 1) = omega arith in
@@ -20,13 +20,13 @@ pairs-preserved c =
     let r = c.args.r in
     let b = c.args.from.now in
     let i = c.pairs.i in
-    let first : c.mix.new.x ≡ mixed r b (2 * i + 1) =
+    let first : c.mix.new.x ≡ x_after r b (2 * i + 1) =
     mixed_next r b (2 * i) (32 * i) (2 * i + 1) c.pairs.invariant.x (omega arith) (omega arith) c.mix.ensures in
-    let second : c.mix-in-pairs.new.x ≡ mixed r b (2 * i + 2) =
+    let second : c.mix-in-pairs.new.x ≡ x_after r b (2 * i + 2) =
     mixed_next r b (2 * i + 1) (32 * i + 16) (2 * i + 2) first (omega arith) (omega arith) c.mix-in-pairs.ensures in
     let two : 2 * i + 2 ≡ 2 * (i + 1) = omega arith in
     record {
-      x = second ∙ ap (mixed r b) two;
+      x = second ∙ ap (x_after r b) two;
       even = evens_next r b i (block_written _ _ (16 * i) _ c.pairs.invariant.even (search rules)
           (omega arith) (omega (arith, c.pairs.auto.even, c.split_at_mut-even.ensures.front_len)))
           (c.copy_from_slice-in-pairs.ensures.after ∙ first);
@@ -38,9 +38,11 @@ pairs-preserved c =
 pub returns : goal.returns
 unfolding block_mix
 returns c =
-    let end : c.pairs.i ≡ c.args.r = omega arith in
+    let r = c.args.r in
+    let b = c.args.from.now in
+    let end : c.pairs.i ≡ r = omega arith in
     ap₂ ◌++◌
     (filled (omega (arith, c.pairs.auto.even, c.split_at_mut-even.ensures.front_len))
-    c.pairs.invariant.even ∙ ap (evens _ _) end)
+    c.pairs.invariant.even ∙ ap (evens r b) end)
     (filled (omega (arith, c.pairs.auto.odd, c.split_at_mut-even.ensures.back_len))
-    c.pairs.invariant.odd ∙ ap (odds _ _) end)
+    c.pairs.invariant.odd ∙ ap (odds r b) end)

@@ -1,21 +1,21 @@
 use Rattle.std.proofs.Common.{◌≡◌, ◌+◌, ◌*◌, ◌^◌, length, arith, ◌∙◌, ap, refl, suc, below_more}
 use Rattle.age_kdf.specs.BlockMix.{block_mix}
-use Rattle.age_kdf.specs.RoMix.{mixed_times, romix_after}
+use Rattle.age_kdf.specs.RoMix.{v_at, romix_after}
 use Rattle.age_kdf.proofs.RoMixLemmas.{look_turn}
 use Rattle.age_kdf.proofs.romix.romix.Goals as goal
 
 pub fill-init : goal.fill-init
-unfolding mixed_times
+unfolding v_at
 fill-init c = record { x = refl; table = λ j h. absurd (omega arith) }
 
 pub fill-preserved : goal.fill-preserved
-unfolding mixed_times
+unfolding v_at
 fill-preserved c =
     let before = c.fill.invariant in
     let next : suc c.fill.i ≡ c.fill.i + 1 = omega arith in
     record {
       x = c.copy_from_slice.ensures.after ∙ c.block_mix.ensures ∙ ap (block_mix c.args.r) before.x
-          ∙ ap (mixed_times c.args.r c.args.x.now) next;
+          ∙ ap (v_at c.args.r c.args.x.now) next;
       table = below_more _ _ (λ j h. c.put_row.ensures.below j h ∙ before.table j h)
           (c.put_row.ensures.here ∙ before.x);
     }
@@ -24,7 +24,7 @@ pub look-init : goal.look-init
 unfolding romix_after
 look-init c =
     let end : c.fill.i ≡ 2 ^ c.args.log_n = omega (arith, c.row_count-n.ensures.value) in
-    c.fill.invariant.x ∙ ap (mixed_times c.args.r c.args.x.now) end
+    c.fill.invariant.x ∙ ap (v_at c.args.r c.args.x.now) end
 
 pub look-preserved : goal.look-preserved
 look-preserved c =

@@ -1,12 +1,12 @@
 use Rattle.std.proofs.Common.{arith, rules, ◌∙◌, ap, refl, ◌≡◌, ◌+◌, ◌*◌, ◌^◌, take}
 use Rattle.age_kdf.proofs.ListLemmas.{filled}
-use Rattle.age_kdf.specs.Scrypt.{parts_mixed}
+use Rattle.age_kdf.specs.Scrypt.{mixed_parts}
 use Rattle.age_kdf.proofs.RoMixLemmas.{rows_apart}
 use Rattle.age_kdf.proofs.ScryptLemmas.{part_mixed}
 use Rattle.age_kdf.proofs.scrypt_kdf.mix_parts.Goals as goal
 
 pub each_part-init : goal.each_part-init
-unfolding parts_mixed
+unfolding mixed_parts
 each_part-init c =
     let none : 32 * c.args.r * 0 ≡ 0 = omega arith in
     record { done = ap (λ k. take k c.args.parts.now) none; rest = refl }
@@ -24,4 +24,4 @@ pub returns : goal.returns
 returns c =
     let end : c.each_part.i ≡ c.args.p = omega arith in
     filled (rw end (omega (arith, c.each_part.auto.parts))) c.each_part.invariant.done
-    ∙ ap (parts_mixed c.args.r (2 ^ c.args.log_n) c.args.parts.now) end
+    ∙ ap (mixed_parts c.args.r (2 ^ c.args.log_n) c.args.parts.now) end

@@ -1,6 +1,6 @@
 use Rattle.std.proofs.Common.{arith, ◌∙◌, ap, ap₂, ◌≡◌, ◌*◌, ◌^◌, length, []}
 use Rattle.age_kdf.specs.Pbkdf2.{pbkdf2}
-use Rattle.age_kdf.specs.Scrypt.{words_of, bytes_of, parts_mixed, scrypt}
+use Rattle.age_kdf.specs.Scrypt.{words_of, bytes_of, mixed_parts, scrypt}
 use Rattle.age_kdf.specs.HmacState.{IsFed}
 use Rattle.age_kdf.proofs.scrypt_kdf.scrypt_with.Goals as goal
 
@@ -21,6 +21,6 @@ returns c =
     rw (← c.log_n-log_n.ensures.value, ← c.r-r.ensures.value, ← c.p-p.ensures.value) (
     c.fill.ensures pass _ keyed (c.feed_words.ensures pass [] to_feed)
     ∙ ap (λ b. pbkdf2 pass (bytes_of b) 1 len)
-    (c.mix_parts.ensures ∙ ap (λ b. parts_mixed r n b p)
+    (c.mix_parts.ensures ∙ ap (λ b. mixed_parts r n b p)
     (c.load.ensures pass _ keyed (c.update.ensures pass [] to_salt)
     ∙ ap₂ (λ k m. words_of (pbkdf2 pass salt 1 k) m) bytes words)))

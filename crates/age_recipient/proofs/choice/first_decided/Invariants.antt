@@ -1,9 +1,9 @@
 use Rattle.std.proofs.Common.{◌≡◌, map, drop}
-use Rattle.age_recipient.specs.Answer.{decided, decided_from}
+use Rattle.age_recipient.specs.Answer.{decision, decision_from}
 use Rattle.age_recipient.proofs.choice.first_decided.Given as goal
 
 abbrev pub invariant-loop-identity : goal.invariant-loop-identity
 invariant-loop-identity g l =
-    decided_from l.so_far (drop l.identity-index
+    decision_from l.so_far (drop l.identity-index
     (map (λ b. (goal.Identity-dyn g (b.vtable, b.value)).meaning b.value l.stanzas) l.identities))
-    ≡ decided (map (λ b. (goal.Identity-dyn g (b.vtable, b.value)).meaning b.value l.stanzas) l.identities)
+    ≡ decision (map (λ b. (goal.Identity-dyn g (b.vtable, b.value)).meaning b.value l.stanzas) l.identities)

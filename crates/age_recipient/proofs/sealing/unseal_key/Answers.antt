@@ -1,22 +1,26 @@
 use Rattle.std.proofs.Common.{◌∙◌, [], sym, ap}
+use Rattle.std.specs.Option.{option_map_or}
 use Rattle.age_kdf.specs.Bytes.{Bytes}
-use Rattle.age_cipher.specs.Sealing.{opened}
-use Rattle.age_recipient.specs.Sealing.{key_answer, unsealed, zero_nonce}
+use Rattle.age_recipient.specs.declared.unwrapped.Unwrapped.TheVariants as answer
+use Rattle.age_cipher.specs.Sealing.{opened_text}
+use Rattle.age_recipient.specs.Sealing.{unsealed_key, zero_nonce}
 use Rattle.age_recipient.proofs.SealingLemmas.{joined}
 use Rattle.age_recipient.proofs.sealing.unseal_key.Goals as goal
 
 pub returns-then-open_in_place : goal.returns-then-open_in_place
-unfolding unsealed
+unfolding unsealed_key
 returns-then-open_in_place c =
     let e = rw c.if-open_in_place.true at c.open_in_place.ensures.opened in
     let whole = joined c.args.body.now c.split_at.ensures.front c.split_at.ensures.back
     c.copy_from_slice.ensures.after c.copy_from_slice-2.ensures.after in
-    sym (ap key_answer (ap (λ (z : Bytes). opened c.args.wrap_key.now zero_nonce [] z) (sym whole) ∙ e))
+    sym (ap (λ o. option_map_or (λ bytes. answer.Key (record { 0 = bytes })) o answer.Failed)
+    (ap (λ (z : Bytes). opened_text c.args.wrap_key.now zero_nonce [] z) (sym whole) ∙ e))
 
 pub returns : goal.returns
-unfolding unsealed
+unfolding unsealed_key
 returns c =
     let e = rw c.if-open_in_place.false at c.open_in_place.ensures.opened in
     let whole = joined c.args.body.now c.split_at.ensures.front c.split_at.ensures.back
     c.copy_from_slice.ensures.after c.copy_from_slice-2.ensures.after in
-    sym (ap key_answer (ap (λ (z : Bytes). opened c.args.wrap_key.now zero_nonce [] z) (sym whole) ∙ e))
+    sym (ap (λ o. option_map_or (λ bytes. answer.Key (record { 0 = bytes })) o answer.Failed)
+    (ap (λ (z : Bytes). opened_text c.args.wrap_key.now zero_nonce [] z) (sym whole) ∙ e))

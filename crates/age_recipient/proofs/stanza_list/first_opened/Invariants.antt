@@ -1,8 +1,8 @@
 use Rattle.std.proofs.Common.{◌≡◌, map, drop}
-use Rattle.age_recipient.specs.Answer.{decided, decided_from}
+use Rattle.age_recipient.specs.Answer.{decision, decision_from}
 use Rattle.age_recipient.proofs.stanza_list.first_opened.Given as goal
 
 abbrev pub invariant-loop-stanza : goal.invariant-loop-stanza
 invariant-loop-stanza g l =
-    decided_from l.so_far (drop l.stanza-index (map (g.O.Opener.gives l.opener) l.stanzas))
-    ≡ decided (map (g.O.Opener.gives l.opener) l.stanzas)
+    decision_from l.so_far (drop l.stanza-index (map (g.O.Opener.gives l.opener) l.stanzas))
+    ≡ decision (map (g.O.Opener.gives l.opener) l.stanzas)

@@ -1,4 +1,4 @@
-use Rattle.age_stream.proofs.SalvageReading.{payload_front, payload_whole}
+use Rattle.age_stream.proofs.SalvageReading.{payload_plaintext, payload_whole}
 use Rattle.age_stream.proofs.laws.salvage_is_reading.Goals as goal
 
 pub returns : goal.returns
@@ -6,5 +6,5 @@ returns c = record {
   whole = λ k text plain max is. (payload_whole k text plain max is).is;
   none = λ k text plain max is. (payload_whole k text plain max is).none 0;
   last = λ k text plain max is. (payload_whole k text plain max is).ends;
-  front = payload_front;
+  plaintext = payload_plaintext;
 }

@@ -1,7 +1,7 @@
 use Rattle.std.proofs.Common.{arith, ◌≡◌, ◌+◌, ◌-◌, ◌∙◌, ap, sym, refl, inr, take, [], Some, None}
 use Rattle.std.proofs.lemmas.Bool.{OnTrue_at, OnFalse_at}
 use Rattle.age_kdf.specs.Bytes.{Bytes}
-use Rattle.age_cipher.specs.Sealing.{opened}
+use Rattle.age_cipher.specs.Sealing.{opened_text}
 use Rattle.age_stream.specs.Slice.{chunk_len}
 use Rattle.age_stream.proofs.LoadLemmas.{open_there}
 use Rattle.age_stream.proofs.loading.load.Goals as goal
@@ -38,7 +38,7 @@ returns-then-open_prefix-clause-verified g c =
     record {
       piece = piece;
       read = OnTrue_at c.in-Ok-true.field-0-test c.in-Ok-true.ensures.read;
-      opens = ap (λ k. opened c.args.layout.key k [] piece) (sym c.chunk_nonce-nonce.ensures)
+      opens = ap (λ k. opened_text c.args.layout.key k [] piece) (sym c.chunk_nonce-nonce.ensures)
           ∙ OnTrue_at c.if-open_prefix.true c.open_prefix.ensures.opened
           ∙ ap (λ k. Some (take k c.open_prefix.new.bytes)) len;
     }

@@ -8,6 +8,7 @@ use Rattle.age_stream.specs.Sizes.{chunk_size, sealed_chunk_size, chunk_buf_size
 pub returns-in-Ok-open_chunk-clause-opens : goal.returns-in-Ok-open_chunk-clause-opens
 returns-in-Ok-open_chunk-clause-opens g c =
     let f = c.in-Ok.ensures.bytes in
+    let left = g.S.Source.to_come c.fill_from.new.input in
     let filled : Bytes = c.fill_from.new.buf in
     let ahead : Bytes = take c.args.ahead (drop sealed_chunk_size c.args.bytes.now) in
     let l : length (take c.in-Ok.n filled) ≡ c.in-Ok.n = length-take-le c.in-Ok.n filled (search rules) in
@@ -15,7 +16,7 @@ returns-in-Ok-open_chunk-clause-opens g c =
     inr (record {
       given = f.piece;
       gave = f.bytes;
-      filled = is_filled c.args.ahead c.in-Ok.n c.args.bytes.now f.piece _ c.requires.size c.requires.ahead f.len
+      filled = is_filled c.args.ahead c.in-Ok.n c.args.bytes.now f.piece left c.requires.size c.requires.ahead f.len
           (omega (arith, f.room, c.carry.ensures.len))
           (λ low. c.in-Ok.ensures.end (omega (arith, low, c.carry.ensures.len)));
       opens = (
@@ -29,6 +30,7 @@ returns-in-Ok-open_chunk-clause-opens g c =
 pub returns-in-Err-clause-opens : goal.returns-in-Err-clause-opens
 returns-in-Err-clause-opens g c =
     let f = c.in-Ok.ensures.bytes in
+    let left = g.S.Source.to_come c.fill_from.new.input in
     let filled : Bytes = c.fill_from.new.buf in
     let ahead : Bytes = take c.args.ahead (drop sealed_chunk_size c.args.bytes.now) in
     let l : length (take c.in-Ok.n filled) ≡ c.in-Ok.n = length-take-le c.in-Ok.n filled (search rules) in
@@ -36,7 +38,7 @@ returns-in-Err-clause-opens g c =
     inr (record {
       given = f.piece;
       gave = f.bytes;
-      filled = is_filled c.args.ahead c.in-Ok.n c.args.bytes.now f.piece _ c.requires.size c.requires.ahead f.len
+      filled = is_filled c.args.ahead c.in-Ok.n c.args.bytes.now f.piece left c.requires.size c.requires.ahead f.len
           (omega (arith, f.room, c.carry.ensures.len))
           (λ low. c.in-Ok.ensures.end (omega (arith, low, c.carry.ensures.len)));
       opens = outcome_last c.args.key.now c.args.max c.args.i ahead f.piece (take c.in-Ok.n filled) (omega arith) is
@@ -46,6 +48,7 @@ returns-in-Err-clause-opens g c =
 pub returns-in-Ok-open_chunk-2-clause-opens : goal.returns-in-Ok-open_chunk-2-clause-opens
 returns-in-Ok-open_chunk-2-clause-opens g c =
     let f = c.in-Ok.ensures.bytes in
+    let left = g.S.Source.to_come c.fill_from.new.input in
     let filled : Bytes = c.fill_from.new.buf in
     let ahead : Bytes = take c.args.ahead (drop sealed_chunk_size c.args.bytes.now) in
     let size : length filled ≡ chunk_buf_size = search rules in
@@ -58,7 +61,7 @@ returns-in-Ok-open_chunk-2-clause-opens g c =
     inr (record {
       given = f.piece;
       gave = f.bytes;
-      filled = is_filled c.args.ahead c.in-Ok.n c.args.bytes.now f.piece _ c.requires.size c.requires.ahead f.len
+      filled = is_filled c.args.ahead c.in-Ok.n c.args.bytes.now f.piece left c.requires.size c.requires.ahead f.len
           (omega (arith, f.room, c.carry.ensures.len))
           (λ low. c.in-Ok.ensures.end (omega (arith, low, c.carry.ensures.len)));
       opens = (
@@ -72,6 +75,7 @@ returns-in-Ok-open_chunk-2-clause-opens g c =
 pub returns-in-Err-open_chunk-clause-opens : goal.returns-in-Err-open_chunk-clause-opens
 returns-in-Err-open_chunk-clause-opens g c =
     let f = c.in-Ok.ensures.bytes in
+    let left = g.S.Source.to_come c.fill_from.new.input in
     let filled : Bytes = c.fill_from.new.buf in
     let ahead : Bytes = take c.args.ahead (drop sealed_chunk_size c.args.bytes.now) in
     let size : length filled ≡ chunk_buf_size = search rules in
@@ -80,7 +84,7 @@ returns-in-Err-open_chunk-clause-opens g c =
     inr (record {
       given = f.piece;
       gave = f.bytes;
-      filled = is_filled c.args.ahead c.in-Ok.n c.args.bytes.now f.piece _ c.requires.size c.requires.ahead f.len
+      filled = is_filled c.args.ahead c.in-Ok.n c.args.bytes.now f.piece left c.requires.size c.requires.ahead f.len
           (omega (arith, f.room, c.carry.ensures.len))
           (λ low. c.in-Ok.ensures.end (omega (arith, low, c.carry.ensures.len)));
       opens = outcome_more c.args.key.now c.args.max c.args.i ahead f.piece filled size is

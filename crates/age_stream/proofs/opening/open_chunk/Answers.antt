@@ -1,7 +1,7 @@
 use Rattle.std.proofs.Common.{rules, arith, ◌≡◌, ◌&&◌, ◌-◌, ◌∙◌, [], length, take, nat_eq, nat_lt, ap, sym, Some, None}
 use Rattle.std.proofs.lemmas.Bool.{OnTrue_at, OnFalse_at}
 use Rattle.std.proofs.lemmas.List.{length-take-le}
-use Rattle.age_cipher.specs.Sealing.{opened}
+use Rattle.age_cipher.specs.Sealing.{opened_text}
 use Rattle.age_stream.proofs.OutcomeLemmas.{outcome_many, outcome_short, outcome_empty, outcome_open}
 use Rattle.age_stream.proofs.opening.open_chunk.Goals as goal
 
@@ -33,7 +33,7 @@ returns-then-open_prefix-clause-text c =
           (Some (take (c.args.end - 16) c.open_prefix.new.bytes)) (omega arith) (omega arith)
           (ap (λ n. c.args.last && nat_lt 0 c.args.i && nat_eq n 16) l ∙ sym c.is_empty_final.ensures
           ∙ c.if-is_empty_final.false)
-          (ap (λ n. opened c.args.key.now n [] (take c.args.end c.args.bytes.now)) (sym c.chunk_nonce.ensures)
+          (ap (λ n. opened_text c.args.key.now n [] (take c.args.end c.args.bytes.now)) (sym c.chunk_nonce.ensures)
           ∙ OnTrue_at c.if-open_prefix.true c.open_prefix.ensures.opened),
       search rules,
     )
@@ -46,5 +46,5 @@ returns-else-open_prefix-clause-text c =
     (omega arith)
     (ap (λ n. c.args.last && nat_lt 0 c.args.i && nat_eq n 16) l ∙ sym c.is_empty_final.ensures
     ∙ c.if-is_empty_final.false)
-    (ap (λ n. opened c.args.key.now n [] (take c.args.end c.args.bytes.now)) (sym c.chunk_nonce.ensures)
+    (ap (λ n. opened_text c.args.key.now n [] (take c.args.end c.args.bytes.now)) (sym c.chunk_nonce.ensures)
     ∙ OnFalse_at c.if-open_prefix.false c.open_prefix.ensures.refused)

@@ -1,4 +1,4 @@
-use Rattle.std.proofs.Common.{rules, arith, ◌∙◌, refl, [], inr}
+use Rattle.std.proofs.Common.{rules, arith, ◌∙◌, refl, inr, take}
 use Rattle.std.proofs.lemmas.List.{length-take-le}
 use Rattle.age_stream.proofs.OpeningLemmas.{ahead_one}
 use Rattle.age_stream.proofs.SalvageLemmas.{counted, ends_many, ends_write, salvaging_more, salvaging_none, saves_last, saves_many, saves_read, saves_write}
@@ -30,17 +30,17 @@ returns-in_default-clause-saves g c =
 pub returns-in-Err-clause-saves : goal.returns-in-Err-clause-saves
 returns-in-Err-clause-saves g c =
     let saved = c.save_first-len.ensures in
-    saves_write c.args.max _
+    saves_write c.args.max (g.W.Sink.taken c.write_all.new.out)
     c.loop-done.invariant.saved c.in-Ok.ensures.reads c.read_piece.ensures.len saved.part c.in-Err.ensures.text
 
 pub returns-in-Err-clause-ends : goal.returns-in-Err-clause-ends
 returns-in-Err-clause-ends g c =
-    inr (ends_write _
+    inr (ends_write (take c.save_first-len.result.0 c.save_first-len.new.bytes)
     c.loop-done.invariant.saved c.in-Ok.ensures.reads c.read_piece.ensures.len c.in-Err.ensures.text)
 
 pub returns-then-n-le-SEALED_CHUNK_SIZE-clause-saves : goal.returns-then-n-le-SEALED_CHUNK_SIZE-clause-saves
 returns-then-n-le-SEALED_CHUNK_SIZE-clause-saves g c =
-    saves_last _ _ c.loop-done.invariant.saved
+    saves_last (g.W.Sink.taken c.write_all.new.out) (g.L.Losses.lost c.note.new.losses) c.loop-done.invariant.saved
     c.in-Ok.ensures.reads c.read_piece.ensures.len (omega arith) (omega arith)
     (length-take-le c.save_first-len.result.0 c.save_first-len.new.bytes (omega (
       arith,
@@ -52,7 +52,7 @@ returns-then-n-le-SEALED_CHUNK_SIZE-clause-saves g c =
 pub loop-done-preserved : goal.loop-done-preserved
 loop-done-preserved g c =
     let bytes = c.save_first-len.new.bytes in
-    let more = counted c.loop-done.done _ c.note.ensures.counts in
+    let more = counted c.loop-done.done c.save_first-len.result.0 c.note.ensures.counts in
     record {
       size = c.save_first-len.ensures.len;
       ahead = omega arith;

@@ -1,14 +1,15 @@
 use Rattle.std.proofs.Common.{◌≡◌, ◌≤◌, ◌-◌, length, take, drop}
 use Rattle.age_header.specs.Device.{seen_by}
+use Rattle.age_stream.specs.Sizes.{chunk_buf_size, sealed_chunk_size}
 use Rattle.age_stream.proofs.SalvageLemmas.{Salvaging}
 use Rattle.age_stream.proofs.salvaging.save_pieces.Given as goal
 
 abbrev pub invariant-loop-done : goal.invariant-loop-done
 invariant-loop-done g l = record {
-  size : length l.bytes ≡ 65553;
+  size : length l.bytes ≡ chunk_buf_size;
   ahead : l.ahead ≤ 1;
   within : l.done.chunks ≤ l.max;
-  saved : Salvaging l.key l.done (take l.ahead (drop 65552 l.bytes))
+  saved : Salvaging l.key l.done (take l.ahead (drop sealed_chunk_size l.bytes))
       (seen_by g.S.Source.to_come g.S.Source.gave l.fn.source) (seen_by g.S.Source.to_come g.S.Source.gave l.source)
       (g.W.Sink.taken l.fn.out) (g.W.Sink.taken l.out) (g.L.Losses.lost l.fn.losses) (g.L.Losses.lost l.losses);
   silent : l.done.lost ≡ 0 → l.losses ≡ l.fn.losses;

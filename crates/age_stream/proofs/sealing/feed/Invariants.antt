@@ -3,7 +3,7 @@ use Rattle.age_kdf.specs.Bytes.{Bytes}
 use Rattle.age_stream.specs.Sealing.{Fed}
 use Rattle.age_stream.specs.Sizes.{chunk_size, chunk_buf_size}
 use Rattle.age_stream.proofs.sealing.feed.Given as goal
-use Rattle.age_header.specs.Device.{Gave, flow_by, moved_by}
+use Rattle.age_header.specs.Device.{Gave, flow_by, move_by}
 
 abbrev pub invariant-loop-n : goal.invariant-loop-n
 invariant-loop-n g l = record {
@@ -15,7 +15,7 @@ invariant-loop-n g l = record {
   fed : (text : Bytes)
       × Gave (flow_by g.S.Source.to_come g.S.Source.gave l.fn.plain l.plain) text
       × Fed l.key l.fn.index l.index (take l.len l.fn.bytes) text (take l.held l.bytes)
-      (moved_by g.W.Sink.taken l.fn.out l.out);
+      (move_by g.W.Sink.taken l.fn.out l.out);
 }
 
 abbrev pub decreases-loop-n : goal.decreases-loop-n

@@ -9,18 +9,14 @@ use Rattle.age_words.proofs.words.parse.Goals as goal
 
 pub command_named-requires : goal.command_named-requires
 command_named-requires c =
-    let n = named c.in_ok-whole_command.field-0 (texts c.args.words.now) c.in_ok-matches.matches c.in-Some.name.now
-    (rows_of (found_of c.in-Some.matches.now))
-    c.in_ok-whole_command.ensures c.in_ok-matches.ensures.matches c.in_ok-matches.ensures.kinds c.in-Some.ensures.name
-    c.in-Some.ensures.rows in
+    let n = named c.in_ok-whole_command.field-0 c.in_ok-matches.matches c.in_ok-whole_command.ensures
+    c.in_ok-matches.ensures.matches c.in_ok-matches.ensures.kinds c.in-Some.ensures.name c.in-Some.ensures.rows in
     (n.taken.0, n.taken.1)
 
 pub job_of-requires : goal.job_of-requires
 job_of-requires c =
-    let n = named c.in_ok-whole_command.field-0 (texts c.args.words.now) c.in_ok-matches.matches c.in-Some.name.now
-    (rows_of (found_of c.in-Some.matches.now))
-    c.in_ok-whole_command.ensures c.in_ok-matches.ensures.matches c.in_ok-matches.ensures.kinds c.in-Some.ensures.name
-    c.in-Some.ensures.rows in
+    let n = named c.in_ok-whole_command.field-0 c.in_ok-matches.matches c.in_ok-whole_command.ensures
+    c.in_ok-matches.ensures.matches c.in_ok-matches.ensures.kinds c.in-Some.ensures.name c.in-Some.ensures.rows in
     subst (λ (x : Command). IsTaken x (rows_of (found_of c.in-Some.matches.now)))
     (one_command (sym n.taken.1 ∙ c.command_named.ensures)) n.taken.2
 
@@ -32,9 +28,6 @@ returns-in_err-matches-clause-reads c =
 
 pub returns-clause-reads : goal.returns-clause-reads
 returns-clause-reads c =
-    let n = named c.in_ok-whole_command.field-0 (texts c.args.words.now) c.in_ok-matches.matches c.in-Some.name.now
-    (rows_of (found_of c.in-Some.matches.now))
-    c.in_ok-whole_command.ensures c.in_ok-matches.ensures.matches c.in_ok-matches.ensures.kinds c.in-Some.ensures.name
-    c.in-Some.ensures.rows in
-    made (texts c.args.words.now) c.in-Some.name.now (rows_of (found_of c.in-Some.matches.now)) c.in_ok-job_of.field-0 n
-    (c.command_named.ensures ∙ ap name_of (sym c.in_ok-job_of.ensures.command)) c.in_ok-job_of.ensures.job
+    let n = named c.in_ok-whole_command.field-0 c.in_ok-matches.matches c.in_ok-whole_command.ensures
+    c.in_ok-matches.ensures.matches c.in_ok-matches.ensures.kinds c.in-Some.ensures.name c.in-Some.ensures.rows in
+    made n (c.command_named.ensures ∙ ap name_of (sym c.in_ok-job_of.ensures.command)) c.in_ok-job_of.ensures.job

@@ -5,13 +5,12 @@ use Rattle.agefile.proofs.UnlockLemmas.{start_within}
 use Rattle.agefile.proofs.decrypting.agefile_decrypt.Goals as goal
 
 pub split_at-requires : goal.split_at-requires
-split_at-requires c = start_within (by_file_key c.args.file_key.now) _ c.in-Ok.start c.in-Ok.ensures
+split_at-requires c = search (start_within, c.in-Ok.ensures)
 
 pub returns-then-room-out : goal.returns-then-room-out
 returns-then-room-out c =
-    no_room (by_file_key c.args.file_key.now) c.split_at.result.1.now c.opened_len-room.result c.in-Ok.start
-    c.in-Ok.ensures c.split_at.ensures.back c.opened_len-room.ensures c.of_len.ensures
-    c.if-room-out.true
+    let less = c.if-room-out.true in
+    search (no_room, c.in-Ok.ensures, c.split_at.ensures.back, c.opened_len-room.ensures, c.of_len.ensures, less)
 
 pub returns-in-Some : goal.returns-in-Some
 returns-in-Some c =

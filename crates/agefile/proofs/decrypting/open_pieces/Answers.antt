@@ -4,9 +4,10 @@ use Rattle.agefile.proofs.decrypting.open_pieces.Goals as goal
 
 pub returns-in-Err : goal.returns-in-Err
 returns-in-Err c =
-    read_stops c.pieces.out c.pieces.at c.pieces.len c.pieces.number c.in-Err.fault c.open_first.new.room
-    c.pieces.invariant.read c.split_at.ensures.back c.split_at_mut-room.ensures.back c.in-Err.ensures.gives
-    (ap (λ t. t ++ c.open_first.new.room) c.split_at_mut-room.ensures.front)
+    let left = c.split_at.ensures.back in
+    let room = c.split_at_mut-room.ensures in
+    let joined = ap (λ t. t ++ c.open_first.new.room) room.front in
+    search (read_stops, c.pieces.invariant.read, left, room.back, c.in-Err.ensures.gives, joined)
 
 pub returns-then-left-le-SEALED_CHUNK_SIZE : goal.returns-then-left-le-SEALED_CHUNK_SIZE
 returns-then-left-le-SEALED_CHUNK_SIZE c =

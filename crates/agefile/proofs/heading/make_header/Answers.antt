@@ -1,4 +1,5 @@
 use Rattle.std.proofs.Common.{◌≡◌, ◌∙◌, ap, arith, inl, inr, length, refl, Err}
+use Rattle.std.specs.String.{string_bytes}
 use Rattle.std.proofs.lemmas.List.{nil_from_length}
 use Rattle.age_file.specs.declared.fault.Fault.TheVariants.{NoRecipients}
 use Rattle.agefile.proofs.HeadingLemmas.{header_made, header_none}
@@ -18,7 +19,7 @@ returns-in-Err c = header_none c.in-Err.fault
 
 pub returns-in-Ok-framed : goal.returns-in-Ok-framed
 returns-in-Ok-framed c =
-    header_made c.in-Ok-mac_under.mac _
+    header_made c.in-Ok-mac_under.mac (string_bytes c.in-Ok-characters_of.characters)
     (λ e. let none : length c.args.stanzas.now ≡ 0 = ap length e in omega (arith, none, c.if-stanzas-eq0.false))
     (c.in-Ok-mac_under.ensures c.args.stanzas.now (c.as_slice.ensures.value ∙ c.in-Ok.ensures))
     c.in-Ok-characters_of.ensures.base64 c.in-Ok-characters_of.ensures.len

@@ -6,4 +6,5 @@ returns-clause-front c = header_found c.limits.ensures c.new.ensures c.inspect.e
 
 pub returns-clause-file : goal.returns-clause-file
 returns-clause-file c b same =
-    found_whole b _ same (header_found c.limits.ensures c.new.ensures c.inspect.ensures.reads c.inspect.ensures.verdict)
+    found_whole b c.inspect.result same
+    (header_found c.limits.ensures c.new.ensures c.inspect.ensures.reads c.inspect.ensures.verdict)

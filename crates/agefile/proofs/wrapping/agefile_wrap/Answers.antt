@@ -25,5 +25,5 @@ returns c =
     rw c.in-Ok-collect.is at (map_from_collect c.collect.result c.collect.ensures.ran
     (YieldsList-from_str_split 32 c.in-Ok.text.now (omega arith) c.split.ensures.text c.split.ensures.has_more
     c.split.ensures.pattern)) in
-    own_refused _ (rw (c.as_slice.ensures.value, split, c.in-Ok.ensures.cases.0) at
+    own_refused c.in-Err-new.error (rw (c.as_slice.ensures.value, split, c.in-Ok.ensures.cases.0) at
     c.in-Err-new.ensures.err) (rw c.refusal_code.ensures at c.give_up-in-Err-new.ensures)

@@ -1,5 +1,5 @@
 use Rattle.std.proofs.Common.{inr, refl, subst}
-use Rattle.age_commands.specs.Output.{Buffered, HasPrefix, taken_by}
+use Rattle.age_commands.specs.Output.{Buffered, HasPrefix, taken_bytes}
 use Rattle.age_commands.proofs.OutputLemmas.{grows_on}
 use Rattle.age_commands.proofs.buffered_sink.BufferedSink.finish.Goals as goal
 
@@ -8,8 +8,8 @@ returns-clause-ends g c =
     inr (
       refl,
       (
-        grows_on _ _ _ c.self.invariant.1 c.flush.ensures.grows,
-        subst (λ (s : Buffered). HasPrefix (taken_by s) (g.W.Write.contents c.flush.new.out)) c.self.view_is
+        search (grows_on, c.self.invariant.1, c.flush.ensures.grows),
+        subst (λ (s : Buffered). HasPrefix (taken_bytes s) (g.W.Write.contents c.flush.new.out)) c.self.view_is
             c.in-Err.ensures.part,
       ),
     )

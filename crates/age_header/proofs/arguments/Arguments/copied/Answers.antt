@@ -3,5 +3,10 @@ use Rattle.age_header.proofs.arguments.Arguments.copied.Goals as goal
 
 pub loop-text-preserved : goal.loop-text-preserved
 loop-text-preserved c =
-    copies_take c.args.texts.now _ c.loop-text.copies.items c.in_ok-copy.copy c.loop-text-test.true
-    c.loop-text.invariant c.in_ok-push.ensures.items c.in_ok-copy.ensures.ok
+    search (
+      copies_take,
+      c.loop-text-test.true,
+      c.loop-text.invariant,
+      c.in_ok-push.ensures.items,
+      c.in_ok-copy.ensures.ok,
+    )

@@ -12,7 +12,8 @@ returns-in_default-clause-none c = no_arrow c.args.text.now c.in_default.ensures
 
 pub returns-in_default-strip_prefix-clause-none : goal.returns-in_default-strip_prefix-clause-none
 returns-in_default-strip_prefix-clause-none c =
-    stuck_space c.args.text.now _ c.loop-rest.rest.now c.loop-rest.invariant (λ e. search rules)
+    let az = map string_bytes c.loop-rest.texts.items in
+    stuck_space c.args.text.now az c.loop-rest.rest.now c.loop-rest.invariant (λ e. search rules)
     c.in_default-strip_prefix.ensures
 
 pub returns-then-len-eq0-clause-none : goal.returns-then-len-eq0-clause-none
@@ -20,7 +21,8 @@ returns-then-len-eq0-clause-none c =
     let tail : Bytes = c.in-Some-strip_prefix.tail.now in
     let end : NoVisible tail = subst (λ (n : ℕ). NoVisible (drop n tail)) c.if-len-eq0.true
     c.visible_len-len.ensures.rest in
-    stuck_empty c.args.text.now _ c.loop-rest.rest.now tail c.loop-rest.invariant c.in-Some-strip_prefix.ensures end
+    let az = map string_bytes c.loop-rest.texts.items in
+    stuck_empty c.args.text.now az c.loop-rest.rest.now tail c.loop-rest.invariant c.in-Some-strip_prefix.ensures end
 
 pub loop-rest-preserved : goal.loop-rest-preserved
 loop-rest-preserved c =
@@ -29,13 +31,14 @@ loop-rest-preserved c =
     let w : Bytes = take len tail in
     let some : w ≢ [] = λ e. absurd (let short : length w ≡ 0 = ap length e in let size = length-take len tail in
     omega (arith, c.visible_len-len.ensures.bound)) in
-    let more = parsed_more c.args.text.now _ c.loop-rest.rest.now tail w (drop len tail) c.loop-rest.invariant
+    let az = map string_bytes c.loop-rest.texts.items in
+    let more = parsed_more c.args.text.now az c.loop-rest.rest.now tail w (drop len tail) c.loop-rest.invariant
     c.in-Some-strip_prefix.ensures
     (sym (take-append-drop len tail)) some c.visible_len-len.ensures.prefix c.visible_len-len.ensures.rest in
     let texts : map string_bytes c.push.new.self.items ≡ map string_bytes c.loop-rest.texts.items ++ w ∷ [] =
     ap (λ (x : List (String Global)). map string_bytes x) c.in_ok-push.ensures.items
-    ∙ map_push string_bytes c.loop-rest.texts.items _
-    ∙ ap (λ (x : Bytes). map string_bytes c.loop-rest.texts.items ++ x ∷ [])
+    ∙ map_push string_bytes c.loop-rest.texts.items c.in_ok-visible_string.field-0
+    ∙ ap (λ (x : Bytes). az ++ x ∷ [])
     (c.in_ok-visible_string.ensures ∙ c.split_at.ensures.front) in
     rw (texts, c.split_at.ensures.back) more
 
@@ -43,5 +46,6 @@ pub returns-then-is_empty-clause-none : goal.returns-then-is_empty-clause-none
 returns-then-is_empty-clause-none c =
     let none : c.loop-rest.texts.items ≡ [] = nil_from_length c.loop-rest.texts.items (grind (arith, common_steps)) in
     let end : c.loop-rest.rest.now ≡ [] = nil_from_length c.loop-rest.rest.now (grind (arith, common_steps)) in
-    parsed_nothing c.args.text.now _ c.loop-rest.rest.now c.loop-rest.invariant end
+    parsed_nothing c.args.text.now (map string_bytes c.loop-rest.texts.items) c.loop-rest.rest.now
+    c.loop-rest.invariant end
     (ap (λ (x : List (String Global)). map string_bytes x) none)

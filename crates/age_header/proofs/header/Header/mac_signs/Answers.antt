@@ -1,4 +1,4 @@
-use Rattle.std.proofs.Common.{◌≡◌, ◌∙◌, ◌++◌, [], length, drop, sym, ap, subst, arith, rules}
+use Rattle.std.proofs.Common.{◌≡◌, ◌∙◌, ◌++◌, length, replicate, sym, ap, subst, arith, rules}
 use Rattle.std.proofs.lemmas.List.{append-nil, drop_all}
 use Rattle.base64.specs.GeneralPurpose.{encoded_size_of, encode_of}
 use Rattle.age_kdf.specs.Bytes.{Bytes}
@@ -15,7 +15,7 @@ returns c =
     let size = encoded_size_plain e (length m) c.engine.ensures in
     let plain = encode_of_unpadded e m c.engine.ensures.unpadded c.engine.ensures.characters in
     let long : length m ≡ mac_size = search rules in
-    let rest : drop (encoded_size_of e (length m)) _ ≡ [] = drop_all (encoded_size_of e (length m)) _ (omega arith) in
+    let rest = drop_all (encoded_size_of e (length m)) (replicate 43 0) (omega arith) in
     let is = c.in-Ok.ensures.written ∙ ap (λ (z : Bytes). encode_of e m ++ z) rest ∙ append-nil (encode_of e m)
     ∙ plain in
     let characters : Bytes = c.encode_slice.new.output in

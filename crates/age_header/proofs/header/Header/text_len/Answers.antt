@@ -1,7 +1,7 @@
 use Rattle.std.proofs.Common.{◌+◌, ◌-◌, ◌^◌, ℕ, ◌++◌, length, take, arith, flat_map}
 use Rattle.std.proofs.lemmas.List.{take_all}
 use Rattle.age_kdf.specs.Bytes.{Bytes}
-use Rattle.age_header.specs.Text.{stanza_text, signed, mac_end}
+use Rattle.age_header.specs.Text.{stanza_text, signed_text, mac_end}
 use Rattle.age_header.proofs.TextLemmas.{header_text_is}
 use Rattle.age_header.proofs.LengthLemmas.{flat_size, header_size, sum_stays}
 use Rattle.age_header.proofs.header.Header.text_len.Goals as goal
@@ -23,4 +23,4 @@ returns c =
     let all = take_all c.loop-stanza.stanza-index c.stanzas-stanza-items.result.now c.loop-stanza-test.false in
     let is = rw (all, c.stanzas-stanza-items.ensures.value) at c.loop-stanza.invariant in
     let size = header_size ss mac c.stanzas-stanza-items.ensures.whole.mac_len in
-    (signed ss ++ mac_end mac, header_text_is ss mac c.stanzas-stanza-items.ensures.whole, rw size is)
+    (signed_text ss ++ mac_end mac, header_text_is ss mac c.stanzas-stanza-items.ensures.whole, rw size is)

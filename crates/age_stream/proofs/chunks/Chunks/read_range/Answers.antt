@@ -2,7 +2,7 @@ use Rattle.std.proofs.Common.{arith, ◌≡◌, ◌+◌, ◌-◌, ◌*◌, ◌/�
 use Rattle.age_stream.specs.declared.layout.Layout.{Layout}
 use Rattle.age_header.specs.Device.{CountsFaultIf}
 use Rattle.age_stream.specs.Counts.{is_read}
-use Rattle.age_stream.specs.Ranges.{HasPlain, IsSound, OpenedAtLeast, bytes_from, first_to_open, is_kept, opens_to, sealed_span}
+use Rattle.age_stream.specs.Ranges.{HasPlain, IsSound, OpenedAtLeast, bytes_from, first_to_open, is_kept, source_opening, sealed_span}
 use Rattle.age_stream.specs.Slice.{chunk_len}
 use Rattle.age_stream.specs.Sizes.{chunk_size}
 use Rattle.age_stream.proofs.RangeLemmas.{prefix_put, put_rest, length-part, rest_on, prefix_on, counts_at_first, counts_later, opened_later, given_later, opened_at_first, given_at_first, below_next_chunk, under_chunk, below_chunk, opens_moved}
@@ -192,7 +192,7 @@ loop-done-preserved g c =
     let sound : IsSound told s → IsSound told h = λ told_so.
     subst (λ x. IsSound x h) inv.stay (c.hold-held.ensures.sound
     (subst (λ x. IsSound x l) (sym inv.stay) (inv.sound told_so))) in
-    let opens : IsSound told s → opens_to told s.layout i ≡ Some t = λ told_so.
+    let opens : IsSound told s → source_opening told s.layout i ≡ Some t = λ told_so.
     opens_moved told told h.layout s.layout i (Some t) refl lies
     ((sound told_so).keeps i c.in_default.ensures.kept_chunk ∙ ap Some (sym c.text.ensures.text)) in
     let next : at + (done + n) ≤ chunk_size * (i + 1) = omega (arith, pos, part, size) in

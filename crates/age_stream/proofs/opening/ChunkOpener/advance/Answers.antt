@@ -1,5 +1,6 @@
 use Rattle.std.proofs.Common.{rules, ◌∙◌, sym}
 use Rattle.std.specs.Vec.{with_items}
+use Rattle.age_header.specs.Device.{seen_by}
 use Rattle.age_stream.proofs.OpeningLemmas.{advances_none, advances_ok, advances_err, loses_held}
 use Rattle.age_stream.proofs.TailLemmas.{written_all}
 use Rattle.age_stream.proofs.opening.ChunkOpener.advance.Goals as goal
@@ -32,5 +33,5 @@ returns-in-Err-clause-lost g c =
 pub returns-then-not-self-clause-opens : goal.returns-then-not-self-clause-opens
 returns-then-not-self-clause-opens g c =
     let o = c.self.inside in
-    advances_none _ o.key o.max_chunks o.index o.ahead o.len o.more o.buf.items o.fault c.self.view_is (search rules)
-    (search rules) c.self.invariant.4
+    advances_none (seen_by g.S.Source.to_come g.S.Source.gave c.args.source.now) o.key o.max_chunks o.index o.ahead
+    o.len o.more o.buf.items o.fault c.self.view_is (search rules) (search rules) c.self.invariant.4

@@ -66,7 +66,7 @@ loop-done-preserved g c =
 pub returns-in-Err-write_all-clause-writes_all : goal.returns-in-Err-write_all-clause-writes_all
 returns-in-Err-write_all-clause-writes_all g c =
     let o = c.loop-done.invariant.opened in
-    (writes_write c.advance.new.self _ o
+    (writes_write c.advance.new.self (g.W.Sink.taken c.write_all.new.out) o
     (advanced_ok true c.loop-done.opener c.advance.new.self o.none
     (rw c.in-Ok-true.field-0-test at c.in-Ok-true.ensures.opens))
     (rw c.text.ensures.text at c.in-Err-write_all.ensures.text))

@@ -1,0 +1,13 @@
+-- What the value of a result or of an option is equal to.
+use Rattle.std.proofs.Common.{◌≡◌, ◌∙◌, ap, Option, Some, None, Result, Ok, Err, option_map, unwrap_or}
+use Rattle.std.specs.Prelude.{IfOk}
+
+pub IfOk-equal_to : {X T E : Type 0} (r : Result T E) (f : T → X) {y z : X} → IfOk r (λ t. f t ≡ y) → y ≡ z
+    → IfOk r (λ t. f t ≡ z)
+IfOk-equal_to (Ok t) f h e = h ∙ e
+IfOk-equal_to (Err x) f h e = tt
+
+pub mapped_or : {T U : Type 0} (f : T → U) (o : Option T) (d : T) {t : T} {v : Option U} → t ≡ unwrap_or o d
+    → option_map f o ≡ v → f t ≡ unwrap_or v (f d)
+mapped_or f None d is e = ap f is ∙ ap (λ v. unwrap_or v (f d)) e
+mapped_or f (Some x) d is e = ap f is ∙ ap (λ v. unwrap_or v (f d)) e
