@@ -6,8 +6,9 @@
 
 ghost use Rattle.std.specs.Prelude.{◌≤◌};
 
+use std::fs::File;
 use std::process::ExitCode;
-use std::{env, io};
+use std::{env, fs, io};
 
 fn main(rt: HostRuntime) -> ExitCode {
     let status = match words(&rt) {
@@ -25,6 +26,7 @@ fn words(rt: &HostRuntime) -> io::Result<Vec<String>> {
 fn run(rt: &HostRuntime, owned: &[String]) -> u8
     ensures { result ≤ 2 }
 {
+    let _held = hold_streams(rt);
     let mut words: Vec<&str> = Vec::new(rt.alloc());
     for word in owned {
         if words.push(word.as_str()).is_err() {
@@ -38,6 +40,20 @@ fn run(rt: &HostRuntime, owned: &[String]) -> u8
         &mut rt.stdout(),
         &mut rt.stderr(),
     )
+}
+
+/// Where standard error is closed, folders take the numbers of the closed streams. Otherwise OUT could
+/// have that of standard error, and lines that are printed while it is written would go into it. A
+/// folder is neither read nor written.
+fn hold_streams(rt: &HostRuntime) -> [Option<File>; 3] {
+    if fs::metadata(rt, "/proc/self/fd/2").is_ok() {
+        return [None, None, None];
+    }
+    [open_folder(rt), open_folder(rt), open_folder(rt)]
+}
+
+fn open_folder(rt: &HostRuntime) -> Option<File> {
+    File::open(rt, "/").ok()
 }
 
 /// Prints why the arguments cannot be read. A failed write changes nothing: the status says enough.
