@@ -61,7 +61,7 @@ extern "C" {
 /* generated: version of the header, one line */
 #define AGEFILE_VERSION 0x000400   /* 0.4.0: major, minor and patch, a byte each */
 #define AGEFILE_STANZA_ROOM 128    /* bytes that hold a stanza of agefile_wrap_passphrase or _key */
-#define AGEFILE_HEADER_ROOM 256    /* bytes that hold a new file's header and nonce */
+#define AGEFILE_HEADER_ROOM 256    /* bytes that hold a header with one such stanza, and its nonce */
 
 /* A code is never reused. 15, 16, 19 and 20 are faults of files and of other recipients; no
  * call here returns them. AGEFILE_NULL_POINTER comes before every other code: a payload or ranges

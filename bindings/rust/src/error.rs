@@ -109,13 +109,12 @@ impl Error {
 
     fn kind(self) -> io::ErrorKind {
         match self {
-            Error::HeaderTruncated | Error::NonceTruncated | Error::ChunkShort(_) => io::ErrorKind::UnexpectedEof,
-            Error::Refused => io::ErrorKind::Other,
+            Error::HeaderTruncated | Error::NonceTruncated => io::ErrorKind::UnexpectedEof,
+            Error::Refused | Error::Incomplete => io::ErrorKind::Other,
             Error::OutOfMemory => io::ErrorKind::OutOfMemory,
             Error::NoMatch | Error::WrongKey => io::ErrorKind::InvalidInput,
             Error::NoRecipients | Error::EmptyPassphrase => io::ErrorKind::InvalidInput,
             Error::WorkFactor | Error::BadArguments => io::ErrorKind::InvalidInput,
-            Error::Incomplete => io::ErrorKind::BrokenPipe,
             _ => io::ErrorKind::InvalidData,
         }
     }

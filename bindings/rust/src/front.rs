@@ -2,9 +2,9 @@
 
 use std::io::{self, Read};
 
-use crate::ffi::{self, FRONT, NONCE};
+use crate::ffi::{FRONT, NONCE};
 use crate::header::{inspect, unlock};
-use crate::{Error, Header, Identity};
+use crate::{Error, FileKey, Header, Identity};
 
 /// How many bytes more than were read count, where a header is looked for so many times over.
 const MARGIN: usize = 4096;
@@ -37,28 +37,26 @@ pub fn fill(source: &mut impl Read, buf: &mut [u8], have: &mut usize) -> io::Res
 #[derive(Default)]
 pub struct Front {
     pub bytes: Vec<u8>,
-    pub file_key: [u8; 16],
+    file_key: Option<FileKey>,
     header: Option<Header>,
     /// In how many bytes, over all tries, the header was looked for.
     tried: usize,
-    /// The length of header and nonce, or 0 before the file key is found.
-    needed: usize,
 }
 
 impl Front {
     /// Reads no more than it needs to find the file key, so that a wrong key is found while the
     /// source still waits.
     pub fn read(&mut self, source: &mut impl Read, identities: &[&dyn Identity]) -> io::Result<()> {
-        if self.needed == 0 {
-            let header = match self.header.take() {
-                Some(header) => header,
-                None => self.read_header(source)?,
-            };
-            let header = self.header.insert(header);
-            self.file_key = unlock(header, identities)?.0;
-            self.needed = header.text().len() + NONCE;
+        let header = match self.header.take() {
+            Some(header) => header,
+            None => self.read_header(source)?,
+        };
+        let header = self.header.insert(header);
+        if self.file_key.is_none() {
+            self.file_key = Some(unlock(header, identities)?);
         }
-        while self.bytes.len() < self.needed && self.read_more(source)? {}
+        let needed = header.text().len() + NONCE;
+        while self.bytes.len() < needed && self.read_more(source)? {}
         Ok(())
     }
 
@@ -93,7 +91,8 @@ impl Front {
         Ok(result? > 0)
     }
 
-    pub fn open(&self) -> Result<(ffi::Payload, usize), Error> {
-        ffi::open(&self.bytes, &self.file_key)
+    /// The file key, once an identity has found it.
+    pub fn file_key(&self) -> Result<&[u8; 16], Error> {
+        self.file_key.as_ref().map(|key| &key.0).ok_or(Error::NoMatch)
     }
 }

@@ -11,6 +11,7 @@
 //! ```
 
 use std::io;
+use std::sync::Mutex;
 use std::thread;
 
 use crate::ffi::{self, Part, Payload, NONCE, SEALED_CHUNK, TEXT_CHUNK};
@@ -21,7 +22,8 @@ use crate::{Error, FileKey, Identity, Recipient};
 /// What a thread does with its part: with each of its chunks, and where it is in the output.
 type Step = fn(&mut Part, &[u8], &mut [u8]) -> Result<(), Error>;
 
-/// The same file as [`crate::encrypt`] makes, sealed on so many threads.
+/// The same file as [`crate::encrypt`] makes, sealed on so many threads, or on fewer where the system
+/// starts no more.
 pub fn encrypt(plain: &[u8], recipients: &[&dyn Recipient], threads: usize) -> io::Result<Vec<u8>> {
     let (file_key, nonce) = (FileKey(ffi::random()?), ffi::random()?);
     let stanzas = stanzas_text(recipients, &file_key)?;
@@ -60,7 +62,8 @@ pub fn decrypt(file: &[u8], identities: &[&dyn Identity], threads: usize) -> Res
 }
 
 /// Does all chunks but the last, and returns what is left of the input and of the output. The error
-/// is that of the first chunk that has one.
+/// is that of the first chunk that has one: each thread takes the next part, until one of its own has
+/// an error.
 fn in_parts<'a, 'b>(
     payload: &mut Payload,
     input: &'a [u8],
@@ -78,18 +81,24 @@ fn in_parts<'a, 'b>(
     for (input, output) in input.chunks(each * take).zip(output.chunks_mut(each * give)) {
         parts.push((ffi::take_part(payload, (input.len() / take) as u64)?, input, output));
     }
-    thread::scope(|scope| {
-        let running: Vec<_> = parts
-            .into_iter()
-            .map(|(mut part, input, output)| {
-                scope.spawn(move || {
-                    let mut pairs = input.chunks(take).zip(output.chunks_mut(give));
-                    pairs.try_for_each(|(from, to)| step(&mut part, from, to))
-                })
-            })
-            .collect();
-        let done: Vec<_> = running.into_iter().map(|thread| thread.join().expect("no panic")).collect();
-        done.into_iter().collect::<Result<(), Error>>()
-    })?;
-    Ok((last, rest))
+    let others = parts.len().saturating_sub(1);
+    let queue = Mutex::new(parts.into_iter().enumerate());
+    let next = || queue.lock().expect("no panic").next();
+    let work = || -> Result<(), (usize, Error)> {
+        while let Some((index, (mut part, input, output))) = next() {
+            let mut pairs = input.chunks(take).zip(output.chunks_mut(give));
+            pairs.try_for_each(|(from, to)| step(&mut part, from, to)).map_err(|error| (index, error))?;
+        }
+        Ok(())
+    };
+    let done: Vec<_> = thread::scope(|scope| {
+        let start = || thread::Builder::new().spawn_scoped(scope, work);
+        let running: Vec<_> = (0..others).map_while(|_| start().ok()).collect();
+        let own = work();
+        running.into_iter().map(|thread| thread.join().expect("no panic")).chain([own]).collect()
+    });
+    match done.into_iter().filter_map(Result::err).min_by_key(|(index, _)| *index) {
+        Some((_, error)) => Err(error),
+        None => Ok((last, rest)),
+    }
 }

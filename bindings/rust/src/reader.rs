@@ -47,7 +47,7 @@ impl<R: Read> Opening<R> {
 
     /// The reader of the plaintext, or an error unless [`Opening::read`] has returned `Ok`.
     pub fn finish(self) -> Result<Reader<R>, Error> {
-        let (payload, begin) = self.front.open()?;
+        let (payload, begin) = ffi::open(&self.front.bytes, self.front.file_key()?)?;
         let mut ahead = io::Cursor::new(self.front.bytes);
         ahead.set_position(begin as u64);
         let buf = vec![0; SEALED_CHUNK + 1].into_boxed_slice();
@@ -65,8 +65,9 @@ impl<R> fmt::Debug for Opening<R> {
 /// The plaintext of an age file, chunk by chunk, in constant memory. Each byte that it returns was
 /// verified. The plaintext is complete only after a read into a nonempty buffer returned `Ok(0)`.
 ///
-/// After an [`Error`] each such read returns it again. After a failed read of the source, as one
-/// that would block, reading can go on.
+/// After an [`Error`] each such read returns it again. It never has the kind `UnexpectedEof`, which
+/// `read_exact` returns at the end of the plaintext. After a failed read of the source, as one that
+/// would block, reading can go on.
 pub struct Reader<R> {
     source: R,
     payload: Payload,

@@ -186,7 +186,7 @@ fn faults_have_their_place_and_their_kind() {
         (&file, &other, Error::WrongKey, ErrorKind::InvalidInput),
         (&file, &passphrase(), Error::NoMatch, ErrorKind::InvalidInput),
         (&file[..front - 1], &key(), Error::NonceTruncated, ErrorKind::UnexpectedEof),
-        (&file[..front], &key(), Error::ChunkShort(0), ErrorKind::UnexpectedEof),
+        (&file[..front], &key(), Error::ChunkShort(0), ErrorKind::InvalidData),
         (&file[..file.len() - 1], &key(), Error::BadChunk(3), ErrorKind::InvalidData),
     ];
     for (bytes, identity, error, kind) in cases {
@@ -328,7 +328,10 @@ fn opening_goes_on_with_another_key() {
     let mut back = Vec::new();
     opening.finish().unwrap().read_to_end(&mut back).unwrap();
     assert_eq!(back, b"text");
-    assert!(Opening::new(&file[..]).finish().is_err());
+    let mut opening = Opening::new(&file[..]);
+    assert_eq!(fault(opening.read(&[&Key::new([8; 32])]).unwrap_err()), Error::WrongKey);
+    assert_eq!(opening.finish().unwrap_err(), Error::NoMatch);
+    assert_eq!(Opening::new(&file[..]).finish().unwrap_err(), Error::NoMatch);
 }
 
 /// A source that gives a text in two pieces, and would block behind them.
@@ -399,7 +402,8 @@ fn failed_write_gives_the_sink_back_without_an_end() {
     let mut room = [0; 100000];
     let mut writer = Writer::new(&mut room[..], &[&key()]).unwrap();
     assert!(writer.write_all(&text(300000)).is_err());
-    assert_eq!(fault(writer.write(b"more").unwrap_err()), Error::Incomplete);
+    let error = writer.write(b"more").unwrap_err();
+    assert_eq!((error.kind(), fault(error)), (ErrorKind::Other, Error::Incomplete));
     let (error, sink) = writer.finish().unwrap_err().into_parts();
     assert_eq!((fault(error), sink.len()), (Error::Incomplete, 0));
     assert!(decrypt(&room, &[&key()]).is_err());
