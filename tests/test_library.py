@@ -148,7 +148,7 @@ class Installing(unittest.TestCase):
         shutil.copytree(prefix(), other, symlinks=True)
         self.assertEqual(run(ROOT / "install", "--library", "--uninstall", other, status=0).stderr, b"")
         self.assertEqual(files_of(other), ["644 include/other.h"])
-        self.assertFalse((other / "lib").exists())
+        self.assertEqual(list((other / "lib").iterdir()), [])
 
     def test_refused_words(self):
         """Words that ./install --library refuses."""
@@ -216,8 +216,12 @@ class Folders(unittest.TestCase):
         names = [names_in("-D", "--defined-only", path) for path in (self.second, self.libraries / SONAME, prefix() / "lib" / SONAME)]
         self.assertEqual(names, [names[0]] * 3)
         self.loads()
+        # Without --v3 no older library stays that the loader would take.
+        self.install()
+        self.assertFalse(self.second.exists())
+        self.install("--v3")
         self.assertEqual(self.install("--uninstall").stderr, b"")
-        self.assertEqual(list((self.staged / "usr").iterdir()), [])
+        self.assertEqual(sorted(path.name for path in (self.staged / "usr").rglob("*")), ["include", "lib"])
 
     def loads(self):
         stream = with_pkg_config("staged_stream", self.libraries)
