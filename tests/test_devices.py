@@ -172,11 +172,12 @@ class SystemCalls(ProgramCase):
     def trace(self, *words, input=b"", calls="read,write"):
         """The sizes that reads and writes moved, by kind and descriptor, of a run."""
         tool("strace")
+        if subprocess.run(["strace", "-o", "trace", "true"], capture_output=True).returncode != 0:
+            self.skipTest("strace may not trace")
         done = subprocess.run(
             ["strace", "-o", "trace", "-e", f"trace={calls}", AGEP, *words], stdin=input, capture_output=True, timeout=60
         )
-        if done.returncode != 0:
-            self.skipTest("strace may not trace")
+        self.assertEqual(done.returncode, 0, done.stderr)
         rows = re.findall(r"^(\w+)\((\d+), .* = (\d+)$", read("trace").decode("latin1"), re.MULTILINE)
         sizes = {}
         for kind, descriptor, size in rows:

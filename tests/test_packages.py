@@ -100,6 +100,7 @@ class Packages(unittest.TestCase):
         return root
 
     def test_the_same_bytes_again(self):
+        """Packing the same builds in another folder. This does not show that a build makes its bytes again."""
         sums = [(folder / "SHA256SUMS").read_text() for folder in (self.dist, self.work / "other folder/again")]
         self.assertEqual(sums[0], sums[1])
         run("sha256sum", "-c", "SHA256SUMS", cwd=self.dist)
@@ -151,7 +152,6 @@ class Packages(unittest.TestCase):
             (root / folder).mkdir(parents=True)
         for name in ("status", "available"):
             (root / "var/lib/dpkg" / name).touch()
-        before = sorted(path for path in root.rglob("*") if "var" not in path.parts)
         dpkg = ("dpkg", "--root", root, "--log", root / "log", "--force-depends", "--force-not-root", "--force-script-chrootless")
         # The scripts of the package for Python work on the system's own root.
         debs = [deb for deb in self.dist.glob("*.deb") if not deb.name.startswith("python3-")]
@@ -159,10 +159,7 @@ class Packages(unittest.TestCase):
         self.assertTrue((root / "usr/bin/agep").exists())
         names = [deb.name.partition("_")[0] for deb in debs]
         run(*dpkg, "--purge", *names)
-        (root / "log").unlink()
-        after = sorted(path for path in root.rglob("*") if "var" not in path.parts and path.name not in ("usr", "etc"))
-        self.assertEqual([path for path in after if path.is_file()], [])
-        self.assertEqual(before, [])
+        self.assertEqual(sorted(path.name for path in root.iterdir()), ["log", "var"])
 
     def test_program(self):
         root = self.unpacked("agep_*.deb")
@@ -293,13 +290,13 @@ STAND_IN = '#include <stdio.h>\nint main(int n, char **words) { return n < 2 || 
 BUILDS = ("agep-x86-64-v3", "agep-x86-64")
 
 
-@needs("cc")
 def level():
     """The level of the build that this processor runs."""
     has_v3 = subprocess.run(["sh", "-c", f'root={ROOT}; . "$root/share/build.sh"; has_v3']).returncode == 0
     return "x86-64-v3" if has_v3 else "x86-64"
 
 
+@needs("cc")
 class Chooser(unittest.TestCase):
     """share/agep.c, with stand-ins for the builds."""
 
