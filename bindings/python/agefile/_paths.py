@@ -7,6 +7,7 @@ import errno
 import io
 import os
 import stat
+import tempfile
 from collections.abc import Iterator
 from typing import Any, BinaryIO
 
@@ -14,14 +15,24 @@ from ._errors import AgeError
 
 
 def is_path(file: Any) -> bool:
-    return isinstance(file, (str, bytes, os.PathLike))
+    """Whether this is a path, and no open file that has one, as those of fsspec."""
+    return isinstance(file, (str, bytes, os.PathLike)) and not isinstance(file, io.IOBase)
 
 
 def is_open(file: Any, method: str) -> bool:
     """Whether this is an open binary file with this method, and not what opens one."""
     if isinstance(file, io.TextIOBase):
         raise TypeError("a text file holds no bytes: open it in binary mode, or pass its `buffer`")
-    return hasattr(file, method)
+    return hasattr(file, method) and not is_path(file)
+
+
+def raw_of(file: Any) -> io.FileIO | None:
+    """The system's file that this object reads, with nothing else between but a buffer, or None."""
+    if isinstance(file, tempfile._TemporaryFileWrapper):
+        file = file.file
+    raw = getattr(file, "raw", file)
+    is_plain = type(file) in (io.FileIO, io.BufferedReader, io.BufferedRandom)
+    return raw if is_plain and type(raw) is io.FileIO else None
 
 
 def name_of(file: Any) -> Any:
@@ -60,6 +71,12 @@ class Output(io.FileIO):
     def _without_truncation(path: Any, flags: int) -> int:
         return os.open(path, flags & ~os.O_TRUNC, 0o666)
 
+    def check_source(self, source: Any) -> None:
+        """Refuses a regular file that is the source, or that a Reader takes its plaintext from."""
+        raw = raw_of(getattr(source, "encrypted", source))
+        if self._is_kept and raw and os.path.sameopenfile(raw.fileno(), self.fileno()):
+            raise ValueError(f"{self.name!r} is the source, and cannot be the sink too")
+
     def empty(self) -> None:
         if self._is_kept:
             self.truncate(0)
@@ -91,14 +108,14 @@ class Replacement(io.FileIO):
 
     def commit(self) -> None:
         """Puts the file, and then its name, on the disk."""
-        os.fsync(self.fileno())
-        if self._is_new:
-            os.link(self._beside, self._target)
-        else:
-            os.replace(self._beside, self._target)
-            self._is_beside = False
         folder = os.open(self._folder, os.O_RDONLY)
         try:
+            os.fsync(self.fileno())
+            if self._is_new:
+                os.link(self._beside, self._target)
+            else:
+                os.replace(self._beside, self._target)
+                self._is_beside = False
             os.fsync(folder)
         finally:
             os.close(folder)
@@ -150,9 +167,8 @@ def writing(file: Any, source: BinaryIO) -> Iterator[Any]:
         yield file
         return
     with created(file, "wb", closefd=False) as sink:
-        if isinstance(source, io.FileIO) and isinstance(sink, io.FileIO):
-            if is_path(file) and os.path.sameopenfile(source.fileno(), sink.fileno()):
-                raise ValueError(f"{file!r} is the source, and cannot be the sink too")
+        if isinstance(sink, Output):
+            sink.check_source(source)
         yield sink
         if isinstance(sink, Output):
             sink.empty()

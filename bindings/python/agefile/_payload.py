@@ -5,17 +5,61 @@ from __future__ import annotations
 import collections
 import concurrent.futures
 import ctypes
+import operator
 import os
 from collections.abc import Iterator
 from typing import Any, BinaryIO
 
 from . import _library as lib
-from ._errors import AgeError
-from ._secrets import Identities, Recipients, new_header, stanzas_text, unlock
-from ._sources import Front, read_into, readinto_of, write_all
+from ._errors import AgeError, Code
+from ._secrets import Header, Identities, Recipients, new_header, read_header, stanzas_text, unlock
+from ._sources import read_into, readinto_of, write_all
 
 # How many chunks one thread seals or opens at a time.
 PART = 16
+
+
+class Front:
+    """The beginning of a source: its header and nonce, and what was read behind them. No more is
+    read than is there, so that a wrong key is found while a pipe still waits."""
+
+    def __init__(self, source: Any) -> None:
+        self.bytes = bytearray()
+        self._read = getattr(source, "read1", source.read)
+        self._ended = False
+
+    def more(self) -> bool:
+        """Reads more, and returns whether there was more."""
+        piece = b"" if self._ended else self._read(lib.FRONT)
+        if piece is None:
+            raise BlockingIOError("the read would block")
+        self._ended = not piece
+        self.bytes += piece
+        return bool(piece)
+
+    def header(self) -> Header:
+        """Reads until the header is there, and returns it."""
+        tried = 0
+        while True:
+            self.more()
+            # Each piece may end the header or spoil it. Where pieces are so small that to try with
+            # each would take long, the header's last line still is no byte late.
+            if tried <= 16 * (len(self.bytes) + 4096) or self._has_last_line() or self._ended:
+                tried += len(self.bytes)
+                try:
+                    return read_header(bytes(self.bytes))
+                except AgeError as error:
+                    if error.code != Code.HEADER_TRUNCATED or self._ended:
+                        raise
+
+    def _has_last_line(self) -> bool:
+        at = self.bytes.find(b"\n---")
+        return at >= 0 and self.bytes.find(b"\n", at + 1) >= 0
+
+    def nonce(self, header: Header) -> None:
+        """Reads until the nonce is there too, or the source has ended."""
+        while len(self.bytes) < header.length + lib.NONCE and self.more():
+            pass
 
 
 def begin(recipients: Recipients) -> tuple[bytes, lib.Payload]:
@@ -183,10 +227,15 @@ def on_threads(step: _Step, payload: lib.Payload, source: BinaryIO, sink: Any, t
     return total + one_by_one(step, payload, rest, sink)
 
 
-def run(step: _Step, payload: lib.Payload, source: BinaryIO, sink: Any, threads: int) -> int:
-    if threads < 1:
+def thread_count(threads: int) -> int:
+    """How many of so many threads are used."""
+    count = operator.index(threads)
+    if count < 1:
         raise ValueError("threads is at least 1")
-    threads = min(threads, os.cpu_count() or 1)
+    return min(count, os.cpu_count() or 1)
+
+
+def run(step: _Step, payload: lib.Payload, source: BinaryIO, sink: Any, threads: int) -> int:
     if threads == 1:
         return one_by_one(step, payload, source, sink)
     return on_threads(step, payload, source, sink, threads)

@@ -6,39 +6,36 @@ import contextlib
 import ctypes
 import io
 import os
+import stat
 import threading
 from typing import Any, BinaryIO, TypeVar
 
 from . import _library as lib
 from ._errors import AgeChangedError, Code
-from ._paths import is_open, name_of, named, opened, with_name
-from ._payload import Chunk
+from ._paths import is_open, name_of, named, opened, raw_of, with_name
+from ._payload import Chunk, Front
 from ._secrets import Identities, unlock
-from ._sources import Front, flat, read_into
+from ._sources import flat, read_into
 
 _Result = TypeVar("_Result")
-_PLAIN = (io.FileIO, io.BufferedReader, io.BufferedRandom)
-
-
-def _raw_of(file: Any) -> io.FileIO | None:
-    """The system's file that this object reads, with nothing else between but a buffer, or None."""
-    file = getattr(file, "file", file)  # of tempfile.NamedTemporaryFile
-    raw = getattr(file, "raw", file)
-    return raw if type(file) in _PLAIN and type(raw) is io.FileIO else None
 
 
 class _Source:
-    """The file below, which is read at offsets, and how it is opened again."""
+    """The file below, which is read at offsets, and how it is opened again. Its own position may be
+    anywhere: a forked process shares it, and so do other readers of one file object."""
 
     def __init__(self, file: BinaryIO, opener: Any, owned: bool) -> None:
         self.file, self.opener, self._owned = file, opener, owned
-        file.seek(0, os.SEEK_END)
-        self.length = file.tell()
-        self._raw = _raw_of(file)
+        self._raw = raw_of(file)
+        if self._raw and stat.S_ISREG(os.fstat(self._raw.fileno()).st_mode):
+            file.flush()
+            self.length = os.fstat(self._raw.fileno()).st_size
+        else:
+            file.seek(0, os.SEEK_END)
+            self.length = file.tell()
 
     def read_at(self, offset: int, room: memoryview) -> int:
-        """Reads until the room is full or the file ends. The file's own position may be anywhere:
-        a forked process shares it, and so do other readers of one file object."""
+        """Reads until the room is full or the file ends."""
         if self._raw is None:
             self.file.seek(offset)
             return read_into(self.file, room)
@@ -51,6 +48,19 @@ class _Source:
     def close(self) -> None:
         if self._owned:
             self.file.close()
+
+
+class _FromStart:
+    """A source from its first byte on."""
+
+    def __init__(self, source: _Source) -> None:
+        self._source, self._at = source, 0
+
+    def read(self, size: int) -> bytes:
+        room = bytearray(size)
+        count = self._source.read_at(self._at, memoryview(room))
+        self._at += count
+        return bytes(room[:count])
 
 
 class _Chunks:
@@ -70,8 +80,7 @@ class _Chunks:
     @staticmethod
     def unlocked(source: _Source, identities: Identities) -> lib.Ranges:
         """The ranges of a source, of which nothing but header and nonce was read."""
-        source.file.seek(0)
-        front = Front(source.file)
+        front = Front(_FromStart(source))
         header = front.header()
         file_key = unlock(bytes(front.bytes[: header.length]), identities)
         front.nonce(header)
@@ -194,7 +203,7 @@ class Reader(io.BufferedIOBase):
     A result that is shorter than what was asked for means the end of the plaintext: where a chunk
     is needed that cannot be opened, a call raises its error, now and each time, and the position
     stays. `read1`, `peek` and `raw.readinto`, whose results may be short anyway, return the
-    verified bytes before that chunk, and raise once there are none.
+    verified bytes before that chunk, and raise once there are none. `raw` has a position of its own.
 
     Where it was opened by a path or an opener it can be pickled, for workers: the pickle holds the
     payload's key, so whoever has it can read the file. Opened again, it pays no scrypt."""
@@ -206,9 +215,16 @@ class Reader(io.BufferedIOBase):
         self._chunks, self.name, self.raw = chunks, chunks.name, _Plaintext(chunks, 1)
         self._below = _Plaintext(chunks, 0)
         self._buffer = io.BufferedReader(self._below, lib.TEXT_CHUNK)
+        # Between a short result and its reason no other thread moves the position.
+        self._lock = threading.RLock()
 
     def __repr__(self) -> str:
         return f"<agefile.Reader name={self.name!r} mode={self.mode!r}>"
+
+    @property
+    def encrypted(self) -> BinaryIO:
+        """The age file."""
+        return self._chunks.source.file
 
     def __reduce_ex__(self, protocol: Any) -> tuple[Any, ...]:
         return reopen, (*self.again(), self.tell())
@@ -235,40 +251,47 @@ class Reader(io.BufferedIOBase):
         raise error
 
     def read(self, size: int | None = -1, /) -> bytes:
-        if size is None or size < 0:
-            # What is buffered and the rest would be joined: a second copy.
-            at = self.tell()
-            size = -1 if at == self._below.position else max(self.length - at, 0)
-        found = self._buffer.read(size)
-        return found if len(found) == size else self._or_error(found, len(found))
+        with self._lock:
+            if size is None or size < 0:
+                # What is buffered and the rest would be joined: a second copy.
+                at = self.tell()
+                size = -1 if at == self._below.position else max(self.length - at, 0)
+            found = self._buffer.read(size)
+            return found if len(found) == size else self._or_error(found, len(found))
 
     def read1(self, size: int = -1, /) -> bytes:
-        found = self._buffer.read1(size)
-        return found if found or size == 0 else self._or_error(found, 0)
+        with self._lock:
+            found = self._buffer.read1(size)
+            return found if found or size == 0 else self._or_error(found, 0)
 
     def readinto(self, room: Any, /) -> int:
-        count = self._buffer.readinto(room)
-        return count if count == memoryview(room).nbytes else self._or_error(count, count)
+        with self._lock:
+            count = self._buffer.readinto(room)
+            return count if count == memoryview(room).nbytes else self._or_error(count, count)
 
     def peek(self, size: int = 0, /) -> bytes:
-        return self._buffer.peek(size) or self._or_error(b"", 0)
+        with self._lock:
+            return self._buffer.peek(size) or self._or_error(b"", 0)
 
     def readline(self, size: int | None = -1, /) -> bytes:
-        line = self._buffer.readline(size)
-        if line[-1:] == b"\n" or len(line) == size:
-            return line
-        return self._or_error(line, len(line))
+        with self._lock:
+            line = self._buffer.readline(size)
+            if line[-1:] == b"\n" or len(line) == size:
+                return line
+            return self._or_error(line, len(line))
 
     def readlines(self, hint: int | None = -1, /) -> list[bytes]:
-        begin = self.tell()
-        try:
-            return super().readlines(hint)  # type: ignore[arg-type]
-        except Exception:
-            self.seek(begin)
-            raise
+        with self._lock:
+            begin = self.tell()
+            try:
+                return super().readlines(hint)  # type: ignore[arg-type]
+            except Exception:
+                self.seek(begin)
+                raise
 
     def seek(self, offset: int, whence: int = os.SEEK_SET, /) -> int:
-        return self._buffer.seek(offset, whence)
+        with self._lock:
+            return self._buffer.seek(offset, whence)
 
     def tell(self) -> int:
         return self._buffer.tell()
@@ -289,9 +312,10 @@ def open_reader(file: Any, identities: Identities) -> Reader:
     """Opens the plaintext of a path, a descriptor, an opener, or a binary file that can seek."""
     owned = not is_open(file, "read")
     below, name = opened(file) if owned else file, name_of(file)
-    source = _Source(below, file if owned and not isinstance(file, int) else None, owned)
     with named(name), contextlib.ExitStack() as stack:
-        stack.callback(source.close)
+        if owned:
+            stack.callback(below.close)
+        source = _Source(below, file if owned and not isinstance(file, int) else None, owned)
         reader = Reader(_Chunks(source, _Chunks.unlocked(source, identities), name))
         stack.pop_all()
     return reader
@@ -299,9 +323,10 @@ def open_reader(file: Any, identities: Identities) -> Reader:
 
 def reopen(opener: Any, ranges: bytes, position: int) -> Reader:
     """Opens a plaintext again by its payload's key; its last chunk is verified again."""
-    source, found = _Source(opened(opener), opener, True), lib.Ranges.from_buffer_copy(ranges)
+    below, found = opened(opener), lib.Ranges.from_buffer_copy(ranges)
     with named(name_of(opener)), contextlib.ExitStack() as stack:
-        stack.callback(source.close)
+        stack.callback(below.close)
+        source = _Source(below, opener, True)
         now, before = source.length - found.first, found.sealed_len
         if now != before:
             last = max(min(now, before) - 1, 0) // lib.SEALED_CHUNK

@@ -11,6 +11,7 @@ from typing import Any, NamedTuple, Protocol, Union, runtime_checkable
 from . import _library as lib
 from ._errors import AgeError, Code
 from ._paths import reading
+from ._sources import read_into
 
 
 class Stanza(NamedTuple):
@@ -81,13 +82,12 @@ class Passphrase(_Secret):
     def from_file(cls, file: Any, *, work: int = 18, max_work: int = 22) -> Passphrase:
         """The passphrase in a file, at most 65,536 bytes, as the option -p of agep reads it: one LF
         at its end is removed. `file` is a path, a descriptor or a binary file object."""
-        found = b""
+        room = bytearray(lib.TEXT_CHUNK + 1)
         with reading(file) as source:
-            while len(found) <= lib.TEXT_CHUNK and (piece := source.read(lib.TEXT_CHUNK + 1)):
-                found += piece
-        if len(found) > lib.TEXT_CHUNK:
+            length = read_into(source, memoryview(room))
+        if length > lib.TEXT_CHUNK:
             raise ValueError(f"a passphrase file has at most {lib.TEXT_CHUNK} bytes")
-        return cls(found.removesuffix(b"\n"), work=work, max_work=max_work)
+        return cls(bytes(room[:length]).removesuffix(b"\n"), work=work, max_work=max_work)
 
     def _text(self, file_key: bytes) -> bytes:
         salt = os.urandom(lib.SALT)
@@ -143,7 +143,7 @@ def _text_of(function: str, *arguments: Any, room: int = lib.STANZA_ROOM) -> byt
 def _stanza_text(stanza: Stanza) -> bytes:
     """The text of a stanza in a header."""
     args, body = " ".join(stanza.args).encode(), bytes(stanza.body)
-    if any(not arg or " " in arg for arg in stanza.args):
+    if isinstance(stanza.args, str) or any(not arg or " " in arg for arg in stanza.args):
         raise AgeError(Code.BAD_ARGUMENTS)
     with lib.Bytes(args) as words, lib.Bytes(body) as data:
         return _text_of("wrap", *words.pair, *data.pair)

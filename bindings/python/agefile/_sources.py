@@ -6,10 +6,6 @@ import functools
 import io
 from typing import Any, BinaryIO
 
-from . import _library as lib
-from ._errors import AgeError, Code
-from ._secrets import Header, read_header
-
 
 def flat(data: Any) -> memoryview:
     """The bytes of an object. A view with a zero in its shape has no cast."""
@@ -60,46 +56,3 @@ def write_all(sink: Any, data: Any) -> None:
         if count == len(rest) or count is None and not isinstance(sink, io.RawIOBase):
             return
         rest = memoryview(rest)[_checked(count, 1, len(rest), "write") :]
-
-
-class Front:
-    """The beginning of a source: its header and nonce, and what was read behind them. No more is
-    read than is there, so that a wrong key is found while a pipe still waits."""
-
-    def __init__(self, source: BinaryIO) -> None:
-        self.bytes = bytearray()
-        self._read = getattr(source, "read1", source.read)
-        self._ended = False
-
-    def more(self) -> bool:
-        """Reads more, and returns whether there was more."""
-        piece = b"" if self._ended else self._read(lib.FRONT)
-        if piece is None:
-            raise BlockingIOError("the read would block")
-        self._ended = not piece
-        self.bytes += piece
-        return bool(piece)
-
-    def header(self) -> Header:
-        """Reads until the header is there, and returns it."""
-        tried = 0
-        while True:
-            self.more()
-            # Each piece may end the header or spoil it. Where pieces are so small that to try with
-            # each would take long, the header's last line still is no byte late.
-            if tried <= 16 * (len(self.bytes) + 4096) or self._has_last_line() or self._ended:
-                tried += len(self.bytes)
-                try:
-                    return read_header(bytes(self.bytes))
-                except AgeError as error:
-                    if error.code != Code.HEADER_TRUNCATED or self._ended:
-                        raise
-
-    def _has_last_line(self) -> bool:
-        at = self.bytes.find(b"\n---")
-        return at >= 0 and self.bytes.find(b"\n", at + 1) >= 0
-
-    def nonce(self, header: Header) -> None:
-        """Reads until the nonce is there too, or the source has ended."""
-        while len(self.bytes) < header.length + lib.NONCE and self.more():
-            pass

@@ -10,9 +10,9 @@ from typing import Any, BinaryIO, cast
 from . import _library as lib
 from ._errors import AgeError, Code
 from ._paths import reading, writing
-from ._payload import OPENING, SEALING, Behind, Chunk, begin, open_source, rewrapped, run
+from ._payload import OPENING, SEALING, Behind, Chunk, Front, begin, open_payload, open_source, rewrapped, run, thread_count
 from ._secrets import Header, Identities, Recipients, read_header, unlock
-from ._sources import Front, read_into, write_all
+from ._sources import read_into, write_all
 
 
 class _Collector:
@@ -30,15 +30,14 @@ class _Collector:
         return len(data)
 
 
-def _file_key_of(data: lib.Bytes, identities: Identities) -> tuple[bytes, Header]:
-    """The file key of a file in memory, and its header."""
-    front = ctypes.string_at(data.address, min(data.len, lib.FRONT)) if data.len else b""
-    header = read_header(front)
-    return unlock(front[: header.length], identities), header
+def _front_of(data: lib.Bytes) -> bytes:
+    """A copy of what holds the header and the nonce: another thread may change the caller's memory."""
+    return ctypes.string_at(data.address, min(data.len, lib.FRONT)) if data.len else b""
 
 
 def encrypt(data: Any, *, recipients: Recipients, threads: int = 1) -> bytes:
     """The age file of a plaintext, any bytes-like object, for one recipient or for several."""
+    threads = thread_count(threads)
     with lib.Bytes(data) as plain:
         front, payload = begin(recipients)
         sink = _Collector(len(front) + _sealed_len(plain.len))
@@ -91,11 +90,10 @@ def _open_all(payload: lib.Payload, file: lib.Bytes, at: int, out: lib.Bytes) ->
 
 def decrypt(data: Any, *, identities: Identities, threads: int = 1) -> bytes:
     """The plaintext of an age file in memory. Of a file with a fault nothing is returned."""
+    threads = thread_count(threads)
     with lib.Bytes(data) as file:
-        file_key, _ = _file_key_of(file, identities)
-        payload = lib.Payload()
-        with lib.Bytes(file_key) as key:
-            first = lib.check("open", *file.pair, key.address, ctypes.byref(payload)).len
+        front = _front_of(file)
+        first, payload = open_payload(front, unlock(front[: read_header(front).length], identities))
         sink = _Collector(_opened_len(file.len - first))
         if threads == 1:
             with lib.Bytes(sink.out) as memory:
@@ -113,7 +111,7 @@ def inspect(data: Any) -> Header:
         with reading(data) as source:
             return Front(source).header()
     with lib.Bytes(data) as file:
-        return read_header(ctypes.string_at(file.address, min(file.len, lib.FRONT)) if file.len else b"")
+        return read_header(_front_of(file))
 
 
 def rewrap(data: Any, *, identities: Identities, recipients: Recipients) -> bytes:
@@ -132,8 +130,9 @@ def rewrap_copy(source: Any, sink: Any, *, identities: Identities, recipients: R
         with writing(sink, below) as out:
             write_all(out, header)
             write_all(out, front.bytes[old:])
-            while piece := below.read(lib.TEXT_CHUNK):
-                write_all(out, piece)
+            room = memoryview(bytearray(lib.TEXT_CHUNK))
+            while length := read_into(below, room):
+                write_all(out, room[:length])
 
 
 def copy(
@@ -150,6 +149,7 @@ def copy(
     before it. A file of the sink's path keeps its contents until the first byte is written."""
     if (recipients is None) == (identities is None):
         raise TypeError("copy takes recipients to encrypt, or identities to decrypt")
+    threads = thread_count(threads)
     if recipients is None:
         assert identities is not None
         with reading(source) as below:

@@ -22,10 +22,10 @@ class Writer(io.BufferedIOBase):
     that was there before is emptied.
 
     A file that was not closed, whose `with` body raised, or a write of which failed, has no last
-    chunk, so each reader refuses it. What calls `close` after an exception makes a whole file of
-    what was written: `contextlib.closing`, a `TextIOWrapper` or `BufferedWriter` over this object,
-    `fsspec.open`. A forked child writes nothing: it would seal other bytes under the nonces of its
-    parent."""
+    chunk, so each reader refuses it; `close` raises after a failed write. What calls `close` after
+    another exception makes a whole file of what was written: `contextlib.closing`, a `TextIOWrapper`
+    or `BufferedWriter` over this object, `fsspec.open`. A forked child writes nothing: it would seal
+    other bytes under the nonces of its parent."""
 
     def __init__(self, file: Any, mode: str, recipients: Recipients, atomic: bool) -> None:
         self.name, self.mode, self._owned = name_of(file), mode, not is_open(file, "write")
@@ -60,28 +60,36 @@ class Writer(io.BufferedIOBase):
     def write(self, data: Any, /) -> int:
         with self._lock, flat(data) as rest:
             self._check_usable()
-            at = 0
-            while at < len(rest):
-                # A full chunk waits for the byte after it: it may be the last one.
-                if self._filled == lib.TEXT_CHUNK:
-                    self._seal(False)
-                count = min(lib.TEXT_CHUNK - self._filled, len(rest) - at)
-                self._chunk.view[self._filled : self._filled + count] = rest[at : at + count]
-                self._filled += count
-                self._total += count
-                at += count
-            return at
+            try:
+                self._take(rest)
+            except BaseException:
+                # Also an interrupt, after which a text file would drop what it had not passed on.
+                self._failed = True
+                raise
+            return len(rest)
 
-    def _is_usable(self) -> bool:
-        return not self._failed and self._process == os.getpid()
+    def _take(self, rest: memoryview) -> None:
+        at = 0
+        while at < len(rest):
+            # A full chunk waits for the byte after it: it may be the last one.
+            if self._filled == lib.TEXT_CHUNK:
+                self._seal(False)
+            count = min(lib.TEXT_CHUNK - self._filled, len(rest) - at)
+            self._chunk.view[self._filled : self._filled + count] = rest[at : at + count]
+            self._filled += count
+            self._total += count
+            at += count
+
+    def _is_parent(self) -> bool:
+        return self._process == os.getpid()
 
     def _check_usable(self) -> None:
         if self.closed:
             raise ValueError("I/O operation on closed file")
+        if not self._is_parent():
+            raise OSError("only the process that opened this file writes it")
         if self._failed:
             raise OSError("an earlier write failed, so this file stays without its end")
-        if self._process != os.getpid():
-            raise OSError("only the process that opened this file writes it")
 
     def tell(self) -> int:
         self._check_usable()
@@ -96,19 +104,22 @@ class Writer(io.BufferedIOBase):
         """Writes the header, and flushes what was sealed. The bytes of a chunk that is not full
         stay here."""
         with self._lock:
-            if self.writable() and self._front and self._is_usable():
+            if not self.writable() or not self._is_parent():
+                return
+            if self._front and not self._failed:
                 self._put(b"")
             sink: Any = self._sink
             if hasattr(sink, "flush") and not getattr(sink, "closed", False):
                 sink.flush()
 
     def close(self) -> None:
-        """Seals the last chunk: only now the file is whole."""
+        """Seals the last chunk: only now the file is whole. After a failed write this fails too."""
         with self._lock:
             if self.closed:
                 return
             try:
-                if self._is_usable():
+                if self._is_parent():
+                    self._check_usable()
                     self._seal(True)
                     if isinstance(self._sink, Replacement):
                         self._sink.commit()
@@ -127,7 +138,9 @@ class Writer(io.BufferedIOBase):
         try:
             super().close()
         finally:
-            if self._owned and self._sink is not None:
+            # In a forked child a file with a buffer would write what its parent's buffer holds.
+            is_safe = self._is_parent() or isinstance(self._sink, io.RawIOBase)
+            if self._owned and self._sink is not None and is_safe:
                 self._sink.close()
 
     def __exit__(self, kind: type[BaseException] | None, *rest: Any) -> None:
@@ -137,13 +150,21 @@ class Writer(io.BufferedIOBase):
         # A file that nobody closed stays without its last chunk.
         if hasattr(self, "_sink") and not self.closed:
             self.abort()
-            if self._process == os.getpid():
+            if self._is_parent():
                 text = f"{self!r} was not closed, so it is not whole"
                 warnings.warn(text, ResourceWarning, 2, self)
 
 
 class TextWriter(io.TextIOWrapper):
     """A text file over a writer, which is whole under the same conditions."""
+
+    def flush(self) -> None:
+        # A TextIOWrapper drops the text that it could not write, and its close goes on.
+        try:
+            super().flush()
+        except BaseException:
+            self.buffer.abort()  # type: ignore[attr-defined]
+            raise
 
     def __exit__(self, kind: type[BaseException] | None, *rest: Any) -> None:
         self.close() if kind is None else self.buffer.abort()  # type: ignore[attr-defined]

@@ -7,9 +7,10 @@
 
 Names are those of the file system below. A file is opened by ranges: each worker opens the chunks
 of its own blocks. Damage in one block fails the task of that block alone, with the file and the
-number of its chunk. The key of each file's payload is kept as long as the file stays as it was, and
-goes with the file system into the pickle for a worker, so scrypt runs once for each file; whoever
-has that pickle can read these files.
+number of its chunk. Damage in the header or in the last chunk fails all of them. The key of each
+file's payload is kept as long as the file stays as it was, and goes with the file system into the
+pickle for a worker, so scrypt runs once for each file; whoever has that pickle can read these
+files.
 """
 
 from __future__ import annotations
@@ -60,15 +61,21 @@ class AgeFileSystem(AbstractFileSystem):  # type: ignore[misc]
         return self.fs._strip_protocol(path) if path else self._target
 
     def open(self, path: Any, mode: str = "rb", **options: Any) -> Any:
-        if "r" in mode or "b" in mode or options.get("compression"):
-            return super().open(path, mode, **options)
-        # Text as `agefile.open` writes it: a body that raises leaves no whole file.
-        return self._create(self._strip_protocol(path), mode, options)
+        """Text is UTF-8 unless `encoding` names another. A file is written as `agefile.open` writes
+        it, so this refuses a compression, which would leave out its end, and transactions."""
+        if "r" not in mode:
+            return self._create(self._strip_protocol(path), mode, options)
+        if "b" not in mode:
+            options["encoding"] = options.get("encoding") or "utf-8"
+        return super().open(path, mode, **options)
 
     def _open(self, path: str, mode: str = "rb", **options: Any) -> Any:
         return self._reader(path) if mode == "rb" else self._create(path, mode, options)
 
     def _create(self, path: str, mode: Any, options: dict[str, Any]) -> Any:
+        is_later = self._intrans or not options.get("autocommit", True)
+        if is_later or options.get("compression") is not None:
+            raise ValueError("a file is written without compression, and outside of transactions")
         words: Any = {"recipients": self._recipients}
         for name in ("encoding", "errors", "newline", "recipients"):
             if name in options:
@@ -110,6 +117,15 @@ class AgeFileSystem(AbstractFileSystem):  # type: ignore[misc]
         files = [{**each, "size": None} if each["type"] == "file" else each for each in found]
         return files if detail else [each["name"] for each in files]
 
+    def mkdir(self, path: str, create_parents: bool = True, **options: Any) -> None:
+        self.fs.mkdir(self._strip_protocol(path), create_parents, **options)
+
+    def makedirs(self, path: str, exist_ok: bool = False) -> None:
+        self.fs.makedirs(self._strip_protocol(path), exist_ok)
+
+    def rmdir(self, path: str) -> None:
+        self.fs.rmdir(self._strip_protocol(path))
+
     def invalidate_cache(self, path: str | None = None) -> None:
         if path is None:
             self._keys.clear()
@@ -146,7 +162,7 @@ class _Opener:
 
     def open(self) -> Any:
         # Without a cache below: each chunk is read once.
-        words = {"block_size": 0, "cache_type": "none"} if self._mode == "rb" else {}
+        words = {"cache_type": "none"} if self._mode == "rb" else {}
         return self._fs.open(self.path, self._mode, **words)
 
 

@@ -1,5 +1,6 @@
 """What the tests of the package share: a key, texts, damage, threads, and the messages of agep."""
 
+import concurrent.futures
 import functools
 import os
 import sys
@@ -35,12 +36,11 @@ def damaged(file, *chunks):
 
 
 def in_threads(work, count=4):
-    """Runs the function in so many threads at once, up to the end of all."""
-    threads = [threading.Thread(target=work) for _ in range(count)]
-    for thread in threads:
-        thread.start()
-    for thread in threads:
-        thread.join()
+    """The results of the function in so many threads at once."""
+    start = threading.Barrier(count)
+    with concurrent.futures.ThreadPoolExecutor(count) as pool:
+        futures = [pool.submit(lambda: (start.wait(), work())[1]) for _ in range(count)]
+        return [future.result() for future in futures]
 
 
 def in_time(work, seconds=20):

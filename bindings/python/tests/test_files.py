@@ -17,6 +17,7 @@ import shutil
 import subprocess
 import sys
 import tempfile
+import threading
 import traceback
 import unittest
 import warnings
@@ -25,6 +26,23 @@ from unittest import mock
 import agefile
 from agefile import AgeError, Code, Key, Passphrase
 from support import KEY, InFolder, damaged, in_threads, in_time, message, text
+
+
+class PathThatWrites:
+    """A path with a method `write`, as those of the package py."""
+
+    def __fspath__(self):
+        return "path.age"
+
+    def write(self, data):
+        raise AssertionError("a path is no open file")
+
+
+class FileWithPath(io.FileIO):
+    """An open file that is a path too, as local ones of fsspec."""
+
+    def __fspath__(self):
+        raise AssertionError("an open file is not opened by its path")
 
 
 class Reading(InFolder):
@@ -95,8 +113,10 @@ class Reading(InFolder):
             csv.writer(file).writerows(rows)
         with agefile.open("t.age", "r", identities=KEY, newline="") as file:
             self.assertEqual(list(csv.reader(file)), rows)
-        with open("t.age", "rb") as whole, agefile.open("t.age", "rb", identities=KEY) as file:
-            self.assertEqual(b"".join(file), agefile.decrypt(whole.read(), identities=KEY))
+        plain = io.StringIO(newline="")
+        csv.writer(plain).writerows(rows)
+        with agefile.open("t.age", "rb", identities=KEY) as file:
+            self.assertEqual(b"".join(file), plain.getvalue().encode())
 
     def test_errors_name_their_file(self):
         """The text of an error, and its `filename`, say which file it is about."""
@@ -244,17 +264,30 @@ class Reading(InFolder):
                     self.assertIsNotNone(view.obj)
 
     def test_threads_on_one_file(self):
-        plain, wrong = text(1000000), []
+        """Each piece goes to one of them."""
+        plain = text(1000000)
         with agefile.open(self.made(plain), identities=KEY) as file:
+            found = in_threads(lambda: [file.read(10000) for _ in range(50)])
+        pieces = [plain[at : at + 10000] for at in range(0, len(plain), 10000)]
+        self.assertEqual(sorted(sum(found, [])), sorted(pieces + [b""] * 100))
 
-            def work():
-                for _ in range(50):
-                    piece = file.read(10000)
-                    if piece and piece not in plain:
-                        wrong.append(piece)
+    def test_a_bad_chunk_beside_a_thread_that_seeks(self):
+        """The other thread goes to the end. The short result before the chunk is still an error."""
+        self.put(damaged(self.got(self.made(text(200000))), 1))
+        with agefile.open("a.age", identities=KEY) as file:
+            buffer = file._buffer
+            thread = threading.Thread(target=file.seek, args=(0, os.SEEK_END))
 
-            in_threads(work)
-        self.assertEqual(wrong, [])
+            def read(size):
+                found = buffer.read(size)
+                thread.start()
+                thread.join(0.5)
+                return found
+
+            file._buffer = mock.Mock(wraps=buffer, read=read)
+            with self.assertRaisesRegex(AgeError, message("BadChunk", 1)):
+                file.read(100000)
+            thread.join()
 
     def test_fork(self):
         """A child and its parent go on with one open file, and neither moves the other's position."""
@@ -295,6 +328,8 @@ class Reading(InFolder):
                 self.assertEqual(below.tell(), 5)
                 children = [os.fork() or self.read_in_child(file, plain, number) for number in range(4)]
                 self.assertEqual([os.waitpid(child, 0)[1] for child in children], [0] * 4)
+                with agefile.open(below, identities=KEY) as other:
+                    self.assertEqual((other.read(5), below.tell()), (plain[:5], 5))
 
     def in_temporary_file(self):
         below = tempfile.NamedTemporaryFile()
@@ -317,6 +352,9 @@ class Reading(InFolder):
         with gzip.open("a.gz", "wb") as file:
             file.write(agefile.encrypt(text(200000), recipients=KEY))
         with gzip.open("a.gz") as below, agefile.open(below, identities=KEY) as file:
+            self.assertEqual(file.read(), text(200000))
+        below = io.BytesIO(agefile.encrypt(text(200000), recipients=KEY))
+        with open("a.gz", "rb") as below.file, agefile.open(below, identities=KEY) as file:
             self.assertEqual(file.read(), text(200000))
 
     def test_a_source_whose_seek_returns_nothing(self):
@@ -353,6 +391,11 @@ class Reading(InFolder):
                 self.assertEqual(agefile.decrypt(self.got("new.age"), identities=Key(bytes(32))), plain)
                 if kind in ("str", "path", "descriptor"):
                     self.assertEqual(agefile.inspect(make()), agefile.inspect(self.got("a.age")))
+        with FileWithPath("a.age") as below, agefile.open(below, identities=KEY) as file:
+            self.assertEqual(file.read(), plain)
+        with agefile.open(PathThatWrites(), "wb", recipients=KEY) as file:
+            file.write(plain)
+        self.assertEqual(agefile.decrypt(self.got("path.age"), identities=KEY), plain)
         self.assertEqual(agefile.copy("plain", os.open("b.age", os.O_WRONLY | os.O_CREAT), recipients=KEY), len(plain))
         self.assertEqual(agefile.decrypt(self.got("b.age"), identities=KEY), plain)
 
@@ -537,6 +580,11 @@ class Writing(InFolder):
             (ValueError, lambda: agefile.copy("old", "old", recipients=KEY)),
             (ValueError, lambda: agefile.copy("a.age", "./a.age", identities=KEY)),
             (ValueError, lambda: agefile.rewrap_copy("a.age", "a.age", identities=KEY, recipients=KEY)),
+            (ValueError, lambda: agefile.copy(open("a.age", "rb"), "a.age", recipients=KEY)),
+            (ValueError, lambda: agefile.copy(agefile.open("a.age", identities=KEY), "a.age", recipients=KEY)),
+            (ValueError, lambda: agefile.rewrap_copy(open("a.age", "rb"), "a.age", identities=KEY, recipients=KEY)),
+            (ValueError, lambda: agefile.copy("a.age", "old", recipients=KEY, threads=0)),
+            (TypeError, lambda: agefile.copy("a.age", "old", recipients=KEY, threads="4")),
         ):
             self.put(b"old", "old")
             before = self.got("a.age")
@@ -575,6 +623,7 @@ class Writing(InFolder):
             ("it is aborted", lambda file: file.abort(), None),
             ("fsync fails", lambda file: None, "os.fsync"),
             ("replace fails", lambda file: None, "os.replace"),
+            ("the folder can't be opened", lambda file: None, "os.open"),
         ):
             self.put(b"old", "o.age")
             patch = mock.patch(patched, fails) if patched else contextlib.nullcontext()
@@ -645,6 +694,54 @@ class Writing(InFolder):
             with agefile.open("f.age", mode.replace("w", "r"), identities=KEY) as whole:
                 self.assertEqual(whole.read(), data + data)
 
+    def test_fork_and_a_sink_with_a_buffer(self):
+        """A child that closes the file writes nothing of what its parent's buffer holds."""
+        def make():
+            return open("f.age", "wb", 1 << 20)
+
+        for below in (make(), make):
+            file = agefile.open(below, "wb", recipients=KEY)
+            file.write(text(200000))
+            child = os.fork()
+            if child == 0:
+                try:
+                    file.close()
+                finally:
+                    os._exit(not file.closed)
+            self.assertEqual(os.waitpid(child, 0)[1], 0)
+            file.close()
+            if below is not make:
+                below.close()
+            self.assertEqual(agefile.decrypt(self.got("f.age"), identities=KEY), text(200000))
+
+    def test_text_that_is_not_written(self):
+        """An interrupt while text is written leaves no whole file without it."""
+        for atomic in (False, True):
+            for call in ("close", "flush"):
+                self.made(b"old", "o.age")
+                file = agefile.open("o.age", "w", recipients=KEY, atomic=atomic)
+                file.write("secret")
+                with mock.patch.object(agefile.Writer, "write", side_effect=KeyboardInterrupt):
+                    self.assertRaises(KeyboardInterrupt, getattr(file, call))
+                file.close()
+                self.assertEqual(os.listdir(), ["o.age"])
+                self.assertEqual(agefile.decrypt(self.got("o.age"), identities=KEY), b"old")
+        file = agefile.open("o.age", "w", recipients=KEY)
+        file.write("secret")
+        with mock.patch.object(agefile.Writer, "_take", side_effect=KeyboardInterrupt):
+            self.assertRaises(KeyboardInterrupt, file.write, "text" * 10000)
+        self.assertRaises(OSError, file.close)
+        self.assertEqual(agefile.decrypt(self.got("o.age"), identities=KEY), b"old")
+
+    def test_a_source_in_memory_stays_there(self):
+        """`fileno` of a SpooledTemporaryFile would write it to the disk."""
+        with tempfile.SpooledTemporaryFile() as source:
+            source.write(b"text")
+            source.seek(0)
+            agefile.copy(source, "s.age", recipients=KEY)
+            self.assertFalse(source._rolled)
+        self.assertEqual(agefile.decrypt(self.got("s.age"), identities=KEY), b"text")
+
     def test_a_sink_that_fails(self):
         class Full(io.RawIOBase):
             def __init__(self, room):
@@ -666,10 +763,14 @@ class Writing(InFolder):
         full = Full(100000)
         file = agefile.open(full, "wb", recipients=KEY)
         self.assertRaises(OSError, file.write, text(300000))
-        self.assertRaises(OSError, file.write, b"more")
-        file.close()
+        for call in (lambda: file.write(b"more"), file.close):
+            self.assertRaisesRegex(OSError, "an earlier write failed", call)
+        self.assertTrue(file.closed)
         with self.assertRaises(AgeError):
             agefile.decrypt(full.taken, identities=KEY)
+        with self.assertRaisesRegex(OSError, "an earlier write failed"):
+            with agefile.open(Full(100000), "w", recipients=KEY) as file, contextlib.suppress(OSError):
+                file.write("text" * 75000)
 
     def test_modes(self):
         with agefile.open("x.age", "xb", recipients=KEY) as file:

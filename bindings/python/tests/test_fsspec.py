@@ -101,6 +101,9 @@ class Reads(InSystem):
         self.assertEqual(system.read_block(path, len(plain) - 100, None), plain[-100:])
         with system.open(path, "r", encoding="ascii") as file:
             self.assertEqual(file.readline(), "0\n")
+        for words in ({}, {"encoding": None}):
+            with system.open(path, "r", **words) as file:
+                self.assertEqual((file.encoding, file.readline()), ("utf-8", "0\n"))
         system.get(path, self.path("plain"))
         self.assertEqual(self.got("plain"), plain)
         self.assertEqual(self.identity.asked, 1)
@@ -200,6 +203,18 @@ class Chains(InSystem):
         with fsspec.open(f"simplecache::age::file://{path}", "rb", age=words, simplecache={"cache_storage": self.path("cache")}) as file:
             self.assertEqual(file.read(), plain)
 
+    def test_a_file_system_that_streams(self):
+        """As over HTTP, a file that is opened with the block size 0 can't seek."""
+        path, files = self.new("a.age", b"text"), type(self.system.fs)
+        opened = files._open
+
+        def open_file(self, path, mode="rb", block_size=None, **options):
+            file = opened(self, path, mode, block_size, **options)
+            return file if block_size != 0 else mock.Mock(file, seek=mock.Mock(side_effect=ValueError))
+
+        with mock.patch.object(files, "_open", open_file):
+            self.assertEqual(self.system.cat_file(path), b"text")
+
     def test_a_memory_file_system(self):
         memory = fsspec.filesystem("memory")
         self.addCleanup(memory.rm, "/agefile", recursive=True)
@@ -248,6 +263,26 @@ class Writes(InSystem):
             self.assertEqual(self.got("a.age") == before, is_kept)
             if not is_kept:
                 self.assertRaises(AgeError, self.system.cat_file, path)
+
+    def test_what_would_be_lost(self):
+        """Compressed files, whose end a close would leave out, and transactions are refused."""
+        path = self.new("a.age", b"old")
+        for mode, compression in (("wb", "gzip"), ("w", "infer"), ("xb", "gzip")):
+            self.assertRaises(ValueError, self.system.open, path, mode, compression=compression)
+        with self.system.transaction:
+            for mode in ("wb", "w"):
+                self.assertRaises(ValueError, self.system.open, path, mode)
+        self.assertRaises(ValueError, self.system._open, path, "wb", autocommit=False)
+        self.assertEqual(self.system.cat_file(path), b"old")
+
+    def test_new_folders(self):
+        self.system.mkdir(self.path("new"))
+        self.system.makedirs(self.path("new/deep/er"))
+        self.system.pipe_file(self.path("new/deep/er/a.age"), b"text")
+        self.assertEqual(agefile.decrypt(self.got("new/deep/er/a.age"), identities=self.identity), b"text")
+        self.system.mkdir(self.path("empty"))
+        self.system.rmdir(self.path("empty"))
+        self.assertFalse(os.path.exists("empty"))
 
     def test_recipients_that_fail(self):
         path = self.new("a.age", b"old")

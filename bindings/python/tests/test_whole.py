@@ -316,7 +316,7 @@ class Callers(unittest.TestCase):
         self.assertRaises(ValueError, agefile.decrypt, file, identities=Short())
 
     def test_stanzas_that_are_refused(self):
-        for args in ((), ("",), ("a b",), ("a", ""), ("ü",), ("a\n",)):
+        for args in ((), ("",), ("a b",), ("a", ""), ("ü",), ("a\n",), "X25519"):
             class Bad:
                 def wrap(self, file_key):
                     return [Stanza(args, b"")]
@@ -409,6 +409,21 @@ class Devices(unittest.TestCase):
                     else:
                         self.assertIsInstance(found, error)
                         self.assertIsInstance(other, error)
+
+    def test_a_pipe_that_would_block(self):
+        """It has not ended: no part of it is taken for the whole."""
+        file = agefile.encrypt(self.PLAIN, recipients=KEY)
+        for first, call in (
+            (file[:30000], lambda source: agefile.rewrap_copy(source, io.BytesIO(), identities=KEY, recipients=KEY)),
+            (file[:30000], lambda source: agefile.copy(source, io.BytesIO(), identities=KEY)),
+            (b"a part", Passphrase.from_file),
+        ):
+            source, sink = os.pipe()
+            os.set_blocking(source, False)
+            os.write(sink, first)
+            self.assertIsInstance(in_time(lambda: call(source)), BlockingIOError)
+            os.close(source)
+            os.close(sink)
 
     def test_a_source_that_only_reads(self):
         class Source:
@@ -507,16 +522,11 @@ class Processes(unittest.TestCase):
         self.assertEqual(errors, [Code.WRONG_KEY])
 
     def test_threads(self):
-        wrong = []
-
         def work():
-            for _ in range(5):
-                secret = Passphrase("x", work=4)
-                if agefile.decrypt(agefile.encrypt(text(1000), recipients=secret), identities=secret) != text(1000):
-                    wrong.append(True)
+            secret = Passphrase("x", work=4)
+            return [agefile.decrypt(agefile.encrypt(text(1000), recipients=secret), identities=secret) for _ in range(5)]
 
-        in_threads(work)
-        self.assertEqual(wrong, [])
+        self.assertEqual(in_threads(work), [[text(1000)] * 5] * 4)
 
     def test_the_library_that_is_taken(self):
         """The one in the package, else the one that AGEFILE_LIBRARY names."""
