@@ -63,13 +63,12 @@ def opener_of(file: Any) -> Any:
 class Output(io.FileIO):
     """The file of a path, which keeps what it holds until the first byte is written."""
 
-    def __init__(self, path: Any, mode: str) -> None:
-        super().__init__(os.fspath(path), mode, opener=self._without_truncation)
-        self._is_kept = stat.S_ISREG(os.fstat(self.fileno()).st_mode)
+    def __init__(self, path: Any, mode: str, permissions: int) -> None:
+        def without_truncation(path: Any, flags: int) -> int:
+            return os.open(path, flags & ~os.O_TRUNC, permissions)
 
-    @staticmethod
-    def _without_truncation(path: Any, flags: int) -> int:
-        return os.open(path, flags & ~os.O_TRUNC, 0o666)
+        super().__init__(os.fspath(path), mode, opener=without_truncation)
+        self._is_kept = stat.S_ISREG(os.fstat(self.fileno()).st_mode)
 
     def check_source(self, source: Any) -> None:
         """Refuses a regular file that is the source, or that a Reader takes its plaintext from."""
@@ -104,6 +103,8 @@ class Replacement(io.FileIO):
         super().__init__(self._beside, "xb")
         self._is_beside = True
         if found is not None:
+            with contextlib.suppress(PermissionError):
+                os.fchown(self.fileno(), found.st_uid, found.st_gid)
             os.fchmod(self.fileno(), stat.S_IMODE(found.st_mode))
 
     def commit(self) -> None:
@@ -128,10 +129,12 @@ class Replacement(io.FileIO):
             os.unlink(self._beside)
 
 
-def created(file: Any, mode: str, atomic: bool = False, closefd: bool = True) -> Any:
+def created(
+    file: Any, mode: str, atomic: bool = False, closefd: bool = True, permissions: int = 0o666
+) -> Any:
     """The file that is to be written: a path's keeps what it holds for now."""
     if is_path(file):
-        return Replacement(file, mode) if atomic else Output(file, mode)
+        return Replacement(file, mode) if atomic else Output(file, mode, permissions)
     return opened(file, mode, closefd)
 
 
@@ -161,12 +164,12 @@ def reading(file: Any) -> Iterator[BinaryIO]:
 
 
 @contextlib.contextmanager
-def writing(file: Any, source: BinaryIO) -> Iterator[Any]:
+def writing(file: Any, source: BinaryIO, permissions: int = 0o666) -> Iterator[Any]:
     """The same for a file that is written, and is not the source."""
     if is_open(file, "write"):
         yield file
         return
-    with created(file, "wb", closefd=False) as sink:
+    with created(file, "wb", closefd=False, permissions=permissions) as sink:
         if isinstance(sink, Output):
             sink.check_source(source)
         yield sink

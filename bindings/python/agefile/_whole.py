@@ -146,7 +146,8 @@ def copy(
     """Encrypts for recipients, or decrypts with identities, all of a file to another, each a path,
     a descriptor or a binary file object, also from and to pipes, in constant memory. Returns the
     bytes of the plaintext. After an error of the payload the sink has the plaintext of the chunks
-    before it. A file of the sink's path keeps its contents until the first byte is written."""
+    before it. A file of the sink's path keeps its contents until the first byte is written. A new
+    file of a plaintext can be read by its owner only."""
     if (recipients is None) == (identities is None):
         raise TypeError("copy takes recipients to encrypt, or identities to decrypt")
     threads = thread_count(threads)
@@ -154,7 +155,7 @@ def copy(
         assert identities is not None
         with reading(source) as below:
             first, payload = open_source(below, identities)
-            with writing(sink, below) as out:
+            with writing(sink, below, 0o600) as out:
                 return run(OPENING, payload, cast(BinaryIO, Behind(first, below)), out, threads)
     front, payload = begin(recipients)
     with reading(source) as below, writing(sink, below) as out:

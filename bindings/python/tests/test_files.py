@@ -592,6 +592,10 @@ class Writing(InFolder):
             self.assertEqual((self.got("old"), self.got("a.age")), (b"old", before))
         agefile.copy("e.age", "old", identities=KEY)
         self.assertEqual(self.got("old"), b"")
+        self.addCleanup(os.umask, os.umask(0o002))
+        agefile.copy("e.age", "new", identities=KEY)
+        agefile.copy("new", "new.age", recipients=KEY)
+        self.assertEqual([os.stat(name).st_mode & 0o777 for name in ("new", "new.age")], [0o600, 0o664])
         self.put(bytes(1000000), "old")
         agefile.copy("empty", "old", recipients=KEY)
         self.assertEqual(agefile.decrypt(self.got("old"), identities=KEY), b"")
@@ -609,6 +613,15 @@ class Writing(InFolder):
             self.assertEqual(os.stat("o.age").st_mode & 0o777, 0o640)
             with agefile.open("o.age", mode.replace("w", "r"), identities=KEY) as file:
                 self.assertEqual(file.read(), data)
+
+    @unittest.skipIf(os.geteuid() != 0, "only root gives files away")
+    def test_atomic_and_the_owner(self):
+        self.put(b"old", "o.age")
+        os.chown("o.age", 1234, 5678)
+        with agefile.open("o.age", "wb", recipients=KEY, atomic=True):
+            pass
+        found = os.stat("o.age")
+        self.assertEqual((found.st_uid, found.st_gid), (1234, 5678))
 
     def test_atomic_that_fails(self):
         """Where anything fails before the end the old file stays, and nothing stays beside it."""
@@ -638,7 +651,7 @@ class Writing(InFolder):
         self.assertEqual((self.got("o.age"), os.listdir()), (b"old", ["o.age"]))
 
     def test_atomic_and_other_files(self):
-        os.umask(os.umask(0o027) and 0o027)
+        self.addCleanup(os.umask, os.umask(0o027))
         with agefile.open("n.age", "wb", recipients=KEY, atomic=True) as file:
             pass
         self.put(b"", "like")

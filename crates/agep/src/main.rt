@@ -42,9 +42,9 @@ fn run(rt: &HostRuntime, owned: &[String]) -> u8
     )
 }
 
-/// Where standard error is closed, folders take the numbers of the closed streams. Otherwise OUT could
-/// have that of standard error, and lines that are printed while it is written would go into it. A
-/// folder is neither read nor written.
+/// Where standard error is closed, folders take the numbers of the closed streams: otherwise OUT
+/// could have that of standard error, and lines that are printed while it is written would go into
+/// it. A folder is neither read nor written.
 fn hold_streams(rt: &HostRuntime) -> [Option<File>; 3] {
     if fs::metadata(rt, "/proc/self/fd/2").is_ok() {
         return [None, None, None];
