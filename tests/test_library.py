@@ -499,6 +499,32 @@ class WithTheProgram(unittest.TestCase):
                     run(parallel, work() / "key", count, work() / "made", work() / "back", status=0)
                     self.assertEqual((work() / "back").read_bytes(), plain)
 
+    def test_files_that_parallel_refuses(self):
+        """No file is lost, and none is made of a part of IN."""
+        parallel = built("parallel", "-O2", source=EXAMPLES / "parallel.c")
+        (work() / "keep").write_bytes(self.agep("encrypt", "-k", "key", input=b"text", status=0).stdout)
+        (work() / "key.other").write_bytes(os.urandom(32))
+        os.link(work() / "keep", work() / "same")
+        for key, source, sink, line in (
+            ("key", "keep", "same", "OUT is IN"),
+            ("key", "keep", "key", "OUT is KEY_FILE"),
+            ("key.other", "keep", "pass", f"{message('WrongKey')} (0)"),
+            ("key", "/dev/null", "pass", "IN is no file that can be read at offsets"),
+            ("key", "/proc/cpuinfo", "made", "IN is longer than its size"),
+        ):
+            with self.subTest(line):
+                before = {name: (work() / name).read_bytes() for name in ("keep", "key", "key.other", "pass")}
+                words = () if key == "key.other" else ("-e",)
+                done = run(parallel, *words, work() / key, "2", work() / source, work() / sink, status=1)
+                self.assertEqual((done.stdout, done.stderr.decode()), (b"", f"parallel: {line}\n"))
+                self.assertEqual({name: (work() / name).read_bytes() for name in before}, before)
+
+    def test_a_closed_standard_input(self):
+        """Its number is that of the key file then, which is no plaintext."""
+        stream = built("stream", *sanitizers(), source=EXAMPLES / "stream.c")
+        done = run("sh", "-c", '"$0" -e "$1" <&-', stream, work() / "key", status=2)
+        self.assertEqual((done.stdout, done.stderr), (b"", b"usage: stream [-e] KEY_FILE\n"))
+
     def test_an_empty_passphrase(self):
         """It makes no file."""
         (work() / "none").touch()

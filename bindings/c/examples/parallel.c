@@ -24,6 +24,7 @@ struct work {
 };
 
 static int in, out;
+static uint8_t front[AGEFILE_FRONT];
 
 static bool fail(const char *text)
 {
@@ -89,10 +90,9 @@ static void *run(void *argument)
     return NULL;
 }
 
-/* Begins OUT with a header, or reads the one of IN. */
+/* Makes the header of OUT, of all->to bytes, or reads the one of IN. */
 static bool start(struct work *all, const uint8_t key[32])
 {
-    static uint8_t front[AGEFILE_FRONT];
     uint8_t fresh[48], stanza[AGEFILE_STANZA_ROOM]; /* a file key, a nonce and a salt */
     agefile_report report;
     if (all->is_sealing) {
@@ -101,7 +101,7 @@ static bool start(struct work *all, const uint8_t key[32])
             !is_ok(agefile_begin(stanza, report.len, fresh, fresh + 16, front, sizeof front, &all->payload, &report), &report))
             return false;
         all->to = report.len;
-        return write_at(front, report.len, 0);
+        return true;
     }
     size_t len = all->left < sizeof front ? all->left : sizeof front;
     if (!read_at(front, len, 0) || !is_ok(agefile_unlock_key(front, len, key, fresh, &report), &report) ||
@@ -112,23 +112,34 @@ static bool start(struct work *all, const uint8_t key[32])
     return true;
 }
 
+/* Opens OUT, which is no file that is read, and empties it. */
+static bool open_out(const char *name, const struct stat *source, int key)
+{
+    struct stat sink, other;
+    if ((out = open(name, O_WRONLY | O_CREAT, 0666)) < 0 || fstat(out, &sink) != 0 || fstat(key, &other) != 0)
+        return fail("OUT cannot be opened");
+    if (sink.st_dev == source->st_dev && sink.st_ino == source->st_ino)
+        return fail("OUT is IN");
+    if (sink.st_dev == other.st_dev && sink.st_ino == other.st_ino)
+        return fail("OUT is KEY_FILE");
+    return !S_ISREG(sink.st_mode) || ftruncate(out, 0) == 0 || fail("OUT cannot be emptied");
+}
+
 int main(int argc, char **argv)
 {
     static struct work works[MOST_THREADS];
     uint8_t key[33];
-    struct stat stat;
+    struct stat source;
     struct work rest = {.is_sealing = argc == 6 && strcmp(argv[1], "-e") == 0};
     char **words = argv + 1 + rest.is_sealing;
     FILE *file = argc == 5 + rest.is_sealing ? fopen(words[0], "rb") : NULL;
     int count = file == NULL ? 0 : atoi(words[1]);
     if (count < 1 || count > MOST_THREADS || fread(key, 1, sizeof key, file) != 32)
         return fputs("usage: parallel [-e] KEY_FILE N IN OUT\n", stderr), 2;
-    in = open(words[2], O_RDONLY);
-    out = open(words[3], O_WRONLY | O_CREAT | O_TRUNC, 0666);
-    if (in < 0 || out < 0 || fstat(in, &stat) != 0)
-        return fail("a file cannot be opened"), 1;
-    rest.left = (uint64_t)stat.st_size;
-    bool is_well = start(&rest, key);
+    if ((in = open(words[2], O_RDONLY)) < 0 || fstat(in, &source) != 0 || !S_ISREG(source.st_mode))
+        return fail("IN is no file that can be read at offsets"), 1;
+    rest.left = (uint64_t)source.st_size;
+    bool is_well = start(&rest, key) && open_out(words[3], &source, fileno(file)) && write_at(front, rest.to, 0);
     uint64_t full = rest.is_sealing ? AGEFILE_TEXT_CHUNK : AGEFILE_SEALED_CHUNK;
     uint64_t gives = rest.is_sealing ? AGEFILE_SEALED_CHUNK : AGEFILE_TEXT_CHUNK;
     uint64_t share = rest.left / full / (uint64_t)count; /* the last thread has what is left over too */
@@ -144,5 +155,7 @@ int main(int argc, char **argv)
     }
     for (int i = 0; is_well && i < count; i++)
         is_well = pthread_join(works[i].thread, NULL) == 0 && works[i].is_done;
+    if (is_well && pread(in, key, 1, source.st_size) != 0) /* as the files of /proc, or one that grows */
+        is_well = fail("IN is longer than its size");
     return is_well && close(out) == 0 ? 0 : 1;
 }

@@ -108,7 +108,7 @@ int main(int argc, char **argv)
     uint8_t key[33];
     bool is_encrypting = argc == 3 && strcmp(argv[1], "-e") == 0;
     FILE *file = argc == 2 + is_encrypting ? fopen(argv[1 + is_encrypting], "rb") : NULL;
-    if (file == NULL || fread(key, 1, sizeof key, file) != 32)
+    if (file == NULL || fileno(file) == 0 || fread(key, 1, sizeof key, file) != 32) /* 0: standard input was closed */
         return fputs("usage: stream [-e] KEY_FILE\n", stderr), 2;
     bool is_done = is_encrypting ? encrypt(key) : decrypt(key);
     return is_done && fflush(stdout) == 0 ? 0 : 1;

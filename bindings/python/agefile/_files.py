@@ -2,6 +2,7 @@
 
 from __future__ import annotations
 
+import codecs
 import io
 from typing import Any, Literal, overload
 
@@ -88,7 +89,12 @@ def open(
     if atomic and not is_path(file):
         raise TypeError("atomic takes a path, beside which the new file is written")
     writer = Writer(file, kind + "b", recipients, atomic)
-    return writer if "b" in mode else _text(TextWriter, writer, mode, words)
+    if "b" in mode:
+        return writer
+    if codecs.lookup(words["encoding"]).name in ("utf-16", "utf-32"):
+        # A TextIOWrapper writes the mark of the byte order only to what can seek.
+        writer.write("".encode(words["encoding"]))
+    return _text(TextWriter, writer, mode, words)
 
 
 def _text(

@@ -5,6 +5,7 @@ from __future__ import annotations
 import contextlib
 import errno
 import io
+import operator
 import os
 import stat
 import tempfile
@@ -60,6 +61,24 @@ def opener_of(file: Any) -> Any:
     return opener
 
 
+def _descriptor(file: Any) -> int | None:
+    """The descriptor of an open file, or None. A file in memory stays there: `fileno` of a
+    SpooledTemporaryFile would write it to the disk."""
+    with contextlib.suppress(AttributeError, TypeError, ValueError, OSError):
+        return None if hasattr(file, "rollover") else operator.index(file.fileno())
+    return None
+
+
+def _refuse_source(sink: Any, source: Any) -> None:
+    """Refuses a regular file that is the source, or that a Reader takes its plaintext from: it would
+    be emptied, or grow while it is read."""
+    to, of = _descriptor(sink), _descriptor(getattr(source, "encrypted", source))
+    if to is None or of is None or not stat.S_ISREG(os.fstat(to).st_mode):
+        return
+    if os.path.sameopenfile(to, of):
+        raise ValueError(f"{name_of(sink)!r} is the source, and cannot be the sink too")
+
+
 class Output(io.FileIO):
     """The file of a path, which keeps what it holds until the first byte is written."""
 
@@ -69,12 +88,6 @@ class Output(io.FileIO):
 
         super().__init__(os.fspath(path), mode, opener=without_truncation)
         self._is_kept = stat.S_ISREG(os.fstat(self.fileno()).st_mode)
-
-    def check_source(self, source: Any) -> None:
-        """Refuses a regular file that is the source, or that a Reader takes its plaintext from."""
-        raw = raw_of(getattr(source, "encrypted", source))
-        if self._is_kept and raw and os.path.sameopenfile(raw.fileno(), self.fileno()):
-            raise ValueError(f"{self.name!r} is the source, and cannot be the sink too")
 
     def empty(self) -> None:
         if self._is_kept:
@@ -167,11 +180,11 @@ def reading(file: Any) -> Iterator[BinaryIO]:
 def writing(file: Any, source: BinaryIO, permissions: int = 0o666) -> Iterator[Any]:
     """The same for a file that is written, and is not the source."""
     if is_open(file, "write"):
+        _refuse_source(file, source)
         yield file
         return
     with created(file, "wb", closefd=False, permissions=permissions) as sink:
-        if isinstance(sink, Output):
-            sink.check_source(source)
+        _refuse_source(sink, source)
         yield sink
         if isinstance(sink, Output):
             sink.empty()

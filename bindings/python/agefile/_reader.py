@@ -73,7 +73,7 @@ class _Chunks:
         self._first: int = ranges.first
         self._sealed_len: int = ranges.sealed_len
         self._lock = threading.Lock()
-        # That of the chunk which could not be opened last.
+        # Why less was filled than there is: a bad chunk, the source, or the handler of a signal.
         self.error: Exception | None = None
         self._open_last()
 
@@ -112,12 +112,8 @@ class _Chunks:
         """The text from a byte before the end of the plaintext to the end of its chunk."""
         number, start = divmod(at, lib.TEXT_CHUNK)
         if number != self._number:
-            try:
-                length = self._read(number)
-                self._len = self._open(number * lib.TEXT_CHUNK, self._chunk.base, length)
-            except Exception as error:
-                self.error = with_name(error, self.name)
-                raise
+            length = self._read(number)
+            self._len = self._open(number * lib.TEXT_CHUNK, self._chunk.base, length)
             self._number = number
         return self._chunk.view[start : self._len]
 
@@ -131,9 +127,11 @@ class _Chunks:
                     piece = self._piece(at + done)[: wanted - done]
                     room[done : done + len(piece)] = piece
                     done += len(piece)
-            except Exception:
+            except Exception as error:
+                with_name(error, self.name)
                 if done < least:
                     raise
+                self.error = self.error or error
         return done
 
 
@@ -215,7 +213,7 @@ class Reader(io.BufferedIOBase):
         self._chunks, self.name, self.raw = chunks, chunks.name, _Plaintext(chunks, 1)
         self._below = _Plaintext(chunks, 0)
         self._buffer = io.BufferedReader(self._below, lib.TEXT_CHUNK)
-        # Between a short result and its reason no other thread moves the position.
+        # No other thread moves the position, or changes the error, within a call.
         self._lock = threading.RLock()
 
     def __repr__(self) -> str:
@@ -242,43 +240,44 @@ class Reader(io.BufferedIOBase):
         return self._chunks.length
 
     def _or_error(self, found: _Result, count: int) -> _Result:
-        """A result of so many bytes that is short since the plaintext ends; otherwise its reason is
-        raised, and the position is put back."""
-        error = self._chunks.error
-        if error is None or self.tell() >= self.length:
+        """A result of so many bytes, unless there was an error: then the position is put back."""
+        if self._chunks.error is None:
             return found
         self.seek(-count, os.SEEK_CUR)
-        raise error
+        raise self._chunks.error
 
     def read(self, size: int | None = -1, /) -> bytes:
         with self._lock:
+            self._chunks.error = None
             if size is None or size < 0:
                 # What is buffered and the rest would be joined: a second copy.
                 at = self.tell()
                 size = -1 if at == self._below.position else max(self.length - at, 0)
             found = self._buffer.read(size)
-            return found if len(found) == size else self._or_error(found, len(found))
+            return self._or_error(found, len(found))
 
     def read1(self, size: int = -1, /) -> bytes:
         with self._lock:
-            found = self._buffer.read1(size)
-            return found if found or size == 0 else self._or_error(found, 0)
+            self._chunks.error = None
+            return self._buffer.read1(size) or self._or_error(b"", 0)
 
     def readinto(self, room: Any, /) -> int:
         with self._lock:
+            self._chunks.error = None
             count = self._buffer.readinto(room)
-            return count if count == memoryview(room).nbytes else self._or_error(count, count)
+            return self._or_error(count, count)
 
     def peek(self, size: int = 0, /) -> bytes:
         with self._lock:
+            self._chunks.error = None
             return self._buffer.peek(size) or self._or_error(b"", 0)
 
     def readline(self, size: int | None = -1, /) -> bytes:
+        chunks = self._chunks
         with self._lock:
+            chunks.error = None
             line = self._buffer.readline(size)
-            if line[-1:] == b"\n" or len(line) == size:
-                return line
-            return self._or_error(line, len(line))
+            return line if chunks.error is None else self._or_error(line, len(line))
 
     def readlines(self, hint: int | None = -1, /) -> list[bytes]:
         with self._lock:

@@ -48,6 +48,10 @@ class Writer(io.BufferedIOBase):
         write_all(self._sink, self._front)
         self._front = b""
         write_all(self._sink, data)
+        sink: Any = self._sink
+        if self._owned and hasattr(sink, "flush"):
+            # The finalizer of a forked child would write what a buffer still holds.
+            sink.flush()
         self._failed = False
 
     def _seal(self, is_last: bool) -> None:
@@ -144,7 +148,12 @@ class Writer(io.BufferedIOBase):
                 self._sink.close()
 
     def __exit__(self, kind: type[BaseException] | None, *rest: Any) -> None:
-        self.close() if kind is None else self.abort()
+        if kind is None:
+            return self.close()
+        self.abort()
+        if issubclass(kind, (SystemExit, GeneratorExit)):
+            # Nothing else would say it.
+            warnings.warn(f"{self!r} is not whole: {kind.__name__}", RuntimeWarning, 2)
 
     def __del__(self) -> None:
         # A file that nobody closed stays without its last chunk.
@@ -158,6 +167,16 @@ class Writer(io.BufferedIOBase):
 class TextWriter(io.TextIOWrapper):
     """A text file over a writer, which is whole under the same conditions."""
 
+    def write(self, text: str, /) -> int:
+        try:
+            return super().write(text)
+        except (TypeError, ValueError):
+            raise
+        except BaseException:
+            # A TextIOWrapper drops text of earlier calls with that of this one.
+            self.buffer._failed = True  # type: ignore[attr-defined]
+            raise
+
     def flush(self) -> None:
         # A TextIOWrapper drops the text that it could not write, and its close goes on.
         try:
@@ -167,7 +186,9 @@ class TextWriter(io.TextIOWrapper):
             raise
 
     def __exit__(self, kind: type[BaseException] | None, *rest: Any) -> None:
-        self.close() if kind is None else self.buffer.abort()  # type: ignore[attr-defined]
+        if kind is None:
+            return self.close()
+        self.buffer.__exit__(kind, *rest)
 
     def __del__(self) -> None:
         with contextlib.suppress(AttributeError, ValueError):

@@ -15,9 +15,12 @@ files.
 
 from __future__ import annotations
 
+import os
+import shutil
 from typing import Any
 
 import fsspec  # type: ignore[import]
+from fsspec.implementations.local import LocalFileSystem  # type: ignore[import]
 from fsspec.spec import AbstractFileSystem  # type: ignore[import]
 
 from ._errors import AgeError
@@ -125,6 +128,22 @@ class AgeFileSystem(AbstractFileSystem):  # type: ignore[misc]
 
     def rmdir(self, path: str) -> None:
         self.fs.rmdir(self._strip_protocol(path))
+
+    def get_file(self, rpath: str, lpath: Any, *arguments: Any, **options: Any) -> None:
+        self._refuse_same(rpath, lpath)
+        super().get_file(rpath, lpath, *arguments, **options)
+
+    def put_file(self, lpath: str, rpath: str, *arguments: Any, **options: Any) -> None:
+        self._refuse_same(rpath, lpath)
+        super().put_file(lpath, rpath, *arguments, **options)
+
+    def _refuse_same(self, path: str, local: Any) -> None:
+        """Names are the same on both sides: a local file would be replaced by itself."""
+        name = self._strip_protocol(path)
+        is_local = isinstance(self.fs, LocalFileSystem) and isinstance(local, (str, os.PathLike))
+        if is_local and os.path.exists(name) and os.path.exists(local):
+            if os.path.isfile(name) and os.path.samefile(name, local):
+                raise shutil.SameFileError(f"{name!r} and {local!r} are the same file")
 
     def invalidate_cache(self, path: str | None = None) -> None:
         if path is None:

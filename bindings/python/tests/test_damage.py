@@ -5,6 +5,7 @@ import csv
 import functools
 import gzip
 import io
+import itertools
 import json
 import os
 import pickle
@@ -316,6 +317,23 @@ class Positions(unittest.TestCase):
         self.assertRaises(AgeError, file.read)
         room = bytearray(TEXT)
         self.assertEqual((file.raw.readinto(room), bytes(room)), (TEXT, self.PLAIN[:TEXT]))
+
+    def test_an_error_between_two_chunks(self):
+        """One of a signal's handler, say, makes no end of the plaintext of a short result."""
+        file = agefile.encrypt(words(), recipients=KEY)
+        for name, read in (("read", lambda file: file.read(LENGTH)), ("read all", lambda file: file.read()), ("readinto", lambda file: into_room(file.readinto))):
+            with self.subTest(name), agefile.open(io.BytesIO(file), identities=KEY) as whole:
+                chunks = whole.raw.chunks
+                piece, calls = chunks._piece, itertools.count()
+
+                def interrupted(at):
+                    if next(calls) == 1:
+                        raise TimeoutError
+                    return piece(at)
+
+                with mock.patch.object(chunks, "_piece", interrupted):
+                    self.assertRaises(TimeoutError, read, whole)
+                self.assertEqual((whole.tell(), whole.read()), (0, words()))
 
     def test_errors_are_not_hidden(self):
         with self.assertRaises(AgeError):

@@ -474,6 +474,20 @@ class Writing(InFolder):
             self.assertTrue(file.closed)
             self.refused("e.age")
 
+    def test_a_body_that_ends_the_program(self):
+        """Nothing else says that the file is not whole."""
+        for mode, kind in (("wb", SystemExit), ("w", SystemExit), ("wb", GeneratorExit)):
+            with self.assertWarnsRegex(RuntimeWarning, f"'e.age'.* is not whole: {kind.__name__}"):
+                with self.assertRaises(kind), agefile.open("e.age", mode, recipients=KEY):
+                    raise kind
+
+    def test_marks_of_the_byte_order(self):
+        for encoding in ("utf-16", "UTF32", "utf-16-le", "utf-8-sig"):
+            with agefile.open("m.age", "w", recipients=KEY, encoding=encoding) as file:
+                file.write("one\n")
+                file.write("two\n")
+            self.assertEqual(agefile.decrypt(self.got("m.age"), identities=KEY), "one\ntwo\n".encode(encoding))
+
     def test_a_file_that_nobody_closed(self):
         for mode, data in (("wb", text(200000)), ("w", "text" * 100000)):
             file = agefile.open("g.age", mode, recipients=KEY)
@@ -582,6 +596,9 @@ class Writing(InFolder):
             (ValueError, lambda: agefile.rewrap_copy("a.age", "a.age", identities=KEY, recipients=KEY)),
             (ValueError, lambda: agefile.copy(open("a.age", "rb"), "a.age", recipients=KEY)),
             (ValueError, lambda: agefile.copy(agefile.open("a.age", identities=KEY), "a.age", recipients=KEY)),
+            (ValueError, lambda: agefile.copy("a.age", open("a.age", "r+b"), recipients=KEY)),
+            (ValueError, lambda: agefile.copy("a.age", os.open("a.age", os.O_RDWR), recipients=KEY)),
+            (ValueError, lambda: agefile.copy(tempfile._TemporaryFileWrapper(open("a.age", "rb"), "a.age", False), "a.age", recipients=KEY)),
             (ValueError, lambda: agefile.rewrap_copy(open("a.age", "rb"), "a.age", identities=KEY, recipients=KEY)),
             (ValueError, lambda: agefile.copy("a.age", "old", recipients=KEY, threads=0)),
             (TypeError, lambda: agefile.copy("a.age", "old", recipients=KEY, threads="4")),
@@ -719,8 +736,11 @@ class Writing(InFolder):
             if child == 0:
                 try:
                     file.close()
+                    is_closed = file.closed
+                    del file
+                    gc.collect()
                 finally:
-                    os._exit(not file.closed)
+                    os._exit(not is_closed)
             self.assertEqual(os.waitpid(child, 0)[1], 0)
             file.close()
             if below is not make:
@@ -739,12 +759,18 @@ class Writing(InFolder):
                 file.close()
                 self.assertEqual(os.listdir(), ["o.age"])
                 self.assertEqual(agefile.decrypt(self.got("o.age"), identities=KEY), b"old")
-        file = agefile.open("o.age", "w", recipients=KEY)
-        file.write("secret")
-        with mock.patch.object(agefile.Writer, "_take", side_effect=KeyboardInterrupt):
-            self.assertRaises(KeyboardInterrupt, file.write, "text" * 10000)
-        self.assertRaises(OSError, file.close)
-        self.assertEqual(agefile.decrypt(self.got("o.age"), identities=KEY), b"old")
+        for call in ("_take", "write"):
+            file = agefile.open("o.age", "w", recipients=KEY)
+            file.write("secret")
+            with mock.patch.object(agefile.Writer, call, side_effect=TimeoutError):
+                self.assertRaises(TimeoutError, file.write, "text" * 10000)
+            self.assertRaises(OSError, file.close)
+            self.assertEqual(agefile.decrypt(self.got("o.age"), identities=KEY), b"old")
+        with agefile.open("o.age", "w", recipients=KEY, encoding="ascii") as file:
+            self.assertRaises(UnicodeError, file.write, "ü")
+            self.assertRaises(TypeError, file.write, b"text")
+            file.write("text")
+        self.assertEqual(agefile.decrypt(self.got("o.age"), identities=KEY), b"text")
 
     def test_a_source_in_memory_stays_there(self):
         """`fileno` of a SpooledTemporaryFile would write it to the disk."""

@@ -2,6 +2,7 @@
 
 import os
 import pickle
+import shutil
 import unittest
 from unittest import mock
 
@@ -274,6 +275,17 @@ class Writes(InSystem):
                 self.assertRaises(ValueError, self.system.open, path, mode)
         self.assertRaises(ValueError, self.system._open, path, "wb", autocommit=False)
         self.assertEqual(self.system.cat_file(path), b"old")
+
+    def test_a_file_onto_itself(self):
+        path = self.new("a.age", b"old")
+        os.symlink(path, "link")
+        for call in (lambda: self.system.get(path, path), lambda: self.system.put(path, path), lambda: self.system.get(path, self.path("link"))):
+            self.assertRaises(shutil.SameFileError, call)
+        with open(path, "rb") as source, self.system.fs.open(path, "r+b") as sink:
+            self.assertRaises(ValueError, agefile.copy, source, sink, recipients=KEY)
+        self.assertEqual(self.system.cat_file(path), b"old")
+        self.system.get(path, self.path("plain"))
+        self.assertEqual(self.got("plain"), b"old")
 
     def test_new_folders(self):
         self.system.mkdir(self.path("new"))
