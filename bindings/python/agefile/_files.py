@@ -78,7 +78,7 @@ def open(
         raise ValueError("a binary mode takes no encoding, errors or newline")
     words["encoding"] = encoding or "utf-8"
     # Words that are wrong are refused before anything is opened.
-    io.TextIOWrapper(io.BytesIO(), **words)
+    used = io.TextIOWrapper(io.BytesIO(), **words).encoding
     if kind == "r":
         if identities is None or recipients is not None or atomic:
             raise TypeError("to read a file takes identities, and neither recipients nor atomic")
@@ -91,7 +91,7 @@ def open(
     writer = Writer(file, kind + "b", recipients, atomic)
     if "b" in mode:
         return writer
-    if codecs.lookup(words["encoding"]).name in ("utf-16", "utf-32"):
+    if codecs.lookup(used).name in ("utf-16", "utf-32"):
         # A TextIOWrapper writes the mark of the byte order only to what can seek.
         writer.write("".encode(words["encoding"]))
     return _text(TextWriter, writer, mode, words)

@@ -64,8 +64,10 @@ def opener_of(file: Any) -> Any:
 def _descriptor(file: Any) -> int | None:
     """The descriptor of an open file, or None. A file in memory stays there: `fileno` of a
     SpooledTemporaryFile would write it to the disk."""
-    with contextlib.suppress(AttributeError, TypeError, ValueError, OSError):
-        return None if hasattr(file, "rollover") else operator.index(file.fileno())
+    with contextlib.suppress(AttributeError, NotImplementedError, TypeError, ValueError, OSError):
+        if not hasattr(file, "rollover"):
+            os.fstat(found := operator.index(file.fileno()))
+            return found
     return None
 
 
@@ -116,7 +118,7 @@ class Replacement(io.FileIO):
         super().__init__(self._beside, "xb")
         self._is_beside = True
         if found is not None:
-            with contextlib.suppress(PermissionError):
+            with contextlib.suppress(OSError):
                 os.fchown(self.fileno(), found.st_uid, found.st_gid)
             os.fchmod(self.fileno(), stat.S_IMODE(found.st_mode))
 

@@ -11,7 +11,7 @@ import threading
 from typing import Any, BinaryIO, TypeVar
 
 from . import _library as lib
-from ._errors import AgeChangedError, Code
+from ._errors import AgeChangedError, AgeError, Code
 from ._paths import is_open, name_of, named, opened, raw_of, with_name
 from ._payload import Chunk, Front
 from ._secrets import Identities, unlock
@@ -129,9 +129,10 @@ class _Chunks:
                     done += len(piece)
             except Exception as error:
                 with_name(error, self.name)
-                if done < least:
+                if done < least or least and not isinstance(error, AgeError):
                     raise
-                self.error = self.error or error
+                if not least:
+                    self.error = self.error or error
         return done
 
 
@@ -241,10 +242,14 @@ class Reader(io.BufferedIOBase):
 
     def _or_error(self, found: _Result, count: int) -> _Result:
         """A result of so many bytes, unless there was an error: then the position is put back."""
-        if self._chunks.error is None:
+        error, self._chunks.error = self._chunks.error, None
+        if error is None:
             return found
         self.seek(-count, os.SEEK_CUR)
-        raise self._chunks.error
+        try:
+            raise error
+        finally:
+            del error
 
     def read(self, size: int | None = -1, /) -> bytes:
         with self._lock:
@@ -259,7 +264,10 @@ class Reader(io.BufferedIOBase):
     def read1(self, size: int = -1, /) -> bytes:
         with self._lock:
             self._chunks.error = None
-            return self._buffer.read1(size) or self._or_error(b"", 0)
+            found = self._buffer.read1(size)
+            if found and isinstance(self._chunks.error, AgeError):
+                self._chunks.error = None
+            return self._or_error(found, len(found))
 
     def readinto(self, room: Any, /) -> int:
         with self._lock:

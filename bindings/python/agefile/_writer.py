@@ -150,8 +150,9 @@ class Writer(io.BufferedIOBase):
     def __exit__(self, kind: type[BaseException] | None, *rest: Any) -> None:
         if kind is None:
             return self.close()
+        is_cut = not self.closed and self._is_parent()
         self.abort()
-        if issubclass(kind, (SystemExit, GeneratorExit)):
+        if is_cut and issubclass(kind, (SystemExit, GeneratorExit)):
             # Nothing else would say it.
             warnings.warn(f"{self!r} is not whole: {kind.__name__}", RuntimeWarning, 2)
 
@@ -170,7 +171,7 @@ class TextWriter(io.TextIOWrapper):
     def write(self, text: str, /) -> int:
         try:
             return super().write(text)
-        except (TypeError, ValueError):
+        except (TypeError, UnicodeError):
             raise
         except BaseException:
             # A TextIOWrapper drops text of earlier calls with that of this one.

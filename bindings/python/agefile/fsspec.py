@@ -121,7 +121,7 @@ class AgeFileSystem(AbstractFileSystem):  # type: ignore[misc]
         return files if detail else [each["name"] for each in files]
 
     def mkdir(self, path: str, create_parents: bool = True, **options: Any) -> None:
-        self.fs.mkdir(self._strip_protocol(path), create_parents, **options)
+        self.fs.mkdir(self._strip_protocol(path), create_parents=create_parents, **options)
 
     def makedirs(self, path: str, exist_ok: bool = False) -> None:
         self.fs.makedirs(self._strip_protocol(path), exist_ok)
@@ -139,8 +139,10 @@ class AgeFileSystem(AbstractFileSystem):  # type: ignore[misc]
 
     def _refuse_same(self, path: str, local: Any) -> None:
         """Names are the same on both sides: a local file would be replaced by itself."""
-        name = self._strip_protocol(path)
-        is_local = isinstance(self.fs, LocalFileSystem) and isinstance(local, (str, os.PathLike))
+        name, fs = self._strip_protocol(path), self.fs
+        while not isinstance(fs, LocalFileSystem) and getattr(fs, "fs", None) is not None:
+            name, fs = fs._join(name) if hasattr(fs, "_join") else name, fs.fs
+        is_local = isinstance(fs, LocalFileSystem) and isinstance(local, (str, os.PathLike))
         if is_local and os.path.exists(name) and os.path.exists(local):
             if os.path.isfile(name) and os.path.samefile(name, local):
                 raise shutil.SameFileError(f"{name!r} and {local!r} are the same file")

@@ -321,7 +321,13 @@ class Positions(unittest.TestCase):
     def test_an_error_between_two_chunks(self):
         """One of a signal's handler, say, makes no end of the plaintext of a short result."""
         file = agefile.encrypt(words(), recipients=KEY)
-        for name, read in (("read", lambda file: file.read(LENGTH)), ("read all", lambda file: file.read()), ("readinto", lambda file: into_room(file.readinto))):
+        for name, read in (
+            ("read", lambda file: file.read(LENGTH)),
+            ("read all", lambda file: file.read()),
+            ("readinto", lambda file: into_room(file.readinto)),
+            ("read1", lambda file: file.read1(LENGTH)),
+            ("raw.readinto", lambda file: into_room(file.raw.readinto)),
+        ):
             with self.subTest(name), agefile.open(io.BytesIO(file), identities=KEY) as whole:
                 chunks = whole.raw.chunks
                 piece, calls = chunks._piece, itertools.count()
@@ -334,6 +340,14 @@ class Positions(unittest.TestCase):
                 with mock.patch.object(chunks, "_piece", interrupted):
                     self.assertRaises(TimeoutError, read, whole)
                 self.assertEqual((whole.tell(), whole.read()), (0, words()))
+
+    def test_no_error_is_kept(self):
+        """It would keep the frames of its traceback, and be taken for that of another thread's read."""
+        with agefile.open(io.BytesIO(damaged(agefile.encrypt(words(), recipients=KEY), 1)), identities=KEY) as file:
+            self.assertEqual(file.raw.readinto(bytearray(LENGTH)), TEXT)
+            self.assertIsNone(file.raw.chunks.error)
+            self.assertRaises(AgeError, file.read)
+            self.assertIsNone(file.raw.chunks.error)
 
     def test_errors_are_not_hidden(self):
         with self.assertRaises(AgeError):

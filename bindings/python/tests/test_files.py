@@ -480,6 +480,11 @@ class Writing(InFolder):
             with self.assertWarnsRegex(RuntimeWarning, f"'e.age'.* is not whole: {kind.__name__}"):
                 with self.assertRaises(kind), agefile.open("e.age", mode, recipients=KEY):
                     raise kind
+        with warnings.catch_warnings(), self.assertRaises(SystemExit):
+            warnings.simplefilter("error")
+            with agefile.open("e.age", "wb", recipients=KEY) as file:
+                file.close()
+                raise SystemExit
 
     def test_marks_of_the_byte_order(self):
         for encoding in ("utf-16", "UTF32", "utf-16-le", "utf-8-sig"):
@@ -487,6 +492,11 @@ class Writing(InFolder):
                 file.write("one\n")
                 file.write("two\n")
             self.assertEqual(agefile.decrypt(self.got("m.age"), identities=KEY), "one\ntwo\n".encode(encoding))
+
+    @unittest.skipIf(sys.version_info < (3, 10), "Python 3.9 has no such encoding")
+    def test_the_encoding_of_the_locale(self):
+        with agefile.open("l.age", "w", recipients=KEY, encoding="locale") as file:
+            self.assertEqual(file.encoding, io.TextIOWrapper(io.BytesIO(), "locale").encoding)
 
     def test_a_file_that_nobody_closed(self):
         for mode, data in (("wb", text(200000)), ("w", "text" * 100000)):
@@ -639,6 +649,11 @@ class Writing(InFolder):
             pass
         found = os.stat("o.age")
         self.assertEqual((found.st_uid, found.st_gid), (1234, 5678))
+        # As in a container that does not map the owner.
+        with mock.patch("os.fchown", side_effect=OSError(errno.EINVAL, "no such owner")):
+            with agefile.open("o.age", "wb", recipients=KEY, atomic=True) as file:
+                file.write(b"text")
+        self.assertEqual(agefile.decrypt(self.got("o.age"), identities=KEY), b"text")
 
     def test_atomic_that_fails(self):
         """Where anything fails before the end the old file stays, and nothing stays beside it."""
@@ -762,8 +777,9 @@ class Writing(InFolder):
         for call in ("_take", "write"):
             file = agefile.open("o.age", "w", recipients=KEY)
             file.write("secret")
-            with mock.patch.object(agefile.Writer, call, side_effect=TimeoutError):
-                self.assertRaises(TimeoutError, file.write, "text" * 10000)
+            error = type("Limit", (ValueError,), {})
+            with mock.patch.object(agefile.Writer, call, side_effect=error):
+                self.assertRaises(error, file.write, "text" * 10000)
             self.assertRaises(OSError, file.close)
             self.assertEqual(agefile.decrypt(self.got("o.age"), identities=KEY), b"old")
         with agefile.open("o.age", "w", recipients=KEY, encoding="ascii") as file:

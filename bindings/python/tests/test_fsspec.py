@@ -11,6 +11,7 @@ import agefile
 try:
     import fsspec
     import agefile.fsspec
+    from fsspec.implementations.dirfs import DirFileSystem
 except ImportError as error:
     raise unittest.SkipTest(str(error)) from error
 
@@ -281,6 +282,14 @@ class Writes(InSystem):
         os.symlink(path, "link")
         for call in (lambda: self.system.get(path, path), lambda: self.system.put(path, path), lambda: self.system.get(path, self.path("link"))):
             self.assertRaises(shutil.SameFileError, call)
+        local = fsspec.filesystem("file")
+        words = {"identities": self.identity, "recipients": self.identity}
+        for system, name in (
+            (fsspec.filesystem("age", fs=fsspec.filesystem("simplecache", fs=local), **words), path),
+            (fsspec.filesystem("age", fs=DirFileSystem(self.folder, local), **words), "a.age"),
+        ):
+            self.assertRaises(shutil.SameFileError, system.get, name, path)
+            self.assertRaises(shutil.SameFileError, system.put, path, name)
         with open(path, "rb") as source, self.system.fs.open(path, "r+b") as sink:
             self.assertRaises(ValueError, agefile.copy, source, sink, recipients=KEY)
         self.assertEqual(self.system.cat_file(path), b"old")
@@ -292,6 +301,9 @@ class Writes(InSystem):
         self.system.makedirs(self.path("new/deep/er"))
         self.system.pipe_file(self.path("new/deep/er/a.age"), b"text")
         self.assertEqual(agefile.decrypt(self.got("new/deep/er/a.age"), identities=self.identity), b"text")
+        with mock.patch.object(type(self.system.fs), "mkdir") as below:
+            self.system.mkdir("/new", create_parents=False, acl="private")
+        below.assert_called_once_with("/new", create_parents=False, acl="private")
         self.system.mkdir(self.path("empty"))
         self.system.rmdir(self.path("empty"))
         self.assertFalse(os.path.exists("empty"))

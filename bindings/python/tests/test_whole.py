@@ -18,6 +18,7 @@ import threading
 import time
 import traceback
 import unittest
+from unittest import mock
 
 import agefile
 from agefile import AgeError, Code, Key, Passphrase, Stanza
@@ -369,6 +370,14 @@ class Devices(unittest.TestCase):
                         self.assertEqual(agefile.decrypt(sink.taken, identities=KEY) == self.PLAIN, True)
                     else:
                         self.assertIsInstance(found, error)
+
+    def test_a_sink_without_a_descriptor(self):
+        for found in (lambda: -1, mock.Mock(side_effect=NotImplementedError), lambda: "none"):
+            class Sink(io.BytesIO):
+                fileno = staticmethod(found)
+
+            agefile.copy(open(os.devnull, "rb"), sink := Sink(), recipients=KEY)
+            self.assertEqual(agefile.decrypt(sink.getvalue(), identities=KEY), b"")
 
     def test_a_raw_sink_that_would_block(self):
         class Sink(io.RawIOBase):
