@@ -1,14 +1,5 @@
 -- Vectors as rows, words as bytes, and texts xored piece by piece.
-use Rattle.std.proofs.Common.{◌≡◌, ℕ, suc, ◌+◌, ◌-◌, ◌*◌, ◌/◌, ◌%◌, ◌^◌, ◌<◌, ◌≤◌, List, [], ◌∷◌, ◌++◌, length, take, drop, map, slice_index, slice_index_or, bit_xor, ◌⊎◌, inl, inr, arith, refl, sym, ap, ap₂, ◌∙◌}
-use Rattle.std.specs.Simd.Lanes.{number_l, digits_l, Each1, zip2, put_chunk}
-use Rattle.std.specs.List.{range_with_len}
-use Rattle.std.proofs.lemmas.List.{length-append, get_or_append_left, get_or-append_right, length-map}
-use Rattle.std.proofs.lemmas.List.FromFn.{fill_by_all}
-use Rattle.std.proofs.lemmas.Bool.{cases_lt}
-use Rattle.std.proofs.lemmas.Simd.{length-zip2, length-chunk, get_or-zip2, get_or-chunk, get_or-put_chunk_below, get_or-put_chunk_at, get_or-put_chunk_above}
-use Rattle.age_cipher.specs.Bytes.{Bytes, Words}
-use Rattle.age_cipher.specs.ChaCha20.{start, block_words, block, stream_byte}
-use Rattle.age_cipher.specs.Lanes.{lane, bytes, IsXoredAt}
+use Rattle.age_cipher.proofs.Common.{◌≡◌, ℕ, suc, ◌+◌, ◌-◌, ◌*◌, ◌/◌, ◌%◌, ◌^◌, ◌<◌, ◌≤◌, List, [], ◌∷◌, ◌++◌, length, take, drop, map, slice_index, slice_index_or, bit_xor, inl, inr, arith, refl, sym, ap, ◌∙◌, number_l, digits_l, zip2, range_with_len, length-append, length-map, fill_by_all, cases_lt, length-zip2, get_or-zip2, Bytes, Words, start, block_words, block, stream_byte, lane, bytes, Each1, put_chunk, get_or_append_left, get_or-append_right, length-chunk, get_or-chunk, get_or-put_chunk_below, get_or-put_chunk_at, get_or-put_chunk_above, IsXoredAt}
 use Rattle.age_cipher.proofs.LaneLemmas.{lane_word}
 
 -- lane j of sixteen vectors, written out
@@ -48,22 +39,18 @@ length-four_blocks a b c d la lb lc ld =
 pub xored_on : {at next : ℕ} {s t old mid new : Bytes} → next ≡ at + length s → IsXoredAt at s old mid
     → IsXoredAt next t mid new → IsXoredAt at (s ++ t) old new
 xored_on {at} {next} {s} {t} {old} {mid} {new} e first then =
-    let inside : (j : ℕ) → j < length (s ++ t) → (j < length s) ⊎ (length s ≤ j)
-    → slice_index new (at + j) ≡ bit_xor (slice_index old (at + j)) (slice_index (s ++ t) j) =
-    λ j below here. elim here [
-      | inl low ↦ then.before (at + j) (omega arith) ∙ first.inside j low
-          ∙ ap (bit_xor (slice_index old (at + j))) (sym (get_or_append_left s t 0 j low))
-      | inr high ↦
-          let k = j - length s in
-          let at_is : at + j ≡ next + k = omega arith in
-          ap (slice_index new) at_is ∙ then.inside k (omega (arith, length-append s t))
-          ∙ ap₂ bit_xor (ap (slice_index mid) (sym at_is) ∙ first.after (at + j) (omega arith))
-          (sym (get_or-append_right s t (length s) j 0 refl (omega arith)))
-    ] in record {
+    record {
       before = λ j below. then.before j (omega arith) ∙ first.before j below;
-      inside = λ j below. inside j below (cases_lt j (length s));
-      after =
-          λ j above. then.after j (omega (arith, length-append s t)) ∙ first.after j (omega (arith, length-append s t));
+      inside = λ j below. elim (cases_lt j (length s)) [
+        | inl low ↦ rw (get_or_append_left s t 0 j low) (then.before (at + j) (omega arith) ∙ first.inside j low)
+        | inr high ↦
+            let k = j - length s in
+            let at_is : at + j ≡ next + k = omega arith in
+            rw (at_is, get_or-append_right s t (length s) j 0 refl high, ← first.after (next + k) (omega arith))
+            (then.inside k (omega (arith, length-append s t)))
+      ];
+      after = λ j above. then.after j (omega (arith, length-append s t))
+          ∙ first.after j (omega (arith, length-append s t));
     }
 
 -- n bytes of a buffer xored with a stream
@@ -106,17 +93,16 @@ pub stream_on : (key nonce : Bytes) (counter next m n : ℕ) {prefix back : Byte
     → IsStream key nonce counter (64 * m) prefix → IsStream key nonce next n back
     → IsStream key nonce counter (64 * m + n) (prefix ++ back)
 stream_on key nonce counter next m n {prefix} {back} e one two =
-    let cases : (j : ℕ) → j < 64 * m + n → (j < 64 * m) ⊎ (64 * m ≤ j)
-    → slice_index (prefix ++ back) j ≡ stream_byte key nonce counter j = λ j below here. elim here [
-      | inl low ↦ get_or_append_left prefix back 0 j (omega (arith, one.long)) ∙ one.byte j low
-      | inr high ↦
-          let block_number : next + (j - 64 * m) / 64 ≡ counter + j / 64 = omega arith in
-          let at_is : (j - 64 * m) % 64 ≡ j % 64 = omega arith in
-          get_or-append_right prefix back (64 * m) j 0 one.long high ∙ two.byte (j - 64 * m) (omega arith)
-          ∙ ap₂ (λ b i. slice_index (block key nonce b) i) block_number at_is
-    ] in record {
+    record {
       long = omega (arith, length-append prefix back, one.long, two.long);
-      byte = λ j below. cases j below (cases_lt j (64 * m));
+      byte = λ j below. elim (cases_lt j (64 * m)) [
+        | inl low ↦ get_or_append_left prefix back 0 j (omega (arith, one.long)) ∙ one.byte j low
+        | inr high ↦
+            let block_number : next + (j - 64 * m) / 64 ≡ counter + j / 64 = omega arith in
+            let at_is : (j - 64 * m) % 64 ≡ j % 64 = omega arith in
+            get_or-append_right prefix back (64 * m) j 0 one.long high
+            ∙ rw (block_number, at_is) at (two.byte (j - 64 * m) (omega arith))
+      ];
     }
 
 -- four blocks' stream
@@ -136,5 +122,4 @@ pub xored_with_stream : {key nonce : Bytes} {counter : ℕ} (at : ℕ) {n : ℕ}
     → slice_index new j ≡ bit_xor (slice_index old j) (stream_byte key nonce counter (j - at))
 xored_with_stream at {old} {new} is xored j low high =
     let at_is : at + (j - at) ≡ j = omega arith in
-    ap (slice_index new) (sym at_is) ∙ xored.inside (j - at) (omega (arith, is.long))
-    ∙ ap₂ bit_xor (ap (slice_index old) at_is) (is.byte (j - at) (omega arith))
+    rw (at_is, is.byte (j - at) (omega arith)) at (xored.inside (j - at) (omega (arith, is.long)))

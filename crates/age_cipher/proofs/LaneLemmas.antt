@@ -1,13 +1,5 @@
 -- Vectors, seen lane by lane.
-use Rattle.std.proofs.Common.{◌≡◌, ◌≢◌, ℕ, zero, suc, ◌-◌, ◌*◌, ◌/◌, ◌%◌, ◌^◌, ◌<◌, List, [], ◌∷◌, length, set, replicate, slice_index, slice_index_or, bit_or, bit_xor, arith, refl, sym, ap, ap₂, ◌∙◌}
-use Rattle.std.specs.Int.{w32, rotate_left}
-use Rattle.std.specs.Simd.Lanes.{zip2}
-use Rattle.std.proofs.lemmas.List.{get_or-map, get_or-set_other, map-set, length-map, length-set}
-use Rattle.std.proofs.lemmas.List.FromFn.{fill_by_all}
-use Rattle.std.proofs.lemmas.Simd.{get_or-zip2, get_or-replicate, length-zip2, length-replicate}
-use Rattle.age_cipher.specs.Bytes.{Words}
-use Rattle.age_cipher.specs.ChaCha20.{add_words, add_xor_rotate, quarter_round, start}
-use Rattle.age_cipher.specs.Lanes.{lane, quarter_round_at, AreApart}
+use Rattle.age_cipher.proofs.Common.{◌≡◌, ◌≢◌, ℕ, zero, suc, ◌-◌, ◌*◌, ◌/◌, ◌%◌, ◌^◌, ◌<◌, List, [], ◌∷◌, length, set, replicate, slice_index, slice_index_or, bit_xor, arith, refl, sym, ap, ap₂, ◌∙◌, w32, rotate_left, zip2, length-map, fill_by_all, get_or-zip2, get_or-replicate, length-zip2, Words, add_words, add_xor_rotate, quarter_round, start, lane, bit_or, get_or-map, get_or-set_other, map-set, length-set, length-replicate, quarter_round_at, AreApart}
 
 -- a word of a lane is a lane of a word
 pub lane_word : (state : List Words) (j k : ℕ) → k < length state
@@ -18,14 +10,6 @@ lane_word state j k inside = get_or-map (λ vector. slice_index vector j) state 
 pub lane_set : (state : List Words) (j k : ℕ) (vector : Words)
     → lane j (set state k vector) ≡ set (lane j state) k (slice_index vector j)
 lane_set state j k vector = map-set (λ v. slice_index v j) state k vector
-
--- what holds of 0 to 3
-pub four_cases : (P : ℕ → Type 0) → P 0 → P 1 → P 2 → P 3 → (j : ℕ) → j < 4 → P j
-four_cases P p0 p1 p2 p3 zero h = p0
-four_cases P p0 p1 p2 p3 (suc zero) h = p1
-four_cases P p0 p1 p2 p3 (suc (suc zero)) h = p2
-four_cases P p0 p1 p2 p3 (suc (suc (suc zero))) h = p3
-four_cases P p0 p1 p2 p3 (suc (suc (suc (suc n)))) h = absurd (omega arith)
 
 -- an operator with one number in each of n lanes
 pub with_splat : (n : ℕ) (f : ℕ → ℕ → ℕ) (x : Words) (m j : ℕ) → length x ≡ n → j < n
@@ -40,16 +24,12 @@ pub shifts_rotate : (n : ℕ) (x : Words) (by j : ℕ) → length x ≡ n → 0 
     (zip2 (λ a n. a / 2 ^ n) x (replicate n (32 - by)))) j
     ≡ rotate_left w32 (slice_index x j) by
 shifts_rotate n x by j long low high inside =
-    let left : ℕ → ℕ → ℕ = λ a n. a * 2 ^ n % 2 ^ 32 in
-    let right : ℕ → ℕ → ℕ = λ a n. a / 2 ^ n in
     let here : (f : ℕ → ℕ → ℕ) (m : ℕ) → j < length (zip2 f x (replicate n m)) = λ f m.
     omega (arith, length-zip2 f x (replicate n m) (long ∙ sym (length-replicate n m))) in
     let same : by % 32 ≡ by = omega arith in
     let rest : (32 - by) % 32 ≡ 32 - by = omega arith in
-    get_or-zip2 bit_or (zip2 left x (replicate n by)) (zip2 right x (replicate n (32 - by))) j 0 0 0 (here left by)
-    (here right (32 - by))
-    ∙ ap₂ bit_or (with_splat n left x by j long inside) (with_splat n right x (32 - by) j long inside)
-    ∙ rw (same, rest) refl
+    get_or-zip2 bit_or _ _ j 0 0 0 (here _ by) (here _ (32 - by))
+    ∙ rw (with_splat n _ x by j long inside, with_splat n _ x (32 - by) j long inside, same, rest) refl
 
 -- one line of the quarter round, in lane j
 pub lane_line : (state : List Words) (a b d by j : ℕ) (sum turned : Words)
@@ -63,18 +43,16 @@ pub lane_line : (state : List Words) (a b d by j : ℕ) (sum turned : Words)
 unfolding add_xor_rotate
 lane_line state a b d by j sum turned a_in b_in d_in es et =
     let next = set state a sum in
-    let a_still : a < length next = omega (arith, length-set state a sum) in
-    let d_still : d < length next = omega (arith, length-set state a sum) in
-    let f : Words → Words = λ words. set words d
-    (rotate_left w32 (bit_xor (slice_index words d) (slice_index words a)) by) in
-    let first : lane j next ≡ set (lane j state) a
-    (add_words (slice_index (lane j state) a) (slice_index (lane j state) b)) =
-    lane_set state j a sum ∙ ap (set (lane j state) a)
-    (es ∙ ap₂ add_words (sym (lane_word state j a a_in)) (sym (lane_word state j b b_in))) in
-    lane_set next j d turned
-    ∙ ap (set (lane j next) d) (et ∙ ap₂ (λ x y. rotate_left w32 (bit_xor x y) by) (sym (lane_word next j d d_still))
-    (sym (lane_word next j a a_still)))
-    ∙ ap f first
+    let long = length-set state a sum in
+    rw (
+      lane_word state j a a_in,
+      lane_word state j b b_in,
+      ← es,
+      ← lane_set state j a sum,
+      lane_word next j d (omega arith),
+      lane_word next j a (omega arith),
+      ← et,
+    ) (lane_set next j d turned)
 
 -- sixteen words that are those of lane j
 pub lane_is : (state : List Words) (words : Words) (j : ℕ) → length state ≡ 16 → length words ≡ 16
@@ -89,10 +67,6 @@ lane_is state words j state_long words_long each =
 pub start_set : (key nonce : Words) (a b : ℕ) → set (start key nonce a) 12 b ≡ start key nonce b
 unfolding start
 start_set key nonce a b = refl
-
--- lists of two and eight, written out
-pub two_long : (x : Words) → length x ≡ 2 → x ≡ slice_index x 0 ∷ slice_index x 1 ∷ []
-two_long x long = fill_by_all (λ k. slice_index x k) x 2 0 long (λ k h. refl)
 
 pub eight_long : (x : Words) → length x ≡ 8
     → x ≡ slice_index x 0 ∷ slice_index x 1 ∷ slice_index x 2 ∷ slice_index x 3
@@ -159,20 +133,4 @@ two_by_lines p q w apart =
     let second : 1 < 4 = omega arith in
     let third : 2 < 4 = omega arith in
     let fourth : 3 < 4 = omega arith in
-    let p16 = line 16 0 1 3 p w in
-    let p12 = line 12 2 3 1 p p16 in
-    let p8 = line 8 0 1 3 p p12 in
-    let p7 : Words → Words = λ v. line 7 2 3 1 p v in
-    let q16 : Words → Words = λ v. line 16 0 1 3 q v in
-    let q12 : Words → Words = λ v. line 12 2 3 1 q v in
-    let q8 : Words → Words = λ v. line 8 0 1 3 q v in
-    let q7 : Words → Words = λ v. line 7 2 3 1 q v in
-    let to_p12 = line_swap p q apart 12 16 2 3 1 0 1 3 p16 third fourth second first second fourth in
-    let to_p8 =
-    line_swap p q apart 8 12 0 1 3 2 3 1 (q16 p12) first second fourth third fourth second
-    ∙ ap q12 (line_swap p q apart 8 16 0 1 3 0 1 3 p12 first second fourth first second fourth) in
-    let to_p7 =
-    line_swap p q apart 7 8 2 3 1 0 1 3 (q12 (q16 p8)) third fourth second first second fourth
-    ∙ ap q8 (line_swap p q apart 7 12 2 3 1 2 3 1 (q16 p8) third fourth second third fourth second
-    ∙ ap q12 (line_swap p q apart 7 16 2 3 1 0 1 3 p8 third fourth second first second fourth)) in
-    ap (λ v. q7 (p7 (q8 (line 8 0 1 3 p (q12 v))))) to_p12 ∙ ap (λ v. q7 (p7 (q8 v))) to_p8 ∙ ap q7 to_p7
+    simp (line_swap p q apart)

@@ -1,12 +1,6 @@
 -- The arguments of a line, read one after the other.
-use Rattle.std.proofs.Common.{◌≡◌, ◌≢◌, ℕ, zero, suc, ◌≤◌, List, [], ◌∷◌, ◌++◌, refl, sym, ap, arith, append_assoc, ◌∙◌, subst, codes, flat_map}
-use Rattle.std.proofs.lemmas.List.{append-nil, append_cancel_left, append_cancel_right}
-use Rattle.std.proofs.lemmas.List.Concat.{flat_map-append}
-use Rattle.std.specs.List.{AllByRecursion}
-use Rattle.std.specs.Str.{IsAscii}
-use Rattle.age_kdf.specs.Bytes.{Bytes}
-use Rattle.age_header.specs.Arguments.{NoVisible}
-use Rattle.age_header.specs.Header.{AreArguments, IsArgument, IsVisible, argument_line, line}
+use Rattle.age_header.proofs.Common.{◌≡◌, ◌≢◌, zero, suc, ◌≤◌, List, [], ◌∷◌, ◌++◌, refl, sym, ap, arith, append_assoc, ◌∙◌, codes, flat_map, append-nil, append_cancel_left, append_cancel_right, flat_map_more, AllByRecursion, Bytes, NoVisible, AreArguments, IsArgument, IsVisible, argument_line, line, IsAscii}
+use Rattle.age_header.proofs.LinesLemmas.{All-append}
 
 pub visible_ascii : (a : Bytes) → AllByRecursion IsVisible a → IsAscii a
 visible_ascii [] h i = omega arith
@@ -16,6 +10,13 @@ visible_ascii (c ∷ a) h (suc i) = visible_ascii a h.1 i
 -- the text of arguments, each after a space
 abbrev pub spaced : List Bytes → Bytes
 spaced args = flat_map (λ a. 32 ∷ a) args
+
+-- a line that spells some arguments, or none
+abbrev pub SpellsArguments : Bytes → Type 0
+SpellsArguments text = (args : List Bytes) × AreArguments args × (line text ≡ argument_line args)
+
+abbrev pub SpellsNone : Bytes → Type 0
+SpellsNone text = (args : List Bytes) → AreArguments args → line text ≡ argument_line args → ⊥
 
 -- how far a line was read: these arguments, then a rest that has all further ones
 pub record Parsed (text : Bytes) (az : List Bytes) (rest : Bytes) : Type 0 where
@@ -27,9 +28,33 @@ pub record Parsed (text : Bytes) (az : List Bytes) (rest : Bytes) : Type 0 where
 line_text : (text : Bytes) (bs : List Bytes) → line text ≡ argument_line bs → text ≡ codes "->" ++ spaced bs
 line_text text bs e = append_cancel_right text (codes "->" ++ spaced bs) (10 ∷ []) e
 
+-- a run of visible characters ends where none follows
+visible_cut : (a b x y : Bytes) → AllByRecursion IsVisible a → AllByRecursion IsVisible b → NoVisible x → NoVisible y
+    → a ++ x ≡ b ++ y → (a ≡ b) × (x ≡ y)
+visible_cut [] [] x y h k n m e = (refl, e)
+visible_cut [] (c ∷ b) [] y h k n m e = cc
+visible_cut [] (c ∷ b) (d ∷ x) y h k n m e = let same : d ≡ c = cc in absurd (n (rw same k.0))
+visible_cut (c ∷ a) [] x [] h k n m e = cc
+visible_cut (c ∷ a) [] x (d ∷ y) h k n m e = let same : d ≡ c = cc in absurd (m (rw same h.0))
+visible_cut (c ∷ a) (d ∷ b) x y h k n m e = let (same, rest) = visible_cut a b x y h.1 k.1 n m cc in (cc, rest)
+
+spaced_ends : (args : List Bytes) → NoVisible (spaced args)
+spaced_ends [] = tt
+spaced_ends (a ∷ args) = λ h. omega (arith, h.0)
+
+-- an argument line has one list of arguments
+pub args_once : (az bs : List Bytes) → AllByRecursion IsArgument az → AllByRecursion IsArgument bs
+    → spaced az ≡ spaced bs → az ≡ bs
+args_once [] [] h k e = refl
+args_once [] (b ∷ bs) h k e = cc
+args_once (a ∷ az) [] h k e = cc
+args_once (a ∷ az) (b ∷ bs) h k e =
+    let (head, tail) = visible_cut a b _ _ h.0.1 k.0.1 (spaced_ends az) (spaced_ends bs) cc in
+    let rest = args_once az bs h.1 k.1 tail in
+    cc
+
 -- a line of arguments begins with an arrow
-pub no_arrow : (text : Bytes) → ((x : Bytes) → text ≢ codes "->" ++ x) → (bs : List Bytes) → AreArguments bs
-    → line text ≡ argument_line bs → ⊥
+pub no_arrow : (text : Bytes) → ((x : Bytes) → text ≢ codes "->" ++ x) → SpellsNone text
 no_arrow text none bs h e = none (spaced bs) (line_text text bs e)
 
 pub parsed_none : (text rest : Bytes) → text ≡ codes "->" ++ rest → Parsed text [] rest
@@ -41,95 +66,45 @@ parsed_none text rest is = record {
 
 -- where the rest begins with no argument, the line has none
 pub stuck_space : (text : Bytes) (az : List Bytes) (rest : Bytes) → Parsed text az rest → rest ≢ []
-    → ((x : Bytes) → rest ≢ 32 ∷ x)
-    → (bs : List Bytes) → AreArguments bs → line text ≡ argument_line bs → ⊥
-stuck_space text az rest p some none bs h e =
-    let m = p.only bs h e in
-    here m.0 m.2
+    → ((x : Bytes) → rest ≢ 32 ∷ x) → SpellsNone text
+stuck_space text az rest p some none bs h e = let (more, _, is) = p.only bs h e in here more is
   where
     here : (more : List Bytes) → rest ≡ spaced more → ⊥
     here [] e = some e
     here (a ∷ more) e = none (a ++ spaced more) e
 
 pub stuck_empty : (text : Bytes) (az : List Bytes) (rest tail : Bytes) → Parsed text az rest → rest ≡ 32 ∷ tail
-    → NoVisible tail
-    → (bs : List Bytes) → AreArguments bs → line text ≡ argument_line bs → ⊥
-stuck_empty text az rest tail p is none bs h e =
-    let m = p.only bs h e in
-    here m.0 tail m.1 none (sym is ∙ m.2)
+    → NoVisible tail → SpellsNone text
+stuck_empty text az rest tail p space end bs h e =
+    let (more, each, is) = p.only bs h e in here more each (sym space ∙ is)
   where
-    here : (more : List Bytes) (tail : Bytes) → AllByRecursion IsArgument more → NoVisible tail
-        → 32 ∷ tail ≡ spaced more → ⊥
-    here [] tail h n e = cc
-    here ([] ∷ more) tail h n e = h.0.0 refl
-    here ((c ∷ a) ∷ more) [] h n e = cc
-    here ((c ∷ a) ∷ more) (d ∷ tail) h n e =
-        let same : d ≡ c = cc in
-        n (subst (λ (x : ℕ). IsVisible x) (sym same) h.0.1.0)
-
--- an argument ends where no visible character follows
-cut_here : (a w r : Bytes) (more : List Bytes) → AllByRecursion IsVisible a → AllByRecursion IsVisible w → NoVisible r
-    → w ++ r ≡ a ++ spaced more → r ≡ spaced more
-cut_here [] [] r more h k n e = e
-cut_here [] (c ∷ w) r [] h k n e = cc
-cut_here [] (c ∷ w) r (b ∷ more) h k n e =
-    let same : c ≡ 32 = cc in
-    let low : 33 ≤ c = k.0.0 in
-    absurd (omega arith)
-cut_here (d ∷ a) [] [] more h k n e = cc
-cut_here (d ∷ a) [] (c ∷ r) more h k n e =
-    let same : c ≡ d = cc in
-    absurd (n (subst (λ (x : ℕ). IsVisible x) (sym same) h.0))
-cut_here (d ∷ a) (c ∷ w) r more h k n e =
-    let tail : w ++ r ≡ a ++ spaced more = cc in
-    cut_here a w r more h.1 k.1 n tail
-
-all_more : (az : List Bytes) (w : Bytes) → AllByRecursion IsArgument az → IsArgument w
-    → AllByRecursion IsArgument (az ++ w ∷ [])
-all_more [] w h k = (k, tt)
-all_more (a ∷ az) w h k = (h.0, all_more az w h.1 k)
-
-regroup : (s w r : Bytes) (rest : Bytes) → rest ≡ 32 ∷ (w ++ r) → s ++ rest ≡ (s ++ 32 ∷ w) ++ r
-regroup s w r rest e = ap (λ (x : Bytes). s ++ x) e ∙ sym (append_assoc s (32 ∷ w) r)
+    here : (more : List Bytes) → AllByRecursion IsArgument more → 32 ∷ tail ≡ spaced more → ⊥
+    here [] h e = cc
+    here (a ∷ more) h e =
+        let (none, _) = visible_cut [] a tail _ tt h.0.1 end (spaced_ends more) cc in h.0.0 (sym none)
 
 -- one more argument
 pub parsed_more : (text : Bytes) (az : List Bytes) (rest tail w r : Bytes) → Parsed text az rest → rest ≡ 32 ∷ tail
-    → tail ≡ w ++ r
-    → w ≢ [] → AllByRecursion IsVisible w → NoVisible r → Parsed text (az ++ w ∷ []) r
-parsed_more text az rest tail w r p is cut some seen none =
-    let whole : rest ≡ 32 ∷ (w ++ r) = is ∙ ap (λ (x : Bytes). 32 ∷ x) cut in
-    let more_text : spaced (az ++ w ∷ []) ≡ spaced az ++ 32 ∷ w =
-    flat_map-append (λ (a : Bytes). 32 ∷ a) az (w ∷ []) ∙ ap (λ (x : Bytes). spaced az ++ x) (append-nil (32 ∷ w)) in
+    → tail ≡ w ++ r → w ≢ [] → AllByRecursion IsVisible w → NoVisible r → Parsed text (az ++ w ∷ []) r
+parsed_more text az rest tail w r p space cut some seen end =
+    let whole : rest ≡ 32 ∷ (w ++ r) = cc in
     record {
-      each = all_more az w p.each (some, seen);
-      spelled = p.spelled ∙ ap (λ (x : Bytes). codes "->" ++ x)
-          (regroup (spaced az) w r rest whole ∙ ap (λ (x : Bytes). x ++ r) (sym more_text));
-      only = λ bs h e. let m = p.only bs h e in here m.0 m.1 (sym whole ∙ m.2);
+      each = All-append IsArgument az (w ∷ []) p.each ((some, seen), tt);
+      spelled = p.spelled ∙ rw (whole, ← flat_map_more (32 ∷◌) [] az w, append_assoc) refl;
+      only = λ bs h e. let (more, each, is) = p.only bs h e in here more each (sym whole ∙ is);
     }
   where
     here : (more : List Bytes) → AllByRecursion IsArgument more → 32 ∷ (w ++ r) ≡ spaced more
         → (rest : List Bytes) × AllByRecursion IsArgument rest × (r ≡ spaced rest)
     here [] h e = cc
     here (a ∷ more) h e =
-        let tail : w ++ r ≡ a ++ spaced more = cc in
-        (more, h.1, cut_here a w r more h.0.1 seen none tail)
+        let (_, rest) = visible_cut w a r _ seen h.0.1 end (spaced_ends more) cc in (more, h.1, rest)
 
 -- the end of the line
-pub parsed_all : (text : Bytes) (az : List Bytes) (rest : Bytes) → Parsed text az rest → rest ≡ [] → az ≢ []
+pub parsed_all : (text : Bytes) (az : List Bytes) → Parsed text az [] → az ≢ []
     → AreArguments az × (line text ≡ argument_line az)
-parsed_all text az rest p end some = (
-  (some, p.each),
-  ap line (p.spelled
-      ∙ ap (λ (x : Bytes). codes "->" ++ x) (ap (λ (x : Bytes). spaced az ++ x) end ∙ append-nil (spaced az))),
-)
+parsed_all text az p some = ((some, p.each), ap line (rw append-nil at p.spelled))
 
-pub parsed_nothing : (text : Bytes) (az : List Bytes) (rest : Bytes) → Parsed text az rest → rest ≡ [] → az ≡ []
-    → (bs : List Bytes) → AreArguments bs → line text ≡ argument_line bs → ⊥
-parsed_nothing text az rest p end none bs h e =
-    let empty : text ≡ codes "->" = p.spelled
-    ∙ ap (λ (x : Bytes). codes "->" ++ x) (ap (λ (x : List Bytes). spaced x ++ rest) none ∙ end) in
-    here bs h (sym (append_cancel_left (codes "->") [] (spaced bs) (sym empty ∙ line_text text bs e)))
-  where
-    here : (bs : List Bytes) → AreArguments bs → spaced bs ≡ [] → ⊥
-    here [] h e = h.0 refl
-    here (b ∷ bs) h e = cc
+pub parsed_nothing : (text : Bytes) → Parsed text [] [] → SpellsNone text
+parsed_nothing text p [] h e = h.0 refl
+parsed_nothing text p (b ∷ bs) h e = let is = sym p.spelled ∙ line_text text (b ∷ bs) e in cc

@@ -1,21 +1,11 @@
 -- What a source gave in reads one after another, and a text that is written part by part.
-use Rattle.std.proofs.Common.{◌∙◌, ◌++◌, ◌+◌, ℕ, [], ap, refl, arith, append-nil, length-append, ◌≡◌, ◌≤◌, length, take, min, sym, append_assoc, subst}
-use Rattle.std.specs.declared.option.Option.TheVariants.{None, Some}
-use Rattle.std.specs.Io.KnownBytes.{Consumes, IsAtEnd, Appends}
-use Rattle.std.specs.Prelude.{IfSome, ⊤}
-use Rattle.std.proofs.KnownBytes.{Consumes-nil, Consumes-trans, Appends-trans, Appends-nil}
-use Rattle.std.proofs.lemmas.List.{take_min, take-append-le}
-use Rattle.std.proofs.Math.Seq.{take-append-add}
-use Rattle.std.specs.declared.result.Result.{Result}
-use Rattle.std.specs.declared.result.Result.TheVariants.{Ok, Err}
-use Rattle.age_kdf.specs.Bytes.{Bytes}
-use Rattle.age_header.specs.Device.{Flow, Gave, GaveAtMost, GaveSome, Grew, Known, OfGiven, Seen, Writes, WritesPart, flow, move_of}
+use Rattle.age_header.proofs.Common.{◌∙◌, ◌++◌, ◌+◌, ℕ, [], ap, refl, arith, append-nil, length-append, ◌≡◌, length, take, min, sym, append_assoc, subst, None, Some, IsAtEnd, Appends, Appends-trans, take-append-add, Result, Ok, Err, Bytes, Flow, Gave, GaveSome, Known, Seen, flow, move_of, Consumes, IfSome, ⊤, Consumes-nil, Consumes-trans, Appends-nil, take_min, take-append-le, GaveAtMost, Grew, OfGiven, Writes, WritesPart}
 
 grew_none : (a : Seen) → Grew (flow a a) []
-grew_none a past h = subst a.gave (sym (append-nil past)) h
+grew_none a past h = rw append-nil h
 
 grew_then : (a b c : Seen) (x y : Bytes) → Grew (flow a b) x → Grew (flow b c) y → Grew (flow a c) (x ++ y)
-grew_then a b c x y g h past p = subst c.gave (append_assoc past x y) (h (past ++ x) (g past p))
+grew_then a b c x y g h past p = rw append_assoc at (h (past ++ x) (g past p))
 
 -- no read gives nothing
 pub gave_none : {a : Seen} → Gave (flow a a) []
@@ -38,30 +28,7 @@ some_then {a} {b} {c} {x} g h = record { bytes = x ++ h.bytes; grew = grew_then 
 
 pub gave_more : (a b c : Seen) (n m : ℕ) → GaveAtMost n (flow a b) → GaveAtMost m (flow b c)
     → GaveAtMost (n + m) (flow a c)
-gave_more a b c n m g h =
-    (g.0 ++ h.0, gave_then g.1 h.1, omega (arith, length-append g.0 h.0, g.2, h.2))
-
--- what holds whatever follows these bytes
-known_more : (a b : Known) (x : Bytes) (P : Bytes → Type 0) → Consumes a b x
-    → ((d : Bytes) → (IsAtEnd b → d ≡ []) → P (x ++ d)) → IfSome a P
-known_more None b x P h p = tt
-known_more (Some told) None x P h p = absurd h
-known_more (Some told) (Some left) x P h p = subst P (sym h) (p left (λ end. end))
-
-pub of_more : {a b : Seen} {x : Bytes} {P : Bytes → Type 0} → Gave (flow a b) x
-    → ((d : Bytes) → (IsAtEnd b.to_come → d ≡ []) → P (x ++ d)) → OfGiven (flow a b) P
-of_more {a} {b} {x} {P} g p = record {
-  given = x;
-  grew = g.grew;
-  holds = subst P (append-nil x) (p [] (λ end. refl));
-  known = known_more a.to_come b.to_come x P g.consumes p;
-}
-
--- what holds of the bytes up to the end of the source
-pub of_ended : {a b : Seen} {x : Bytes} {P : Bytes → Type 0} → Gave (flow a b) x → IsAtEnd b.to_come → P x
-    → OfGiven (flow a b) P
-of_ended {x} {P} g end p =
-    of_more g (λ d none. subst P (sym (ap (λ t. x ++ t) (none end) ∙ append-nil x)) p)
+gave_more a b c n m (x, first, low) (y, rest, few) = (x ++ y, gave_then first rest, omega (arith, length-append x y))
 
 -- what holds of any bytes
 known_any : (a : Known) (P : Bytes → Type 0) → ((b : Bytes) → P b) → IfSome a P
@@ -92,6 +59,24 @@ of_then {a} {b} {c} {x} {P} {Q} g h p = record {
   known = known_then a.to_come b.to_come x P Q g.consumes h.known p;
 }
 
+-- a source that is at its end has nothing left
+nothing_left : (b : Seen) → OfGiven (flow b b) (λ d. IsAtEnd b.to_come → d ≡ [])
+nothing_left b = record { given = []; grew = grew_none b; holds = λ end. refl; known = left b.to_come }
+  where
+    left : (k : Known) → IfSome k (λ d. IsAtEnd k → d ≡ [])
+    left None = tt
+    left (Some d) = λ end. end
+
+-- what holds whatever follows these bytes
+pub of_more : {a b : Seen} {x : Bytes} {P : Bytes → Type 0} → Gave (flow a b) x
+    → ((d : Bytes) → (IsAtEnd b.to_come → d ≡ []) → P (x ++ d)) → OfGiven (flow a b) P
+of_more {b} g p = of_then g (nothing_left b) p
+
+-- what holds of the bytes up to the end of the source
+pub of_ended : {a b : Seen} {x : Bytes} {P : Bytes → Type 0} → Gave (flow a b) x → IsAtEnd b.to_come → P x
+    → OfGiven (flow a b) P
+of_ended g end p = of_more g (λ d none. rw (none end, append-nil) p)
+
 pub of_map : {a b : Seen} {P Q : Bytes → Type 0} → OfGiven (flow a b) Q → ((y : Bytes) → Q y → P y)
     → OfGiven (flow a b) P
 of_map h p = of_then (gave_none) h p
@@ -100,7 +85,7 @@ of_map h p = of_then (gave_none) h p
 pub of_still : (a b c : Seen) {P : Bytes → Type 0} → OfGiven (flow a b) P → Grew (flow b c) [] → OfGiven (flow a c) P
 of_still a b c h g = record {
   given = h.given;
-  grew = λ past p. subst c.gave (append-nil (past ++ h.given)) (g (past ++ h.given) (h.grew past p));
+  grew = λ past p. rw append-nil at (g (past ++ h.given) (h.grew past p));
   holds = h.holds;
   known = h.known;
 }
@@ -108,7 +93,7 @@ of_still a b c h g = record {
 -- what holds of the bytes that a source gave holds of its known bytes
 pub of_known : (P : Bytes → Type 0) (source : Flow) (told : Bytes) → source.before.to_come ≡ Some told
     → OfGiven source P → P told
-of_known P source told is h = subst (λ (o : Known). IfSome o P) is h.known
+of_known P source told is h = rw is at h.known
 
 -- a source with these known bytes
 abbrev pub of_told : Bytes → Seen
@@ -141,32 +126,17 @@ done_more {a} {b} {c} x {y} d e h = record {
   is = d.is ∙ ap (λ (z : Bytes). d.prefix ++ z) e ∙ sym (append_assoc d.prefix x y);
 }
 
-pub done_all : (a b c : Known) (whole left : Bytes) → Done a b whole left → Appends b c left → Appends a c whole
-done_all a b c whole left d h = subst (λ (z : Bytes). Appends a c z) (sym d.is)
-    (Appends-trans a b c d.prefix left d.took h)
-
 pub done_part : {a b : Known} (c : Known) {whole left : Bytes} (x y : Bytes) → Done a b whole left → left ≡ x ++ y
-    → WritesPart (move_of b c) x
-    → WritesPart (move_of a c) whole
-done_part {a} {b} c {whole} x y d e w =
-    let n : ℕ = min w.0 (length x) in
-    let low : n ≤ length x = omega arith in
-    let same : take n (x ++ y) ≡ take w.0 x = take-append-le n x y low ∙ take_min w.0 x in
-    let text : whole ≡ d.prefix ++ (x ++ y) = d.is ∙ ap (λ (z : Bytes). d.prefix ++ z) e in
-    let cut : take (length d.prefix + n) whole ≡ d.prefix ++ take w.0 x =
-    ap (λ (z : Bytes). take (length d.prefix + n) z) text ∙ take-append-add d.prefix (x ++ y) n
-    ∙ ap (λ (z : Bytes). d.prefix ++ z) same in (
-      length d.prefix + n,
-      subst (λ (z : Bytes). Appends a c z) (sym cut)
-          (Appends-trans a b c d.prefix (take w.0 x) d.took w.1),
-    )
-
-pub done_last : (a b c : Known) (whole left : Bytes) → Done a b whole left → WritesPart (move_of b c) left
-    → WritesPart (move_of a c) whole
-done_last a b c whole left d w = done_part c left [] d (sym (append-nil left)) w
+    → WritesPart (move_of b c) x → WritesPart (move_of a c) whole
+done_part {a} {b} c {whole} x y d e (m, took) =
+    let n : ℕ = min m (length x) in
+    let part : take n (x ++ y) ≡ take m x = take-append-le n x y (omega arith) ∙ take_min m x in
+    let cut : take (length d.prefix + n) whole ≡ d.prefix ++ take m x =
+    rw (d.is, e, take-append-add d.prefix, part) refl in
+    (length d.prefix + n, rw cut (Appends-trans a b c d.prefix (take m x) d.took took))
 
 -- what the last call did to what was left, it did to the whole
 pub writes_last : {T E : Type 0} {a b : Known} (c : Known) (r : Result T E) {whole left : Bytes} → Done a b whole left
     → Writes (move_of b c) r left → Writes (move_of a c) r whole
-writes_last {a} {b} c (Ok x) {whole} {left} d h = done_all a b c whole left d h
-writes_last {a} {b} c (Err e) {whole} {left} d h = done_last a b c whole left d h
+writes_last {a} {b} c (Ok x) {whole} {left} d h = rw d.is (Appends-trans a b c d.prefix left d.took h)
+writes_last {a} {b} c (Err e) {whole} {left} d w = done_part c left [] d (sym (append-nil left)) w

@@ -1,3 +1,4 @@
+pub mod Common
 mod ArgumentsLemmas
 pub mod Base64Lemmas
 pub mod DeviceLemmas

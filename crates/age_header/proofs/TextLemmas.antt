@@ -1,16 +1,5 @@
 -- The text that a writer writes is the text of a header.
-use Rattle.std.proofs.Common.{inl, inr, ◌≡◌, ℕ, zero, suc, ◌+◌, ◌*◌, ◌/◌, ◌<◌, ◌≤◌, List, [], ◌∷◌, ◌++◌, length, length-take, length-drop, get_or, take, drop, take-append-drop, map, refl, sym, ap, arith, append_assoc, ◌∙◌, subst, codes, flat_map}
-use Rattle.std.proofs.lemmas.List.{take_at, at_drop_more, get_or-take, get_or-drop, get_or_past}
-use Rattle.std.proofs.lemmas.Bool.{cases_lt}
-use Rattle.std.specs.List.{concat, AllByRecursion}
-use Rattle.base64.specs.Rfc4648.{encode_symbols, unpadded_len}
-use Rattle.base64.proofs.RoundTrip.{length-encode_symbols}
-use Rattle.base64.specs.GeneralPurpose.{IsBytes, IsEncodedOver, encode_of, encoded_size_of}
-use Rattle.base64.specs.declared.engine.general_purpose.GeneralPurpose.{GeneralPurpose}
-use Rattle.age_kdf.specs.Bytes.{Bytes}
-use Rattle.age_header.specs.Base64.{IsBase64, alphabet, base64_of}
-use Rattle.age_header.specs.Header.{StanzaParts, Head, IsStanza, AreStanzas, IsFullLine, argument_line, line, version_line, line_size, bytes_of_a_line}
-use Rattle.age_header.specs.Text.{IsPlain, IsWhole, IsHeaderValue, body_lines, body_text, stanza_text, signed_text, mac_end}
+use Rattle.age_header.proofs.Common.{inl, inr, ◌≡◌, ℕ, zero, suc, ◌+◌, ◌*◌, ◌/◌, ◌<◌, ◌≤◌, List, [], ◌∷◌, ◌++◌, length, length-take, length-drop, get_or, take, drop, take-append-drop, map, refl, sym, ap, arith, append_assoc, ◌∙◌, codes, flat_map, take_at, cases_lt, concat, AllByRecursion, encode_symbols, encoded_size_of, GeneralPurpose, Bytes, IsBase64, alphabet, base64_of, StanzaParts, Head, IsStanza, AreStanzas, IsFullLine, argument_line, line, version_line, line_size, bytes_of_a_line, IsWhole, IsHeaderValue, body_lines, body_text, stanza_text, signed_text, mac_end, at_drop_more, get_or-take, get_or-drop, get_or_past, unpadded_len, length-encode_symbols, IsBytes, IsEncodedOver, IsPlain}
 use Rattle.age_header.proofs.Base64Lemmas.{IsBase64-encode, encode_of_unpadded, IsBase64-append}
 
 -- what the engine wrote into a buffer
@@ -19,21 +8,19 @@ pub encoded : {e : GeneralPurpose} (m old : Bytes) {new : Bytes} {len : ℕ} →
     → take len new ≡ base64_of m
 unfolding base64_of
 encoded {e} m old {len} p over is =
-    let plain : encode_of e m ≡ encode_symbols alphabet m = encode_of_unpadded e m p.unpadded p.characters in
+    let plain = encode_of_unpadded e m p.unpadded p.characters in
     let size : encoded_size_of e (length m) ≡ unpadded_len (length m) = rw p.unpadded refl in
-    let fits : length (encode_symbols alphabet m) ≡ len = length-encode_symbols alphabet m ∙ sym size ∙ sym is in
-    ap (λ (z : Bytes). take len z) (over ∙ ap (λ (z : Bytes). z ++ drop (encoded_size_of e (length m)) old) plain)
-    ∙ search (take_at, fits)
+    let fits = length-encode_symbols alphabet m ∙ sym (is ∙ size) in
+    rw (over, plain) (take_at (encode_symbols alphabet m) (drop (encoded_size_of e (length m)) old) len fits)
 
 pub encoded_size_plain : (e : GeneralPurpose) (n : ℕ) → IsPlain e → encoded_size_of e n ≡ (4 * n + 2) / 3
 encoded_size_plain e n p = rw p.unpadded refl
 
 -- one full line more
-pub body_step : (b piece after : Bytes) → bytes_of_a_line ≤ length b → piece ≡ take bytes_of_a_line b
-    → after ≡ drop bytes_of_a_line b
-    → body_text b ≡ base64_of piece ++ (10 ∷ body_text after)
+pub body_step : (b : Bytes) {piece after : Bytes} → piece ≡ take bytes_of_a_line b → after ≡ drop bytes_of_a_line b
+    → bytes_of_a_line ≤ length b → body_text b ≡ base64_of piece ++ (10 ∷ body_text after)
 unfolding body_text body_lines
-body_step b piece after h p a =
+body_step b p a low =
     let n : length b / bytes_of_a_line ≡ suc (length (drop bytes_of_a_line b) / bytes_of_a_line) =
     omega (arith, length-drop bytes_of_a_line b) in
     rw (n, p, a) (search (append_assoc))
@@ -48,10 +35,8 @@ body_end b h =
 pub flat_step : {X : Type 0} (f : X → Bytes) (end : Bytes) (xs : List X) (i : ℕ) (x : X) → i < length xs
     → x ≡ get_or xs i x
     → flat_map f (drop i xs) ++ end ≡ f x ++ (flat_map f (drop (i + 1) xs) ++ end)
-flat_step {X} f end xs i x low is =
-    at_drop_more (λ (ys : List X). flat_map f ys ++ end) xs i x low
-    ∙ ap (λ (y : X). flat_map f (y ∷ drop (i + 1) xs) ++ end) (sym is)
-    ∙ append_assoc (f x) (flat_map f (drop (i + 1) xs)) end
+flat_step f end xs i x low is =
+    at_drop_more (λ ys. flat_map f ys ++ end) xs i x low ∙ rw (← is, append_assoc) refl
 
 -- one stanza more of a list of stanzas, before the text's end
 pub stanza_step : (ss : List StanzaParts) (i : ℕ) (s : StanzaParts) → i < length ss → s ≡ get_or ss i s
@@ -65,12 +50,12 @@ stanza_step ss i s low is =
 pub flat_of_map : {X : Type 0} (f : X → Bytes) (xs : List X)
     → flat_map (λ a. 32 ∷ a) (map f xs) ≡ flat_map (λ x. 32 ∷ f x) xs
 flat_of_map f [] = refl
-flat_of_map f (x ∷ xs) = ap (λ (z : Bytes). (32 ∷ f x) ++ z) (flat_of_map f xs)
+flat_of_map f (x ∷ xs) = ap ((32 ∷ f x) ++◌) (flat_of_map f xs)
 
-pub args_step : {X : Type 0} (f : X → Bytes) (xs : List X) (i : ℕ) (x : X) → i < length xs → x ≡ get_or xs i x
+pub args_step : {X : Type 0} (f : X → Bytes) (xs : List X) (i : ℕ) {x : X} → i < length xs → x ≡ get_or xs i x
     → flat_map (λ a. 32 ∷ a) (map f (drop i xs)) ++ 10 ∷ []
     ≡ (32 ∷ []) ++ (f x ++ (flat_map (λ a. 32 ∷ a) (map f (drop (i + 1) xs)) ++ 10 ∷ []))
-args_step f xs i x low is =
+args_step f xs i {x} low is =
     rw (flat_of_map f (drop i xs), flat_of_map f (drop (i + 1) xs)) (flat_step (λ x. 32 ∷ f x) (10 ∷ []) xs i x low is)
 
 pub bytes_take : (n : ℕ) (b : Bytes) → IsBytes b → IsBytes (take n b)
@@ -112,25 +97,21 @@ cut zero b h low high = record {
   spelled = refl;
 }
 cut (suc n) b h low high =
-    let prefix : Bytes = take bytes_of_a_line b in
+    let front : Bytes = take bytes_of_a_line b in
     let back : Bytes = drop bytes_of_a_line b in
-    let size : length prefix ≡ bytes_of_a_line = omega (arith, length-take bytes_of_a_line b) in
-    let full : length (base64_of prefix) ≡ line_size = omega (arith, signs_size prefix) in
-    let four : length (base64_of prefix) ≡ 4 * 16 = full in
-    let rest = cut n back (bytes_drop bytes_of_a_line b h) (omega (arith, length-drop bytes_of_a_line b))
-    (omega (arith, length-drop bytes_of_a_line b)) in
-    let both = IsBase64-append 16 prefix (base64_of prefix) back (concat rest.full ++ rest.last) four
-    (characters_are prefix (bytes_take bytes_of_a_line b h)) rest.text in
+    let size = length-drop bytes_of_a_line b in
+    let full : length (base64_of front) ≡ line_size = omega (arith, signs_size front, length-take bytes_of_a_line b) in
+    let rest = cut n back (bytes_drop bytes_of_a_line b h) (omega arith) (omega arith) in
+    let text = IsBase64-append 16 front (base64_of front) back (concat rest.full ++ rest.last) full
+    (characters_are front (bytes_take bytes_of_a_line b h)) rest.text in
     record {
-      full = base64_of prefix ∷ rest.full;
+      full = base64_of front ∷ rest.full;
       last = rest.last;
       each = (full, rest.each);
       low = rest.low;
-      text = rw (append_assoc (base64_of prefix) (concat rest.full) rest.last)
-          (subst (λ (z : Bytes). IsBase64 z (base64_of prefix ++ (concat rest.full ++ rest.last)))
-          (take-append-drop bytes_of_a_line b) both);
-      spelled = ap (λ (z : Bytes). line (base64_of prefix) ++ z) rest.spelled
-          ∙ sym (append_assoc (line (base64_of prefix)) (flat_map line rest.full) (line rest.last));
+      text = rw (append_assoc (base64_of front)) (rw take-append-drop at text);
+      spelled = ap (line (base64_of front) ++◌) rest.spelled
+          ∙ sym (append_assoc (line (base64_of front)) (flat_map line rest.full) (line rest.last));
     }
 
 pub stanza_text_is : (s : StanzaParts) → IsWhole s → IsStanza s (stanza_text s)
@@ -143,7 +124,7 @@ stanza_text_is s h =
       arguments = h.0;
       cut = (c.each, c.low);
       body = c.text;
-      spelled = ap (λ (z : Bytes). argument_line s.args ++ z) c.spelled
+      spelled = ap (argument_line s.args ++◌) c.spelled
           ∙ sym (append_assoc (argument_line s.args) (flat_map line c.full) (line c.last));
     }
 

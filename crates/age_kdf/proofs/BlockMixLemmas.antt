@@ -1,18 +1,11 @@
 -- The blocks of BlockMix, one by one.
-use Rattle.std.proofs.Common.{◌≡◌, ℕ, suc, ◌+◌, ◌*◌, ◌≤◌, ◌++◌, length, take, drop, bit_xor, sym, ap, ap₂, ◌∙◌, arith}
-use Rattle.std.specs.Simd.Lanes.{zip2}
-use Rattle.std.proofs.lemmas.Slice.{take-put_mid}
-use Rattle.age_kdf.specs.Bytes.{Words}
-use borrow.Rule.Slice.PartMut.{put_mid}
-use Rattle.age_kdf.specs.Salsa.{salsa8}
-use Rattle.age_kdf.specs.BlockMix.{x_after, evens, odds}
+use Rattle.age_kdf.proofs.Common.{◌≡◌, ℕ, suc, ◌+◌, ◌*◌, ◌≤◌, ◌++◌, length, take, drop, bit_xor, ap, ◌∙◌, arith, add-one, refl, zip2, take-put_mid, Words, put_mid, salsa8, x_after, evens, odds}
 
 -- one step: X after it
 pub mixed_next : (r : ℕ) (b : Words) {x out : Words} (i at next : ℕ) → x ≡ x_after r b i → at ≡ 16 * i → next ≡ suc i
     → out ≡ salsa8 (zip2 bit_xor x (take 16 (drop at b))) → out ≡ x_after r b next
 unfolding x_after
-mixed_next r b i at next is at_is after made =
-    made ∙ ap₂ (λ y a. salsa8 (zip2 bit_xor y (take 16 (drop a b)))) is at_is ∙ ap (x_after r b) (sym after)
+mixed_next r b i at next is at_is after made = rw (made, is, at_is, after) refl
 
 -- a block written after those that were written before
 pub block_written : (out : Words) {prefix : Words} (x : Words) (at k : ℕ) {next : ℕ}
@@ -25,14 +18,10 @@ block_written out x at k {next} is len after room =
 pub evens_next : (r : ℕ) (b : Words) {x all : Words} (i : ℕ) → all ≡ evens r b i ++ x → x ≡ x_after r b (2 * i + 1)
     → all ≡ evens r b (i + 1)
 unfolding evens
-evens_next r b i is x-is =
-    let one : suc i ≡ i + 1 = omega arith in
-    is ∙ ap (λ z. evens r b i ++ z) x-is ∙ ap (evens r b) one
+evens_next r b i is x-is = rw (is, x-is, add-one i) refl
 
 -- one more odd block
 pub odds_next : (r : ℕ) (b : Words) {x all : Words} (i : ℕ) → all ≡ odds r b i ++ x → x ≡ x_after r b (2 * i + 2)
     → all ≡ odds r b (i + 1)
 unfolding odds
-odds_next r b i is x-is =
-    let one : suc i ≡ i + 1 = omega arith in
-    is ∙ ap (λ z. odds r b i ++ z) x-is ∙ ap (odds r b) one
+odds_next r b i is x-is = rw (is, x-is, add-one i) refl

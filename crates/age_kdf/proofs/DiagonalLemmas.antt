@@ -1,11 +1,5 @@
 -- The rounds of Salsa20/8 lane by lane.
-use Rattle.std.proofs.Common.{◌≡◌, ℕ, ◌-◌, ◌*◌, ◌/◌, ◌%◌, ◌^◌, ◌<◌, [], ◌∷◌, length, replicate, slice_index, bit_or, arith, refl, ap, ap₂, ◌∙◌}
-use Rattle.std.specs.Int.{w32, rotate_left}
-use Rattle.std.specs.Simd.Lanes.{zip2}
-use Rattle.std.proofs.lemmas.Simd.{get_or-zip2, get_or-replicate, length-zip2}
-use Rattle.age_kdf.specs.Bytes.{Words}
-use Rattle.age_kdf.specs.Salsa.{quarter, columns, rows}
-use Rattle.age_kdf.specs.Diagonals.{four_steps, words_in_order, rotation}
+use Rattle.age_kdf.proofs.Common.{◌≡◌, ℕ, ◌-◌, ◌*◌, ◌/◌, ◌%◌, ◌^◌, ◌<◌, [], ◌∷◌, length, replicate, slice_index, arith, refl, ap, ◌∙◌, w32, zip2, get_or-zip2, length-zip2, Words, quarter, columns, rows, four_steps, words_in_order, bit_or, rotate_left, get_or-replicate, rotation}
 
 -- two shifts of each lane and an or rotate it
 pub shifts_rotate : (x : Words) (k j : ℕ) → length x ≡ 4 → 0 < k → k < 32 → j < 4
@@ -18,13 +12,9 @@ shifts_rotate x k j long low high inside =
     ∙ ap (f (slice_index x j)) (get_or-replicate 4 j n 0 inside) in
     let here : (f : ℕ → ℕ → ℕ) (n : ℕ) → j < length (zip2 f x (replicate 4 n)) =
     λ f n. omega (arith, length-zip2 f x (replicate 4 n) long) in
-    let left : ℕ → ℕ → ℕ = λ a n. a * 2 ^ n % 2 ^ 32 in
-    let right : ℕ → ℕ → ℕ = λ a n. a / 2 ^ n in
     let whole : k % 32 ≡ k = omega arith in
     let rest : (32 - k) % 32 ≡ 32 - k = omega arith in
-    get_or-zip2 bit_or (zip2 left x (replicate 4 k)) (zip2 right x (replicate 4 (32 - k))) j 0 0 0 (here left k)
-    (here right (32 - k))
-    ∙ ap₂ bit_or (shifted left k) (shifted right (32 - k)) ∙ rw (whole, rest) refl
+    get_or-zip2 bit_or _ _ j 0 0 0 (here _ k) (here _ (32 - k)) ∙ rw (shifted _ k, shifted _ (32 - k), whole, rest) refl
 
 -- four lanes before and after the four steps
 abbrev pub AreQuartered : Words → Words → Words → Words → Words → Words → Words → Words → Type 0

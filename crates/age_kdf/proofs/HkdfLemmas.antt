@@ -1,8 +1,5 @@
 -- The blocks of HKDF.
-use Rattle.std.proofs.Common.{◌≡◌, ℕ, zero, suc, ◌+◌, ◌*◌, [], ◌∷◌, ◌++◌, length, take, refl, sym, ap, ap₂, ◌∙◌, arith, append_assoc, length-append}
-use Rattle.age_kdf.specs.Bytes.{Bytes}
-use Rattle.age_kdf.specs.Hmac.{hmac}
-use Rattle.age_kdf.specs.Hkdf.{hkdf_block, hkdf_blocks}
+use Rattle.age_kdf.proofs.Common.{◌≡◌, ℕ, zero, suc, ◌+◌, ◌*◌, [], ◌∷◌, ◌++◌, length, take, refl, ap, ap₂, ◌∙◌, arith, append_assoc, length-append, Bytes, hmac, hkdf_block, hkdf_blocks}
 use Rattle.age_kdf.proofs.HmacLemmas.{length-hmac}
 
 -- n blocks have 32 * n bytes
@@ -24,8 +21,7 @@ pub hkdf_next : (out : Bytes) {block : Bytes} (prk info : Bytes) {last : Bytes} 
 unfolding hkdf_block hkdf_blocks
 hkdf_next out {block} prk info {last} i len last_is block-is out-is =
     let next : suc i ≡ i + 1 = omega arith in
-    let is : block ≡ hkdf_block prk info (suc i) =
-    block-is ∙ ap (λ z. hmac prk (z ++ (info ++ (i + 1) ∷ []))) last_is ∙ ap (hmac prk) (sym (append_assoc _ info _)) in
+    let is : block ≡ hkdf_block prk info (suc i) = rw (block-is, last_is, append_assoc) refl in
     record {
       out = out-is ∙ ap (take len) (ap (λ z. hkdf_blocks prk info i ++ z) is ∙ ap (hkdf_blocks prk info) next);
       last = is ∙ ap (hkdf_block prk info) next;

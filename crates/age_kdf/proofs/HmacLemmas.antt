@@ -1,9 +1,5 @@
 -- HMAC: its block key, and the length of its result.
-use Rattle.std.proofs.Common.{◌≡◌, ◌-◌, ◌++◌, length, drop, replicate, refl, ap}
-use Rattle.std.proofs.lemmas.List.{drop-replicate}
-use Rattle.sha2.specs.Sha256.{sha256, digest_bytes}
-use Rattle.age_kdf.specs.Bytes.{Bytes}
-use Rattle.age_kdf.specs.Hmac.{hmac}
+use Rattle.age_kdf.proofs.Common.{◌≡◌, ◌-◌, ◌++◌, length, drop, replicate, refl, ap, sha256, digest_bytes, Bytes, hmac, drop-replicate}
 
 -- a key written over the first of 64 zeros is the key with zeros after it
 pub zeros_behind : (key : Bytes) → key ++ drop (length key) (replicate 64 0) ≡ key ++ replicate (64 - length key) 0

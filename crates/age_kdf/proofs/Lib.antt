@@ -1,3 +1,4 @@
+pub mod Common
 mod HmacLemmas
 mod ListLemmas
 mod DiagonalLemmas

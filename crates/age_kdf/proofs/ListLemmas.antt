@@ -1,8 +1,5 @@
 -- Lists that are written from the start, and lists computed element by element from two lists.
-use Rattle.std.proofs.Common.{◌≡◌, ℕ, ◌<◌, ◌≤◌, List, length, take, get_or, sym, ◌∙◌, arith}
-use Rattle.std.specs.Simd.Lanes.{zip2}
-use Rattle.std.proofs.lemmas.List.{same_lists, get_or_default, take_all}
-use Rattle.std.proofs.lemmas.Simd.{get_or-zip2, length-zip2}
+use Rattle.age_kdf.proofs.Common.{◌≡◌, ℕ, ◌<◌, ◌≤◌, length, take, get_or, sym, ◌∙◌, arith, zip2, take_all, get_or-zip2, length-zip2, List, same_lists, get_or_default}
 
 -- a list whose elements are f of the elements of xs and ys is zip2 f xs ys
 pub zipped : (f : ℕ → ℕ → ℕ) (xs ys : List ℕ) {out : List ℕ} {n : ℕ} → length xs ≡ n → length ys ≡ n → length out ≡ n

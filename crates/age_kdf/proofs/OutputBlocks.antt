@@ -1,10 +1,5 @@
 -- One more block of an output.
-use Rattle.std.proofs.Common.{◌≡◌, ℕ, ◌+◌, ◌≤◌, ◌++◌, length, take, refl, sym, ap, ◌∙◌, arith, rules, length-append}
-use Rattle.std.proofs.lemmas.List.{take_all}
-use Rattle.std.proofs.Math.Seq.{take-append-add}
-use Rattle.std.proofs.lemmas.Slice.{take-put_mid, overwrites}
-use Rattle.age_kdf.specs.Bytes.{Bytes}
-use borrow.Rule.Slice.PartMut.{put_mid}
+use Rattle.age_kdf.proofs.Common.{◌≡◌, ℕ, ◌+◌, ◌≤◌, ◌++◌, length, take, refl, sym, ap, ◌∙◌, arith, rules, length-append, take_all, take-put_mid, Bytes, put_mid, take-append-add, overwrites}
 
 -- where the whole block fits
 pub whole : (out prefix block : Bytes) {ys : Bytes} {at next : ℕ} (k : ℕ)

@@ -1,12 +1,5 @@
 -- The rounds and blocks of PBKDF2.
-use Rattle.std.proofs.Common.{◌≡◌, ℕ, zero, suc, ◌+◌, ◌*◌, ◌/◌, [], ◌∷◌, bit_xor, length, map, take, refl, sym, ap, ap₂, ◌∙◌, arith, length-append}
-use Rattle.std.specs.Simd.Lanes.{zip2}
-use Rattle.std.specs.Int.Bits.{xor_zero_l}
-use Rattle.std.proofs.lemmas.List.{take_all}
-use Rattle.std.proofs.lemmas.Simd.{length-zip2, zip2_splat_left}
-use Rattle.age_kdf.specs.Bytes.{Bytes}
-use Rattle.age_kdf.specs.Hmac.{hmac}
-use Rattle.age_kdf.specs.Pbkdf2.{pbkdf2, pbkdf2_sum, pbkdf2_round, pbkdf2_blocks}
+use Rattle.age_kdf.proofs.Common.{◌≡◌, ℕ, zero, suc, ◌+◌, ◌*◌, ◌/◌, [], ◌∷◌, bit_xor, length, refl, sym, ap₂, ◌∙◌, arith, length-append, zip2, take_all, length-zip2, Bytes, hmac, pbkdf2, pbkdf2_sum, pbkdf2_round, pbkdf2_blocks, map, xor_zero_l, zip2_splat_left}
 use Rattle.age_kdf.proofs.HmacLemmas.{length-hmac}
 
 -- each round makes 32 bytes
@@ -35,8 +28,7 @@ pub pbkdf2_whole : (pass salt : Bytes) (c n : ℕ) → pbkdf2 pass salt c (32 * 
 unfolding pbkdf2
 pbkdf2_whole pass salt c n =
     let count : (32 * n + 31) / 32 ≡ n = omega arith in
-    ap (λ k. take (32 * n) (pbkdf2_blocks pass salt c k)) count
-    ∙ take_all (32 * n) _ (omega (arith, length-pbkdf2_blocks pass salt c n))
+    rw count (take_all (32 * n) _ (omega (arith, length-pbkdf2_blocks pass salt c n)))
 
 -- a function that changes no element changes no list
 map_same : (f : ℕ → ℕ) → ((x : ℕ) → f x ≡ x) → (xs : Bytes) → map f xs ≡ xs
@@ -58,9 +50,7 @@ unfolding pbkdf2_sum pbkdf2_round
 next_sum pass first {sum} {last} {next} j sum-is last_is next-is out-is =
     let one : suc j ≡ j + 1 = omega arith in
     let two : suc (suc j) ≡ j + 1 + 1 = omega arith in
-    let here : next ≡ pbkdf2_round pass first (suc j) = next-is ∙ ap (hmac pass) last_is in
-    let before : sum ≡ pbkdf2_sum pass first (suc j) = sum-is ∙ ap (pbkdf2_sum pass first) (sym one) in
     record {
-      sum = out-is ∙ ap₂ (zip2 bit_xor) before here ∙ ap (pbkdf2_sum pass first) two;
-      last = here ∙ ap (pbkdf2_round pass first) one;
+      sum = rw (out-is, sum-is, next-is, last_is, ← two, ← one) refl;
+      last = rw (next-is, last_is, ← one) refl;
     }

@@ -1,15 +1,5 @@
 -- The rows of the table, and the row that the last block of X names.
-use Rattle.std.proofs.Common.{◌≡◌, ℕ, suc, ◌+◌, ◌*◌, ◌-◌, ◌%◌, ◌^◌, ◌<◌, ◌≤◌, [], ◌∷◌, length, take, drop, get_or, bit_xor, refl, sym, ap, ◌∙◌, arith}
-use Rattle.std.specs.Simd.Lanes.{number_l, zip2}
-use Rattle.std.proofs.lemmas.List.{drop-take, drop_at, length-take-le}
-use Rattle.std.proofs.lemmas.Simd.{get_or-chunk}
-use Rattle.std.proofs.lemmas.Slice.{take-put_mid, take-put_mid_below}
-use Rattle.std.proofs.Math.Nat.{add-mul-mod_self_left, mul_assoc, mul-le-mul_left}
-use Rattle.std.proofs.lemmas.Nat.{pow-add, mod_below, pow_pos}
-use Rattle.age_kdf.specs.Bytes.{Words}
-use borrow.Rule.Slice.PartMut.{put_mid}
-use Rattle.age_kdf.specs.BlockMix.{block, block_mix}
-use Rattle.age_kdf.specs.RoMix.{integerify, v_at, romix_after}
+use Rattle.age_kdf.proofs.Common.{◌≡◌, ℕ, ◌+◌, ◌*◌, ◌-◌, ◌%◌, ◌^◌, ◌<◌, ◌≤◌, [], ◌∷◌, length, take, drop, get_or, bit_xor, refl, sym, ap, ◌∙◌, arith, add-one, zip2, get_or-chunk, take-put_mid, Words, put_mid, block_mix, v_at, romix_after, number_l, drop-take, drop_at, length-take-le, take-put_mid_below, add-mul-mod_self_left, mul_assoc, mul-le-mul_left, pow-add, mod_below, pow_pos, block, integerify}
 
 -- a row that was just written
 pub row_here : (at size k : ℕ) (xs ys : Words) → length ys ≡ size → at ≤ length xs
@@ -37,17 +27,15 @@ low_word k [] h = refl
 low_word k (w ∷ ws) h =
     let whole : 32 ≡ k + (32 - k) = omega arith in
     let split : 2 ^ 32 ≡ 2 ^ k * 2 ^ (32 - k) = ap (λ e. 2 ^ e) whole ∙ pow-add 2 k (32 - k) in
-    ap (λ p. (w + p * number_l (2 ^ 32) ws) % 2 ^ k) split
-    ∙ ap (λ p. (w + p) % 2 ^ k) (mul_assoc (2 ^ k) (2 ^ (32 - k)) (number_l (2 ^ 32) ws))
-    ∙ add-mul-mod_self_left w (2 ^ k) (2 ^ (32 - k) * number_l (2 ^ 32) ws)
+    let rest = number_l (2 ^ 32) ws in
+    ap (λ p. (w + p * rest) % 2 ^ k) split
+    ∙ rw mul_assoc (add-mul-mod_self_left w (2 ^ k) (2 ^ (32 - k) * rest))
 
 -- the first word of the last block modulo N is Integerify(X) modulo N
 pub index_is : (r k : ℕ) (x : Words) → 0 < r → k ≤ 32 → get_or x (32 * r - 16) 0 % 2 ^ k ≡ integerify r (2 ^ k) x
 index_is r k x pos h =
     let at_is : 32 * r - 16 ≡ 16 * (2 * r - 1) + 0 = omega arith in
-    ap (λ p. get_or x p 0 % 2 ^ k) at_is
-    ∙ ap (λ w. w % 2 ^ k) (sym (get_or-chunk (16 * (2 * r - 1)) 16 x 0 0 (omega arith)))
-    ∙ sym (low_word k (block x (2 * r - 1)) h)
+    rw (low_word k (block x (2 * r - 1)) h, get_or-chunk (16 * (2 * r - 1)) 16 x 0 0 (omega arith), at_is) refl
 
 -- one turn of the second loop
 pub look_turn : {r k : ℕ} (m : ℕ) {len n : ℕ} (b : Words) {x x1 x2 : Words} (table : Words) → 0 < r → k ≤ 32
@@ -58,11 +46,5 @@ pub look_turn : {r k : ℕ} (m : ℕ) {len n : ℕ} (b : Words) {x x1 x2 : Words
     → x2 ≡ block_mix r x1 → x2 ≡ romix_after r (2 ^ k) b (m + 1)
 unfolding romix_after
 look_turn {r} {k} m {len} {n} b {x} table pos low len-is n-is x-is rows x1-is x2-is =
-    let j = get_or x (32 * r - 16) 0 % 2 ^ k in
-    let next : suc m ≡ m + 1 = omega arith in
-    let at_j : take len (drop (len * (get_or x (32 * r - 16) 0 % n)) table) ≡ v_at r b j =
-    rw (len-is, n-is) (rows j (mod_below (get_or x (32 * r - 16) 0) (2 ^ k) (pow_pos k))) in
-    x2-is
-    ∙ ap (block_mix r) (x1-is ∙ ap (zip2 bit_xor x) (at_j ∙ ap (v_at r b) (index_is r k x pos low)))
-    ∙ ap (λ z. block_mix r (zip2 bit_xor z (v_at r b (integerify r (2 ^ k) z)))) x-is
-    ∙ ap (romix_after r (2 ^ k) b) next
+    let at_j = rows (get_or x (32 * r - 16) 0 % 2 ^ k) (mod_below (get_or x (32 * r - 16) 0) (2 ^ k) (pow_pos k)) in
+    rw (x2-is, x1-is, len-is, n-is, at_j, index_is r k x pos low, x-is, add-one m) refl

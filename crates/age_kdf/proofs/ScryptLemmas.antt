@@ -1,12 +1,5 @@
 -- Words of joined bytes, and parts that are mixed one after another.
-use Rattle.std.proofs.Common.{◌≡◌, ℕ, zero, suc, ◌+◌, ◌*◌, ◌≤◌, ◌<◌, [], ◌∷◌, ◌++◌, length, take, drop, get_or, refl, sym, ap, ap₂, ◌∙◌, arith, append_assoc}
-use Rattle.std.proofs.lemmas.List.{append-nil, get_or-append-add, drop-drop}
-use Rattle.std.proofs.Math.ListN.{get_or-append}
-use Rattle.std.proofs.lemmas.Slice.{take-put_mid, drop-put_mid}
-use Rattle.age_kdf.specs.Bytes.{Bytes, Words}
-use borrow.Rule.Slice.PartMut.{put_mid}
-use Rattle.age_kdf.specs.Scrypt.{words_of, word_at, mixed_parts}
-use Rattle.age_kdf.specs.RoMix.{romix}
+use Rattle.age_kdf.proofs.Common.{◌≡◌, ℕ, zero, suc, ◌+◌, ◌*◌, ◌≤◌, ◌<◌, [], ◌∷◌, ◌++◌, length, take, drop, get_or, refl, sym, ap, ap₂, ◌∙◌, arith, append_assoc, append-nil, take-put_mid, Bytes, Words, put_mid, words_of, mixed_parts, romix, get_or-append-add, drop-drop, get_or-append, drop-put_mid, word_at}
 
 -- words that lie in the first bytes
 words_prefix : (xs ys : Bytes) (n : ℕ) → 4 * n ≤ length xs → words_of (xs ++ ys) n ≡ words_of xs n
@@ -36,7 +29,7 @@ pub words_joined : (xs ys : Bytes) (m n : ℕ) → length xs ≡ 4 * m
 unfolding words_of
 words_joined xs ys m zero len =
     let none : m + 0 ≡ m = omega arith in
-    ap (words_of (xs ++ ys)) none ∙ words_prefix xs ys m (omega arith) ∙ sym (append-nil (words_of xs m))
+    rw (none, append-nil) (words_prefix xs ys m (omega arith))
 words_joined xs ys m (suc n) len =
     let next : m + suc n ≡ suc (m + n) = omega arith in
     let at_is : 4 * (m + n) ≡ length xs + 4 * n = omega arith in

@@ -1,14 +1,5 @@
 -- Vectors of the RFCs, computed from the definitions: with a wrong definition these lines do not check.
-use Rattle.std.proofs.Common.{◌≡◌, ◌∷◌, [], refl, replicate}
-use Rattle.std.specs.Prelude.{codes}
-use Rattle.sha2.specs.Sha256.{sha256, digest_bytes, hash_after, compress, rounds, schedule, first_words}
-use Rattle.age_kdf.specs.Hmac.{hmac}
-use Rattle.age_kdf.specs.Hkdf.{hkdf, hkdf_block, hkdf_blocks}
-use Rattle.age_kdf.specs.Pbkdf2.{pbkdf2, pbkdf2_blocks, pbkdf2_sum, pbkdf2_round}
-use Rattle.age_kdf.specs.Salsa.{salsa8, double_rounds, rows, columns, quarter}
-use Rattle.age_kdf.specs.BlockMix.{block_mix, evens, odds, x_after}
-use Rattle.age_kdf.specs.RoMix.{v_at, romix_after, romix}
-use Rattle.age_kdf.specs.Scrypt.{words_of, bytes_of, mixed_parts, scrypt}
+use Rattle.age_kdf.proofs.Common.{◌≡◌, ◌∷◌, [], refl, replicate, sha256, digest_bytes, hmac, hkdf, hkdf_block, hkdf_blocks, pbkdf2, pbkdf2_blocks, pbkdf2_sum, pbkdf2_round, salsa8, double_rounds, rows, columns, quarter, block_mix, evens, odds, x_after, v_at, romix_after, romix, words_of, bytes_of, mixed_parts, scrypt, codes, hash_after, compress, rounds, schedule, first_words}
 
 -- RFC 4231, test case 1
 hmac_case_1 : hmac (replicate 20 0x0b) (codes "Hi There")

@@ -1,24 +1,5 @@
 -- The set of a list of texts: its order, and which texts are in it.
-use Rattle.std.proofs.Common.{◌≡◌, ℕ, Bool, true, false, cond, not, ◌||◌, ◌+◌, ◌<◌, ◌≤◌, List, [], ◌∷◌, map, take, drop, length, get_or, Option, Some, None, Bor, String, sym, ◌∙◌, ap, refl, true≢false}
-use Rattle.std.proofs.lemmas.Cmp.{lists_equiv}
-use Rattle.std.proofs.lemmas.List.{drop_all, drop_more}
-use Rattle.std.proofs.lemmas.List.Folds.{list_any_more}
-use Rattle.std.proofs.lemmas.Map.Text.{is_eq-slice_cmp}
-use Rattle.std.specs.BTreeMap.{is_at}
-use Rattle.std.specs.Cmp.{nat_eq_equiv}
-use Rattle.std.specs.Cmp.Derive.Mapped.{pointwise-map}
-use Rattle.std.specs.Cmp.Lexicographic.{slice_cmp, pointwise}
-use Rattle.std.specs.Global.{Global}
-use Rattle.std.specs.List.{AllByRecursion, AllZip, list_any, position_from}
-use Rattle.std.specs.List.Sorted.{IsStrictlySortedBy}
-use Rattle.std.specs.Ordering.{nat_cmp}
-use Rattle.std.specs.Str.{bytes_eq}
-use Rattle.std.specs.String.{string_bytes, string_cmp, string_eq}
-use Rattle.std.specs.declared.cmp.Ordering.TheVariants.{Less}
-use Rattle.age_kdf.specs.Bytes.{Bytes}
-use Rattle.age_recipient.specs.declared.labels.Labels.{Labels}
-use Rattle.age_recipient.specs.declared.labels.Labels.TheVariants.{Names}
-use Rattle.age_recipient.specs.Labels.{IsSetOf, go_together, first_incompatible}
+use Rattle.age_recipient.proofs.Common.{◌≡◌, ℕ, true, ◌+◌, ◌<◌, List, [], ◌∷◌, map, take, length, get_or, sym, ◌∙◌, ap, refl, list_any, bytes_eq, string_bytes, string_cmp, Bytes, Names, Bool, false, cond, not, ◌||◌, Option, Bor, String, true≢false, lists_equiv, list_any_more, is_eq-slice_cmp, is_at, nat_eq_equiv, pointwise-map, slice_cmp, pointwise, Global, AllByRecursion, AllZip, position_from, IsStrictlySortedBy, nat_cmp, string_eq, Less, Labels, IsSetOf, go_together}
 
 below_all : (x : String Global) (ks : List (String Global)) → AllByRecursion (λ y. string_cmp x y ≡ Less) ks
     → AllByRecursion (λ b. slice_cmp nat_cmp (string_bytes x) b ≡ Less) (map string_bytes ks)
@@ -93,30 +74,3 @@ same_bytes (k ∷ ks) (c ∷ cs) h = rw (h.0, same_bytes ks cs h.1) refl
 -- the first, counted from k, that does not go together with these
 abbrev pub incompatible_from : Labels → ℕ → List Labels → Option ℕ
 incompatible_from first k others = position_from (λ other. not (go_together first other)) k others
-
-one_fewer : (first : Labels) (others : List Labels) (i : ℕ) (l : Labels) → i < length others → l ≡ get_or others i l
-    → incompatible_from first (i + 1) (drop i others) ≡ incompatible_from first (i + 1) (l ∷ drop (i + 1) others)
-one_fewer first others i l low is =
-    ap (incompatible_from first (i + 1)) (drop_more others i l low ∙ ap (λ y. y ∷ drop (i + 1) others) (sym is))
-
--- the one at index i goes together with the first, so the others decide
-pub passes_over : (first : Labels) (others : List Labels) {i : ℕ} {l : Labels} → i < length others
-    → l ≡ get_or others i l → go_together first l ≡ true
-    → incompatible_from first 1 others ≡ incompatible_from first (i + 1) (drop i others)
-    → incompatible_from first 1 others ≡ incompatible_from first (i + 1 + 1) (drop (i + 1) others)
-passes_over first others {i} {l} low is goes before = before ∙ one_fewer first others i l low is ∙ rw goes refl
-
--- the one at index i does not
-pub stops_at : {all : List Labels} {first : Labels} {others : List Labels} (i : ℕ) {l : Labels} → all ≡ first ∷ others
-    → i < length others → l ≡ get_or others i l
-    → go_together first l ≡ false → incompatible_from first 1 others ≡ incompatible_from first (i + 1) (drop i others)
-    → Some (i + 1) ≡ first_incompatible all
-stops_at {first} {others} i {l} is_all low is goes before =
-    rw is_all (sym (before ∙ one_fewer first others i l low is ∙ rw goes refl))
-
--- none is left
-pub passes_all : {all : List Labels} {first : Labels} {others : List Labels} (i : ℕ) → all ≡ first ∷ others
-    → length others ≤ i
-    → incompatible_from first 1 others ≡ incompatible_from first (i + 1) (drop i others) → None ≡ first_incompatible all
-passes_all {first} {others} i is_all end before =
-    rw is_all (sym (before ∙ ap (incompatible_from first (i + 1)) (drop_all i others end)))

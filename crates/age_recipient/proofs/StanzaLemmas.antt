@@ -1,7 +1,5 @@
 -- A stanza of two parts.
-use Rattle.std.proofs.Common.{◌≡◌, List, refl, sym}
-use Rattle.age_kdf.specs.Bytes.{Bytes}
-use Rattle.age_header.specs.Header.{StanzaParts}
+use Rattle.age_recipient.proofs.Common.{◌≡◌, List, refl, sym, Bytes, StanzaParts}
 
 -- a stanza is its arguments and its body
 pub of_parts : (s : StanzaParts) {args : List Bytes} {body : Bytes} → s.args ≡ args → s.body ≡ body

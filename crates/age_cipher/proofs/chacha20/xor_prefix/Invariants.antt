@@ -1,4 +1,4 @@
-use Rattle.std.proofs.Common.{◌≡◌, ℕ, ◌<◌, ◌≤◌, slice_index, bit_xor}
+use Rattle.age_cipher.proofs.Common.{◌≡◌, ℕ, ◌<◌, ◌≤◌, slice_index, bit_xor}
 use Rattle.age_cipher.proofs.chacha20.xor_prefix.Given as goal
 
 abbrev pub invariant-loop-k : goal.invariant-loop-k

@@ -1,4 +1,4 @@
-use Rattle.std.proofs.Common.{refl}
+use Rattle.age_cipher.proofs.Common.{refl}
 use Rattle.age_cipher.proofs.LaneLemmas.{eight_long}
 use Rattle.age_cipher.proofs.chacha20_blocks.high_halves.Goals as goal
 

@@ -1,7 +1,4 @@
-use Rattle.std.proofs.Common.{◌≡◌, ℕ, ◌+◌, ◌++◌, length, take, drop, slice_index, arith, sym, ap₂, ◌∙◌, rules}
-use Rattle.std.proofs.lemmas.List.{length-map}
-use Rattle.age_cipher.specs.Bytes.{Words}
-use Rattle.age_cipher.specs.Lanes.{lane, bytes, IsXoredAt}
+use Rattle.age_cipher.proofs.Common.{◌≡◌, ℕ, ◌++◌, length, take, drop, slice_index, arith, ap₂, ◌∙◌, rules, length-map, Words, lane, bytes}
 use Rattle.age_cipher.proofs.BlockLemmas.{length-bytes, lane_written, length-four_blocks, xored_on}
 use Rattle.age_cipher.proofs.chacha20_blocks.xor_eight_lanes.Goals as goal
 
@@ -33,23 +30,14 @@ returns c =
     (c.high_halves-6.ensures ∙ ap₂ high t3.third t4.third) ∙ lane_written words 6 full in
     let row7 = ap₂ ◌++◌ (c.high_halves-7.ensures ∙ ap₂ high t1.fourth t2.fourth)
     (c.high_halves-8.ensures ∙ ap₂ high t3.fourth t4.fourth) ∙ lane_written words 7 full in
-    let at = c.args.at in
-    let b0 : IsXoredAt at (bytes (lane 0 words)) c.args.buf.now c.xor_halves.new.buf =
-    rw (sym row0) c.xor_halves.ensures in
-    let b1 : IsXoredAt (at + 64) (bytes (lane 1 words)) c.xor_halves.new.buf c.xor_halves-2.new.buf =
-    rw (sym row1) c.xor_halves-2.ensures in
-    let b2 : IsXoredAt (at + 128) (bytes (lane 2 words)) c.xor_halves-2.new.buf c.xor_halves-3.new.buf =
-    rw (sym row2) c.xor_halves-3.ensures in
-    let b3 : IsXoredAt (at + 192) (bytes (lane 3 words)) c.xor_halves-3.new.buf c.xor_halves-4.new.buf =
-    rw (sym row3) c.xor_halves-4.ensures in
-    let b4 : IsXoredAt (at + 256) (bytes (lane 4 words)) c.xor_halves-4.new.buf c.xor_halves-5.new.buf =
-    rw (sym row4) c.xor_halves-5.ensures in
-    let b5 : IsXoredAt (at + 320) (bytes (lane 5 words)) c.xor_halves-5.new.buf c.xor_halves-6.new.buf =
-    rw (sym row5) c.xor_halves-6.ensures in
-    let b6 : IsXoredAt (at + 384) (bytes (lane 6 words)) c.xor_halves-6.new.buf c.xor_halves-7.new.buf =
-    rw (sym row6) c.xor_halves-7.ensures in
-    let b7 : IsXoredAt (at + 448) (bytes (lane 7 words)) c.xor_halves-7.new.buf c.xor_halves-8.new.buf =
-    rw (sym row7) c.xor_halves-8.ensures in
+    let b0 = rw row0 at c.xor_halves.ensures in
+    let b1 = rw row1 at c.xor_halves-2.ensures in
+    let b2 = rw row2 at c.xor_halves-3.ensures in
+    let b3 = rw row3 at c.xor_halves-4.ensures in
+    let b4 = rw row4 at c.xor_halves-5.ensures in
+    let b5 = rw row5 at c.xor_halves-6.ensures in
+    let b6 = rw row6 at c.xor_halves-7.ensures in
+    let b7 = rw row7 at c.xor_halves-8.ensures in
     let prefix = xored_on (omega (arith, long 0)) b0
     (xored_on (omega (arith, long 1)) b1 (xored_on (omega (arith, long 2)) b2 b3)) in
     let back = xored_on (omega (arith, long 4)) b4

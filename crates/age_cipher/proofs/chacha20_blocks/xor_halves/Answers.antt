@@ -1,6 +1,4 @@
-use Rattle.std.proofs.Common.{arith}
-use Rattle.std.proofs.lemmas.Grind.{flat_map-append}
-use Rattle.age_cipher.specs.Numbers.{le_bytes}
+use Rattle.age_cipher.proofs.Common.{arith, le_bytes, flat_map-append}
 use Rattle.age_cipher.proofs.BlockLemmas.{length-bytes, xored_on}
 use Rattle.age_cipher.proofs.chacha20_blocks.xor_halves.Goals as goal
 

@@ -1,5 +1,4 @@
-use Rattle.std.proofs.Common.{refl}
-use Rattle.age_cipher.specs.ChaCha20.{double_round}
+use Rattle.age_cipher.proofs.Common.{refl, double_round}
 use Rattle.age_cipher.proofs.chacha20_lanes.double_round.Goals as goal
 
 pub returns : goal.returns

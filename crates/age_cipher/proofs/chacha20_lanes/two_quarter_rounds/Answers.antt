@@ -1,4 +1,4 @@
-use Rattle.age_cipher.specs.Lanes.{lane}
+use Rattle.age_cipher.proofs.Common.{lane}
 use Rattle.age_cipher.proofs.LaneLemmas.{two_by_lines}
 use Rattle.age_cipher.proofs.chacha20_lanes.two_quarter_rounds.Goals as goal
 

@@ -1,6 +1,4 @@
-use Rattle.std.proofs.Common.{take}
-use Rattle.std.specs.List.{AllByRecursion}
-use Rattle.age_header.specs.Header.{IsVisible}
+use Rattle.age_header.proofs.Common.{take, AllByRecursion, IsVisible}
 use Rattle.age_header.proofs.arguments.visible_len.Given as goal
 
 abbrev pub invariant-loop-i : goal.invariant-loop-i

@@ -1,8 +1,4 @@
-use Rattle.std.proofs.Common.{sym, subst}
-use Rattle.std.proofs.lemmas.Str.{IsUtf8-from_ascii}
-use Rattle.std.proofs.lemmas.Bool.{false≢true}
-use Rattle.std.specs.Str.{IsUtf8}
-use Rattle.age_kdf.specs.Bytes.{Bytes}
+use Rattle.age_header.proofs.Common.{sym, subst, Bytes, IsUtf8-from_ascii, false≢true, IsUtf8}
 use Rattle.age_header.proofs.ArgumentsLemmas.{visible_ascii}
 use Rattle.age_header.proofs.arguments.visible_string.Goals as goal
 

@@ -1,6 +1,4 @@
-use Rattle.std.proofs.Common.{◌∙◌, sym, subst}
-use Rattle.age_kdf.specs.Bytes.{Bytes}
-use Rattle.age_header.specs.Base64.{IsBase64}
+use Rattle.age_header.proofs.Common.{◌∙◌, sym, subst, Bytes, IsBase64}
 use Rattle.age_header.proofs.Base64Lemmas.{IsBase64-only, IsBase64-encode, IsBase64-bytes, encode_of_unpadded, b64_decoded, none_decoded}
 use Rattle.age_header.proofs.base64_no_pad.decode.Goals as goal
 

@@ -1,6 +1,4 @@
-use Rattle.std.proofs.Common.{◌∙◌}
-use Rattle.std.proofs.lemmas.Result.{IfOk-weaker}
-use Rattle.age_header.specs.Base64.{base64_of}
+use Rattle.age_header.proofs.Common.{◌∙◌, base64_of, IfOk-weaker}
 use Rattle.age_header.proofs.Base64Lemmas.{encode_of_unpadded}
 use Rattle.age_header.proofs.base64_no_pad.encode.Goals as goal
 

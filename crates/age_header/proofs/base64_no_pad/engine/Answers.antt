@@ -1,5 +1,4 @@
-use Rattle.std.proofs.Common.{◌∙◌, rules}
-use Rattle.age_header.specs.Base64.{alphabet}
+use Rattle.age_header.proofs.Common.{◌∙◌, rules, alphabet}
 use Rattle.age_header.proofs.base64_no_pad.engine.Goals as goal
 
 pub returns : goal.returns

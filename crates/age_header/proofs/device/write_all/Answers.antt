@@ -1,7 +1,4 @@
-use Rattle.std.proofs.Common.{◌≡◌, ◌∙◌, ◌-◌, ℕ, take, drop, length, arith, length-drop}
-use Rattle.std.proofs.lemmas.List.{take_all}
-use Rattle.std.proofs.Math.Seq.{take-add}
-use Rattle.std.proofs.KnownBytes.{Appends-trans}
+use Rattle.age_header.proofs.Common.{◌≡◌, ◌∙◌, ◌-◌, ℕ, take, drop, length, arith, length-drop, take_all, Appends-trans, take-add}
 use Rattle.age_header.proofs.device.write_all.Goals as goal
 
 pub loop-at-preserved : goal.loop-at-preserved

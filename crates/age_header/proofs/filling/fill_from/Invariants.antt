@@ -1,7 +1,5 @@
-use Rattle.std.proofs.Common.{◌≡◌, ◌-◌, length}
-use Rattle.age_header.specs.Filling.{Filled}
+use Rattle.age_header.proofs.Common.{◌≡◌, ◌-◌, length, flow_by, Filled}
 use Rattle.age_header.proofs.filling.fill_from.Given as goal
-use Rattle.age_header.specs.Device.{flow_by}
 
 abbrev pub invariant-loop-at : goal.invariant-loop-at
 invariant-loop-at g l = record {

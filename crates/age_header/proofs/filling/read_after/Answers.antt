@@ -1,6 +1,5 @@
-use Rattle.std.proofs.Common.{rules}
-use Rattle.age_header.specs.Device.{seen_by}
-use Rattle.age_header.proofs.FillingLemmas.{got_lost, got_read}
+use Rattle.age_header.proofs.Common.{rules, seen_by}
+use Rattle.age_header.proofs.FillingLemmas.{got_read}
 use Rattle.age_header.proofs.filling.read_after.Goals as goal
 
 pub returns-clause-bytes : goal.returns-clause-bytes
@@ -9,8 +8,3 @@ returns-clause-bytes g c =
     c.read.new.buf (seen_by g.S.Source.to_come g.S.Source.gave c.args.input.now)
     (seen_by g.S.Source.to_come g.S.Source.gave c.read.new.self)
     (search rules) (search rules) (search rules) c.read.ensures.bound c.read.ensures.bytes c.read.ensures.gave
-
-pub returns-clause-lost : goal.returns-clause-lost
-returns-clause-lost g c =
-    got_lost c.read.result c.read.new.buf (seen_by g.S.Source.to_come g.S.Source.gave c.args.input.now)
-    (seen_by g.S.Source.to_come g.S.Source.gave c.read.new.self) c.read.ensures.gave

@@ -1,4 +1,4 @@
-use Rattle.age_header.specs.Base64.{base64_of}
+use Rattle.age_header.proofs.Common.{base64_of}
 use Rattle.age_header.proofs.Base64Lemmas.{IsBase64-encode, decoded_b64, b64_decoded}
 use Rattle.age_header.proofs.laws.one_base64.Goals as goal
 

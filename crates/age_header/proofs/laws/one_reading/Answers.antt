@@ -1,7 +1,4 @@
-use Rattle.std.proofs.Common.{[], sym, subst}
-use Rattle.std.proofs.lemmas.List.{append-nil}
-use Rattle.age_kdf.specs.Bytes.{Bytes}
-use Rattle.age_header.specs.Header.{Head}
+use Rattle.age_header.proofs.Common.{[], sym, subst, append-nil, Bytes, Head}
 use Rattle.age_header.proofs.HeaderLemmas.{reading, one_text}
 use Rattle.age_header.proofs.laws.one_reading.Goals as goal
 

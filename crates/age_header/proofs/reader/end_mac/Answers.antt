@@ -1,7 +1,4 @@
-use Rattle.std.proofs.Common.{◌≡◌, ◌∙◌, length, sym, ap, subst, codes}
-use Rattle.std.proofs.lemmas.List.{append_cancel_left}
-use Rattle.age_kdf.specs.Bytes.{Bytes}
-use Rattle.age_header.specs.Base64.{IsBase64}
+use Rattle.age_header.proofs.Common.{◌≡◌, ◌∙◌, length, sym, ap, subst, codes, append_cancel_left, Bytes, IsBase64}
 use Rattle.age_header.proofs.Base64Lemmas.{IsBase64-injective}
 use Rattle.age_header.proofs.reader.end_mac.Goals as goal
 

@@ -1,14 +1,9 @@
-use Rattle.std.proofs.Common.{◌≡◌, ◌∙◌, length, sym, ap, subst, arith, rules, Err}
-use Rattle.std.proofs.lemmas.Bool.{iff_false}
-use Rattle.std.proofs.lemmas.Grind.{common_steps}
-use Rattle.age_kdf.specs.Bytes.{Bytes}
-use Rattle.age_header.specs.Base64.{IsBase64}
-use Rattle.age_header.specs.Steps.{Step}
+use Rattle.age_header.proofs.Common.{◌≡◌, ◌∙◌, length, sym, arith, rules, Err, common_steps, Bytes, iff_false}
 use Rattle.age_header.proofs.DeviceLemmas.{gave_some, of_any, some_then}
 use Rattle.age_header.proofs.ReaderLemmas.{outside}
 use Rattle.age_header.proofs.VerdictLaterLinesLemmas.{path_truncated, path_too_large, path_header, path_bad, path_more, path_lines, path_start}
-use Rattle.age_header.proofs.reader.read_header.Goals as goal
 use Rattle.age_header.proofs.reader.read_header.Goals.{then-is_whole+in-Ok-None, else-is_whole}
+use Rattle.age_header.proofs.reader.read_header.Goals as goal
 
 pub lines-init : goal.lines-init
 lines-init g c = record {
@@ -33,50 +28,49 @@ returns-in-Err-step-clause-verdict g c =
 
 pub returns-in-Input-clause-verdict : goal.returns-in-Input-clause-verdict
 returns-in-Input-clause-verdict g c =
-    let text : Bytes = c.in_ok-text.text.items in
-    let bytes = rw c.in-Input.is at c.in_ok-text.ensures.bytes in
-    let end = rw c.in-Input.is at c.in_ok-text.ensures.end in
-    path_truncated c.lines.invariant.path bytes c.in_ok-text.ensures.text end
+    path_truncated c.lines.invariant.path (rw c.in-Input.is at c.in_ok-text.ensures.bytes) c.in_ok-text.ensures.text
+    (rw c.in-Input.is at c.in_ok-text.ensures.end)
 
 pub returns-in-Room-clause-verdict : goal.returns-in-Room-clause-verdict
 returns-in-Room-clause-verdict g c =
-    let text : Bytes = c.in_ok-text.text.items in
-    let bytes = rw c.in-Room.is at c.in_ok-text.ensures.bytes in
-    let end = rw c.in-Room.is at c.in_ok-text.ensures.end in
-    path_too_large c.lines.invariant.path bytes c.in_ok-text.ensures.text end
+    path_too_large c.lines.invariant.path (rw c.in-Room.is at c.in_ok-text.ensures.bytes) c.in_ok-text.ensures.text
+    (rw c.in-Room.is at c.in_ok-text.ensures.end)
 
 pub overflow_add-lines : goal.overflow_add-lines
 overflow_add-lines g c =
-    let low = path_lines c.args.max c.lines.room c.lines.lines c.lines.progress c.lines.invariant.path in
-    omega arith
+    omega (arith, path_lines c.args.max c.lines.room c.lines.lines c.lines.progress c.lines.invariant.path)
 
 pub returns-in-Ok-Some-clause-verdict : goal.returns-in-Ok-Some-clause-verdict
 returns-in-Ok-Some-clause-verdict g c =
-    let text : Bytes = c.in_ok-text.text.items in
     let bytes = rw c.in-Lf.is at c.in_ok-text.ensures.bytes in
     let low = rw c.in-Lf.is at c.in_ok-text.ensures.end in
     let end = rw c.in-Ok-Some.field-0-is at c.in-Ok-Some.ensures.some in
     let whole = c.is_whole.ensures.0 c.if-is_whole.true in
     let same : c.finish.result.stanzas ≡ whole.0 = cc (c.finish.ensures.stanzas, whole.2) in
-    path_header
-    c.lines.invariant.path bytes c.in_ok-text.ensures.text low c.finish.ensures.stanzas (λ e. whole.1 (sym same ∙ e))
-    (sym c.as_slice.ensures.value ∙ end.2) (subst (λ (x : Bytes). IsBase64 x end.0) (sym c.finish.ensures.mac) end.3)
-    (ap length c.finish.ensures.mac ∙ end.1)
+    path_header c.lines.invariant.path bytes c.in_ok-text.ensures.text low (record {
+      stanzas = c.finish.result.stanzas;
+      mac = c.finish.result.mac;
+      characters = end.0;
+      some = rw same whole.1;
+      at = c.finish.ensures.stanzas;
+      size = rw c.finish.ensures.mac end.1;
+      spelled = sym c.as_slice.ensures.value ∙ end.2;
+      is = rw c.finish.ensures.mac end.3;
+    })
 
 pub returns-in-Ok-None-step-clause-verdict : goal.returns-in-Ok-None-step-clause-verdict
 returns-in-Ok-None-step-clause-verdict g c =
-    let text : Bytes = c.in_ok-text.text.items in
     let bytes = rw c.in-Lf.is at c.in_ok-text.ensures.bytes in
     let low = rw c.in-Lf.is at c.in_ok-text.ensures.end in
     let none = rw c.in-Ok-None-step.field-0-is at c.in-Ok-None-step.ensures.none in
     path_bad c.lines.invariant.path bytes c.in_ok-text.ensures.text low
-    (λ ss mac characters some at n is h. elim c.if-is_whole.branch [
+    (λ e. elim c.if-is_whole.branch [
       | then-is_whole+in-Ok-None w ↦
           let end = rw w.in-Ok-None.field-0-is at w.in-Ok-None.ensures.none in
-          end mac characters n (w.as_slice.ensures.value ∙ is) h
-      | else-is_whole w ↦ iff_false c.is_whole.ensures w.if-is_whole.false (ss, some, at)
+          end e.mac e.characters e.size (w.as_slice.ensures.value ∙ e.spelled) e.is
+      | else-is_whole w ↦ iff_false c.is_whole.ensures w.if-is_whole.false (e.stanzas, e.some, e.at)
     ])
-    (λ t step. none t (subst (λ (x : Bytes). Step c.lines.progress x t) (sym c.as_slice-in-lines.ensures.value) step))
+    (rw c.as_slice-in-lines.ensures.value at none)
 
 pub lines-preserved : goal.lines-preserved
 lines-preserved g c =
@@ -84,8 +78,7 @@ lines-preserved g c =
     let bytes = rw c.in-Lf.is at c.in_ok-text.ensures.bytes in
     let low = rw c.in-Lf.is at c.in_ok-text.ensures.end in
     let some = rw c.in-Ok-Some-step.field-0-is at c.in-Ok-Some-step.ensures.some in
-    let step = subst (λ (x : Bytes). Step c.lines.progress x c.in-Ok-Some-step.next) c.as_slice-in-lines.ensures.value
-    some in
+    let step = rw c.as_slice-in-lines.ensures.value at some in
     let size : length text ≡ c.len.result = grind (arith, common_steps) in
     let more = path_more text c.lines.invariant.path bytes c.in_ok-text.ensures.text low step in
     record { count = c.in_ok-text.ensures.count ∙ c.lines.invariant.count; path = rw (← size) more }

@@ -1,5 +1,4 @@
-use Rattle.std.proofs.Common.{◌≡◌}
-use Rattle.age_header.specs.Device.{seen_by}
+use Rattle.age_header.proofs.Common.{◌≡◌, seen_by}
 use Rattle.age_header.proofs.VerdictPathLemmas.{Reached}
 use Rattle.age_header.proofs.reader.read_header.Given as goal
 

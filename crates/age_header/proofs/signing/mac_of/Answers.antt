@@ -1,6 +1,4 @@
-use Rattle.std.proofs.Common.{◌∙◌, refl}
-use Rattle.std.proofs.lemmas.List.{append-nil}
-use Rattle.age_header.specs.Mac.{header_mac}
+use Rattle.age_header.proofs.Common.{◌∙◌, refl, append-nil, header_mac}
 use Rattle.age_header.proofs.signing.mac_of.Goals as goal
 
 pub returns : goal.returns

@@ -1,6 +1,4 @@
-use Rattle.std.proofs.Common.{◌≡◌, ◌∙◌, ◌++◌, sym, ap}
-use Rattle.age_kdf.specs.Bytes.{Bytes}
-use Rattle.age_header.specs.Text.{signed_text}
+use Rattle.age_header.proofs.Common.{◌≡◌, ◌∙◌, ◌++◌, sym, ap, Bytes, signed_text}
 use Rattle.age_header.proofs.signing.signed_text.Goals as goal
 
 pub returns-in-Ok : goal.returns-in-Ok

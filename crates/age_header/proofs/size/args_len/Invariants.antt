@@ -1,5 +1,4 @@
-use Rattle.std.proofs.Common.{◌≡◌, ◌+◌, ◌-◌, ◌^◌, min, length, map, take}
-use Rattle.std.specs.String.{string_bytes}
+use Rattle.age_header.proofs.Common.{◌≡◌, ◌+◌, ◌-◌, ◌^◌, min, length, map, take, string_bytes}
 use Rattle.age_header.proofs.ArgumentsLemmas.{spaced}
 use Rattle.age_header.proofs.size.args_len.Given as goal
 

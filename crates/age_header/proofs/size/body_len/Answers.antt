@@ -1,4 +1,4 @@
-use Rattle.std.proofs.Common.{arith}
+use Rattle.age_header.proofs.Common.{arith}
 use Rattle.age_header.proofs.LengthLemmas.{body_size}
 use Rattle.age_header.proofs.size.body_len.Goals as goal
 

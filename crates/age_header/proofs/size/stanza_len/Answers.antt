@@ -1,6 +1,4 @@
-use Rattle.std.proofs.Common.{◌-◌, ◌^◌, length, ap, sym}
-use Rattle.age_header.specs.Header.{argument_line}
-use Rattle.age_header.specs.Text.{body_text}
+use Rattle.age_header.proofs.Common.{◌-◌, ◌^◌, length, ap, sym, argument_line, body_text}
 use Rattle.age_header.proofs.LengthLemmas.{stanza_size, sum_stays}
 use Rattle.age_header.proofs.size.stanza_len.Goals as goal
 

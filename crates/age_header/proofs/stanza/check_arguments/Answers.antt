@@ -1,5 +1,4 @@
-use Rattle.std.proofs.Common.{arith, ap, length}
-use Rattle.std.proofs.lemmas.Grind.{common_steps}
+use Rattle.age_header.proofs.Common.{arith, ap, length, common_steps}
 use Rattle.age_header.proofs.StanzaLemmas.{args_take}
 use Rattle.age_header.proofs.stanza.check_arguments.Goals as goal
 

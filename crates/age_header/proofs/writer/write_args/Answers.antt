@@ -1,11 +1,6 @@
-use Rattle.std.proofs.Common.{◌∙◌, ◌+◌, [], ◌∷◌, ◌++◌, map, drop, refl, arith, codes}
-use Rattle.std.proofs.lemmas.List.{drop_all}
-use Rattle.std.specs.String.{string_bytes}
-use Rattle.age_kdf.specs.Bytes.{Bytes}
-use Rattle.age_header.specs.Header.{argument_line}
+use Rattle.age_header.proofs.Common.{◌∙◌, ◌+◌, [], ◌∷◌, ◌++◌, map, drop, refl, codes, drop_all, string_bytes, Bytes, argument_line, err_from_is_err_and}
 use Rattle.age_header.proofs.ArgumentsLemmas.{spaced}
 use Rattle.age_header.proofs.TextLemmas.{args_step}
-use Rattle.std.proofs.lemmas.Result.{err_from_is_err_and}
 use Rattle.age_header.proofs.DeviceLemmas.{done_start, done_more, done_part, writes_last}
 use Rattle.age_header.proofs.writer.write_args.Goals as goal
 
@@ -19,8 +14,7 @@ returns-in_err-write_all-clause-text g c =
 pub returns-in_err-write_all-2-clause-text : goal.returns-in_err-write_all-2-clause-text
 returns-in_err-write_all-2-clause-text g c =
     let rest : Bytes = spaced (map string_bytes (drop (c.loop-arg.arg-index + 1) c.args.args.now)) ++ 10 ∷ [] in
-    let step = args_step string_bytes c.args.args.now c.loop-arg.arg-index c.arg-item.result (omega arith)
-    c.arg-item.is in
+    let step = args_step string_bytes c.args.args.now c.loop-arg.arg-index c.loop-arg-test.true c.arg-item.is in
     rw (err_from_is_err_and c.from_residual-in_err-write_all-2.result c.from_residual-in_err-write_all-2.ensures.1).1
     (done_part (g.W.Sink.taken c.write_all-in-loop-arg.new.out) (32 ∷ []) (string_bytes c.arg-item.result ++ rest)
     c.loop-arg.invariant.written step c.in_err-write_all-2.ensures.text)
@@ -28,8 +22,7 @@ returns-in_err-write_all-2-clause-text g c =
 pub returns-in_err-write_all-3-clause-text : goal.returns-in_err-write_all-3-clause-text
 returns-in_err-write_all-3-clause-text g c =
     let rest : Bytes = spaced (map string_bytes (drop (c.loop-arg.arg-index + 1) c.args.args.now)) ++ 10 ∷ [] in
-    let step = args_step string_bytes c.args.args.now c.loop-arg.arg-index c.arg-item.result (omega arith)
-    c.arg-item.is in
+    let step = args_step string_bytes c.args.args.now c.loop-arg.arg-index c.loop-arg-test.true c.arg-item.is in
     let one = done_more (32 ∷ []) c.loop-arg.invariant.written step c.in_ok-write_all-2.ensures.text in
     let failed = rw c.as_bytes.ensures.value at c.in_err-write_all-3.ensures.text in
     rw (err_from_is_err_and c.from_residual-in_err-write_all-3.result c.from_residual-in_err-write_all-3.ensures.1).1
@@ -38,8 +31,7 @@ returns-in_err-write_all-3-clause-text g c =
 
 pub loop-arg-preserved : goal.loop-arg-preserved
 loop-arg-preserved g c =
-    let step = args_step string_bytes c.args.args.now c.loop-arg.arg-index c.arg-item.result (omega arith)
-    c.arg-item.is in
+    let step = args_step string_bytes c.args.args.now c.loop-arg.arg-index c.loop-arg-test.true c.arg-item.is in
     let one = done_more (32 ∷ []) c.loop-arg.invariant.written step c.in_ok-write_all-2.ensures.text in
     let wrote = rw c.as_bytes.ensures.value at c.in_ok-write_all-3.ensures.text in
     record {

@@ -1,6 +1,4 @@
-use Rattle.std.proofs.Common.{◌≡◌, ◌∷◌, [], ◌++◌, map, drop}
-use Rattle.std.specs.String.{string_bytes}
-use Rattle.age_header.specs.Header.{argument_line}
+use Rattle.age_header.proofs.Common.{◌≡◌, ◌∷◌, [], ◌++◌, map, drop, string_bytes, argument_line}
 use Rattle.age_header.proofs.ArgumentsLemmas.{spaced}
 use Rattle.age_header.proofs.DeviceLemmas.{Done}
 use Rattle.age_header.proofs.writer.write_args.Given as goal

@@ -1,6 +1,4 @@
-use Rattle.std.proofs.Common.{◌≡◌, length, take, arith}
-use Rattle.base64.specs.GeneralPurpose.{encoded_size_of}
-use Rattle.age_header.specs.Base64.{base64_of}
+use Rattle.age_header.proofs.Common.{◌≡◌, length, take, arith, encoded_size_of, base64_of}
 use Rattle.age_header.proofs.TextLemmas.{encoded, encoded_size_plain}
 use Rattle.age_header.proofs.writer.write_base64.Goals as goal
 

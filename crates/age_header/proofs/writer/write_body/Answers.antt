@@ -1,16 +1,12 @@
-use Rattle.std.proofs.Common.{◌∙◌, [], ◌∷◌, refl, arith}
-use Rattle.age_header.specs.Base64.{base64_of}
-use Rattle.age_header.specs.Text.{body_text}
+use Rattle.age_header.proofs.Common.{◌∙◌, [], ◌∷◌, refl, arith, base64_of, body_text, err_from_is_err_and}
 use Rattle.age_header.proofs.TextLemmas.{body_step, body_end}
-use Rattle.std.proofs.lemmas.Result.{err_from_is_err_and}
 use Rattle.age_header.proofs.DeviceLemmas.{done_more, done_part, writes_last}
 use Rattle.age_header.proofs.writer.write_body.Goals as goal
 
 pub returns-in_err-write_base64-clause-text : goal.returns-in_err-write_base64-clause-text
 returns-in_err-write_base64-clause-text g c =
     let piece = c.split_at.result.0.now in
-    let step = body_step c.loop-rest.rest.now piece c.split_at.result.1.now (omega arith) c.split_at.ensures.front
-    c.split_at.ensures.back in
+    let step = body_step c.loop-rest.rest.now c.split_at.ensures.front c.split_at.ensures.back (omega arith) in
     rw (err_from_is_err_and c.from_residual.result c.from_residual.ensures.1).1
     (done_part (g.W.Sink.taken c.write_base64.new.out) (base64_of piece) (10 ∷ body_text c.split_at.result.1.now)
     c.loop-rest.invariant.written step c.in_err-write_base64.ensures.text)
@@ -18,8 +14,7 @@ returns-in_err-write_base64-clause-text g c =
 pub returns-in_err-write_all-clause-text : goal.returns-in_err-write_all-clause-text
 returns-in_err-write_all-clause-text g c =
     let piece = c.split_at.result.0.now in
-    let step = body_step c.loop-rest.rest.now piece c.split_at.result.1.now (omega arith) c.split_at.ensures.front
-    c.split_at.ensures.back in
+    let step = body_step c.loop-rest.rest.now c.split_at.ensures.front c.split_at.ensures.back (omega arith) in
     let one = done_more (base64_of piece) c.loop-rest.invariant.written step c.in_ok-write_base64.ensures.text in
     rw (err_from_is_err_and c.from_residual-in_err-write_all.result c.from_residual-in_err-write_all.ensures.1).1
     (done_part (g.W.Sink.taken c.write_all.new.out) (10 ∷ []) (body_text c.split_at.result.1.now) one refl
@@ -28,8 +23,7 @@ returns-in_err-write_all-clause-text g c =
 pub loop-rest-preserved : goal.loop-rest-preserved
 loop-rest-preserved g c =
     let piece = c.split_at.result.0.now in
-    let step = body_step c.loop-rest.rest.now piece c.split_at.result.1.now (omega arith) c.split_at.ensures.front
-    c.split_at.ensures.back in
+    let step = body_step c.loop-rest.rest.now c.split_at.ensures.front c.split_at.ensures.back (omega arith) in
     let one = done_more (base64_of piece) c.loop-rest.invariant.written step c.in_ok-write_base64.ensures.text in
     record {
       written = done_more (10 ∷ []) one refl c.in_ok-write_all.ensures.text;

@@ -1,5 +1,4 @@
-use Rattle.std.proofs.Common.{◌≡◌, length}
-use Rattle.age_header.specs.Text.{body_text}
+use Rattle.age_header.proofs.Common.{◌≡◌, length, body_text}
 use Rattle.age_header.proofs.DeviceLemmas.{Done}
 use Rattle.age_header.proofs.writer.write_body.Given as goal
 

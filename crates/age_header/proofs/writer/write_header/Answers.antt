@@ -1,9 +1,5 @@
-use Rattle.std.proofs.Common.{◌++◌, refl}
-use Rattle.age_kdf.specs.Bytes.{Bytes}
-use Rattle.age_header.specs.Header.{Head}
-use Rattle.age_header.specs.Text.{signed_text, mac_end}
+use Rattle.age_header.proofs.Common.{◌++◌, refl, Bytes, Head, signed_text, mac_end, err_from_is_err_and}
 use Rattle.age_header.proofs.TextLemmas.{header_text_is}
-use Rattle.std.proofs.lemmas.Result.{err_from_is_err_and}
 use Rattle.age_header.proofs.DeviceLemmas.{done_start, done_more, done_part, writes_last}
 use Rattle.age_header.proofs.writer.write_header.Goals as goal
 

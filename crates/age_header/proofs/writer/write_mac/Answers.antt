@@ -1,8 +1,4 @@
-use Rattle.std.proofs.Common.{[], ◌∷◌, ◌++◌, refl}
-use Rattle.age_kdf.specs.Bytes.{Bytes}
-use Rattle.age_header.specs.Base64.{base64_of}
-use Rattle.age_header.specs.Text.{mac_end}
-use Rattle.std.proofs.lemmas.Result.{err_from_is_err_and}
+use Rattle.age_header.proofs.Common.{[], ◌∷◌, ◌++◌, refl, Bytes, base64_of, mac_end, err_from_is_err_and}
 use Rattle.age_header.proofs.DeviceLemmas.{done_start, done_more, done_part, writes_last}
 use Rattle.age_header.proofs.writer.write_mac.Goals as goal
 

@@ -1,10 +1,5 @@
-use Rattle.std.proofs.Common.{◌∙◌, ◌++◌, ◌+◌, drop, flat_map, refl, codes, append_assoc}
-use Rattle.std.proofs.lemmas.List.{drop_all}
-use Rattle.age_kdf.specs.Bytes.{Bytes}
-use Rattle.age_header.specs.Header.{argument_line, version_line}
-use Rattle.age_header.specs.Text.{body_text, stanza_text, signed_text}
+use Rattle.age_header.proofs.Common.{◌∙◌, ◌++◌, ◌+◌, drop, flat_map, refl, codes, append_assoc, drop_all, Bytes, argument_line, version_line, body_text, stanza_text, signed_text, err_from_is_err_and}
 use Rattle.age_header.proofs.TextLemmas.{stanza_step}
-use Rattle.std.proofs.lemmas.Result.{err_from_is_err_and}
 use Rattle.age_header.proofs.DeviceLemmas.{done_start, done_more, done_part, writes_last}
 use Rattle.age_header.proofs.writer.write_signed.Goals as goal
 
@@ -21,7 +16,6 @@ pub loop-stanza-init : goal.loop-stanza-init
 unfolding signed_text version_line
 loop-stanza-init g c =
     let ss = c.args.stanzas.now in
-    let rest : Bytes = flat_map stanza_text ss ++ codes "---" in
     record {
       written = done_more version_line (done_start (signed_text ss))
           (append_assoc version_line (flat_map stanza_text ss) (codes "---")) c.in_ok-write_all.ensures.text;

@@ -1,5 +1,4 @@
-use Rattle.std.proofs.Common.{◌≡◌, ◌++◌, drop, flat_map, codes}
-use Rattle.age_header.specs.Text.{signed_text, stanza_text}
+use Rattle.age_header.proofs.Common.{◌≡◌, ◌++◌, drop, flat_map, codes, signed_text, stanza_text}
 use Rattle.age_header.proofs.DeviceLemmas.{Done}
 use Rattle.age_header.proofs.writer.write_signed.Given as goal
 

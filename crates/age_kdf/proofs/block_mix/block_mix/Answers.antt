@@ -1,6 +1,5 @@
-use Rattle.std.proofs.Common.{◌≡◌, ◌+◌, ◌*◌, ◌-◌, ◌++◌, length, take, drop, arith, rules, ◌∙◌, ap, ap₂, refl}
+use Rattle.age_kdf.proofs.Common.{◌≡◌, ◌+◌, ◌*◌, ◌-◌, ◌++◌, length, take, drop, arith, rules, ◌∙◌, ap, ap₂, refl, x_after, evens, odds, block_mix}
 use Rattle.age_kdf.proofs.ListLemmas.{filled}
-use Rattle.age_kdf.specs.BlockMix.{x_after, evens, odds, block_mix}
 use Rattle.age_kdf.proofs.BlockMixLemmas.{mixed_next, block_written, evens_next, odds_next}
 use Rattle.age_kdf.proofs.block_mix.block_mix.Goals as goal
 

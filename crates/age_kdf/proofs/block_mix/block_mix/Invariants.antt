@@ -1,5 +1,4 @@
-use Rattle.std.proofs.Common.{◌≡◌, ◌*◌, take}
-use Rattle.age_kdf.specs.BlockMix.{x_after, evens, odds}
+use Rattle.age_kdf.proofs.Common.{◌≡◌, ◌*◌, take, x_after, evens, odds}
 use Rattle.age_kdf.proofs.block_mix.block_mix.Given as goal
 
 abbrev pub invariant-pairs : goal.invariant-pairs

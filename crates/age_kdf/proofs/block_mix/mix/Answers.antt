@@ -1,6 +1,4 @@
-use Rattle.std.proofs.Common.{get_or, arith, sym, ◌∙◌, ap, bit_xor}
-use Rattle.std.proofs.lemmas.Simd.{get_or-chunk, length-chunk}
-use Rattle.age_kdf.specs.Salsa.{salsa8}
+use Rattle.age_kdf.proofs.Common.{get_or, arith, sym, ◌∙◌, ap, bit_xor, get_or-chunk, salsa8, length-chunk}
 use Rattle.age_kdf.proofs.ListLemmas.{zipped}
 use Rattle.age_kdf.proofs.block_mix.mix.Goals as goal
 

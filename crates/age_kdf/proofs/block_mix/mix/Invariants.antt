@@ -1,4 +1,4 @@
-use Rattle.std.proofs.Common.{◌≡◌, ℕ, ◌<◌, ◌≤◌, ◌+◌, length, get_or, bit_xor}
+use Rattle.age_kdf.proofs.Common.{◌≡◌, ℕ, ◌<◌, ◌≤◌, ◌+◌, length, get_or, bit_xor}
 use Rattle.age_kdf.proofs.block_mix.mix.Given as goal
 
 abbrev pub invariant-words : goal.invariant-words

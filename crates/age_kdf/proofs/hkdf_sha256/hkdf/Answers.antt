@@ -1,9 +1,4 @@
-use Rattle.std.proofs.Common.{arith, rules, sym, subst, ◌∙◌, ap, refl, ◌≡◌, length, ◌+◌, ◌/◌, []}
-use Rattle.std.proofs.lemmas.List.{take_all, append-nil}
-use Rattle.age_kdf.specs.Bytes.{Bytes}
-use Rattle.age_kdf.specs.Hmac.{hmac}
-use Rattle.age_kdf.specs.Hkdf.{hkdf, hkdf_block, hkdf_blocks}
-use Rattle.age_kdf.specs.HmacState.{IsFed}
+use Rattle.age_kdf.proofs.Common.{arith, rules, sym, ◌∙◌, ap, refl, ◌≡◌, length, ◌+◌, ◌/◌, [], take_all, append-nil, Bytes, hmac, hkdf, hkdf_block, hkdf_blocks, IsFed, subst}
 use Rattle.age_kdf.proofs.ListLemmas.{filled}
 use Rattle.age_kdf.proofs.HkdfLemmas.{hkdf_next, length-hkdf_blocks}
 use Rattle.age_kdf.proofs.hkdf_sha256.hkdf.Goals as goal

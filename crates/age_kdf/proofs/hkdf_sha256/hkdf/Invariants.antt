@@ -1,6 +1,4 @@
-use Rattle.std.proofs.Common.{◌≡◌, ◌*◌, ◌≤◌, length, take}
-use Rattle.age_kdf.specs.Hmac.{hmac}
-use Rattle.age_kdf.specs.Hkdf.{hkdf_block, hkdf_blocks}
+use Rattle.age_kdf.proofs.Common.{◌≡◌, ◌*◌, ◌≤◌, length, take, hmac, hkdf_block, hkdf_blocks}
 use Rattle.age_kdf.proofs.hkdf_sha256.hkdf.Given as goal
 
 abbrev pub invariant-each_block : goal.invariant-each_block

@@ -1,5 +1,4 @@
-use Rattle.std.proofs.Common.{◌∙◌}
-use Rattle.std.proofs.lemmas.Bool.{le-leb}
+use Rattle.age_kdf.proofs.Common.{◌∙◌, le-leb}
 use Rattle.age_kdf.proofs.HmacLemmas.{zeros_behind}
 use Rattle.age_kdf.proofs.hmac_sha256.block_key.Goals as goal
 

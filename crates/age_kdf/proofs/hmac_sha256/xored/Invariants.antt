@@ -1,4 +1,4 @@
-use Rattle.std.proofs.Common.{◌≡◌, ℕ, ◌<◌, ◌≤◌, bit_xor, get_or, length}
+use Rattle.age_kdf.proofs.Common.{◌≡◌, ℕ, ◌<◌, ◌≤◌, bit_xor, get_or, length}
 use Rattle.age_kdf.proofs.hmac_sha256.xored.Given as goal
 
 abbrev pub invariant-bytes : goal.invariant-bytes

@@ -1,7 +1,7 @@
-use Rattle.std.proofs.Common.{arith, rules}
+use Rattle.age_kdf.proofs.Common.{arith, rules}
 use Rattle.age_kdf.proofs.OutputBlocks.{whole, cut}
-use Rattle.age_kdf.proofs.output_blocks.put_block.Goals as goal
 use Rattle.age_kdf.proofs.output_blocks.put_block.Goals.{then-room-lt32, else-room-lt32}
+use Rattle.age_kdf.proofs.output_blocks.put_block.Goals as goal
 
 pub returns : goal.returns
 returns c front size same =

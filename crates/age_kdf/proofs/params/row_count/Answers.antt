@@ -1,5 +1,4 @@
-use Rattle.std.proofs.Common.{arith, ◌≤◌, ◌^◌}
-use Rattle.std.proofs.Math.Pow.{pow_mono}
+use Rattle.age_kdf.proofs.Common.{arith, ◌≤◌, ◌^◌, pow_mono}
 use Rattle.age_kdf.proofs.params.row_count.Goals as goal
 
 pub returns-clause-bound : goal.returns-clause-bound

@@ -1,6 +1,4 @@
-use Rattle.std.proofs.Common.{arith, rules, sym, ◌∙◌, ap, refl, suc, ◌≡◌, ◌+◌, ◌/◌, ◌++◌, length, take, []}
-use Rattle.std.proofs.lemmas.List.{take_all}
-use Rattle.age_kdf.specs.Pbkdf2.{pbkdf2, pbkdf2_blocks}
+use Rattle.age_kdf.proofs.Common.{arith, rules, sym, ◌∙◌, ap, refl, suc, ◌≡◌, ◌+◌, ◌/◌, ◌++◌, length, take, [], take_all, pbkdf2, pbkdf2_blocks}
 use Rattle.age_kdf.proofs.ListLemmas.{filled}
 use Rattle.age_kdf.proofs.Pbkdf2Lemmas.{length-pbkdf2_blocks}
 use Rattle.age_kdf.proofs.pbkdf2_sha256.fill.Goals as goal

@@ -1,7 +1,4 @@
-use Rattle.std.proofs.Common.{◌≡◌, ◌*◌, [], length, take}
-use Rattle.age_kdf.specs.Bytes.{Bytes}
-use Rattle.age_kdf.specs.Pbkdf2.{pbkdf2_blocks}
-use Rattle.age_kdf.specs.HmacState.{IsFed}
+use Rattle.age_kdf.proofs.Common.{◌≡◌, ◌*◌, [], length, take, Bytes, pbkdf2_blocks, IsFed}
 use Rattle.age_kdf.proofs.pbkdf2_sha256.fill.Given as goal
 
 abbrev pub invariant-each_block : goal.invariant-each_block

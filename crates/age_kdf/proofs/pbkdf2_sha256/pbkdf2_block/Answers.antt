@@ -1,8 +1,4 @@
-use Rattle.std.proofs.Common.{arith, ◌∙◌, ap, ◌≡◌, ◌+◌, ◌++◌, []}
-use Rattle.std.specs.Int.{w32, to_be_bytes}
-use Rattle.std.proofs.lemmas.List.{append-nil}
-use Rattle.age_kdf.specs.Hmac.{hmac}
-use Rattle.age_kdf.specs.Pbkdf2.{pbkdf2_sum, pbkdf2_round}
+use Rattle.age_kdf.proofs.Common.{◌∙◌, ap, ◌≡◌, ◌++◌, [], w32, to_be_bytes, append-nil, hmac, pbkdf2_round}
 use Rattle.age_kdf.proofs.Pbkdf2Lemmas.{first_sum, next_sum}
 use Rattle.age_kdf.proofs.pbkdf2_sha256.pbkdf2_block.Goals as goal
 
@@ -19,8 +15,3 @@ rounds-preserved c pass salt keyed salted =
     let before = c.rounds.invariant pass salt keyed salted in
     let next = c.tag_with-last-in-rounds.ensures pass [] keyed ∙ ap (hmac pass) (append-nil c.rounds.last) in
     next_sum pass _ c.rounds._round before.sum before.last next c.xor_block.ensures
-
-pub returns : goal.returns
-returns c pass salt keyed salted =
-    let end : c.rounds._round + 1 ≡ c.args.rounds = omega arith in
-    (c.rounds.invariant pass salt keyed salted).sum ∙ ap (pbkdf2_sum pass (salt ++ to_be_bytes w32 c.args.number)) end

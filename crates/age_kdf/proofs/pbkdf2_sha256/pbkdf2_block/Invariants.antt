@@ -1,8 +1,4 @@
-use Rattle.std.proofs.Common.{◌≡◌, ◌+◌, ◌++◌, []}
-use Rattle.std.specs.Int.{w32, to_be_bytes}
-use Rattle.age_kdf.specs.Bytes.{Bytes}
-use Rattle.age_kdf.specs.Pbkdf2.{pbkdf2_sum, pbkdf2_round}
-use Rattle.age_kdf.specs.HmacState.{IsFed}
+use Rattle.age_kdf.proofs.Common.{◌≡◌, ◌+◌, ◌++◌, [], w32, to_be_bytes, Bytes, pbkdf2_sum, pbkdf2_round, IsFed}
 use Rattle.age_kdf.proofs.pbkdf2_sha256.pbkdf2_block.Given as goal
 
 abbrev pub invariant-rounds : goal.invariant-rounds

@@ -1,4 +1,4 @@
-use Rattle.std.proofs.Common.{arith, bit_xor}
+use Rattle.age_kdf.proofs.Common.{arith, bit_xor}
 use Rattle.age_kdf.proofs.ListLemmas.{zipped}
 use Rattle.age_kdf.proofs.pbkdf2_sha256.xor_block.Goals as goal
 

@@ -1,4 +1,4 @@
-use Rattle.std.proofs.Common.{◌≡◌, ℕ, ◌<◌, ◌≤◌, length, get_or, bit_xor}
+use Rattle.age_kdf.proofs.Common.{◌≡◌, ℕ, ◌<◌, ◌≤◌, length, get_or, bit_xor}
 use Rattle.age_kdf.proofs.pbkdf2_sha256.xor_block.Given as goal
 
 abbrev pub invariant-bytes : goal.invariant-bytes

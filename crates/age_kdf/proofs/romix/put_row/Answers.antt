@@ -1,4 +1,4 @@
-use Rattle.std.proofs.Common.{arith, rules, ◌∙◌}
+use Rattle.age_kdf.proofs.Common.{arith, rules, ◌∙◌}
 use Rattle.age_kdf.proofs.RoMixLemmas.{row_here, row_below, rows_apart}
 use Rattle.age_kdf.proofs.romix.put_row.Goals as goal
 

@@ -1,6 +1,4 @@
-use Rattle.std.proofs.Common.{◌≡◌, ◌+◌, ◌*◌, ◌^◌, length, arith, ◌∙◌, ap, refl, suc, below_more}
-use Rattle.age_kdf.specs.BlockMix.{block_mix}
-use Rattle.age_kdf.specs.RoMix.{v_at, romix_after}
+use Rattle.age_kdf.proofs.Common.{◌≡◌, ◌+◌, ◌*◌, ◌^◌, length, arith, ◌∙◌, ap, refl, suc, block_mix, v_at, romix_after, below_more}
 use Rattle.age_kdf.proofs.RoMixLemmas.{look_turn}
 use Rattle.age_kdf.proofs.romix.romix.Goals as goal
 

@@ -1,5 +1,4 @@
-use Rattle.std.proofs.Common.{◌≡◌, ℕ, ◌<◌, ◌*◌, ◌^◌, take, drop}
-use Rattle.age_kdf.specs.RoMix.{v_at, romix_after}
+use Rattle.age_kdf.proofs.Common.{◌≡◌, ℕ, ◌<◌, ◌*◌, ◌^◌, take, drop, v_at, romix_after}
 use Rattle.age_kdf.proofs.romix.romix.Given as goal
 
 abbrev pub invariant-fill : goal.invariant-fill

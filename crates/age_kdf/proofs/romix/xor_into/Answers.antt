@@ -1,4 +1,4 @@
-use Rattle.std.proofs.Common.{arith, bit_xor, refl}
+use Rattle.age_kdf.proofs.Common.{arith, bit_xor, refl}
 use Rattle.age_kdf.proofs.ListLemmas.{zipped}
 use Rattle.age_kdf.proofs.romix.xor_into.Goals as goal
 

@@ -1,4 +1,4 @@
-use Rattle.std.proofs.Common.{◌≡◌, ℕ, ◌<◌, ◌≤◌, get_or, bit_xor}
+use Rattle.age_kdf.proofs.Common.{◌≡◌, ℕ, ◌<◌, ◌≤◌, get_or, bit_xor}
 use Rattle.age_kdf.proofs.romix.xor_into.Given as goal
 
 abbrev pub invariant-words : goal.invariant-words

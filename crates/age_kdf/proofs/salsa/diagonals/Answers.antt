@@ -1,5 +1,4 @@
-use Rattle.std.proofs.Common.{sym, refl, slice_index}
-use Rattle.std.proofs.lemmas.List.FromFn.{fill_by_all}
+use Rattle.age_kdf.proofs.Common.{sym, refl, slice_index, fill_by_all}
 use Rattle.age_kdf.proofs.salsa.diagonals.Goals as goal
 
 pub returns : goal.returns

@@ -1,5 +1,4 @@
-use Rattle.std.proofs.Common.{refl}
-use Rattle.age_kdf.specs.Diagonals.{four_steps}
+use Rattle.age_kdf.proofs.Common.{refl, four_steps}
 use Rattle.age_kdf.proofs.salsa.quarter.Goals as goal
 
 pub returns : goal.returns

@@ -1,5 +1,4 @@
-use Rattle.std.proofs.Common.{[], slice_index, slice_index_or, ◌∙◌}
-use Rattle.age_kdf.specs.Diagonals.{four_steps}
+use Rattle.age_kdf.proofs.Common.{[], slice_index, ◌∙◌, four_steps, slice_index_or}
 use Rattle.age_kdf.proofs.DiagonalLemmas.{rows_spread}
 use Rattle.age_kdf.proofs.salsa.rows.Goals as goal
 

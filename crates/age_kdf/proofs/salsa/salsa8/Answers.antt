@@ -1,6 +1,4 @@
-use Rattle.std.proofs.Common.{◌≡◌, arith, ◌∙◌, ap, ap₂, refl, add-one}
-use Rattle.std.specs.Simd.Lanes.{zip2}
-use Rattle.age_kdf.specs.Salsa.{salsa8, double_rounds, rows, columns, add32}
+use Rattle.age_kdf.proofs.Common.{◌≡◌, arith, ◌∙◌, ap, ap₂, refl, add-one, zip2, salsa8, double_rounds, rows, columns, add32}
 use Rattle.age_kdf.proofs.salsa.salsa8.Goals as goal
 
 pub rounds-init : goal.rounds-init

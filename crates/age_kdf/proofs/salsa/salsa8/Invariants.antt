@@ -1,6 +1,4 @@
-use Rattle.std.proofs.Common.{◌≡◌}
-use Rattle.age_kdf.specs.Salsa.{double_rounds}
-use Rattle.age_kdf.specs.Diagonals.{words_in_order}
+use Rattle.age_kdf.proofs.Common.{◌≡◌, double_rounds, words_in_order}
 use Rattle.age_kdf.proofs.salsa.salsa8.Given as goal
 
 abbrev pub invariant-rounds : goal.invariant-rounds

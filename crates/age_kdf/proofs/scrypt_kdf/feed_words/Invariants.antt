@@ -1,7 +1,4 @@
-use Rattle.std.proofs.Common.{◌++◌, take}
-use Rattle.age_kdf.specs.Bytes.{Bytes}
-use Rattle.age_kdf.specs.Scrypt.{bytes_of}
-use Rattle.age_kdf.specs.HmacState.{IsFed}
+use Rattle.age_kdf.proofs.Common.{◌++◌, take, Bytes, bytes_of, IsFed}
 use Rattle.age_kdf.proofs.scrypt_kdf.feed_words.Given as goal
 
 abbrev pub invariant-loop-word : goal.invariant-loop-word

@@ -1,6 +1,4 @@
-use Rattle.std.proofs.Common.{arith, rules, sym, ◌∙◌, ap, refl, suc, ◌≡◌, ◌+◌, ◌*◌, ◌++◌}
-use Rattle.age_kdf.specs.Pbkdf2.{pbkdf2_blocks}
-use Rattle.age_kdf.specs.Scrypt.{words_of}
+use Rattle.age_kdf.proofs.Common.{arith, rules, sym, ◌∙◌, ap, refl, suc, ◌≡◌, ◌+◌, ◌*◌, ◌++◌, pbkdf2_blocks, words_of}
 use Rattle.age_kdf.proofs.ListLemmas.{filled}
 use Rattle.age_kdf.proofs.Pbkdf2Lemmas.{length-pbkdf2_blocks, pbkdf2_whole}
 use Rattle.age_kdf.proofs.ScryptLemmas.{block_loaded}

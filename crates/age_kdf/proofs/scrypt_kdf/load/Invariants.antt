@@ -1,8 +1,4 @@
-use Rattle.std.proofs.Common.{◌≡◌, ◌*◌, [], take}
-use Rattle.age_kdf.specs.Bytes.{Bytes}
-use Rattle.age_kdf.specs.Pbkdf2.{pbkdf2_blocks}
-use Rattle.age_kdf.specs.Scrypt.{words_of}
-use Rattle.age_kdf.specs.HmacState.{IsFed}
+use Rattle.age_kdf.proofs.Common.{◌≡◌, ◌*◌, [], take, Bytes, pbkdf2_blocks, words_of, IsFed}
 use Rattle.age_kdf.proofs.scrypt_kdf.load.Given as goal
 
 abbrev pub invariant-each_block : goal.invariant-each_block

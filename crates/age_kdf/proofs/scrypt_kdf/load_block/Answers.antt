@@ -1,6 +1,4 @@
-use Rattle.std.proofs.Common.{◌≡◌, ◌+◌, ◌++◌, ◌∷◌, [], suc, take, refl, ap, ap₂, ◌∙◌, arith, slice_set}
-use Rattle.std.proofs.lemmas.Grind.{common_steps}
-use Rattle.age_kdf.specs.Scrypt.{words_of}
+use Rattle.age_kdf.proofs.Common.{◌≡◌, ◌+◌, ◌++◌, ◌∷◌, [], suc, take, refl, ap, ap₂, ◌∙◌, arith, words_of, slice_set, common_steps}
 use Rattle.age_kdf.proofs.scrypt_kdf.load_block.Goals as goal
 
 pub words-init : goal.words-init

@@ -1,5 +1,4 @@
-use Rattle.std.proofs.Common.{◌≡◌, take}
-use Rattle.age_kdf.specs.Scrypt.{words_of}
+use Rattle.age_kdf.proofs.Common.{◌≡◌, take, words_of}
 use Rattle.age_kdf.proofs.scrypt_kdf.load_block.Given as goal
 
 abbrev pub invariant-words : goal.invariant-words

@@ -1,6 +1,4 @@
-use Rattle.std.proofs.Common.{arith, rules, ◌∙◌, ap, refl, ◌≡◌, ◌+◌, ◌*◌, ◌^◌, take}
-use Rattle.age_kdf.proofs.ListLemmas.{filled}
-use Rattle.age_kdf.specs.Scrypt.{mixed_parts}
+use Rattle.age_kdf.proofs.Common.{arith, rules, ap, refl, ◌≡◌, ◌+◌, ◌*◌, ◌^◌, take, mixed_parts}
 use Rattle.age_kdf.proofs.RoMixLemmas.{rows_apart}
 use Rattle.age_kdf.proofs.ScryptLemmas.{part_mixed}
 use Rattle.age_kdf.proofs.scrypt_kdf.mix_parts.Goals as goal
@@ -19,9 +17,3 @@ each_part-preserved c =
     refl (omega arith) (omega arith) c.each_part.invariant.done c.each_part.invariant.rest
     c.romix.ensures (search rules)
     (omega (arith, rows_apart size c.args.p i (omega arith), c.each_part.auto.parts))
-
-pub returns : goal.returns
-returns c =
-    let end : c.each_part.i ≡ c.args.p = omega arith in
-    filled (rw end (omega (arith, c.each_part.auto.parts))) c.each_part.invariant.done
-    ∙ ap (mixed_parts c.args.r (2 ^ c.args.log_n) c.args.parts.now) end

@@ -1,5 +1,4 @@
-use Rattle.std.proofs.Common.{◌≡◌, ◌*◌, ◌^◌, take, drop}
-use Rattle.age_kdf.specs.Scrypt.{mixed_parts}
+use Rattle.age_kdf.proofs.Common.{◌≡◌, ◌*◌, ◌^◌, take, drop, mixed_parts}
 use Rattle.age_kdf.proofs.scrypt_kdf.mix_parts.Given as goal
 
 abbrev pub invariant-each_part : goal.invariant-each_part

@@ -1,7 +1,4 @@
-use Rattle.std.proofs.Common.{arith, ◌∙◌, ap, ap₂, ◌≡◌, ◌*◌, ◌^◌, length, []}
-use Rattle.age_kdf.specs.Pbkdf2.{pbkdf2}
-use Rattle.age_kdf.specs.Scrypt.{words_of, bytes_of, mixed_parts, scrypt}
-use Rattle.age_kdf.specs.HmacState.{IsFed}
+use Rattle.age_kdf.proofs.Common.{arith, ◌∙◌, ap, ap₂, ◌≡◌, ◌*◌, ◌^◌, length, [], pbkdf2, words_of, bytes_of, mixed_parts, scrypt, IsFed}
 use Rattle.age_kdf.proofs.scrypt_kdf.scrypt_with.Goals as goal
 
 pub returns : goal.returns

@@ -1,5 +1,4 @@
-use Rattle.std.proofs.Common.{◌≡◌, map, drop}
-use Rattle.age_recipient.specs.Answer.{decision, decision_from}
+use Rattle.age_recipient.proofs.Common.{◌≡◌, map, drop, decision, decision_from}
 use Rattle.age_recipient.proofs.choice.first_decided.Given as goal
 
 abbrev pub invariant-loop-identity : goal.invariant-loop-identity

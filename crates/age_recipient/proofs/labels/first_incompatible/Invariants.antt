@@ -1,4 +1,4 @@
-use Rattle.std.proofs.Common.{◌≡◌, ◌+◌, drop}
+use Rattle.age_recipient.proofs.Common.{◌≡◌, ◌+◌, drop}
 use Rattle.age_recipient.proofs.LabelLemmas.{incompatible_from}
 use Rattle.age_recipient.proofs.labels.first_incompatible.Given as goal
 

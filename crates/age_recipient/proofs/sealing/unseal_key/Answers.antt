@@ -1,10 +1,6 @@
-use Rattle.std.proofs.Common.{◌∙◌, [], sym, ap}
-use Rattle.std.specs.Option.{option_map_or}
-use Rattle.age_kdf.specs.Bytes.{Bytes}
-use Rattle.age_recipient.specs.declared.unwrapped.Unwrapped.TheVariants as answer
-use Rattle.age_cipher.specs.Sealing.{opened_text}
-use Rattle.age_recipient.specs.Sealing.{unsealed_key, zero_nonce}
+use Rattle.age_recipient.proofs.Common.{◌∙◌, [], sym, ap, option_map_or, Bytes, zero_nonce, opened_text, unsealed_key}
 use Rattle.age_recipient.proofs.SealingLemmas.{joined}
+use Rattle.age_recipient.specs.declared.unwrapped.Unwrapped.TheVariants as answer
 use Rattle.age_recipient.proofs.sealing.unseal_key.Goals as goal
 
 pub returns-then-open_in_place : goal.returns-then-open_in_place

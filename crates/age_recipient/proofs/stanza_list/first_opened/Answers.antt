@@ -1,4 +1,4 @@
-use Rattle.std.proofs.Common.{sym, ◌∙◌}
+use Rattle.age_recipient.proofs.Common.{sym, ◌∙◌}
 use Rattle.age_recipient.proofs.AnswerLemmas.{decided_step}
 use Rattle.age_recipient.proofs.stanza_list.first_opened.Goals as goal
 

@@ -1,5 +1,4 @@
-use Rattle.std.proofs.Common.{◌∙◌, ap, length}
-use Rattle.age_header.specs.Base64.{decoded_bytes}
+use Rattle.age_recipient.proofs.Common.{◌∙◌, ap, length, decoded_bytes}
 use Rattle.age_recipient.proofs.SaltLemmas.{no_salt}
 use Rattle.age_recipient.proofs.stanza_list.salt_of.Goals as goal
 

@@ -1,5 +1,4 @@
-use Rattle.std.proofs.Common.{◌≡◌, map, take}
-use Rattle.std.specs.String.{string_bytes}
+use Rattle.age_header.proofs.Common.{◌≡◌, map, take, string_bytes}
 use Rattle.age_header.proofs.arguments.Arguments.copied.Given as goal
 
 abbrev pub invariant-loop-text : goal.invariant-loop-text

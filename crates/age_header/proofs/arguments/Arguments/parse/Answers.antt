@@ -1,9 +1,4 @@
-use Rattle.std.proofs.Common.{◌≡◌, ◌≢◌, ◌∙◌, List, ℕ, [], ◌∷◌, ◌++◌, map, length, take, drop, sym, ap, subst, arith, rules, take-append-drop, length-take, Global, String}
-use Rattle.std.proofs.lemmas.Grind.{common_steps}
-use Rattle.std.proofs.lemmas.List.{nil_from_length, map_push}
-use Rattle.std.specs.String.{string_bytes}
-use Rattle.age_kdf.specs.Bytes.{Bytes}
-use Rattle.age_header.specs.Arguments.{NoVisible}
+use Rattle.age_header.proofs.Common.{◌≡◌, ◌≢◌, ◌∙◌, List, ℕ, [], ◌∷◌, ◌++◌, map, length, take, drop, sym, ap, subst, arith, rules, take-append-drop, length-take, Global, String, common_steps, nil_from_length, map_push, string_bytes, Bytes, NoVisible}
 use Rattle.age_header.proofs.ArgumentsLemmas.{no_arrow, stuck_space, stuck_empty, parsed_more, parsed_nothing}
 use Rattle.age_header.proofs.arguments.Arguments.parse.Goals as goal
 
@@ -46,6 +41,4 @@ pub returns-then-is_empty-clause-none : goal.returns-then-is_empty-clause-none
 returns-then-is_empty-clause-none c =
     let none : c.loop-rest.texts.items ≡ [] = nil_from_length c.loop-rest.texts.items (grind (arith, common_steps)) in
     let end : c.loop-rest.rest.now ≡ [] = nil_from_length c.loop-rest.rest.now (grind (arith, common_steps)) in
-    parsed_nothing c.args.text.now (map string_bytes c.loop-rest.texts.items) c.loop-rest.rest.now
-    c.loop-rest.invariant end
-    (ap (λ (x : List (String Global)). map string_bytes x) none)
+    parsed_nothing c.args.text.now (rw (none, end) at c.loop-rest.invariant)

@@ -1,5 +1,4 @@
-use Rattle.std.proofs.Common.{map, length}
-use Rattle.std.specs.String.{string_bytes}
+use Rattle.age_header.proofs.Common.{map, length, string_bytes}
 use Rattle.age_header.proofs.ArgumentsLemmas.{Parsed}
 use Rattle.age_header.proofs.arguments.Arguments.parse.Given as goal
 

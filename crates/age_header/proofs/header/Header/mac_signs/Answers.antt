@@ -1,9 +1,4 @@
-use Rattle.std.proofs.Common.{◌≡◌, ◌∙◌, ◌++◌, length, replicate, sym, ap, subst, arith, rules}
-use Rattle.std.proofs.lemmas.List.{append-nil, drop_all}
-use Rattle.base64.specs.GeneralPurpose.{encoded_size_of, encode_of}
-use Rattle.age_kdf.specs.Bytes.{Bytes}
-use Rattle.age_header.specs.Base64.{IsBase64}
-use Rattle.age_header.specs.Header.{HeaderParts, mac_size}
+use Rattle.age_header.proofs.Common.{◌≡◌, ◌∙◌, ◌++◌, length, sym, ap, subst, arith, rules, append-nil, drop_all, encoded_size_of, encode_of, Bytes, IsBase64, HeaderParts, mac_size, replicate}
 use Rattle.age_header.proofs.Base64Lemmas.{IsBase64-encode, encode_of_unpadded}
 use Rattle.age_header.proofs.TextLemmas.{encoded_size_plain}
 use Rattle.age_header.proofs.header.Header.mac_signs.Goals as goal

@@ -1,6 +1,4 @@
-use Rattle.std.proofs.Common.{take}
-use Rattle.std.specs.List.{AllByRecursion}
-use Rattle.age_header.specs.Text.{IsWhole}
+use Rattle.age_header.proofs.Common.{take, AllByRecursion, IsWhole}
 use Rattle.age_header.proofs.header.Header.new.Given as goal
 
 abbrev pub invariant-loop-stanza : goal.invariant-loop-stanza

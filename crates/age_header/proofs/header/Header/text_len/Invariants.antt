@@ -1,5 +1,4 @@
-use Rattle.std.proofs.Common.{◌≡◌, ◌+◌, ◌-◌, ◌^◌, min, length, take, flat_map}
-use Rattle.age_header.specs.Text.{stanza_text}
+use Rattle.age_header.proofs.Common.{◌≡◌, ◌+◌, ◌-◌, ◌^◌, min, length, take, flat_map, stanza_text}
 use Rattle.age_header.proofs.header.Header.text_len.Given as goal
 
 abbrev pub invariant-loop-stanza : goal.invariant-loop-stanza

@@ -1,5 +1,4 @@
-use Rattle.std.proofs.Common.{◌≡◌, sym, subst}
-use Rattle.age_header.specs.Steps.{State, Step, between, within}
+use Rattle.age_header.proofs.Common.{◌≡◌, sym, subst, State, Step, between, within}
 use Rattle.age_header.proofs.StepsLemmas.{no_arguments}
 use Rattle.age_header.proofs.progress.Progress.step.Goals as goal
 

@@ -1,5 +1,4 @@
-use Rattle.age_kdf.specs.Hmac.{hmac}
-use Rattle.age_kdf.specs.HmacState.{IsFed}
+use Rattle.age_kdf.proofs.Common.{hmac, IsFed}
 use Rattle.age_kdf.proofs.hmac_sha256.Mac.finalize.Goals as goal
 
 pub returns : goal.returns

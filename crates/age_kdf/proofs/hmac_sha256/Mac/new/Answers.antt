@@ -1,5 +1,4 @@
-use Rattle.std.proofs.lemmas.List.{append-nil}
-use Rattle.age_kdf.specs.HmacState.{IsFed}
+use Rattle.age_kdf.proofs.Common.{append-nil, IsFed}
 use Rattle.age_kdf.proofs.hmac_sha256.Mac.new.Goals as goal
 
 pub returns : goal.returns

@@ -1,7 +1,4 @@
-use Rattle.std.proofs.Common.{◌++◌, take}
-use Rattle.std.specs.List.{flat_map}
-use Rattle.age_kdf.specs.Bytes.{Bytes}
-use Rattle.age_kdf.specs.HmacState.{IsFed}
+use Rattle.age_kdf.proofs.Common.{◌++◌, take, Bytes, IsFed, flat_map}
 use Rattle.age_kdf.proofs.hmac_sha256.Mac.tag_with.Given as goal
 
 abbrev pub invariant-parts : goal.invariant-parts

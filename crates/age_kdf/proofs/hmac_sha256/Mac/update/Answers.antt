@@ -1,5 +1,4 @@
-use Rattle.std.proofs.Common.{append_assoc}
-use Rattle.age_kdf.specs.HmacState.{IsFed}
+use Rattle.age_kdf.proofs.Common.{append_assoc, IsFed}
 use Rattle.age_kdf.proofs.hmac_sha256.Mac.update.Goals as goal
 
 pub returns : goal.returns

@@ -1,5 +1,4 @@
-use Rattle.std.proofs.Common.{◌∙◌}
-use Rattle.age_recipient.specs.KeyedStanza.{keyed_stanza}
+use Rattle.age_recipient.proofs.Common.{◌∙◌, keyed_stanza}
 use Rattle.age_recipient.proofs.StanzaLemmas.{of_parts}
 use Rattle.age_recipient.proofs.keyed.stanza.keyed_stanza.Goals as goal
 

@@ -1,4 +1,4 @@
-use Rattle.age_recipient.specs.KeyedStanza.{keyed_wrap_key}
+use Rattle.age_recipient.proofs.Common.{keyed_wrap_key}
 use Rattle.age_recipient.proofs.keyed.stanza.keyed_wrap_key.Goals as goal
 
 pub returns : goal.returns

@@ -1,9 +1,4 @@
-use Rattle.std.proofs.Common.{◌∙◌, ap}
-use Rattle.std.proofs.lemmas.List.{take_all}
-use Rattle.std.proofs.lemmas.Map.Text.{btree_set_updates_text}
-use Rattle.std.specs.List.{list_any}
-use Rattle.std.specs.Str.{bytes_eq}
-use Rattle.std.specs.String.{string_bytes}
+use Rattle.age_recipient.proofs.Common.{◌∙◌, ap, list_any, bytes_eq, string_bytes, take_all, btree_set_updates_text}
 use Rattle.age_recipient.proofs.LabelLemmas.{any_bytes, any_now, one_more, ordered_bytes}
 use Rattle.age_recipient.proofs.labels.LabelSet.new.Goals as goal
 

@@ -1,9 +1,4 @@
-use Rattle.std.proofs.Common.{◌≡◌, take}
-use Rattle.std.specs.BTreeSet.{IsOrdered, contains_text}
-use Rattle.std.specs.List.{list_any}
-use Rattle.std.specs.Str.{bytes_eq}
-use Rattle.std.specs.String.{string_cmp}
-use Rattle.age_kdf.specs.Bytes.{Bytes}
+use Rattle.age_recipient.proofs.Common.{◌≡◌, take, list_any, bytes_eq, string_cmp, Bytes, IsOrdered, contains_text}
 use Rattle.age_recipient.proofs.labels.LabelSet.new.Given as goal
 
 -- the set has the texts that came

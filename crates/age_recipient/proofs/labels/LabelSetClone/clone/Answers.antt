@@ -1,4 +1,4 @@
-use Rattle.std.proofs.Common.{◌∙◌}
+use Rattle.age_recipient.proofs.Common.{◌∙◌}
 use Rattle.age_recipient.proofs.LabelLemmas.{same_bytes}
 use Rattle.age_recipient.proofs.labels.LabelSetClone.clone.Goals as goal
 

@@ -1,9 +1,5 @@
-use Rattle.std.proofs.Common.{◌∙◌, List, ap}
-use Rattle.std.specs.Option.{option_map_or}
-use Rattle.std.proofs.lemmas.Result.{IfOk-weaker}
-use Rattle.age_kdf.specs.Bytes.{Bytes}
-use Rattle.age_recipient.specs.declared.unwrapped.Unwrapped.TheVariants.{NotMine}
-use Rattle.age_recipient.specs.PassphraseStanza.{arguments_answer, pass_answer}
+use Rattle.age_recipient.proofs.Common.{◌∙◌, List, ap, option_map_or, IfOk-weaker, Bytes, NotMine, pass_answer}
+use Rattle.age_recipient.specs.PassphraseStanza.{arguments_answer}
 use Rattle.age_recipient.proofs.passphrase.stanza.pass_answer.Goals as goal
 
 pub returns-in-None : goal.returns-in-None

@@ -1,5 +1,4 @@
-use Rattle.std.proofs.Common.{◌∙◌}
-use Rattle.age_recipient.specs.PassphraseStanza.{pass_stanza}
+use Rattle.age_recipient.proofs.Common.{◌∙◌, pass_stanza}
 use Rattle.age_recipient.proofs.StanzaLemmas.{of_parts}
 use Rattle.age_recipient.proofs.passphrase.stanza.pass_stanza.Goals as goal
 

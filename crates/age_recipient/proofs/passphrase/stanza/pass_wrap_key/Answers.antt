@@ -1,5 +1,4 @@
-use Rattle.std.proofs.Common.{◌∙◌, refl}
-use Rattle.age_recipient.specs.PassphraseStanza.{pass_wrap_key}
+use Rattle.age_recipient.proofs.Common.{◌∙◌, refl, pass_wrap_key}
 use Rattle.age_recipient.proofs.passphrase.stanza.pass_wrap_key.Goals as goal
 
 pub returns : goal.returns

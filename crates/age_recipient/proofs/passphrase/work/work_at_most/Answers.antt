@@ -1,4 +1,4 @@
-use Rattle.std.proofs.Common.{arith}
+use Rattle.age_recipient.proofs.Common.{arith}
 use Rattle.age_recipient.proofs.PassphraseLemmas.{long_number}
 use Rattle.age_recipient.proofs.passphrase.work.work_at_most.Goals as goal
 

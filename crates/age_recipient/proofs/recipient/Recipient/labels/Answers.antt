@@ -1,5 +1,4 @@
-use Rattle.std.proofs.Common.{inl, ap}
-use Rattle.age_recipient.specs.declared.labels.Labels.TheVariants.{Names}
+use Rattle.age_recipient.proofs.Common.{inl, ap, Names}
 use Rattle.age_recipient.proofs.LabelLemmas.{no_texts}
 use Rattle.age_recipient.proofs.recipient.Recipient.labels.Goals as goal
 
