@@ -11,22 +11,15 @@ pub cut_fits : (size : ℕ) (held x r : Bytes) → length held + length x ≤ si
     → cut_after size held (x ++ r) ≡ cut_after size (held ++ x) r
 cut_fits size held [] r le = ap (λ h. cut_after size h r) (sym (append-nil held))
 cut_fits size held (b ∷ bs) r le =
-    let lt : nat_lt (length held) size ≡ true = lt-ltb (length held) size (omega arith) in
-    let next : cut_after size (held ++ b ∷ []) (bs ++ r) ≡ cut_after size ((held ++ b ∷ []) ++ bs) r =
-    cut_fits size (held ++ b ∷ []) bs r
-    (let l : length (held ++ b ∷ []) ≡ length held + 1 = length-append held (b ∷ []) in omega arith) in
-    ap (λ t. cond t (cut_after size (held ++ b ∷ []) (bs ++ r)) (held ∷ cut_after size (b ∷ []) (bs ++ r))) lt ∙ next
-    ∙ ap (λ h. cut_after size h r) (append_assoc held (b ∷ []) bs)
+    let l : length (held ++ b ∷ []) ≡ length held + 1 = length-append held (b ∷ []) in
+    rw (lt-ltb (length held) size (omega arith), ← append_assoc held (b ∷ []) bs)
+    (cut_fits size (held ++ b ∷ []) bs r (omega arith))
 
 -- at a full list the next byte begins one
 pub cut_full : (size : ℕ) (held r : Bytes) → 0 < size → 0 < length r → length held ≡ size
     → cut_after size held r ≡ held ∷ cut size r
 cut_full size held [] pos some full = absurd (omega arith)
-cut_full size held (b ∷ r) pos some full =
-    let ge : nat_lt (length held) size ≡ false = le-ltb (length held) size (omega arith) in
-    let lt : nat_lt 0 size ≡ true = lt-ltb 0 size pos in
-    ap (λ t. cond t (cut_after size (held ++ b ∷ []) r) (held ∷ cut_after size (b ∷ []) r)) ge
-    ∙ ap (λ t. held ∷ cond t (cut_after size (b ∷ []) r) ([] ∷ cut_after size (b ∷ []) r)) (sym lt)
+cut_full size held (b ∷ r) pos some full = rw (le-ltb (length held) size (omega arith), lt-ltb 0 size pos)
 
 -- a full list with more after it is the first of the cut
 pub cut_first : (size : ℕ) (x r : Bytes) → 0 < size → 0 < length r → length x ≡ size
@@ -40,10 +33,8 @@ cut_last size x le = ap (cut size) (sym (append-nil x)) ∙ cut_fits size [] x [
 -- the lists of a filled cut hold something
 pub filled_some : (size : ℕ) (cs : List Bytes) → 0 < size → IsFilled size cs → 0 < length (concat cs)
 filled_some size [] pos h = absurd h
-filled_some size (c ∷ []) pos h = let l : length (c ++ []) ≡ length c + 0 = length-append c [] in
-    let k : 0 < length c = h.0 in omega arith
-filled_some size (c ∷ d ∷ more) pos h =
-    let k : length c ≡ size = h.0 in omega (arith, length-append c (concat (d ∷ more)))
+filled_some size (c ∷ []) pos h = omega (arith, h.0, length-append c [])
+filled_some size (c ∷ d ∷ more) pos h = omega (arith, h.0, length-append c (concat (d ∷ more)))
 
 -- filled lists are the cut of their join
 pub filled_cut : (size : ℕ) (cs : List Bytes) → 0 < size → IsFilled size cs → cut size (concat cs) ≡ cs
@@ -72,16 +63,11 @@ pub filled_cut_into : (size : ℕ) (held p : Bytes) → 0 < size → length held
     → IsFilled size (cut_after size held p)
 filled_cut_into size held [] pos le some = (omega arith, le)
 filled_cut_into size held (x ∷ xs) pos le some =
+    let l : length (held ++ x ∷ []) ≡ length held + 1 = length-append held (x ∷ []) in
     elim (cases_lt (length held) size) [
-      | inl lt ↦ subst (λ t. IsFilled size
-          (cond t (cut_after size (held ++ x ∷ []) xs) (held ∷ cut_after size (x ∷ []) xs)))
-          (sym (lt-ltb (length held) size lt))
-          (let l : length (held ++ x ∷ []) ≡ length held + 1 = length-append held (x ∷ []) in
-          filled_cut_into size (held ++ x ∷ []) xs pos (omega arith) (omega arith))
-      | inr ge ↦ subst (λ t. IsFilled size
-          (cond t (cut_after size (held ++ x ∷ []) xs) (held ∷ cut_after size (x ∷ []) xs)))
-          (sym (le-ltb (length held) size ge))
-          (filled_more size held (cut_after size (x ∷ []) xs) (omega arith)
+      | inl lt ↦ rw (lt-ltb (length held) size lt)
+          (filled_cut_into size (held ++ x ∷ []) xs pos (omega arith) (omega arith))
+      | inr ge ↦ rw (le-ltb (length held) size ge) (filled_more size held (cut_after size (x ∷ []) xs) (omega arith)
           (filled_cut_into size (x ∷ []) xs pos (omega arith) (omega arith)))
     ]
 

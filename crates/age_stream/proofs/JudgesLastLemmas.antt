@@ -1,22 +1,16 @@
 -- What the last piece gives, and what opening a payload for ranges finds.
-use Rattle.std.proofs.Common.{◌≡◌, ◌⊎◌, ℕ, [], ◌+◌, ◌-◌, ◌*◌, ◌/◌, ◌<◌, ◌≤◌, length, take, drop, get_or, nat_eq, sym, ◌∙◌, ap, arith, true, refl, inl, inr, subst, Option, Some, None, Result, Ok, Err}
-use Rattle.std.specs.Prelude.{unwrap_or, IfSome}
-use Rattle.std.proofs.lemmas.Bool.{cases_lt, eq-eqb, le-leb, le-ltb}
+use Rattle.std.proofs.Common.{◌≡◌, ◌⊎◌, ℕ, [], ◌+◌, ◌-◌, ◌*◌, ◌/◌, ◌<◌, ◌≤◌, length, take, drop, get_or, nat_eq, sym, ◌∙◌, ap, arith, true, refl, inl, inr, subst, Some, None, Result, Ok, Err}
+use Rattle.std.specs.Prelude.{IfSome}
+use Rattle.std.proofs.lemmas.Bool.{eq-eqb, le-leb, le-ltb}
 use Rattle.std.proofs.lemmas.List.{length-drop, length-take-le, drop-drop, take_all}
-use Rattle.age_kdf.specs.Bytes.{Bytes}
-use Rattle.age_header.specs.Device.{Known}
+use Rattle.age_stream.specs.Words.{Bytes, Known, FileKey, StreamFault, TooManyChunks, Write, Layout, sealed_chunk_size, chunk_buf_size}
 use Rattle.age_cipher.proofs.OpeningLemmas.{length-sealed_text, opened_text-sealed_text}
-use Rattle.age_header.specs.declared.file_key.FileKey.{FileKey}
-use Rattle.age_stream.specs.declared.fault.StreamFault.{StreamFault}
-use Rattle.age_stream.specs.declared.fault.StreamFault.TheVariants.{TooManyChunks, Write}
-use Rattle.age_stream.specs.declared.layout.Layout.{Layout}
 use Rattle.age_stream.specs.Opening.{IsAtPiece}
 use Rattle.age_stream.specs.Payload.{pieces, chunk_nonce, payload_key}
 use Rattle.age_stream.specs.Offsets.{EndsBefore, HasAt, GaveAt}
 use Rattle.age_stream.specs.Reading.{piece_opening, outcome}
 use Rattle.age_stream.specs.Ranges.{last_len, source_opening, IsOpenFault, IsVerified, JudgesLast, OpensRanges}
 use Rattle.age_stream.specs.Slice.{opening, plain_len, chunk_len, last_piece, last_outcome, range_outcome}
-use Rattle.age_stream.specs.Sizes.{chunk_size, sealed_chunk_size, chunk_buf_size}
 use Rattle.age_stream.proofs.ReadingLemmas.{cut_count}
 use Rattle.age_stream.proofs.OutcomeLemmas.{outcome_many}
 use Rattle.age_stream.proofs.PayloadLemmas.{outcome_opens}
@@ -24,24 +18,21 @@ use Rattle.age_stream.proofs.LoadLemmas.{tight_at}
 use Rattle.age_stream.proofs.SliceLemmas.{cut_at, opening_at, plain_count}
 
 pub some_or_none : (last len : ℕ) → last ≡ (len - 1) / sealed_chunk_size → (last ≡ 0) ⊎ (sealed_chunk_size * last < len)
-some_or_none last len is = elim (cases_lt 0 len) [
-  | inl long ↦ inr (omega arith)
-  | inr none ↦ inl (omega arith)
-]
+some_or_none last len is = grind (arith, is)
 
 pub piece_count : (rest : Bytes) (last : ℕ) → last ≡ (length rest - 1) / sealed_chunk_size
     → length (pieces rest) ≡ last + 1
 piece_count rest last is =
     cut_count sealed_chunk_size last rest (omega arith) (some_or_none last (length rest) is) (omega arith)
 
+last_index : (rest : Bytes) (last : ℕ) → last ≡ (length rest - 1) / sealed_chunk_size → length (pieces rest) - 1 ≡ last
+last_index rest last is = omega (arith, piece_count rest last is)
+
 last_piece_is : (rest : Bytes) (last : ℕ) → last ≡ (length rest - 1) / sealed_chunk_size
     → last_piece rest ≡ drop (sealed_chunk_size * last) rest
 last_piece_is rest last is =
-    let n : length (pieces rest) ≡ last + 1 = piece_count rest last is in
-    let e : length (pieces rest) - 1 ≡ last = omega arith in
-    let d : length (drop (sealed_chunk_size * last) rest) ≡ length rest - sealed_chunk_size * last =
-    length-drop (sealed_chunk_size * last) rest in
-    ap (λ k. get_or (pieces rest) k []) e ∙ cut_at sealed_chunk_size last rest (omega arith)
+    let d = length-drop (sealed_chunk_size * last) rest in
+    ap (λ k. get_or (pieces rest) k []) (last_index rest last is) ∙ cut_at sealed_chunk_size last rest (omega arith)
     ∙ take_all sealed_chunk_size (drop (sealed_chunk_size * last) rest) (omega arith)
 
 -- how long the last piece is
@@ -54,9 +45,8 @@ length_last rest =
 pub last_is : (key : Bytes) (max : ℕ) (rest : Bytes) (last : ℕ) → last ≡ (length rest - 1) / sealed_chunk_size
     → last_outcome key max rest ≡ outcome key max last true (drop (sealed_chunk_size * last) rest)
 last_is key max rest last is =
-    let n : length (pieces rest) ≡ last + 1 = piece_count rest last is in
-    let e : length (pieces rest) - 1 ≡ last = omega arith in
-    ap (λ k. outcome key max k true (last_piece rest)) e ∙ ap (outcome key max last true) (last_piece_is rest last is)
+    ap (λ k. outcome key max k true (last_piece rest)) (last_index rest last is)
+    ∙ ap (outcome key max last true) (last_piece_is rest last is)
 
 behind_len : (at n : ℕ) (bytes : Bytes) → length bytes ≡ at + n → length (drop at bytes) ≡ n
 behind_len at n bytes size = let d : length (drop at bytes) ≡ length bytes - at = length-drop at bytes in omega arith
@@ -78,8 +68,7 @@ pub last_gone : (key : Bytes) (max first sealed last end : ℕ) (told : Known) (
     → IfSome told (λ bytes. length bytes ≡ first + sealed → last_outcome key max (drop first bytes) ≡ Err fault)
 last_gone key max first sealed last end None fault is len gone = tt
 last_gone key max first sealed last end (Some bytes) fault is len gone = λ size.
-    let short : length bytes < first + sealed_chunk_size * last + end = gone in
-    absurd (omega arith)
+    absurd (omega (arith, gone))
 
 -- what was read at the last piece's offset gives what the last piece does
 pub last_read : (key : Bytes) (max first sealed last end : ℕ) (told : Known) (buf : Bytes)
@@ -110,11 +99,10 @@ pub open_len : (key : Bytes) (max i end n : ℕ) (buf after : Bytes) → length 
     → (n + 16 ≡ end) × (0 < i → 0 < n)
 open_len key max i end n buf after room le opens within =
     let o = outcome_opens key max i true (take end buf) (take n after) opens in
-    let len : length (take end buf) ≡ length (take n after) + 16 = ap length o.sealed_so
-    ∙ length-sealed_text key (chunk_nonce i true) [] (take n after) in
-    let a : length (take end buf) ≡ end = length-take-le end buf (omega arith) in
-    let b : length (take n after) ≡ n = length-take-le n after within in
-    (omega arith, λ pos. let some : 0 < length (take n after) = o.some refl pos in omega arith)
+    let len = ap length o.sealed_so ∙ length-sealed_text key (chunk_nonce i true) [] (take n after) in
+    let a = length-take-le end buf (omega arith) in
+    let b = length-take-le n after within in
+    (omega arith, λ pos. omega (arith, o.some refl pos))
 
 -- a last piece that was read, and opens
 pub last_verified : {gave : ℕ → ℕ → Type 0} {layout : Layout} (max last end : ℕ) {n : ℕ} (buf after : Bytes)
@@ -177,30 +165,21 @@ judged_err k max at (Some bytes) nonce after n fault h (inr j) =
 plain_there : (layout : Layout) (rest : Bytes) → length rest ≡ layout.plain + 16 * layout.count
     → plain_len rest ≡ layout.plain
 plain_there layout rest size =
-    let some : 0 < layout.count = layout.some in
-    let covers : layout.plain ≤ chunk_size * layout.count = layout.covers in
-    let low : chunk_size * (layout.count - 1) ≤ layout.plain = tight_at layout (layout.count - 1) (omega arith) in
+    let low = tight_at layout (layout.count - 1) (omega (arith, layout.some)) in
     let more : (layout.count - 1 ≡ 0) ⊎ (sealed_chunk_size * (layout.count - 1) < length rest) =
-    elim (cases_lt 1 layout.count) [
-      | inl lt ↦ inr (let tight : chunk_size * (layout.count - 1) < layout.plain = layout.tight lt in omega arith)
-      | inr ge ↦ inl (omega arith)
-    ] in
-    let n : plain_len rest + 16 * (layout.count - 1 + 1) ≡ length rest =
-    plain_count (layout.count - 1) rest more (omega arith) (omega arith) in
-    omega arith
+    grind (arith, layout.tight, size) in
+    omega (
+      arith,
+      layout.some,
+      layout.covers,
+      plain_count (layout.count - 1) rest more
+          (omega (arith, layout.covers)) (omega (arith, layout.covers)),
+    )
 
 count_there : (layout : Layout) (n : ℕ) → layout.plain + 16 * layout.count ≡ n
     → layout.count - 1 ≡ (n - 1) / sealed_chunk_size
 count_there layout n sealed =
-    let some : 0 < layout.count = layout.some in
-    let covers : layout.plain ≤ chunk_size * layout.count = layout.covers in
-    elim (cases_lt 1 layout.count) [
-      | inl lt ↦ let tight : chunk_size * (layout.count - 1) < layout.plain = layout.tight lt in omega arith
-      | inr ge ↦ omega arith
-    ]
-
-same_some : (a b : ℕ) → ◌≡◌ {A = Option ℕ} (Some a) (Some b) → a ≡ b
-same_some a b e = ap (λ o. unwrap_or o 0) e
+    grind (arith, sealed, layout.some, layout.covers, layout.tight)
 
 -- the last piece opened
 pub judged_ok : (k : FileKey) (max at : ℕ) (told : Known) (nonce buf : Bytes) (n : ℕ) (layout : Layout)
@@ -229,18 +208,17 @@ judged_ok k max at (Some bytes) nonce buf n layout h j =
         plain = sym (plain_there layout (drop layout.first bytes) there) ∙ ap (λ f. plain_len (drop f bytes)) j.1;
         sound = record {
           there = record { known = refl; size = there };
-          keeps = λ i e. subst (λ m. source_opening (Some bytes) layout m ≡ Some (take (chunk_len layout.plain m) buf))
-              (same_some (layout.count - 1) i e) opens;
+          keeps = λ i e. let is : layout.count - 1 ≡ i = cc in rw (← is) opens;
         };
       },
     )
 
 -- what was given, with the last piece
-pub given_last : (told : Known) (nonce : Bytes) (at n new mid old : ℕ) → IsNonce told at nonce n
+pub given_last : (told : Known) (nonce : Bytes) (at n : ℕ) {new : ℕ} (mid old : ℕ) → IsNonce told at nonce n
     → new ≤ mid + last_len n → mid ≤ old + 16
     → IfSome told (λ bytes. new ≤ old + (16 + length (last_piece (drop (at + 16) bytes))))
-given_last None nonce at n new mid old h le le2 = tt
-given_last (Some bytes) nonce at n new mid old h le le2 =
+given_last None nonce at n mid old h le le2 = tt
+given_last (Some bytes) nonce at n mid old h le le2 =
     let l : length (last_piece (drop (at + 16) bytes)) ≡ last_len n = length_last (drop (at + 16) bytes)
     ∙ ap last_len (behind_len (at + 16) n bytes h.1) in
     omega (arith, l, le, le2)

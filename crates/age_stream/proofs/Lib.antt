@@ -1,5 +1,6 @@
 pub mod CuttingLemmas
 pub mod JudgesLastLemmas
+pub mod KeptLemmas
 pub mod LoadLemmas
 pub mod OpeningLemmas
 pub mod OutcomeLemmas

@@ -2,10 +2,7 @@
 use Rattle.std.proofs.Common.{refl, [], ◌≡◌, ℕ, ◌<◌, ◌≤◌, ◌&&◌, length, nat_lt, nat_eq, true, false, Bool, Err}
 use Rattle.std.specs.Prelude.{ok_or}
 use Rattle.std.proofs.lemmas.Bool.{le-ltb, lt-ltb, le-leb, lt-leb}
-use Rattle.age_kdf.specs.Bytes.{Bytes}
-use Rattle.age_header.specs.Device.{Known}
-use Rattle.age_stream.specs.declared.fault.StreamFault.TheVariants.{ChunkShort, EmptyFinal, BadChunk, TooManyChunks}
-use Rattle.age_cipher.specs.Sealing.{opened_text}
+use Rattle.age_stream.specs.Words.{Bytes, opened_text, Known, ChunkShort, EmptyFinal, BadChunk, TooManyChunks}
 use Rattle.age_stream.specs.Payload.{chunk_nonce}
 use Rattle.age_stream.specs.Reading.{outcome}
 

@@ -3,8 +3,7 @@ use Rattle.std.proofs.Common.{◌≡◌, ℕ, ◌++◌, ◌+◌, ◌-◌, ◌<�
 use Rattle.std.proofs.lemmas.Bool.{cases_lt}
 use Rattle.std.proofs.lemmas.List.{length-take-le, length-drop, drop-drop, get_or-take, get_or-drop}
 use Rattle.std.proofs.Math.Seq.{take-add}
-use Rattle.age_kdf.specs.Bytes.{Bytes}
-use Rattle.age_header.specs.Device.{Known}
+use Rattle.age_stream.specs.Words.{Bytes, Known}
 use Rattle.age_stream.specs.Offsets.{HasAt, StaysGiven, GaveAt}
 
 -- further bytes after those that were read

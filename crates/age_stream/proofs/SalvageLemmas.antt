@@ -1,29 +1,24 @@
 -- The parts of pieces that are saved one after another.
-use Rattle.std.proofs.Common.{◌≡◌, ◌⊎◌, ◌∙◌, ◌++◌, ◌∷◌, ◌+◌, ◌-◌, ◌*◌, ◌<◌, ◌≤◌, ℕ, List, [], length, take, drop, ap, sym, subst, arith, append_assoc, append-nil, length-append, refl, Bool, true, false, not, inl, inr, None, Some, Result, Ok, Err, nat_le, cond, replicate, suc}
-use Rattle.std.specs.Prelude.{IfErr, IfOk, IfSome}
+use Rattle.std.proofs.Common.{◌≡◌, ◌⊎◌, ◌∙◌, ◌++◌, ◌∷◌, ◌+◌, ◌-◌, ◌*◌, ◌<◌, ◌≤◌, ℕ, List, [], length, take, drop, ap, sym, subst, arith, append_assoc, append-nil, length-append, refl, Bool, not, inl, inr, None, Some, Result, Ok, Err, nat_le, cond, min, suc}
+use Rattle.std.specs.Prelude.{IfErr, IfOk}
 use Rattle.std.specs.Io.KnownBytes.{Appends, IsAtEnd}
 use Rattle.std.proofs.KnownBytes.{Appends-trans, Appends-nil}
 use Rattle.std.proofs.lemmas.Bool.{le-leb, lt-leb, cases_lt}
 use Rattle.std.proofs.lemmas.List.{drop-append-le, take_all, take_at, drop_at, take-append-le, length-take-le, length-drop}
-use Rattle.age_kdf.specs.Bytes.{Bytes}
-use Rattle.age_header.specs.Device.{Gave, GaveSome, Known, OfGiven, Seen, WritesPart, flow, move_of}
-use Rattle.age_header.specs.declared.file_key.FileKey.{FileKey}
+use Rattle.age_stream.specs.Words.{Bytes, opened_text, Gave, GaveSome, Known, OfGiven, Seen, WritesPart, flow, move_of, FileKey, StreamFault, NonceTruncated, TooManyChunks, Read, Write, Memory, chunk_size, sealed_chunk_size, chunk_buf_size}
 use Rattle.age_header.specs.Filling.{Filled}
 use Rattle.age_header.proofs.DeviceLemmas.{done_part, gave_more, gave_none, gave_then, of_any, of_ended, of_map, of_more, of_then}
-use Rattle.age_stream.specs.declared.fault.StreamFault.{StreamFault}
-use Rattle.age_stream.specs.declared.fault.StreamFault.TheVariants.{NonceTruncated, ChunkShort, EmptyFinal, BadChunk, TooManyChunks, Read, Write, Memory}
 use Rattle.age_stream.specs.declared.salvaged.Lost.{Lost}
 use Rattle.age_stream.specs.declared.salvaged.Salvaged.{Salvaged}
 use Rattle.age_stream.specs.declared.salvaged.Saved.{Saved}
 use Rattle.age_stream.specs.declared.salvaged.Saved.TheVariants.{Nothing, Zeros, Chunk, LastChunk}
-use Rattle.age_cipher.specs.Sealing.{opened_text}
 use Rattle.age_cipher.proofs.OpeningLemmas.{length-sealed_text, opened_is}
 use Rattle.age_stream.specs.Opening.{EndsAt, GivesNonce}
 use Rattle.age_stream.specs.Payload.{chunk_nonce, payload_key, pieces}
 use Rattle.age_stream.specs.Reading.{piece_opening}
 use Rattle.age_stream.specs.Salvage.{EndsSaving, KnownLosses, Part, ReadsAhead, Reports, Salvages, SavesParts, SavesPayload, first_part, last_saved, loss, losses, lost_part, opening_or, part, parts, payload_parts, salvaged_text, summary, losses_of, with_part}
-use Rattle.age_stream.specs.Sizes.{chunk_size, sealed_chunk_size, chunk_buf_size}
 use Rattle.age_stream.proofs.CuttingLemmas.{cut_last}
+use Rattle.age_stream.proofs.OpeningLemmas.{take_most}
 use Rattle.age_stream.proofs.ReadingLemmas.{cut_some, cut_step, is_end_cut}
 
 -- ---- one part
@@ -43,18 +38,6 @@ pub part-opened : (key : Bytes) (i : ℕ) (last : Bool) (c t : Bytes) → piece_
 part-opened key i last c t is =
     ap (λ x. opening_or last x (opening_or (not last) (piece_opening key i (not last) c) (lost_part c))) is
 
-pub part_other : (key : Bytes) (i : ℕ) (last : Bool) (c t : Bytes) → piece_opening key i last c ≡ None
-    → piece_opening key i (not last) c ≡ Some t
-    → part key i last c ≡ record { text = t; saved = cond last Chunk LastChunk }
-part_other key i last c t none is =
-    ap (λ x. opening_or last x (opening_or (not last) (piece_opening key i (not last) c) (lost_part c))) none
-    ∙ ap (λ x. opening_or (not last) x (lost_part c)) is ∙ flag last
-  where
-    flag : (b : Bool) → ◌≡◌ {A = Part} (record { text = t; saved = cond (not b) LastChunk Chunk })
-        (record { text = t; saved = cond b Chunk LastChunk })
-    flag true = refl
-    flag false = refl
-
 part_lost : (key : Bytes) (i : ℕ) (last : Bool) (c : Bytes) → piece_opening key i last c ≡ None
     → piece_opening key i (not last) c ≡ None → part key i last c ≡ lost_part c
 part_lost key i last c none other =
@@ -68,18 +51,7 @@ part_short key i last c end bytes len short =
     let nothing : end - 16 ≡ 0 = omega arith in
     part_lost key i last c (opened_short key (chunk_nonce i last) c (omega arith))
     (opened_short key (chunk_nonce i (not last)) c (omega arith))
-    ∙ ap (λ n. record { text = replicate n 0; saved = cond (nat_le (length c) 16) Nothing Zeros }) none
-    ∙ ap (λ b. record { text = []; saved = cond b Nothing Zeros }) (le-leb (length c) 16 (omega arith))
-    ∙ ap (λ n. record { text = take n bytes; saved = Nothing }) (sym nothing)
-
-pub part-zeros : (key : Bytes) (i : ℕ) (last : Bool) (c : Bytes) (end : ℕ) (text : Bytes)
-    → piece_opening key i last c ≡ None → piece_opening key i (not last) c ≡ None → length c ≡ end
-    → text ≡ replicate (end - 16) 0
-    → part key i last c ≡ record { text = text; saved = cond (nat_le end 16) Nothing Zeros }
-part-zeros key i last c end text none other len zeros =
-    part_lost key i last c none other
-    ∙ ap (λ n. record { text = replicate (n - 16) 0; saved = cond (nat_le n 16) Nothing Zeros }) len
-    ∙ ap (λ t. record { text = t; saved = cond (nat_le end 16) Nothing Zeros }) (sym zeros)
+    ∙ rw (none, le-leb (length c) 16 (omega arith), nothing)
 
 -- ---- the parts of what follows the nonce
 
@@ -87,33 +59,20 @@ part-zeros key i last c end text none other len zeros =
 pub parts_last : (key : Bytes) (i : ℕ) (c : Bytes) → length c ≤ sealed_chunk_size
     → parts key i (pieces c) ≡ first_part key i c ∷ []
 parts_last key i c le =
-    ap (parts key i) (cut_last sealed_chunk_size c le)
-    ∙ ap (λ b. part key i b c ∷ []) (sym (le-leb (length c) sealed_chunk_size le))
-    ∙ ap (λ t. part key i (nat_le (length c) sealed_chunk_size) t ∷ []) (sym (take_all sealed_chunk_size c le))
+    rw (cut_last sealed_chunk_size c le, le-leb (length c) sealed_chunk_size le, take_all sealed_chunk_size c le)
 
--- a piece with more after it
-pub parts_more : (key : Bytes) (i : ℕ) (c : Bytes) → sealed_chunk_size < length c
-    → parts key i (pieces c) ≡ first_part key i c ∷ parts key (i + 1) (pieces (drop sealed_chunk_size c))
-parts_more key i c lt =
-    ap (parts key i) (cut_step sealed_chunk_size c (omega arith) lt)
-    ∙ ap (λ b. part key i b (take sealed_chunk_size c) ∷ parts key (i + 1) (pieces (drop sealed_chunk_size c)))
-    (is_end_cut sealed_chunk_size [] (drop sealed_chunk_size c) ∙ sym (lt-leb (length c) sealed_chunk_size lt))
-
--- the same whatever follows
+-- a piece with more after it, whatever follows
 pub parts_next : (key : Bytes) (i : ℕ) (c d : Bytes) → sealed_chunk_size < length c
     → parts key i (pieces (c ++ d)) ≡ first_part key i c ∷ parts key (i + 1) (pieces (drop sealed_chunk_size c ++ d))
 parts_next key i c d lt =
     let l : length (c ++ d) ≡ length c + length d = length-append c d in
-    let far : nat_le (length (c ++ d)) sealed_chunk_size ≡ false =
-    lt-leb (length (c ++ d)) sealed_chunk_size (omega arith) in
-    let no : nat_le (length c) sealed_chunk_size ≡ false = lt-leb (length c) sealed_chunk_size lt in
-    parts_more key i (c ++ d) (omega arith)
-    ∙ ap (λ b. part key i b (take sealed_chunk_size (c ++ d)) ∷ parts key (i + 1) (pieces (drop sealed_chunk_size (c
-    ++ d)))) (far ∙ sym no)
-    ∙ ap (λ t. part key i (nat_le (length c) sealed_chunk_size) t ∷ parts key (i + 1) (pieces (drop sealed_chunk_size (c
-    ++ d))))
-    (take-append-le sealed_chunk_size c d (omega arith))
-    ∙ ap (λ t. first_part key i c ∷ parts key (i + 1) (pieces t)) (drop-append-le sealed_chunk_size c d (omega arith))
+    rw (
+      cut_step sealed_chunk_size (c ++ d) (omega arith) (omega arith),
+      is_end_cut sealed_chunk_size [] (drop sealed_chunk_size (c ++ d)),
+      lt-leb (length c) sealed_chunk_size lt,
+      take-append-le sealed_chunk_size c d (omega arith),
+      drop-append-le sealed_chunk_size c d (omega arith),
+    )
 
 -- the first part, where the piece is whole
 pub parts_first : (key : Bytes) (i : ℕ) (c d : Bytes) → (sealed_chunk_size < length c) ⊎ (d ≡ [])
@@ -121,7 +80,7 @@ pub parts_first : (key : Bytes) (i : ℕ) (c d : Bytes) → (sealed_chunk_size <
 parts_first key i c d (inl lt) = (parts key (i + 1) (pieces (drop sealed_chunk_size c ++ d)), parts_next key i c d lt)
 parts_first key i c d (inr none) = elim (cases_lt sealed_chunk_size (length c)) [
   | inl lt ↦ (parts key (i + 1) (pieces (drop sealed_chunk_size c ++ d)), parts_next key i c d lt)
-  | inr le ↦ ([], ap (λ t. parts key i (pieces t)) (ap (λ t. c ++ t) none ∙ append-nil c) ∙ parts_last key i c le)
+  | inr le ↦ ([], rw (none, append-nil c) (parts_last key i c le))
 ]
 
 pub length-parts : (key : Bytes) (i : ℕ) (cs : List Bytes) → length (parts key i cs) ≡ length cs
@@ -152,20 +111,12 @@ pub losses_snoc : (i at : ℕ) (xs : List Part) (y : Part)
 losses_snoc i at [] y = append-nil (loss y.saved (record { chunk = i; start = at; len = length y.text }))
     ∙ lost_at y.saved i (i + 0) at (at + 0) (length y.text) (omega arith) (omega arith)
 losses_snoc i at (x ∷ xs) y =
-    let first : List Lost = loss x.saved (record { chunk = i; start = at; len = length x.text }) in
-    let rest : List Lost = losses (i + 1) (at + length x.text) xs in
-    let l : length (x.text ++ salvaged_text xs) ≡ length x.text + length (salvaged_text xs) =
-    length-append x.text (salvaged_text xs) in
-    ap (λ t. first ++ t) (losses_snoc (i + 1) (at + length x.text) xs y)
-    ∙ ap (λ t. first ++ (rest ++ t)) (lost_at y.saved (i + 1 + length xs) (i + length (x ∷ xs))
-    (at + length x.text + length (salvaged_text xs)) (at + length (salvaged_text (x ∷ xs))) (length y.text)
-    (omega arith)
-    (omega arith))
-    ∙ sym (append_assoc first rest (loss y.saved (record {
-      chunk = i + length (x ∷ xs);
-      start = at + length (salvaged_text (x ∷ xs));
-      len = length y.text;
-    })))
+    let count : i + 1 + length xs ≡ i + length (x ∷ xs) = omega arith in
+    let bytes : at + length x.text + length (salvaged_text xs) ≡ at + length (salvaged_text (x ∷ xs)) =
+    omega (arith, length-append x.text (salvaged_text xs)) in
+    rw (losses_snoc (i + 1) (at + length x.text) xs y, count, bytes)
+    (sym (append_assoc (loss x.saved (record { chunk = i; start = at; len = length x.text }))
+    (losses (i + 1) (at + length x.text) xs) (loss y.saved _)))
 
 pub last_snoc : (xs : List Part) (y : Part) → last_saved (xs ++ y ∷ []) ≡ y.saved
 last_snoc [] y = refl
@@ -181,9 +132,7 @@ reports_none (Some past) = ap Some (sym (append-nil past))
 pub reports_then : (a b c : KnownLosses) (xs ys : List Lost) → Reports (losses_of a b) xs → Reports (losses_of b c) ys
     → Reports (losses_of a c) (xs ++ ys)
 reports_then None b c xs ys g h = tt
-reports_then (Some past) b c xs ys g h =
-    let next : c ≡ Some ((past ++ xs) ++ ys) = subst (λ (x : KnownLosses). IfSome x (λ p. c ≡ Some (p ++ ys))) g h in
-    next ∙ ap Some (append_assoc past xs ys)
+reports_then (Some past) b c xs ys g h = rw (g, append_assoc past xs ys) at h
 
 -- ---- the next piece
 
@@ -202,34 +151,19 @@ reads_ahead (Ok n) ahead carried after now next f end is size = record {
 }
 reads_ahead (Err e) ahead carried after now next f end is size = tt
 
--- the first piece, where no byte follows it
-pub first_last : (key : Bytes) (i : ℕ) {n len : ℕ} {bytes : Bytes} (piece new rest : Bytes) {saved : Saved}
-    → bytes ≡ piece ++ rest
-    → length piece ≡ sealed_chunk_size → n ≤ sealed_chunk_size → length new ≡ length piece → len ≡ n - 16
-    → part key i true (take n piece) ≡ record { text = take (n - 16) new; saved = saved }
+-- the first piece of n bytes, in a buffer whose front was saved
+pub first_saved : (key : Bytes) (i n : ℕ) {end len : ℕ} {bytes : Bytes} (piece new rest : Bytes) {saved : Saved}
+    → bytes ≡ piece ++ rest → length piece ≡ sealed_chunk_size → n ≤ length bytes → length new ≡ length piece
+    → end ≡ min n sealed_chunk_size → len ≡ end - 16
+    → part key i (nat_le n sealed_chunk_size) (take end piece) ≡ record { text = take (end - 16) new; saved = saved }
     → first_part key i (take n bytes) ≡ record { text = take len (new ++ rest); saved = saved }
-first_last key i {n} {bytes} piece new rest {saved} is whole le same wide found =
-    let cut : take n bytes ≡ take n piece = ap (take n) is ∙ take-append-le n piece rest (omega arith) in
-    let l : length (take n bytes) ≡ n = ap length cut ∙ length-take-le n piece (omega arith) in
-    ap (λ b. part key i b (take sealed_chunk_size (take n bytes))) (le-leb (length (take n bytes)) sealed_chunk_size
-    (omega arith))
-    ∙ ap (part key i true) (take_all sealed_chunk_size (take n bytes) (omega arith) ∙ cut) ∙ found
-    ∙ ap (λ t. record { text = t; saved = saved }) (sym (take-append-le (n - 16) new rest (omega arith)))
-    ∙ ap (λ k. record { text = take k (new ++ rest); saved = saved }) (sym wide)
-
--- the same with a byte after it
-pub first_more : (key : Bytes) (i n : ℕ) (bytes piece new rest : Bytes) (saved : Saved) → bytes ≡ piece ++ rest
-    → length piece ≡ sealed_chunk_size → length bytes ≡ chunk_buf_size → sealed_chunk_size < n → n ≤ chunk_buf_size
-    → length new ≡ length piece
-    → part key i false (take sealed_chunk_size piece) ≡ record { text = take chunk_size new; saved = saved }
-    → first_part key i (take n bytes) ≡ record { text = take chunk_size (new ++ rest); saved = saved }
-first_more key i n bytes piece new rest saved is whole size lt le same found =
-    let all : take n bytes ≡ bytes = take_all n bytes (omega arith) in
-    ap (first_part key i) all
-    ∙ ap (λ b. part key i b (take sealed_chunk_size bytes)) (lt-leb (length bytes) sealed_chunk_size (omega arith))
-    ∙ ap (part key i false) (ap (take sealed_chunk_size) is ∙ take-append-le sealed_chunk_size piece rest (omega arith))
-    ∙ found
-    ∙ ap (λ t. record { text = t; saved = saved }) (sym (take-append-le chunk_size new rest (omega arith)))
+first_saved key i n {end} {bytes} piece new rest {saved} is whole le same least text found =
+    ap (λ k. part key i (nat_le k sealed_chunk_size) (take sealed_chunk_size (take n bytes)))
+    (length-take-le n bytes le)
+    ∙ ap (part key i (nat_le n sealed_chunk_size)) (take_most sealed_chunk_size n bytes
+    ∙ ap (λ k. take k bytes) (sym least) ∙ ap (take end) is ∙ take-append-le end piece rest (omega arith))
+    ∙ found ∙ ap (λ t. record { text = t; saved = saved })
+    (sym (take-append-le (end - 16) new rest (omega arith)) ∙ ap (λ k. take k (new ++ rest)) (sym text))
 
 -- what follows the piece is as it was
 pub first_rest : (bytes piece new rest : Bytes) → bytes ≡ piece ++ rest → length piece ≡ sealed_chunk_size
@@ -289,6 +223,13 @@ loss_len Chunk lost = omega arith
 loss_len LastChunk lost = omega arith
 loss_len Nothing lost = omega arith
 
+losses_next : (done : List Part) (s : Salvaged) (y : Part) → s.bytes ≡ length (salvaged_text done)
+    → s.chunks ≡ length done → losses 0 0 (done ++ y ∷ [])
+    ≡ losses 0 0 done ++ loss y.saved (record { chunk = s.chunks; start = s.bytes; len = length y.text })
+losses_next done s y bytes chunks = losses_snoc 0 0 done y ∙ ap (λ t. losses 0 0 done ++ t)
+    (lost_at y.saved (0 + length done) s.chunks (0 + length (salvaged_text done)) s.bytes (length y.text) (omega arith)
+    (omega arith))
+
 -- the summary of the parts so far and one more
 snoc_summary : (done : List Part) (s : Salvaged) (y : Part) → s.bytes ≡ length (salvaged_text done)
     → s.chunks ≡ length done → s.lost ≡ length (losses 0 0 done)
@@ -298,259 +239,175 @@ snoc_summary done s y bytes chunks lost =
     let text : length (salvaged_text (done ++ y ∷ [])) ≡ length (salvaged_text done) + length y.text =
     ap length (salvaged_snoc done y) ∙ length-append (salvaged_text done) y.text in
     let all : losses 0 0 (done ++ y ∷ []) ≡ losses 0 0 done ++ one =
-    losses_snoc 0 0 done y ∙ ap (λ t. losses 0 0 done ++ t)
-    (lost_at y.saved (0 + length done) s.chunks (0 + length (salvaged_text done)) s.bytes (length y.text) (omega arith)
-    (omega arith)) in
+    losses_next done s y bytes chunks in
     let count : length (losses 0 0 (done ++ y ∷ [])) ≡ length (losses 0 0 done) + length one =
     ap length all ∙ length-append (losses 0 0 done) one in
     let b : s.bytes + length y.text ≡ length (salvaged_text (done ++ y ∷ [])) = omega arith in
     let n : s.chunks + 1 ≡ length (done ++ y ∷ []) = omega (arith, length-append done (y ∷ [])) in
     let m : s.lost + length one ≡ length (losses 0 0 (done ++ y ∷ [])) = omega arith in
-    same b n m (sym (last_snoc done y))
-  where
-    same : {a b c d e f : ℕ} {g h : Saved} → a ≡ b → c ≡ d → e ≡ f → g ≡ h
-        → ◌≡◌ {A = Salvaged} (record { bytes = a; chunks = c; lost = e; last = g })
-        (record { bytes = b; chunks = d; lost = f; last = h })
-    same p q r t = cc
-
--- the piece that was read: what was held, and what the source then gave
-abbrev pub read_bytes : (held : Bytes) (n : ℕ) (after : Bytes) (now next : Seen)
-    → ReadsAhead held n after (flow now next) → Bytes
-read_bytes held n after now next r = held ++ r.given
-
--- the whole text of the parts so far, the next and those that follow
-text_next : (done more : List Part) (y : Part)
-    → salvaged_text (done ++ y ∷ more) ≡ salvaged_text done ++ (y.text ++ salvaged_text more)
-text_next done more y = salvaged_append done (y ∷ more)
+    let last = last_snoc done y in
+    cc
 
 -- ---- the ends
 
--- there is a piece more than are allowed
-pub saves_many : {key : Bytes} {max : ℕ} {s : Salvaged} {ahead : Bytes} {from now : Seen} {old new : Known}
-    {before after : KnownLosses} → Salvaging key s ahead from now old new before after → s.chunks ≡ max
-    → OfGiven (flow from now)
-    (λ rest. SavesParts max (parts key 0 (pieces rest)) (move_of old new) (losses_of before after) (Err TooManyChunks))
-saves_many {key} {max} {s} {ahead} {from} {now} {old} {new} {before} {after} o full =
-    of_more o.gave (λ d end.
-    let more : List Part = parts key s.chunks (pieces (ahead ++ d)) in
-    let some : 0 < length more = parts_some key s.chunks (ahead ++ d) in
-    let len : length (parts key 0 (pieces (o.given ++ d))) ≡ length o.done + length more =
-    ap length (o.reads d) ∙ length-append o.done more in
-    let first : take max (parts key 0 (pieces (o.given ++ d))) ≡ o.done =
-    ap (take max) (o.reads d) ∙ take_at o.done more max (omega (arith, o.chunks)) in (
-      omega (arith, o.chunks),
-      (
-        subst (λ x. Appends old new (salvaged_text x)) (sym first) o.written,
-        subst (λ x. Reports (losses_of before after) (losses 0 0 x)) (sym first) o.reported,
-      ),
-    ))
+module _ {key : Bytes} {s : Salvaged} {ahead : Bytes} {from now : Seen} {old new : Known}
+    {before after : KnownLosses} (o : Salvaging key s ahead from now old new before after) where
+  first_parts : (d : Bytes) → take s.chunks (parts key 0 (pieces (o.given ++ d))) ≡ o.done
+  first_parts d = ap (take s.chunks) (o.reads d)
+      ∙ take_at o.done (parts key s.chunks (pieces (ahead ++ d))) s.chunks (omega (arith, o.chunks))
 
--- a read failed
-pub saves_read : {key : Bytes} (max : ℕ) {s : Salvaged} {ahead : Bytes} {from now next : Seen} {old new : Known}
-    {before after : KnownLosses} → Salvaging key s ahead from now old new before after → GaveSome (flow now next)
-    → OfGiven (flow from next)
-    (λ rest. SavesParts max (parts key 0 (pieces rest)) (move_of old new) (losses_of before after) (Err Read))
-saves_read {key} max {s} {ahead} {from} {now} {next} {old} {new} {before} {after} o some =
-    of_then o.gave (of_any some so) (λ d h. h)
-  where
-    so : (d : Bytes) → SavesParts max (parts key 0 (pieces (o.given ++ d))) (move_of old new) (losses_of before after)
-        (Err Read)
-    so d =
-        let more : List Part = parts key s.chunks (pieces (ahead ++ d)) in
-        let first : take s.chunks (parts key 0 (pieces (o.given ++ d))) ≡ o.done =
-        ap (take s.chunks) (o.reads d) ∙ take_at o.done more s.chunks (omega (arith, o.chunks)) in (
+  -- there is a piece more than are allowed
+  pub saves_many : {max : ℕ} → s.chunks ≡ max → OfGiven (flow from now)
+      (λ rest. SavesParts max (parts key 0 (pieces rest)) (move_of old new) (losses_of before after)
+      (Err TooManyChunks))
+  saves_many full = rw (← full) (of_more o.gave (λ d end.
+      let more : List Part = parts key s.chunks (pieces (ahead ++ d)) in
+      let some : 0 < length more = parts_some key s.chunks (ahead ++ d) in (
+        omega (arith, ap length (o.reads d), length-append o.done more, o.chunks),
+        rw (first_parts d) (o.written, o.reported),
+      )))
+
+  -- there the pieces that are allowed were read, and one byte
+  pub ends_many : {max : ℕ} → s.chunks ≡ max → EndsAt max 0 (flow from now) (move_of old new) TooManyChunks
+  ends_many full = record {
+    piece = s.chunks;
+    text = salvaged_text o.done;
+    written = o.written;
+    at = inr full;
+    gave = (o.given, o.gave, omega (arith, o.read, o.short));
+  }
+
+  -- a read failed
+  pub saves_read : (max : ℕ) {next : Seen} → GaveSome (flow now next) → OfGiven (flow from next)
+      (λ rest. SavesParts max (parts key 0 (pieces rest)) (move_of old new) (losses_of before after) (Err Read))
+  saves_read max some =
+      of_then o.gave (of_any some (λ d. (s.chunks, rw (first_parts d) (o.written, o.reported)))) (λ d h. h)
+
+-- ---- a piece more
+
+module _ {key : Bytes} {s : Salvaged} {held : Bytes} {n : ℕ} {buf : Bytes} {from now next : Seen} {old mid : Known}
+    {before said : KnownLosses} (o : Salvaging key s held from now old mid before said)
+    (r : ReadsAhead held n buf (flow now next)) (size : length buf ≡ chunk_buf_size) where
+  piece_len : length (held ++ r.given) ≡ n
+  piece_len = ap length (sym r.is) ∙ length-take-le n buf (omega (arith, r.room))
+
+  -- the piece that was read is whole, whatever comes
+  whole_piece : (d : Bytes) → (IsAtEnd next.to_come → d ≡ [])
+      → (sealed_chunk_size < length (held ++ r.given)) ⊎ (d ≡ [])
+  whole_piece d end = elim (cases_lt sealed_chunk_size n) [
+    | inl lt ↦ inl (omega (arith, piece_len))
+    | inr le ↦ inr (end (r.end (omega arith)))
+  ]
+
+  -- the parts so far, and those of this piece with what comes
+  reads_piece : (d : Bytes) → parts key 0 (pieces ((o.given ++ r.given) ++ d))
+      ≡ o.done ++ parts key s.chunks (pieces ((held ++ r.given) ++ d))
+  reads_piece d = rw (append_assoc o.given r.given d, append_assoc held r.given d) (o.reads (r.given ++ d))
+
+  -- where a write failed, its piece too
+  pub ends_write : (text : Bytes) {new : Known} → WritesPart (move_of mid new) text → (max : ℕ)
+      → EndsAt max 0 (flow from next) (move_of old new) Write
+  ends_write text {new} part max = record {
+    piece = s.chunks;
+    text = salvaged_text o.done ++ take part.0 text;
+    written = Appends-trans old mid new (salvaged_text o.done) (take part.0 text) o.written part.1;
+    at = inl (refl, omega (arith, o.full, o.bytes, length-append (salvaged_text o.done) (take part.0 text)));
+    gave = (
+      o.given ++ r.given,
+      gave_then o.gave r.gave,
+      omega (arith, o.read, r.room, piece_len, length-append held r.given, length-append o.given r.given),
+    );
+  }
+
+  module _ {y : Part} (is : first_part key s.chunks (take n buf) ≡ y) where
+    found : first_part key s.chunks (held ++ r.given) ≡ y
+    found = rw r.is at is
+
+    -- a write failed
+    pub saves_write : (max : ℕ) (new : Known) → WritesPart (move_of mid new) y.text → OfGiven (flow from next)
+        (λ rest. SavesParts max (parts key 0 (pieces rest)) (move_of old new) (losses_of before said) (Err Write))
+    saves_write max new wrote = of_more (gave_then o.gave r.gave) (λ d end.
+        let (more, first) = parts_first key s.chunks (held ++ r.given) d (whole_piece d end) in
+        let all : parts key 0 (pieces ((o.given ++ r.given) ++ d)) ≡ o.done ++ y ∷ more =
+        reads_piece d ∙ ap (λ ps. o.done ++ ps) (first ∙ ap (λ p. p ∷ more) found) in (
           s.chunks,
-          (
-            subst (λ x. Appends old new (salvaged_text x)) (sym first) o.written,
-            subst (λ x. Reports (losses_of before after) (losses 0 0 x)) (sym first) o.reported,
-          ),
-        )
+          rw (all, salvaged_append o.done (y ∷ more)) (done_part new y.text (salvaged_text more)
+              (record { prefix = salvaged_text o.done; took = o.written; is = refl }) refl wrote),
+          rw (all, take_at o.done (y ∷ more) s.chunks (omega (arith, o.chunks))) o.reported,
+        ))
 
--- there the pieces that are allowed were read, and one byte
-pub ends_many : {key : Bytes} {max : ℕ} {s : Salvaged} {ahead : Bytes} {from now : Seen} {old new : Known}
-    {before after : KnownLosses} → Salvaging key s ahead from now old new before after → s.chunks ≡ max
-    → EndsAt max 0 (flow from now) (move_of old new) TooManyChunks
-ends_many {s} o full = record {
-  piece = s.chunks;
-  text = salvaged_text o.done;
-  written = o.written;
-  at = inr full;
-  gave = (o.given, o.gave, omega (arith, o.read, o.short));
-}
+    -- it was saved, and reported if it is lost
+    module _ {t : Salvaged} (new : Known) (after : KnownLosses) {len : ℕ} (wide : length y.text ≡ len)
+        (put : Appends mid new y.text)
+        (lost : Reports (losses_of said after) (loss y.saved (record { chunk = s.chunks; start = s.bytes; len = len })))
+        (sum : t ≡ with_part s len y.saved) where
+      written_next : Appends old new (salvaged_text (o.done ++ y ∷ []))
+      written_next = rw (salvaged_snoc o.done y)
+          (Appends-trans old mid new (salvaged_text o.done) y.text o.written put)
 
--- where a write failed, its piece too
-pub ends_write : {key : Bytes} {max : ℕ} {s : Salvaged} {held : Bytes} {n : ℕ} {buf : Bytes} (text : Bytes)
-    {from now next : Seen} {old mid new : Known} {before after : KnownLosses}
-    → Salvaging key s held from now old mid before after → (r : ReadsAhead held n buf (flow now next))
-    → length buf ≡ chunk_buf_size → WritesPart (move_of mid new) text
-    → EndsAt max 0 (flow from next) (move_of old new) Write
-ends_write {s} {held} {n} {buf} text {from} {now} {next} {old} {mid} {new} o r size part =
-    let l : length (held ++ r.given) ≡ n = ap length (sym r.is) ∙ length-take-le n buf (omega (arith, r.room)) in
-    record {
-      piece = s.chunks;
-      text = salvaged_text o.done ++ take part.0 text;
-      written = Appends-trans old mid new (salvaged_text o.done) (take part.0 text) o.written part.1;
-      at = inl
-          (refl, omega (arith, o.full, o.bytes, length-append (salvaged_text o.done) (take part.0 text)));
-      gave = (
-        o.given ++ r.given,
-        gave_then o.gave r.gave,
-        omega (arith, o.read, r.room, length-append held r.given, length-append o.given r.given),
-      );
-    }
+      reported_next : Reports (losses_of before after) (losses 0 0 (o.done ++ y ∷ []))
+      reported_next = rw (losses_next o.done s y o.bytes o.chunks, wide)
+          (reports_then before said after (losses 0 0 o.done) (loss y.saved _) o.reported lost)
 
--- the piece that was read is whole, whatever comes
-whole_piece : (held : Bytes) (n : ℕ) (buf : Bytes) (now next : Seen) (r : ReadsAhead held n buf (flow now next))
-    → length buf ≡ chunk_buf_size → (d : Bytes) → (IsAtEnd next.to_come → d ≡ [])
-    → (sealed_chunk_size < length (held ++ r.given)) ⊎ (d ≡ [])
-whole_piece held n buf now next r size d end =
-    let l : length (held ++ r.given) ≡ n = ap length (sym r.is) ∙ length-take-le n buf (omega (arith, r.room)) in
-    elim (cases_lt sealed_chunk_size n) [
-      | inl lt ↦ inl (omega arith)
-      | inr le ↦ inr (end (r.end (omega arith)))
-    ]
+      summed : t ≡ summary (o.done ++ y ∷ [])
+      summed = rw (sum, ← wide) (snoc_summary o.done s y o.bytes o.chunks o.lost)
 
--- a write failed
-pub saves_write : {key : Bytes} (max : ℕ) {s : Salvaged} {held : Bytes} {n : ℕ} {buf : Bytes} {y : Part}
-    {from now next : Seen} {old mid : Known} (new : Known) {before after : KnownLosses}
-    → Salvaging key s held from now old mid before after → (r : ReadsAhead held n buf (flow now next))
-    → length buf ≡ chunk_buf_size
-    → first_part key s.chunks (take n buf) ≡ y → WritesPart (move_of mid new) y.text
-    → OfGiven (flow from next)
-    (λ rest. SavesParts max (parts key 0 (pieces rest)) (move_of old new) (losses_of before after) (Err Write))
-saves_write {key} max {s} {held} {n} {buf} {y} {from} {now} {next} {old} {mid} new {before} {after} o r size is part =
-    of_more (gave_then o.gave r.gave) (λ d end.
-    let c : Bytes = held ++ r.given in
-    let p : first_part key s.chunks c ≡ y = ap (first_part key s.chunks) (sym r.is) ∙ is in
-    let next_part = parts_first key s.chunks c d (whole_piece held n buf now next r size d end) in
-    let more : List Part = next_part.0 in
-    let all : parts key 0 (pieces ((o.given ++ r.given) ++ d)) ≡ o.done ++ y ∷ more =
-    ap (λ t. parts key 0 (pieces t)) (append_assoc o.given r.given d) ∙ o.reads (r.given ++ d)
-    ∙ ap (λ t. o.done ++ parts key s.chunks (pieces t)) (sym (append_assoc held r.given d))
-    ∙ ap (λ t. o.done ++ t) next_part.1 ∙ ap (λ x. o.done ++ x ∷ more) p in
-    let text : salvaged_text (parts key 0 (pieces ((o.given ++ r.given) ++ d)))
-    ≡ salvaged_text o.done ++ (y.text ++ salvaged_text more) =
-    ap salvaged_text all ∙ text_next o.done more y in
-    let first : take s.chunks (parts key 0 (pieces ((o.given ++ r.given) ++ d))) ≡ o.done =
-    ap (take s.chunks) all ∙ take_at o.done (y ∷ more) s.chunks (omega (arith, o.chunks)) in (
-      s.chunks,
-      done_part new y.text (salvaged_text more)
-          (record { prefix = salvaged_text o.done; took = o.written; is = text }) refl part,
-      subst (λ x. Reports (losses_of before after) (losses 0 0 x)) (sym first) o.reported,
-    ))
+      -- the last piece was saved
+      pub saves_last : {max : ℕ} → n ≤ sealed_chunk_size → s.chunks < max → OfGiven (flow from next)
+          (λ rest. SavesParts max (parts key 0 (pieces rest)) (move_of old new) (losses_of before after) (Ok t))
+      saves_last low within =
+          let count : length (o.done ++ y ∷ []) ≡ length o.done + 1 = length-append o.done (y ∷ []) in
+          of_ended (gave_then o.gave r.gave) (r.end (omega arith))
+          (rw (o.reads r.given, parts_last key s.chunks (held ++ r.given) (omega (arith, piece_len)), found) (
+            omega (arith, o.chunks),
+            rw (take_all (length (o.done ++ y ∷ [])) (o.done ++ y ∷ []) (omega arith)) (written_next, reported_next),
+            summed,
+          ))
 
--- one part more was written, and reported if it is lost
-after_part : (done : List Part) (y : Part) (s : Salvaged) (old mid new : Known) (before now after : KnownLosses)
-    → s.bytes ≡ length (salvaged_text done) → s.chunks ≡ length done
-    → Appends old mid (salvaged_text done) → Appends mid new y.text
-    → Reports (losses_of before now) (losses 0 0 done)
-    → Reports (losses_of now after) (loss y.saved (record { chunk = s.chunks; start = s.bytes; len = length y.text }))
-    → Appends old new (salvaged_text (done ++ y ∷ [])) × Reports (losses_of before after) (losses 0 0 (done ++ y ∷ []))
-after_part done y s old mid new before now after bytes chunks put more said one = (
-  subst (Appends old new) (sym (salvaged_snoc done y)) (Appends-trans old mid new (salvaged_text done) y.text put more),
-  subst (Reports (losses_of before after)) (sym (losses_snoc 0 0 done y ∙ ap (λ t. losses 0 0 done ++ t)
-      (lost_at y.saved (0 + length done) s.chunks (0 + length (salvaged_text done)) s.bytes (length y.text)
-      (omega arith)
-      (omega arith))))
-      (search (reports_then, said, one)),
-)
-
--- the last piece was saved
-pub saves_last : {key : Bytes} {max : ℕ} {s t : Salvaged} {held : Bytes} {n : ℕ} {buf : Bytes} {y : Part}
-    {from now next : Seen} {old mid : Known} (new : Known) {before said : KnownLosses} (after : KnownLosses) {len : ℕ}
-    → Salvaging key s held from now old mid before said → (r : ReadsAhead held n buf (flow now next))
-    → length buf ≡ chunk_buf_size → n ≤ sealed_chunk_size → s.chunks < max → length y.text ≡ len
-    → first_part key s.chunks (take n buf) ≡ y → Appends mid new y.text
-    → Reports (losses_of said after) (loss y.saved (record { chunk = s.chunks; start = s.bytes; len = len }))
-    → t ≡ with_part s len y.saved
-    → OfGiven (flow from next)
-    (λ rest. SavesParts max (parts key 0 (pieces rest)) (move_of old new) (losses_of before after) (Ok t))
-saves_last {key} {max} {s} {t} {held} {n} {buf} {y} {from} {now} {next} {old} {mid} new {before} {said} after
-    {len} o r size low within wide is put
-    lost sum =
-    let one : Reports (losses_of said after)
-    (loss y.saved (record { chunk = s.chunks; start = s.bytes; len = length y.text })) = subst
-    (λ k. Reports (losses_of said after) (loss y.saved (record { chunk = s.chunks; start = s.bytes; len = k })))
-    (sym wide)
-    lost in
-    let c : Bytes = held ++ r.given in
-    let l : length c ≡ n = ap length (sym r.is) ∙ length-take-le n buf (omega (arith, r.room)) in
-    let all : parts key 0 (pieces (o.given ++ r.given)) ≡ o.done ++ y ∷ [] = o.reads r.given
-    ∙ ap (λ t. o.done ++ t) (parts_last key s.chunks c (omega arith))
-    ∙ ap (λ x. o.done ++ x ∷ []) (ap (first_part key s.chunks) (sym r.is) ∙ is) in
-    let count : length (o.done ++ y ∷ []) ≡ length o.done + 1 = length-append o.done (y ∷ []) in
-    let w = after_part o.done y s old mid new before said after o.bytes o.chunks o.written put o.reported one in
-    let whole : take (length (o.done ++ y ∷ [])) (o.done ++ y ∷ []) ≡ o.done ++ y ∷ [] =
-    take_all (length (o.done ++ y ∷ [])) (o.done ++ y ∷ []) (omega arith) in
-    of_ended (gave_then o.gave r.gave) (r.end (omega arith))
-    (subst (λ ps. SavesParts max ps (move_of old new) (losses_of before after) (Ok t)) (sym all) (
-      omega (arith, o.chunks, within),
-      (
-        subst (λ x. Appends old new (salvaged_text x)) (sym whole) w.0,
-        subst (λ x. Reports (losses_of before after) (losses 0 0 x)) (sym whole) w.1,
-      ),
-      sum ∙ ap (λ k. with_part s k y.saved) (sym wide) ∙ snoc_summary o.done s y o.bytes o.chunks o.lost,
-    ))
-
--- a piece with more after it was saved
-pub salvaging_more : {key : Bytes} {s t : Salvaged} {held ahead : Bytes} {n : ℕ} {buf : Bytes} {y : Part}
-    {from now next : Seen} {old mid new : Known} {before said after : KnownLosses} {len : ℕ}
-    → Salvaging key s held from now old mid before said → (r : ReadsAhead held n buf (flow now next))
-    → length buf ≡ chunk_buf_size → sealed_chunk_size < n → len ≡ chunk_size → length y.text ≡ len
-    → first_part key s.chunks (take n buf) ≡ y → Appends mid new y.text
-    → Reports (losses_of said after) (loss y.saved (record { chunk = s.chunks; start = s.bytes; len = len }))
-    → t ≡ with_part s len y.saved → ahead ≡ drop sealed_chunk_size buf
-    → Salvaging key t ahead from next old new before after
-salvaging_more {key} {s} {t} {held} {ahead} {n} {buf} {y} {from} {now} {next} {old} {mid} {new} {before} {said} {after}
-    {len} o r size high whole wide is
-    put loses counts rest =
-    let one : Reports (losses_of said after)
-    (loss y.saved (record { chunk = s.chunks; start = s.bytes; len = length y.text })) = subst
-    (λ k. Reports (losses_of said after) (loss y.saved (record { chunk = s.chunks; start = s.bytes; len = k })))
-    (sym wide)
-    loses in
-    let sum : t ≡ with_part s (length y.text) y.saved = counts ∙ ap (λ k. with_part s k y.saved) (sym wide) in
-    let c : Bytes = held ++ r.given in
-    let l : length c ≡ n = ap length (sym r.is) ∙ length-take-le n buf (omega (arith, r.room)) in
-    let full : buf ≡ c = sym (take_all n buf (omega arith)) ∙ r.is in
-    let tail : drop sealed_chunk_size c ≡ ahead = ap (drop sealed_chunk_size) (sym full) ∙ sym rest in
-    let one_ahead : length ahead ≡ length c - sealed_chunk_size =
-    ap length (sym tail) ∙ length-drop sealed_chunk_size c in
-    let both : length c ≡ length held + length r.given = length-append held r.given in
-    let given : length (o.given ++ r.given) ≡ length o.given + length r.given = length-append o.given r.given in
-    let p : first_part key s.chunks c ≡ y = ap (first_part key s.chunks) (sym r.is) ∙ is in
-    let w = after_part o.done y s old mid new before said after o.bytes o.chunks o.written put o.reported one in
-    let all : with_part s (length y.text) y.saved ≡ summary (o.done ++ y ∷ []) =
-    snoc_summary o.done s y o.bytes o.chunks o.lost in
-    let k : t.chunks ≡ s.chunks + 1 = ap (λ (x : Salvaged). x.chunks) sum in
-    let bytes : t.bytes ≡ s.bytes + length y.text = ap (λ (x : Salvaged). x.bytes) sum in
-    let lost = ap (λ (x : Salvaged). x.lost) sum in
-    record {
-      done = o.done ++ y ∷ [];
-      given = o.given ++ r.given;
-      gave = gave_then o.gave r.gave;
-      reads = λ d. ap (λ t. parts key 0 (pieces t)) (append_assoc o.given r.given d) ∙ o.reads (r.given ++ d)
-          ∙ ap (λ t. o.done ++ parts key s.chunks (pieces t)) (sym (append_assoc held r.given d))
-          ∙ ap (λ t. o.done ++ t) (parts_next key s.chunks c d (omega arith))
-          ∙ ap (λ x. o.done ++ x ∷ parts key (s.chunks + 1) (pieces (drop sealed_chunk_size c ++ d))) p
-          ∙ ap (λ j. o.done ++ y ∷ parts key j (pieces (drop sealed_chunk_size c ++ d))) (sym k)
-          ∙ ap (λ t2. o.done ++ y ∷ parts key t.chunks (pieces (t2 ++ d))) tail
-          ∙ sym (append_assoc o.done (y ∷ []) (parts key t.chunks (pieces (ahead ++ d))));
-      written = w.0;
-      reported = w.1;
-      bytes = ap (λ (x : Salvaged). x.bytes) (sum ∙ all);
-      chunks = ap (λ (x : Salvaged). x.chunks) (sum ∙ all);
-      lost = ap (λ (x : Salvaged). x.lost) (sum ∙ all);
-      full = omega (arith, o.full, whole);
-      lost_bound = omega (
-        arith,
-        o.lost_bound,
-        loss_len y.saved
-            (record { chunk = s.chunks; start = s.bytes; len = length y.text }),
-      );
-      read = omega (arith, o.read, r.room);
-      short = omega (arith, r.room);
-    }
+      -- a piece with more after it was saved
+      pub salvaging_more : {ahead : Bytes} → sealed_chunk_size < n → len ≡ chunk_size
+          → ahead ≡ drop sealed_chunk_size buf
+          → Salvaging key t ahead from next old new before after
+      salvaging_more {ahead} high whole rest =
+          let c : Bytes = held ++ r.given in
+          let full : buf ≡ c = sym (take_all n buf (omega arith)) ∙ r.is in
+          let tail : ahead ≡ drop sealed_chunk_size c = rest ∙ ap (drop sealed_chunk_size) full in
+          let one_ahead : length ahead ≡ length c - sealed_chunk_size = ap length tail
+          ∙ length-drop sealed_chunk_size c in
+          let up : t.chunks ≡ s.chunks + 1 = ap (λ (x : Salvaged). x.chunks) sum in
+          let bytes = ap (λ (x : Salvaged). x.bytes) sum in
+          let counted = ap (λ (x : Salvaged). x.lost) sum in
+          record {
+            done = o.done ++ y ∷ [];
+            given = o.given ++ r.given;
+            gave = gave_then o.gave r.gave;
+            reads = λ d. reads_piece d
+                ∙ ap (λ ps. o.done ++ ps) (parts_next key s.chunks c d (omega (arith, piece_len)))
+                ∙ rw (found, tail, up, append_assoc o.done (y ∷ []) _);
+            written = written_next;
+            reported = reported_next;
+            bytes = ap (λ (x : Salvaged). x.bytes) summed;
+            chunks = ap (λ (x : Salvaged). x.chunks) summed;
+            lost = ap (λ (x : Salvaged). x.lost) summed;
+            full = omega (arith, o.full, whole, bytes, up);
+            lost_bound = omega (
+              arith,
+              o.lost_bound,
+              counted,
+              up,
+              loss_len y.saved (record { chunk = s.chunks; start = s.bytes; len = len }),
+            );
+            read = omega (
+              arith,
+              o.read,
+              piece_len,
+              one_ahead,
+              up,
+              length-append held r.given,
+              length-append o.given r.given,
+            );
+            short = omega (arith, piece_len, one_ahead, r.room);
+          }
 
 -- ---- a payload
 
@@ -562,12 +419,7 @@ nonce_salvages k max {from} {mid} old lost Read h =
     of_any h (λ c. (0, (Appends-nil old, reports_none lost)))
 nonce_salvages k max {from} {mid} old lost NonceTruncated h =
     of_map h.1 (λ c less. (less, (Appends-nil old, reports_none lost)))
-nonce_salvages k max {from} {mid} old lost (ChunkShort i) h = absurd (cc)
-nonce_salvages k max {from} {mid} old lost (EmptyFinal i) h = absurd (cc)
-nonce_salvages k max {from} {mid} old lost (BadChunk i) h = absurd (cc)
-nonce_salvages k max {from} {mid} old lost TooManyChunks h = absurd (cc)
-nonce_salvages k max {from} {mid} old lost Write h = absurd (cc)
-nonce_salvages k max {from} {mid} old lost Memory h = absurd (cc)
+nonce_salvages k max old lost fault h = absurd (cc)
 
 -- what was read with the nonce
 with_nonce : (max : ℕ) (nonce : Bytes) (from mid to : Seen) (old new : Known) (fault : StreamFault)
@@ -613,11 +465,7 @@ pub nonce_ends : (max : ℕ) (from mid : Seen) (old : Known) (fault : StreamFaul
 nonce_ends max from mid old Read h = tt
 nonce_ends max from mid old NonceTruncated h = tt
 nonce_ends max from mid old Memory h = tt
-nonce_ends max from mid old (ChunkShort i) h = absurd (cc)
-nonce_ends max from mid old (EmptyFinal i) h = absurd (cc)
-nonce_ends max from mid old (BadChunk i) h = absurd (cc)
-nonce_ends max from mid old TooManyChunks h = absurd (cc)
-nonce_ends max from mid old Write h = absurd (cc)
+nonce_ends max from mid old fault h = absurd (cc)
 
 -- the nonce, then the pieces
 pub payload_salvages : (k : FileKey) (max : ℕ) {nonce key : Bytes} {from mid to : Seen} (old new : Known)
@@ -629,13 +477,9 @@ pub payload_salvages : (k : FileKey) (max : ℕ) {nonce key : Bytes} {from mid t
 payload_salvages k max {nonce} {key} {from} {mid} {to} old new before after r gave size is h =
     of_then gave h (λ c s.
     let l : length (nonce ++ c) ≡ length nonce + length c = length-append nonce c in
-    let done : take 16 (nonce ++ c) ≡ nonce = take_at nonce c 16 size in
-    let back : drop 16 (nonce ++ c) ≡ c = drop_at nonce c 16 size in
     let same : parts key 0 (pieces c) ≡ payload_parts k (nonce ++ c) =
-    ap (λ x. parts x 0 (pieces c)) (is ∙ ap (payload_key k) (sym done))
-    ∙ ap (λ x. parts (payload_key k (take 16 (nonce ++ c))) 0 (pieces x)) (sym back) in
-    whole (nonce ++ c) (omega arith) r
-    (subst (λ ps. SavesParts max ps (move_of old new) (losses_of before after) r) same s))
+    rw (take_at nonce c 16 size, drop_at nonce c 16 size, is) in
+    whole (nonce ++ c) (omega arith) r (rw same at s))
   where
     whole : (c : Bytes) → 16 ≤ length c → (q : Result Salvaged StreamFault)
         → SavesParts max (payload_parts k c) (move_of old new) (losses_of before after) q
@@ -644,8 +488,4 @@ payload_salvages k max {nonce} {key} {from} {mid} {to} old new before after r ga
     whole c long (Err Read) s = s
     whole c long (Err Write) s = (long, s)
     whole c long (Err TooManyChunks) s = (long, s)
-    whole c long (Err NonceTruncated) s = absurd s
-    whole c long (Err Memory) s = absurd s
-    whole c long (Err (ChunkShort i)) s = absurd s
-    whole c long (Err (EmptyFinal i)) s = absurd s
-    whole c long (Err (BadChunk i)) s = absurd s
+    whole c long (Err fault) s = absurd s

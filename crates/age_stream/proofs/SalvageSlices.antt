@@ -1,22 +1,18 @@
 -- What is saved stands at its offset.
-use Rattle.std.proofs.Common.{◌≡◌, ◌∙◌, ◌++◌, ◌∷◌, ◌+◌, ◌-◌, ◌*◌, ◌/◌, ◌%◌, ◌<◌, ◌≤◌, ℕ, List, [], length, take, drop, get_or, slice_get, slice_index, min, ap, sym, arith, refl, subst, Bool, false, not, inl, inr, None, Some, zero, suc}
+use Rattle.std.proofs.Common.{◌≡◌, ◌∙◌, ◌++◌, ◌∷◌, ◌+◌, ◌-◌, ◌*◌, ◌/◌, ◌%◌, ◌<◌, ℕ, List, [], length, take, drop, get_or, slice_get, slice_index, ap, sym, arith, refl, subst, Bool, false, not, None, Some, zero, suc}
 use Rattle.std.specs.List.{sum_by}
-use Rattle.std.proofs.lemmas.Bool.{cases_lt}
 use Rattle.std.proofs.lemmas.Option.{none-some, get_or_from_slice_get, slice_get_within}
-use Rattle.std.proofs.lemmas.List.{length-append, length-drop, length-take, length-replicate, get_or-take, get_or-drop, ext_get_or, get_or_append_left, get_or-append-add}
+use Rattle.std.proofs.lemmas.List.{length-append, length-replicate, get_or_append_left, get_or-append-add}
 use Rattle.std.proofs.lemmas.List.Sums.{sum_by-cons}
-use Rattle.age_kdf.specs.Bytes.{Bytes}
-use Rattle.age_header.specs.Device.{Known}
+use Rattle.age_stream.specs.Words.{Bytes, Known, FileKey, chunk_size, sealed_chunk_size}
 use Rattle.age_cipher.proofs.OpeningLemmas.{length-sealed_text, opened_is}
-use Rattle.age_header.specs.declared.file_key.FileKey.{FileKey}
-use Rattle.age_stream.specs.Cutting.{IsFilled}
 use Rattle.age_stream.specs.Payload.{chunk_nonce, is_end, payload_key, pieces}
 use Rattle.age_stream.specs.Reading.{piece_opening}
 use Rattle.age_stream.specs.Salvage.{Part, lost_part, opening_or, part, parts, payload_parts, salvaged_text}
 use Rattle.age_stream.specs.Slice.{IsSlice, opening, openings}
-use Rattle.age_stream.specs.Sizes.{chunk_size, sealed_chunk_size}
-use Rattle.age_stream.proofs.CuttingLemmas.{is_cut}
+use Rattle.age_stream.proofs.CuttingLemmas.{AtMost, cut_at_most}
 use Rattle.age_stream.proofs.SalvageLemmas.{part-opened}
+use Rattle.age_stream.proofs.SliceLemmas.{slice_of}
 
 opened_has_len : (key : Bytes) (i : ℕ) (last : Bool) (c t : Bytes) → piece_opening key i last c ≡ Some t
     → length t ≡ length c - 16
@@ -45,35 +41,20 @@ salvaged_len key i [] = refl
 salvaged_len key i (c ∷ cs) =
     let text : Bytes = (part key i (is_end cs) c).text in
     let rest : Bytes = salvaged_text (parts key (i + 1) cs) in
-    let sum : sum_by (λ piece. length piece - 16) (c ∷ cs)
-    ≡ (length c - 16) + sum_by (λ piece. length piece - 16) cs = sum_by-cons (λ piece. length piece - 16) c cs in
-    let here : length text ≡ length c - 16 = part_len key i (is_end cs) c in
-    let there : length rest ≡ sum_by (λ piece. length piece - 16) cs = salvaged_len key (i + 1) cs in
-    omega (arith, length-append text rest, sum, here, there)
-
--- each piece but the last is full
-abbrev pub AllFull : List Bytes → Type 0
-AllFull [] = Unit {0}
-AllFull (c ∷ []) = Unit {0}
-AllFull (c ∷ d ∷ more) = (length c ≡ sealed_chunk_size) × AllFull (d ∷ more)
-
-full_filled : (cs : List Bytes) → IsFilled sealed_chunk_size cs → AllFull cs
-full_filled [] h = tt
-full_filled (c ∷ []) h = tt
-full_filled (c ∷ d ∷ more) h = (h.0, full_filled (d ∷ more) h.1)
-
-full_pieces : (rest : Bytes) → AllFull (pieces rest)
-full_pieces rest = elim (is_cut sealed_chunk_size rest (omega arith)).sizes [
-  | inl one ↦ subst AllFull (sym one) tt
-  | inr filled ↦ full_filled (pieces rest) filled
-]
+    omega (
+      arith,
+      length-append text rest,
+      sum_by-cons (λ piece. length piece - 16) c cs,
+      part_len key i (is_end cs) c,
+      salvaged_len key (i + 1) cs,
+    )
 
 -- byte r of what the piece with number n from here opens to, in what is saved
 record IsSavedAt (all text : Bytes) (n r : ℕ) : Type 0 where
   pub within : chunk_size * n + r < length all
   pub is : get_or all (chunk_size * n + r) 0 ≡ get_or text r 0
 
-saved_at : (key : Bytes) (i n r : ℕ) (cs : List Bytes) (text : Bytes) → AllFull cs
+saved_at : (key : Bytes) (i n r : ℕ) (cs : List Bytes) (text : Bytes) → AtMost sealed_chunk_size cs
     → get_or (openings key i cs) n None ≡ Some text → r < length text
     → IsSavedAt (salvaged_text (parts key i cs)) text n r
 saved_at key i n r [] text full is lt = absurd (none-some text is)
@@ -109,7 +90,8 @@ byte_saved : (key rest text : Bytes) (x v : ℕ) → opening key rest (x / chunk
 byte_saved key rest text x v opens at =
     let r : ℕ = x % chunk_size in
     let n : ℕ = x / chunk_size in
-    let h = saved_at key 0 n r (pieces rest) text (full_pieces rest) opens (slice_get_within text r v at) in
+    let h = saved_at key 0 n r (pieces rest) text (cut_at_most sealed_chunk_size rest (omega arith)) opens
+    (slice_get_within text r v at) in
     let sum : chunk_size * n + r ≡ x = omega arith in (
       omega (arith, h.within, sum),
       sym (get_or_from_slice_get text r v 0 at) ∙ sym h.is
@@ -119,22 +101,6 @@ byte_saved key rest text x v opens at =
 pub slice_saved : (k : FileKey) (text xs : Bytes) (at : ℕ)
     → IsSlice (payload_key k (take 16 text)) (drop 16 text) at xs
     → xs ≡ take (length xs) (drop at (salvaged_text (payload_parts k text)))
-slice_saved k text xs at s =
-    let key : Bytes = payload_key k (take 16 text) in
-    let rest : Bytes = drop 16 text in
-    let p : Bytes = salvaged_text (parts key 0 (pieces rest)) in
-    let d : length (drop at p) ≡ length p - at = length-drop at p in
-    let t : length (take (length xs) (drop at p)) ≡ min (length xs) (length (drop at p)) =
-    length-take (length xs) (drop at p) in
-    let reach : length xs ≤ length p - at = elim (cases_lt 0 (length xs)) [
-      | inl some ↦
-          let k : ℕ = length xs - 1 in
-          let z = s k (omega arith) in
-          let in_p : at + k < length p = (byte_saved key rest z.0 (at + k) (slice_index xs k) z.1 z.2).0 in
-          omega arith
-      | inr none ↦ omega arith
-    ] in
-    ext_get_or 0 xs (take (length xs) (drop at p)) (omega arith) (λ k lt.
-    let z = s k lt in
-    (byte_saved key rest z.0 (at + k) (slice_index xs k) z.1 z.2).1 ∙ sym (get_or-drop at p k 0)
-    ∙ sym (get_or-take (length xs) (drop at p) k 0 lt))
+slice_saved k text xs at s = slice_of xs (salvaged_text (payload_parts k text)) at (λ j lt.
+    let z = s j lt in
+    byte_saved (payload_key k (take 16 text)) (drop 16 text) z.0 (at + j) (slice_index xs j) z.1 z.2)

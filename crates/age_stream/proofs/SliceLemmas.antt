@@ -2,44 +2,36 @@
 use Rattle.std.proofs.Common.{◌≡◌, ◌⊎◌, ℕ, List, [], ◌∷◌, ◌++◌, ◌+◌, ◌-◌, ◌*◌, ◌/◌, ◌%◌, ◌<◌, ◌≤◌, length, take, drop, get_or, slice_get, slice_index, sym, ◌∙◌, ap, arith, nat_le, inl, inr, Some, None, suc, zero}
 use Rattle.std.specs.List.{sum_by}
 use Rattle.std.proofs.lemmas.Bool.{cases_lt, le-leb, lt-leb}
-use Rattle.std.proofs.lemmas.List.{length-drop, length-append, length-take-le, take_all, drop_all, drop-drop, get_or_append_left, get_or-append-add, get_or-take, get_or-drop}
+use Rattle.std.proofs.lemmas.Bool.Decides.{nat_tests}
+use Rattle.std.proofs.lemmas.List.{length-drop, length-append, length-take-le, take_all, drop_all, drop-drop, get_or_append_left, get_or-append-add, get_or-take, get_or-drop, ext_get_or}
 use Rattle.std.proofs.lemmas.List.Sums.{sum_by-cons}
 use Rattle.std.proofs.lemmas.Option.{slice_get-get_or}
-use Rattle.age_kdf.specs.Bytes.{Bytes}
+use Rattle.age_stream.specs.Words.{Bytes, chunk_size, sealed_chunk_size}
 use Rattle.age_stream.specs.Cutting.{cut}
 use Rattle.age_stream.specs.Payload.{pieces, is_end}
 use Rattle.age_stream.specs.Reading.{piece_opening}
 use Rattle.age_stream.proofs.CuttingLemmas.{cut_last}
 use Rattle.age_stream.proofs.ReadingLemmas.{cut_step, is_end_cut}
 use Rattle.age_stream.specs.Slice.{openings, opening, plain_len, IsSlice}
-use Rattle.age_stream.specs.Sizes.{chunk_size, sealed_chunk_size}
 
 -- list i of a cut, by its offset
 pub cut_at : (size i : ℕ) (p : Bytes) → 0 < size → get_or (cut size p) i [] ≡ take size (drop (size * i) p)
-cut_at size zero p pos = elim (cases_lt size (length p)) [
-  | inl lt ↦ ap (λ cs. get_or cs 0 []) (cut_step size p pos lt) ∙ ap (λ n. take size (drop n p)) none
-  | inr ge ↦ ap (λ cs. get_or cs 0 []) (cut_last size p ge) ∙ sym (take_all size p ge)
-      ∙ ap (λ n. take size (drop n p)) none
-]
-  where
-    none : 0 ≡ size * 0
-    none = omega arith
+cut_at size zero p pos =
+    let none : size * 0 ≡ 0 = omega arith in
+    elim (cases_lt size (length p)) [
+      | inl lt ↦ rw (none, cut_step size p pos lt)
+      | inr ge ↦ rw (none, cut_last size p ge) (sym (take_all size p ge))
+    ]
 cut_at size (suc i) p pos = elim (cases_lt size (length p)) [
-  | inl lt ↦ ap (λ cs. get_or cs (suc i) []) (cut_step size p pos lt) ∙ cut_at size i (drop size p) pos
-      ∙ ap (take size) (drop-drop (size * i) size p) ∙ ap (λ n. take size (drop n p)) more
-  | inr ge ↦ ap (λ cs. get_or cs (suc i) []) (cut_last size p ge)
-      ∙ sym (take_all size [] (omega arith)) ∙ ap (take size) (sym (drop_all (size * suc i) p (omega arith)))
+  | inl lt ↦
+      let more : size + size * i ≡ size * suc i = omega arith in
+      rw (cut_step size p pos lt, ← more, ← drop-drop (size * i) size p) (cut_at size i (drop size p) pos)
+  | inr ge ↦ rw (cut_last size p ge, drop_all (size * suc i) p (omega arith)) (sym (take_all size [] (omega arith)))
 ]
-  where
-    more : size + size * i ≡ size * suc i
-    more = omega arith
 
 -- the test of the last piece, one piece on
 shifted : (size n len : ℕ) → size < len → nat_le (len - size) (size * n) ≡ nat_le len (size * suc n)
-shifted size n len lt = elim (cases_lt (size * suc n) len) [
-  | inl more ↦ lt-leb (len - size) (size * n) (omega arith) ∙ sym (lt-leb len (size * suc n) more)
-  | inr within ↦ le-leb (len - size) (size * n) (omega arith) ∙ sym (le-leb len (size * suc n) within)
-]
+shifted size n len lt = grind (arith, nat_tests, lt)
 
 -- whether list i of a cut is the last
 pub last_cut : (size i : ℕ) (p : Bytes) → 0 < size
@@ -59,34 +51,23 @@ last_cut size (suc i) p pos = elim (cases_lt size (length p)) [
 openings_at : (key : Bytes) (j i : ℕ) (cs : List Bytes) → i < length cs
     → get_or (openings key j cs) i None ≡ piece_opening key (j + i) (is_end (drop (suc i) cs)) (get_or cs i [])
 openings_at key j i [] lt = absurd (omega arith)
-openings_at key j zero (c ∷ cs) lt = ap (λ n. piece_opening key n (is_end cs) c) zero_more
-  where
-    zero_more : j ≡ j + 0
-    zero_more = omega arith
+openings_at key j zero (c ∷ cs) lt = let here : j + 0 ≡ j = omega arith in rw here
 openings_at key j (suc i) (c ∷ cs) lt =
-    openings_at key (j + 1) i cs (omega arith)
-    ∙ ap (λ n. piece_opening key n (is_end (drop (suc i) cs)) (get_or cs i [])) one_more
-  where
-    one_more : j + 1 + i ≡ j + suc i
-    one_more = omega arith
+    let next : j + suc i ≡ j + 1 + i = omega arith in rw next (openings_at key (j + 1) i cs (omega arith))
 
 -- what piece i opens to, by its offset
 pub opening_at : (key rest : Bytes) (i : ℕ) → i < length (pieces rest)
     → opening key rest i ≡ piece_opening key i (nat_le (length rest) (sealed_chunk_size * (i + 1)))
     (take sealed_chunk_size (drop (sealed_chunk_size * i) rest))
 opening_at key rest i lt =
+    let none : 0 + i ≡ i = omega arith in
+    let one : suc i ≡ i + 1 = omega arith in
     openings_at key 0 i (pieces rest) lt
     ∙ ap (λ n. piece_opening key n (is_end (drop (suc i) (pieces rest))) (get_or (pieces rest) i [])) none
     ∙ ap (λ b. piece_opening key i b (get_or (pieces rest) i []))
     (last_cut sealed_chunk_size i rest (omega arith) ∙ ap (λ n. nat_le (length rest) (sealed_chunk_size * n)) one)
-    ∙ ap (λ x. piece_opening key i (nat_le (length rest) (sealed_chunk_size * (i + 1))) x)
+    ∙ ap (piece_opening key i (nat_le (length rest) (sealed_chunk_size * (i + 1))))
     (cut_at sealed_chunk_size i rest (omega arith))
-  where
-    none : 0 + i ≡ i
-    none = omega arith
-
-    one : suc i ≡ i + 1
-    one = omega arith
 
 -- how long the plaintext is, where the last piece has a tag
 pub plain_count : (n : ℕ) (rest : Bytes) → (n ≡ 0) ⊎ (sealed_chunk_size * n < length rest)
@@ -100,17 +81,14 @@ plain_count zero rest some le tag =
     omega arith
 plain_count (suc n) rest (inl e) le tag = absurd (omega arith)
 plain_count (suc n) rest (inr lt) le tag =
-    let more : sealed_chunk_size < length rest = omega arith in
-    let d : length (drop sealed_chunk_size rest) ≡ length rest - sealed_chunk_size =
-    length-drop sealed_chunk_size rest in
-    let t : length (take sealed_chunk_size rest) ≡ sealed_chunk_size =
-    length-take-le sealed_chunk_size rest (omega arith) in
-    let behind : plain_len (drop sealed_chunk_size rest) + 16 * (n + 1) ≡ length (drop sealed_chunk_size rest) =
-    plain_count n (drop sealed_chunk_size rest) (inr (omega arith)) (omega arith) (omega arith) in
-    let step : plain_len rest ≡ (length (take sealed_chunk_size rest) - 16) + plain_len (drop sealed_chunk_size rest) =
-    ap (sum_by (λ piece. length piece - 16)) (cut_step sealed_chunk_size rest (omega arith) more)
-    ∙ sum_by-cons (λ piece. length piece - 16) (take sealed_chunk_size rest) (pieces (drop sealed_chunk_size rest)) in
-    omega arith
+    let first : Bytes = take sealed_chunk_size rest in
+    let behind : Bytes = drop sealed_chunk_size rest in
+    let d = length-drop sealed_chunk_size rest in
+    let t = length-take-le sealed_chunk_size rest (omega arith) in
+    let step : plain_len rest ≡ (length first - 16) + plain_len behind =
+    ap (sum_by (λ piece. length piece - 16)) (cut_step sealed_chunk_size rest (omega arith) (omega arith))
+    ∙ sum_by-cons (λ piece. length piece - 16) first (pieces behind) in
+    omega (arith, step, plain_count n behind (inr (omega arith)) (omega arith) (omega arith))
 
 -- a slice goes on within one chunk
 pub slice_on : (key rest xs text : Bytes) (at i skip n : ℕ) → at + length xs ≡ chunk_size * i + skip
@@ -139,3 +117,16 @@ slice_on key rest xs text at i skip n pos opens within size so_far k lt =
             ap (slice_get text) there ∙ slice_get-get_or text (skip + j) 0 (omega arith) ∙ ap Some (sym value),
           )
     ]
+
+-- a text whose bytes are those of another from an offset on
+pub slice_of : (xs p : Bytes) (at : ℕ)
+    → ((k : ℕ) → k < length xs → (at + k < length p) × (slice_index xs k ≡ get_or p (at + k) 0))
+    → xs ≡ take (length xs) (drop at p)
+slice_of xs p at bytes =
+    let reach : length xs ≤ length p - at = elim (cases_lt 0 (length xs)) [
+      | inl some ↦ omega (arith, (bytes (length xs - 1) (omega arith)).0)
+      | inr none ↦ omega arith
+    ] in
+    let len = length-take-le (length xs) (drop at p) (omega (arith, length-drop at p)) in
+    ext_get_or 0 xs (take (length xs) (drop at p)) (sym len) (λ k lt.
+    (bytes k lt).1 ∙ sym (get_or-drop at p k 0) ∙ sym (get_or-take (length xs) (drop at p) k 0 lt))

@@ -3,12 +3,10 @@ use Rattle.std.proofs.Common.{◌≡◌, ◌⊎◌, ℕ, ◌++◌, ◌+◌, ◌-
 use Rattle.std.proofs.lemmas.Bool.{cases_lt}
 use Rattle.std.proofs.lemmas.List.{length-drop, length-take-le, get_or_append_left, get_or-append-add, get_or-take, get_or-drop}
 use Rattle.std.proofs.lemmas.Option.{slice_get-get_or}
-use Rattle.age_kdf.specs.Bytes.{Bytes}
-use Rattle.age_stream.specs.declared.layout.Layout.{Layout}
+use Rattle.age_stream.specs.Words.{Bytes, Layout, chunk_size, sealed_chunk_size}
 use Rattle.age_stream.specs.Offsets.{StaysGiven}
 use Rattle.age_stream.specs.Ranges.{IsVerified, IsVerifiedByte, KeepsVerified, RangeState, kept_text}
 use Rattle.age_stream.specs.Slice.{chunk_len}
-use Rattle.age_stream.specs.Sizes.{chunk_size, sealed_chunk_size}
 
 -- what was verified stays so
 pub verified_stays : (old new : ℕ → ℕ → Type 0) (layout : Layout) (i : ℕ) (text : Bytes) → StaysGiven old new

@@ -1,25 +1,20 @@
 -- Slices of a payload that reads whole.
-use Rattle.std.proofs.Common.{◌≡◌, ℕ, List, [], ◌∷◌, ◌++◌, ◌+◌, ◌-◌, ◌*◌, ◌/◌, ◌%◌, ◌<◌, ◌≤◌, length, take, drop, map, get_or, slice_get, slice_index, min, sym, ◌∙◌, ap, arith, refl, inl, inr, suc, zero, true, Some, None, Result, Ok, Err}
+use Rattle.std.proofs.Common.{◌≡◌, ℕ, List, [], ◌∷◌, ◌+◌, ◌-◌, ◌*◌, ◌/◌, ◌%◌, ◌<◌, ◌≤◌, length, take, drop, map, get_or, slice_get, slice_index, min, sym, ◌∙◌, ap, arith, refl, suc, zero, true, Some, None, Result, Ok, Err}
 use Rattle.std.specs.Prelude.{unwrap_or}
 use Rattle.std.specs.List.{concat, sum_by}
-use Rattle.std.proofs.lemmas.Bool.{cases_lt, le-ltb}
+use Rattle.std.proofs.lemmas.Bool.{le-ltb}
 use Rattle.std.proofs.lemmas.Option.{none-some, get_or_from_slice_get, slice_get_within}
-use Rattle.std.proofs.lemmas.List.{length-drop, length-append, length-take, take_at, drop_at, drop_all, get_or-take, get_or-drop, ext_get_or, get_or-map}
+use Rattle.std.proofs.lemmas.List.{length-drop, length-append, length-take, take_at, drop_at, drop_all, get_or-take, get_or-drop, get_or-map}
 use Rattle.std.proofs.lemmas.List.Sums.{sum_by-cons}
-use Rattle.age_kdf.specs.Bytes.{Bytes}
-use Rattle.age_cipher.specs.Sealing.{sealed_text}
+use Rattle.age_stream.specs.Words.{Bytes, sealed_text, FileKey, StreamFault, TooManyChunks, chunk_size, sealed_chunk_size}
 use Rattle.age_cipher.proofs.OpeningLemmas.{length-sealed_text, opened_text-sealed_text}
-use Rattle.age_header.specs.declared.file_key.FileKey.{FileKey}
-use Rattle.age_stream.specs.declared.fault.StreamFault.{StreamFault}
-use Rattle.age_stream.specs.declared.fault.StreamFault.TheVariants.{TooManyChunks}
 use Rattle.age_stream.specs.Payload.{chunks, pieces, chunk_nonce, is_end, sealed_chunks_from, payload_key}
-use Rattle.age_stream.specs.Reading.{piece_opening, outcome, outcomes, payload_reading, whole}
+use Rattle.age_stream.specs.Reading.{outcome, outcomes, payload_reading, whole}
 use Rattle.age_stream.proofs.CuttingLemmas.{is_cut, cut_at_most}
 use Rattle.age_stream.proofs.PayloadLemmas.{ok_payload, pieces_each, each_opens, is_end_each, length_each, at_most_chunks}
 use Rattle.age_stream.proofs.ReadingLemmas.{cut_some}
 use Rattle.age_stream.specs.Slice.{openings, opening, plain_len, IsSlice, last_piece, range_outcome}
-use Rattle.age_stream.specs.Sizes.{chunk_size, sealed_chunk_size}
-use Rattle.age_stream.proofs.SliceLemmas.{cut_at}
+use Rattle.age_stream.proofs.SliceLemmas.{cut_at, slice_of}
 
 -- what is known of a payload that reads whole
 pub record IsWhole (key rest p : Bytes) (max : ℕ) : Type 0 where
@@ -32,36 +27,30 @@ whole_is k b p max h =
     let i = ok_payload k b p max h in
     let key : Bytes = payload_key k i.nonce in
     let text : Bytes = concat (sealed_chunks_from key 0 (chunks p)) in
-    let head : take 16 b ≡ i.nonce = ap (take 16) i.spelled ∙ take_at i.nonce text 16 i.nonce_len in
-    let rest : drop 16 b ≡ text = ap (drop 16) i.spelled ∙ drop_at i.nonce text 16 i.nonce_len in
     record {
-      sealed_so = ap pieces rest ∙ pieces_each key (chunks p) (cut_at_most chunk_size p (omega arith))
-          ∙ ap (λ n. sealed_chunks_from (payload_key k n) 0 (chunks p)) (sym head);
+      sealed_so = rw (i.spelled, take_at i.nonce text 16 i.nonce_len, drop_at i.nonce text 16 i.nonce_len)
+          (pieces_each key (chunks p) (cut_at_most chunk_size p (omega arith)));
       count = i.count;
     }
 
 openings_each : (key : Bytes) (i : ℕ) (ts : List Bytes) → openings key i (sealed_chunks_from key i ts) ≡ map Some ts
 openings_each key i [] = refl
 openings_each key i (t ∷ ts) =
-    ap (λ b. piece_opening key i b (sealed_text key (chunk_nonce i (is_end ts)) [] t)
-    ∷ openings key (i + 1) (sealed_chunks_from key (i + 1) ts)) (is_end_each key (i + 1) ts)
-    ∙ ap (λ o. o ∷ openings key (i + 1) (sealed_chunks_from key (i + 1) ts))
-    (opened_text-sealed_text key (chunk_nonce i (is_end ts)) [] t)
-    ∙ ap (λ x. Some t ∷ x) (openings_each key (i + 1) ts)
+    rw (is_end_each key (i + 1) ts, opened_text-sealed_text key (chunk_nonce i (is_end ts)) [] t)
+    (ap (λ x. Some t ∷ x) (openings_each key (i + 1) ts))
 
 plain_each : (key : Bytes) (i : ℕ) (ts : List Bytes)
     → sum_by (λ piece. length piece - 16) (sealed_chunks_from key i ts) ≡ length (concat ts)
 plain_each key i [] = refl
 plain_each key i (t ∷ ts) =
-    let l : length (sealed_text key (chunk_nonce i (is_end ts)) [] t) ≡ length t + 16 =
-    length-sealed_text key (chunk_nonce i (is_end ts)) [] t in
-    let a : length (t ++ concat ts) ≡ length t + length (concat ts) = length-append t (concat ts) in
-    let rest : sum_by (λ piece. length piece - 16) (sealed_chunks_from key (i + 1) ts) ≡ length (concat ts) =
-    plain_each key (i + 1) ts in
-    sum_by-cons (λ piece. length piece - 16) (sealed_text key (chunk_nonce i (is_end ts)) [] t) (sealed_chunks_from key
-    (i + 1) ts)
-    ∙ ap (λ n. (length (sealed_text key (chunk_nonce i (is_end ts)) [] t) - 16) + n) rest
-    ∙ ap (λ n. (n - 16) + length (concat ts)) l ∙ omega arith
+    let first : Bytes = sealed_text key (chunk_nonce i (is_end ts)) [] t in
+    omega (
+      arith,
+      sum_by-cons (λ piece. length piece - 16) first (sealed_chunks_from key (i + 1) ts),
+      length-sealed_text key (chunk_nonce i (is_end ts)) [] t,
+      length-append t (concat ts),
+      plain_each key (i + 1) ts,
+    )
 
 pub whole_len : (k : FileKey) (b p : Bytes) (max : ℕ) → payload_reading k max b ≡ whole p
     → plain_len (drop 16 b) ≡ length p
@@ -73,16 +62,9 @@ whole_len k b p max h =
 outcomes_at : (key : Bytes) (max j i : ℕ) (cs : List Bytes) (d : Result Bytes StreamFault) → i < length cs
     → get_or (outcomes key max j cs) i d ≡ outcome key max (j + i) (is_end (drop (suc i) cs)) (get_or cs i [])
 outcomes_at key max j i [] d lt = absurd (omega arith)
-outcomes_at key max j zero (c ∷ cs) d lt = ap (λ n. outcome key max n (is_end cs) c) zero_more
-  where
-    zero_more : j ≡ j + 0
-    zero_more = omega arith
+outcomes_at key max j zero (c ∷ cs) d lt = let here : j + 0 ≡ j = omega arith in rw here
 outcomes_at key max j (suc i) (c ∷ cs) d lt =
-    outcomes_at key max (j + 1) i cs d (omega arith)
-    ∙ ap (λ n. outcome key max n (is_end (drop (suc i) cs)) (get_or cs i [])) one_more
-  where
-    one_more : j + 1 + i ≡ j + suc i
-    one_more = omega arith
+    let next : j + suc i ≡ j + 1 + i = omega arith in rw next (outcomes_at key max (j + 1) i cs d (omega arith))
 
 pub whole_opens : (k : FileKey) (b p : Bytes) (max : ℕ) → payload_reading k max b ≡ whole p
     → (last : Bytes) × (range_outcome k max b ≡ Ok last)
@@ -143,22 +125,7 @@ byte_of key rest p text max x v w opens at =
 pub whole_slice : (k : FileKey) (b p xs : Bytes) (max at : ℕ) → payload_reading k max b ≡ whole p
     → IsSlice (payload_key k (take 16 b)) (drop 16 b) at xs
     → xs ≡ take (length xs) (drop at p)
-whole_slice k b p xs max at h s =
-    let w = whole_is k b p max h in
-    let key : Bytes = payload_key k (take 16 b) in
-    let rest : Bytes = drop 16 b in
-    let d : length (drop at p) ≡ length p - at = length-drop at p in
-    let t : length (take (length xs) (drop at p)) ≡ min (length xs) (length (drop at p)) =
-    length-take (length xs) (drop at p) in
-    let reach : length xs ≤ length p - at = elim (cases_lt 0 (length xs)) [
-      | inl some ↦
-          let k : ℕ = length xs - 1 in
-          let z = s k (omega arith) in
-          let in_p : at + k < length p = (byte_of key rest p z.0 max (at + k) (slice_index xs k) w z.1 z.2).0 in
-          omega arith
-      | inr none ↦ omega arith
-    ] in
-    ext_get_or 0 xs (take (length xs) (drop at p)) (omega arith) (λ k lt.
-    let z = s k lt in
-    (byte_of key rest p z.0 max (at + k) (slice_index xs k) w z.1 z.2).1 ∙ sym (get_or-drop at p k 0)
-    ∙ sym (get_or-take (length xs) (drop at p) k 0 lt))
+whole_slice k b p xs max at h s = slice_of xs p at (λ j lt.
+    let z = s j lt in
+    byte_of (payload_key k (take 16 b)) (drop 16 b) p z.0 max (at + j) (slice_index xs j)
+    (whole_is k b p max h) z.1 z.2)

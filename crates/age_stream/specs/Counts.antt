@@ -1,7 +1,6 @@
 -- The faults that a device counts.
 use Rattle.std.specs.Prelude.{Bool, true, false}
-use Rattle.age_stream.specs.declared.fault.StreamFault.{StreamFault}
-use Rattle.age_stream.specs.declared.fault.StreamFault.TheVariants.{Read, Write}
+use Rattle.age_stream.specs.Words.{StreamFault, Read, Write}
 
 -- a failed read, which the source counts
 abbrev pub is_read : StreamFault → Bool

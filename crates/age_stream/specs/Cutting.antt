@@ -3,18 +3,18 @@ use Rattle.std.specs.Prelude.{ℕ, List, [], ◌∷◌, ◌++◌, ◌<◌, ◌�
 use Rattle.std.specs.List.{concat}
 use Rattle.age_kdf.specs.Bytes.{Bytes}
 
--- each list but the last has `size` bytes, the last has 1 to `size`
+-- each list has `size` bytes, except the last, which has 1 to `size`
 abbrev pub IsFilled : (size : ℕ) (parts : List Bytes) → Type 0
 IsFilled size [] = ⊥
 IsFilled size (c ∷ []) = (0 < length c) × (length c ≤ size)
 IsFilled size (c ∷ d ∷ more) = (length c ≡ size) × IsFilled size (d ∷ more)
 
--- the lists join to the text and are filled, or are the one empty list of an empty text
+-- the concatenated lists are the text, and are filled, or are the one empty list of an empty text
 pub record IsCut (size : ℕ) (text : Bytes) (lists : List Bytes) : Type 0 where
   pub joined : concat lists ≡ text
   pub sizes : (lists ≡ [] ∷ []) ⊎ IsFilled size lists
 
--- the cut of a text, `held` being what its first list has already
+-- the cut of a text whose first list begins with `held`
 abbrev pub cut_after : (size : ℕ) (held text : Bytes) → List Bytes
 cut_after size held [] = held ∷ []
 cut_after size held (x ∷ text) =

@@ -12,3 +12,4 @@ pub mod Salvage
 pub mod Sealing
 pub mod Slice
 pub mod Writer
+pub mod Words

@@ -1,8 +1,6 @@
--- What a read at an offset gives of the contents of a source, and what it does to the source's
--- counts.
+-- The results of a read at an offset: the bytes read, and the source's counts.
 use Rattle.std.specs.Prelude.{◌≡◌, ℕ, ◌+◌, ◌-◌, ◌^◌, ◌<◌, ◌≤◌, min, length, take, drop, slice_index, ⊤, IfSome, IfOk, MatchResult, Option, Some, None, Result}
-use Rattle.age_header.specs.Device.{Known}
-use Rattle.age_kdf.specs.Bytes.{Bytes}
+use Rattle.age_stream.specs.Words.{Bytes, Known}
 
 -- xs are the known bytes from offset `at` on
 abbrev pub HasAt : (told : Known) (at : ℕ) (xs : Bytes) → Type 0
@@ -17,19 +15,19 @@ IsPast told at = IfSome told (λ bytes. length bytes ≤ at)
 abbrev pub EndsBefore : (told : Known) (at : ℕ) → Type 0
 EndsBefore told end = IfSome told (λ bytes. length bytes < end)
 
--- Ok(n) gives the n bytes from offset `at` on, and none of them with room only past the end of the
--- known bytes, and of the known size
+-- Ok(n) returns the n bytes from offset `at` on. n is 0 for a nonempty buffer only past the end of
+-- the known bytes and of the known size.
 abbrev pub GivesAt : {E : Type 0} (told : Known) (size : Option ℕ) (at : ℕ) (r : Result ℕ E)
     (buf : Bytes) → Type 0
 GivesAt told size at r buf =
     IfOk r (λ n. HasAt told at (take n buf)
     × (n ≡ 0 → 0 < length buf → IsPast told at × IfSome size (λ s. s ≤ at)))
 
--- each of xs was read, at its offset from `at` on
+-- each byte of xs was read at its offset, the first of them at `at`
 abbrev pub GaveAt : (gave : (at byte : ℕ) → Type 0) (at : ℕ) (xs : Bytes) → Type 0
 GaveAt gave at xs = (k : ℕ) → k < length xs → gave (at + k) (slice_index xs k)
 
--- what was read before stays so
+-- bytes read before still count as read
 abbrev pub StaysGiven : (old new : (at byte : ℕ) → Type 0) → Type 0
 StaysGiven old new = (at byte : ℕ) → old at byte → new at byte
 
@@ -37,11 +35,11 @@ StaysGiven old new = (at byte : ℕ) → old at byte → new at byte
 abbrev pub HasOffsets : Known → Type 0
 HasOffsets told = IfSome told (λ bytes. length bytes < 2 ^ 64)
 
--- a count rises by n on Ok(n), and stays at the largest u64; an Err leaves it
+-- a count rises by n on Ok(n), saturating at the largest u64; on an Err it is unchanged
 abbrev pub CountsGiven : {E : Type 0} (old new : ℕ) (r : Result ℕ E) → Type 0
 CountsGiven old new r = MatchResult r (λ n. new ≡ min (old + n) (2 ^ 64 - 1)) (λ _. new ≡ old)
 
--- the size, which is that of the known bytes, is found on Ok; what was found stays
+-- on Ok the size is found, which is that of the known bytes; a size found before stays
 abbrev pub FindsSize : {E : Type 0} (told : Known) (old new : Option ℕ) (r : Result ℕ E) → Type 0
 FindsSize told old new r =
     MatchResult r

@@ -1,21 +1,14 @@
--- An opener of pieces between two calls, and what a call does.
+-- The state of an opener of pieces between two calls, and the results of its calls.
 use Rattle.std.specs.Prelude.{ℕ, List, [], ◌++◌, ◌≡◌, ◌≤◌, ◌<◌, ◌+◌, ◌*◌, ◌⊎◌, length, take, drop, option_map, IfSome, MatchResult, Bool, true, false, Option, Some, None, Result, Ok, Err, if◌then◌else◌}
 use Rattle.std.specs.Bool.{OnFalse}
-use Rattle.age_cipher.specs.Bytes.{Key}
-use Rattle.age_kdf.specs.Bytes.{Bytes}
-use Rattle.age_header.specs.Device.{Known, Flow, Gave, GaveAtMost, GaveSome, OfGiven, WritesPart, Moved, Took}
+use Rattle.age_stream.specs.Words.{Bytes, Key, Known, Flow, Gave, GaveAtMost, GaveSome, OfGiven, WritesPart, Moved, Took, FileKey, Done, StreamFault, NonceTruncated, ChunkShort, EmptyFinal, BadChunk, TooManyChunks, Read, Write, nonce_size, chunk_size, sealed_chunk_size, most_chunks, chunk_buf_size}
 use Rattle.std.specs.Io.KnownBytes.{IsAtEnd}
-use Rattle.age_header.specs.declared.file_key.FileKey.{FileKey}
-use Rattle.age_stream.specs.declared.done.Done.{Done}
-use Rattle.age_stream.specs.declared.fault.StreamFault.{StreamFault}
-use Rattle.age_stream.specs.declared.fault.StreamFault.TheVariants.{NonceTruncated, ChunkShort, EmptyFinal, BadChunk, TooManyChunks, Read, Write}
 use Rattle.age_stream.specs.declared.opening.Piece.{Piece}
 use Rattle.age_stream.specs.Payload.{payload_key, pieces}
 use Rattle.age_stream.specs.Reading.{Reading, after_first, first_outcome, reading_from, whole}
-use Rattle.age_stream.specs.Sizes.{nonce_size, chunk_size, sealed_chunk_size, most_chunks, chunk_buf_size}
 
--- An opener: its key and limit, the number of the next piece, the bytes of it that were read
--- already (None after the last piece), the text that was opened last, and the fault that it keeps.
+-- An opener: its key and limit, the number of the next piece, the bytes of that piece already read
+-- (None after the last piece), the text opened last, and the fault that it keeps.
 pub record OpenerState : Type 0 where
   pub key : Key
   pub max_chunks : ℕ
@@ -29,21 +22,21 @@ abbrev pub at_start : (key : Key) (max : ℕ) → OpenerState
 at_start key max =
     record { key = key; max_chunks = max; index = 0; held = Some []; text = []; fault = None }
 
--- bytes that were read ahead, where another piece follows
+-- bytes read ahead, if another piece follows
 abbrev pub held_of : (more : Bool) (ahead : Bytes) → Option Bytes
 held_of more ahead = if more then Some ahead else None
 
--- how many bytes were read ahead
+-- the number of bytes read ahead
 abbrev pub ahead_len : Option Bytes → ℕ
 ahead_len None = 0
 ahead_len (Some ahead) = length ahead
 
--- what is left of a payload where `held` was read already and d is to come
+-- the rest of a payload of which `held` was read already and d is to come
 abbrev pub left_of : (held : Option Bytes) (d : Bytes) → Option Bytes
 left_of held d = option_map (λ h. h ++ d) held
 
--- The first piece of what is left is opened as piece i, or its fault returned; after the last there
--- is none.
+-- The first piece of the rest is opened as piece i, or its fault is returned; after the last piece
+-- there is none.
 abbrev pub OpensNext : (key : Key) (max i : ℕ) (found left : Option Bytes) (text : Bytes)
     (r : Result Bool StreamFault) → Type 0
 OpensNext key max i None left text r = (r ≡ Ok false) × (left ≡ None)
@@ -63,8 +56,8 @@ IsAtPiece max i _ = ⊥
 abbrev pub next_index : (some : Bool) (i : ℕ) → ℕ
 next_index some i = if some then i + 1 else i
 
--- After a call: on Ok no fault is kept, and bytes that were read ahead mean that the chunk was
--- full. On Err the fault is kept, and the text is empty.
+-- The state after a call. On Ok no fault is kept, and there are bytes read ahead only after a full
+-- chunk. On Err the fault is kept, and the text is empty.
 abbrev pub KeepsState : (old new : OpenerState) (result : Result Bool StreamFault) → Type 0
 KeepsState old new (Ok some) =
     (new.fault ≡ None) × (new.index ≡ next_index some old.index)
@@ -73,29 +66,29 @@ KeepsState old new (Ok some) =
 KeepsState old new (Err fault) =
     (new.fault ≡ Some fault) × (new.text ≡ []) × IsAtPiece old.max_chunks old.index fault
 
--- there is no text, and no byte of another piece
+-- no text is left, and no byte of another piece
 abbrev pub IsSpent : OpenerState → Type 0
 IsSpent s = (s.text ≡ []) × (s.held ≡ None)
 
--- after the last piece, and after a fault, nothing is left of a text or of a piece
+-- after the last piece, and after a fault, no text is left, and no byte of a piece
 abbrev pub IsSpentAfter : (s : OpenerState) (r : Result Bool StreamFault) → Type 0
 IsSpentAfter s r = MatchResult r (λ some. OnFalse some (IsSpent s)) (λ _. IsSpent s)
 
--- what was given after the bytes that were held fills the buffer, or is all up to the end of the
--- source; after the last piece nothing was given
+-- the bytes read after those held fill the buffer, or are all up to the end of the source; after
+-- the last piece none are read
 abbrev pub IsFilled : (held : Option Bytes) (given : Bytes) (left : Known) → Type 0
 IsFilled None given left = given ≡ []
 IsFilled (Some ahead) given left =
     (length ahead + length given ≤ chunk_buf_size)
     × (length ahead + length given < chunk_buf_size → IsAtEnd left)
 
--- a piece was left, and the source gave some bytes, perhaps none
+-- there was another piece, and some bytes were read, perhaps none
 abbrev pub Loses : (held : Option Bytes) (source : Flow) → Type 0
 Loses None source = ⊥
 Loses (Some ahead) source = GaveSome source
 
--- One call of an opener that keeps no fault: the bytes that the source gave, after those that were
--- held, are a piece, which was opened, and what is now held.
+-- One call of an opener that keeps no fault. The bytes held and then those read from the source are
+-- a piece, which was opened, and the bytes held next.
 pub record Advances (old new : OpenerState) (source : Flow)
     (r : Result Bool StreamFault) : Type 0 where
   pub key : new.key ≡ old.key
@@ -109,15 +102,15 @@ pub record Advances (old new : OpenerState) (source : Flow)
   pub opens : OpensNext old.key old.max_chunks old.index (left_of old.held given) new.held new.text
       r
 
--- the nonce that was read, or the source gave less, or a read failed
+-- the nonce was read, or the source has fewer bytes, or a read failed
 abbrev pub GivesNonce : (source : Flow) (result : Result Bytes StreamFault) → Type 0
 GivesNonce source (Ok nonce) = Gave source nonce
 GivesNonce source (Err Read) = GaveSome source
 GivesNonce source (Err fault) =
     (fault ≡ NonceTruncated) × OfGiven source (λ c. length c < nonce_size)
 
--- the start of a payload was read: its nonce, under which piece 0 is the opener's next; or there is
--- no whole nonce, or a read failed
+-- the start of a payload was read: its nonce, under which the opener is before piece 0; or the
+-- nonce is incomplete, or a read failed
 abbrev pub Starts : (file_key : FileKey) (max : ℕ) (source : Flow)
     (result : Result OpenerState StreamFault) → Type 0
 Starts file_key max source (Ok opener) =
@@ -125,18 +118,18 @@ Starts file_key max source (Ok opener) =
     × (opener ≡ at_start (payload_key file_key nonce) max) × GivesNonce source (Ok nonce)
 Starts file_key max source (Err fault) = GivesNonce source (Err fault)
 
--- what is left, read from piece i on
+-- the reading of the rest, from piece i on
 abbrev pub reading_left : (key : Key) (max i : ℕ) (left : Option Bytes) → Reading StreamFault
 reading_left key max i None = whole []
 reading_left key max i (Some c) = reading_from key max i c
 
--- the pieces that are left
+-- the pieces of the rest
 abbrev pub pieces_left : Option Bytes → List Bytes
 pieces_left None = []
 pieces_left (Some c) = pieces c
 
--- A reading's fault was returned, or the length of its plaintext and the number of its pieces, and
--- its plaintext was written; a prefix of it where a device failed.
+-- Returns a reading's fault, or the length of its plaintext and the number of its pieces, and
+-- writes its plaintext; if a device failed, a prefix of it.
 abbrev pub WritesReading : (reading : Reading StreamFault) (n : ℕ) (sink : Moved)
     (result : Result Done StreamFault) → Type 0
 WritesReading reading n sink (Ok done) =
@@ -147,16 +140,15 @@ WritesReading reading n sink (Err Write) = WritesPart sink reading.plaintext
 WritesReading reading n sink (Err fault) = (reading.fault ≡ Some fault)
     × Took sink reading.plaintext
 
--- the reading of what was held and then of what the source gave was written
+-- the same for the reading of the bytes held and then those of the source
 abbrev pub WritesAll : (s : OpenerState) (source : Flow) (sink : Moved)
     (r : Result Done StreamFault) → Type 0
 WritesAll s source sink r =
     OfGiven source (λ c. WritesReading (reading_left s.key s.max_chunks s.index (left_of s.held c))
     (length (pieces_left (left_of s.held c))) sink r)
 
--- A fault of a piece or of a write: at which piece it was met, what had been written, and how much
--- of the source had been read. `before` bytes were read before the pieces: 16 where the nonce
--- counts.
+-- A fault of a piece or of a write: the piece, the text written before, and how much of the source
+-- was read. `before` bytes were read before the pieces: 16 if the nonce counts.
 pub record EndsAt (max before : ℕ) (source : Flow) (sink : Moved)
     (fault : StreamFault) : Type 0 where
   pub piece : ℕ
@@ -165,14 +157,14 @@ pub record EndsAt (max before : ℕ) (source : Flow) (sink : Moved)
   pub at : ((fault ≡ Write) × (chunk_size * piece ≤ length text)) ⊎ IsAtPiece max piece fault
   pub gave : GaveAtMost (before + (sealed_chunk_size * (piece + 1) + 1)) source
 
--- a piece's outcome is returned, and its text is at the start of the buffer
+-- the outcome of a piece is returned, with its text at the start of the buffer
 abbrev pub GivesText : (outcome : Result Bytes StreamFault) (after : Bytes)
     (result : Result ℕ StreamFault) → Type 0
 GivesText outcome after (Ok n) = (outcome ≡ Ok (take n after)) × (n ≤ length after)
 GivesText outcome after (Err fault) = outcome ≡ Err fault
 
--- the first piece of c, as piece i, opens to the text at the start of the buffer, and what follows
--- it is at the end; or its fault is returned
+-- the first piece of c, as piece i, opens to the text at the start of the buffer, and the bytes
+-- after the piece are at the end of the buffer; or its fault is returned
 abbrev pub OpensPiece : (key : Key) (max i : ℕ) (c after : Bytes)
     (result : Result Piece StreamFault) → Type 0
 OpensPiece key max i c after (Ok p) =
@@ -180,7 +172,7 @@ OpensPiece key max i c after (Ok p) =
     × (held_of p.more (drop sealed_chunk_size after) ≡ after_first c)
 OpensPiece key max i c after (Err fault) = first_outcome key max i c ≡ Err fault
 
--- the same of these bytes and those that the source gave after them
+-- the same for the bytes read ahead and then those of the source
 pub record ReadsPiece (key : Key) (max i : ℕ) (ahead after : Bytes) (source : Flow)
     (result : Result Piece StreamFault) : Type 0 where
   pub given : Bytes

@@ -2,25 +2,21 @@
 use Rattle.std.specs.Prelude.{ℕ, ◌+◌, List, [], ◌∷◌, ◌++◌, Bool, true, false, if◌then◌else◌, codes}
 use Rattle.std.specs.Int.{bytes_high_first}
 use Rattle.std.specs.List.{concat}
-use Rattle.age_cipher.specs.Bytes.{Key, Nonce}
-use Rattle.age_kdf.specs.Bytes.{Bytes}
-use Rattle.age_cipher.specs.Sealing.{sealed_text}
+use Rattle.age_stream.specs.Words.{Bytes, Key, Nonce, sealed_text, FileKey, chunk_size, sealed_chunk_size}
 use Rattle.age_kdf.specs.Hkdf.{hkdf}
-use Rattle.age_header.specs.declared.file_key.FileKey.{FileKey}
 use Rattle.age_stream.specs.Cutting.{cut}
-use Rattle.age_stream.specs.Sizes.{chunk_size, sealed_chunk_size}
 
--- a plaintext's chunks: 65,536 bytes each, the last 1 to 65,536; an empty plaintext is one empty
--- chunk
+-- the chunks of a plaintext: each has 65,536 bytes, except the last, which has 1 to 65,536; an
+-- empty plaintext is one empty chunk
 abbrev pub chunks : Bytes → List Bytes
 chunks plain = cut chunk_size plain
 
--- what follows the nonce, cut at every 65,552 bytes
+-- the bytes after the nonce, cut at every 65,552 bytes
 abbrev pub pieces : Bytes → List Bytes
 pieces rest = cut sealed_chunk_size rest
 
 -- the nonce of chunk i: its number in eleven big-endian bytes, then 1 for the last chunk and 0 for
--- the others
+-- any other
 unfoldable pub chunk_nonce : (i : ℕ) (last : Bool) → Nonce
 chunk_nonce i last = bytes_high_first 11 i ++ (if last then 1 else 0) ∷ []
 
@@ -29,7 +25,7 @@ abbrev pub is_end : List Bytes → Bool
 is_end [] = true
 is_end (_ ∷ _) = false
 
--- chunks, each sealed under its number, from number i on
+-- chunks sealed under their numbers, from number i on
 abbrev pub sealed_chunks_from : (key : Key) (i : ℕ) (chunks : List Bytes) → List Bytes
 sealed_chunks_from key i [] = []
 sealed_chunks_from key i (chunk ∷ more) =

@@ -1,38 +1,31 @@
--- A reader of ranges between two calls, and what its calls do.
+-- The state of a reader of ranges between two calls, and the results of its calls.
 use Rattle.std.specs.Prelude.{ℕ, [], ◌+◌, ◌-◌, ◌*◌, ◌/◌, ◌^◌, ◌<◌, ◌≤◌, ◌≡◌, ◌⊎◌, length, take, drop, min, nat_eq, slice_get, slice_index, ◌%◌, unwrap_or, IsSome, IfSome, IfOk, IfErr, OnErr, MatchResult, ⊤, Bool, false, Option, Some, None, Result, Ok, Err, if◌then◌else◌}
-use Rattle.age_cipher.specs.Bytes.{Key}
-use Rattle.age_header.specs.Device.{CountsFaultIf, CountsIf, Known, Moved, move_by}
-use Rattle.age_kdf.specs.Bytes.{Bytes}
+use Rattle.age_stream.specs.Words.{Bytes, Key, CountsFaultIf, CountsIf, Known, Moved, move_by, FileKey, StreamFault, BadChunk, Read, Write, Memory, Layout, nonce_size, tag_size, chunk_size, sealed_chunk_size}
 use denote.Ref.{MutBor}
-use Rattle.age_header.specs.declared.file_key.FileKey.{FileKey}
-use Rattle.age_stream.specs.declared.fault.StreamFault.{StreamFault}
-use Rattle.age_stream.specs.declared.fault.StreamFault.TheVariants.{BadChunk, Read, Write, Memory}
-use Rattle.age_stream.specs.declared.layout.Layout.{Layout}
 use Rattle.age_stream.specs.declared.ranges.RangeReader.{RangeReader}
 use Rattle.age_stream.specs.Counts.{is_read}
 use Rattle.age_stream.specs.Payload.{payload_key}
 use Rattle.age_stream.specs.Offsets.{GaveAt, StaysGiven}
 use Rattle.age_stream.specs.Reading.{piece_opening}
 use Rattle.age_stream.specs.Slice.{opening, plain_len, chunk_len, IsSlice, last_piece, last_outcome, range_outcome}
-use Rattle.age_stream.specs.Sizes.{nonce_size, tag_size, chunk_size, sealed_chunk_size}
 
 -- the known bytes from an offset on
 abbrev pub bytes_from : (told : Known) (at : ℕ) → Bytes
 bytes_from told at = drop at (unwrap_or told [])
 
--- a reader between two calls: where the chunks lie, which one is kept, the buffer that begins with
--- its text, and how many chunks were opened so far
+-- a reader between two calls: the layout of the chunks, the index of the chunk kept, the buffer
+-- that begins with its text, and the number of chunks opened so far
 pub record RangeState : Type 0 where
   pub layout : Layout
   pub index : Option ℕ
   pub buf : Bytes
   pub opened : ℕ
 
--- what piece i opens to
+-- the text that piece i opens to, if it opens
 abbrev pub source_opening : (told : Known) (layout : Layout) (i : ℕ) → Option Bytes
 source_opening told layout i = opening layout.key (bytes_from told layout.first) i
 
--- the text of chunk i, while it is the kept one
+-- the text of chunk i, if that is the chunk kept
 abbrev pub kept_text : (s : RangeState) (i : ℕ) → Bytes
 kept_text s i = take (chunk_len s.layout.plain i) s.buf
 
@@ -41,22 +34,22 @@ pub record IsThere (told : Known) (layout : Layout) : Type 0 where
   pub known : IsSome told
   pub size : length (bytes_from told layout.first) ≡ layout.plain + tag_size * layout.count
 
--- what holds between two calls over a source whose contents are known: the kept chunk is what its
--- piece opens to
+-- the invariant of a reader over a source with known contents: the chunk kept is what its piece
+-- opens to
 pub record IsSound (told : Known) (s : RangeState) : Type 0 where
   pub there : IsThere told s.layout
   pub keeps : (i : ℕ) → s.index ≡ Some i → source_opening told s.layout i ≡ Some (kept_text s i)
 
--- a text was verified as chunk i: it is what a piece opens to at the chunk's number, and this piece
--- was read at the chunk's offset (C2SP age.md, "Payload")
+-- a text was verified as chunk i: a piece opens to it under the chunk's number, and that piece was
+-- read at the chunk's offset (C2SP age.md, "Payload")
 pub record IsVerified (gave : (at byte : ℕ) → Type 0) (layout : Layout) (i : ℕ) (text : Bytes)
     : Type 0 where
   pub piece : Bytes
   pub read : GaveAt gave (layout.first + sealed_chunk_size * i) piece
   pub opens : piece_opening layout.key i (nat_eq (i + 1) layout.count) piece ≡ Some text
 
--- a reader was opened on the payload at this offset, whether or not the source's contents are
--- known: its key is that of the nonce that was read there, and its pieces end where the source does
+-- A reader was opened on the payload at this offset, whether or not the source's contents are
+-- known. Its key is derived from the nonce read there, and its pieces end where the source does.
 pub record BeginsAt (file_key : FileKey) (at : ℕ) (gave : (at byte : ℕ) → Type 0)
     (size : Option ℕ) (s : RangeState) : Type 0 where
   pub nonce : Bytes
@@ -66,20 +59,20 @@ pub record BeginsAt (file_key : FileKey) (at : ℕ) (gave : (at byte : ℕ) → 
   pub first : s.layout.first ≡ at + nonce_size
   pub end : size ≡ Some (s.layout.first + s.layout.plain + tag_size * s.layout.count)
 
--- the kept chunk was verified, whether or not the source's contents are known
+-- the chunk kept was verified, whether or not the source's contents are known
 abbrev pub KeepsVerified : (gave : (at byte : ℕ) → Type 0) (s : RangeState) → Type 0
 KeepsVerified gave s =
     (i : ℕ) → s.index ≡ Some i → IsVerified gave s.layout i (kept_text s i)
 
--- the byte has this offset in a plaintext: it is a byte of a text that was verified
+-- the byte at this offset of the plaintext is in a text that was verified
 abbrev pub IsVerifiedByte : (gave : (at byte : ℕ) → Type 0) (layout : Layout) (at byte : ℕ)
     → Type 0
 IsVerifiedByte gave layout at byte =
     (text : Bytes) × IsVerified gave layout (at / chunk_size) text
     × (slice_get text (at % chunk_size) ≡ Some byte)
 
--- A range from `at` on gave only verified bytes: on Ok(n) the first n bytes of the buffer are, and
--- on Err each that changed.
+-- A read of a range from `at` on returned only verified bytes: on Ok(n) the first n bytes of the
+-- buffer, on Err each byte that it changed.
 abbrev pub GivesVerified : (gave : (at byte : ℕ) → Type 0) (layout : Layout) (at : ℕ)
     (old new : Bytes) (r : Result ℕ StreamFault) → Type 0
 GivesVerified gave layout at old new (Ok n) =
@@ -88,7 +81,7 @@ GivesVerified gave layout at old new (Err fault) =
     (k : ℕ) → (slice_index new k ≡ slice_index old k)
     ⊎ IsVerifiedByte gave layout (at + k) (slice_index new k)
 
--- how many bytes a range of n from `at` on has
+-- the length of a range of at most n bytes from `at` on
 abbrev pub range_len : (s : RangeState) (at n : ℕ) → ℕ
 range_len s at n = min n (s.layout.plain - at)
 
@@ -96,32 +89,32 @@ range_len s at n = min n (s.layout.plain - at)
 abbrev pub HasPlain : (told : Known) (layout : Layout) (at : ℕ) (xs : Bytes) → Type 0
 HasPlain told layout at xs = IsSlice layout.key (bytes_from told layout.first) at xs
 
--- the buffer begins with n bytes of the plaintext from `at` on, and its rest is as it was
+-- the buffer begins with n bytes of the plaintext from `at` on, and the rest of it is unchanged
 abbrev pub Fills : (told : Known) (s : RangeState) (at n : ℕ) (old new : Bytes) → Type 0
 Fills told s at n old new =
     (drop n new ≡ drop n old) × (IsSound told s → HasPlain told s.layout at (take n new))
 
--- chunk i does not open, or was not read
+-- chunk i does not open, or a read failed
 abbrev pub IsLost : (told : Known) (s : RangeState) (i : ℕ) (fault : StreamFault) → Type 0
 IsLost told s i fault =
     (fault ≡ Read) ⊎ ((fault ≡ BadChunk i) × (IsSound told s → source_opening told s.layout i
     ≡ None))
 
--- chunk i is the kept one
+-- chunk i is the chunk kept
 abbrev pub is_kept : (index : Option ℕ) (i : ℕ) → Bool
 is_kept None i = false
 is_kept (Some k) i = nat_eq k i
 
--- the first chunk of a range from `at` on that is not the kept one
+-- the first chunk of a range from `at` on that is not the chunk kept
 abbrev pub first_to_open : (index : Option ℕ) (at : ℕ) → ℕ
 first_to_open index at = at / chunk_size + (if is_kept index (at / chunk_size) then 1 else 0)
 
--- the count of opened chunks rose by at least n, or is the largest u64
+-- the count of opened chunks rose by at least n, saturating at the largest u64
 abbrev pub OpenedAtLeast : (s : RangeState) (opened n : ℕ) → Type 0
 OpenedAtLeast s opened n = min (s.opened + n) (2 ^ 64 - 1) ≤ opened
 
--- a range of n bytes, at least one, from `at` on stops at chunk i, which has bytes of it: the bytes
--- before that chunk are filled in, and each chunk up to this one is counted that was not kept
+-- a range of n bytes, at least one, from `at` on stops at chunk i, which holds bytes of it: the
+-- bytes before that chunk were copied, and each chunk up to it counts as opened unless it was kept
 pub record Stops (told : Known) (s : RangeState) (at n : ℕ) (old new : Bytes)
     (opened : ℕ) (fault : StreamFault) : Type 0 where
   pub some : 0 < n
@@ -132,7 +125,7 @@ pub record Stops (told : Known) (s : RangeState) (at n : ℕ) (old new : Bytes)
   pub lost : IsLost told s chunk fault
   pub counts : OpenedAtLeast s opened (chunk + 1 - first_to_open s.index at)
 
--- how many sealed bytes the chunks from number `from` to before `end` have
+-- the number of sealed bytes of the chunks with the numbers from `from` to `end` - 1
 abbrev pub sealed_span : (layout : Layout) (from end : ℕ) → ℕ
 sealed_span layout from end =
     min (sealed_chunk_size * end) (layout.plain + tag_size * layout.count)
@@ -145,12 +138,12 @@ pub record RangeParts (D : Type 0) : Type 0 where
   pub buf : Bytes
 
 -- One call for the range from `at` on that the buffer has room for, whether or not the source's
--- contents are known. `told` gives them, `count_given` and `failed` the source's counts, and `gave`
--- the bytes that were read of it.
+-- contents are known. `told` are these contents, `count_given` and `failed` the source's counts,
+-- and `gave` the bytes read from it.
 pub record ReadsRange {D : Type 0} (told : D → Known) (count_given failed : D → ℕ)
     (gave : D → (at byte : ℕ) → Type 0) (at : ℕ) (old new : RangeParts D)
     (r : Result ℕ StreamFault) : Type 0 where
-  -- as before the call: so the clauses hold of every list of calls
+  -- unchanged by a call, so that the clauses hold for every list of calls
   pub stay : told new.source ≡ told old.source
   pub stays_given : StaysGiven (gave old.source) (gave new.source)
   pub same : new.chunks.layout ≡ old.chunks.layout
@@ -164,13 +157,13 @@ pub record ReadsRange {D : Type 0} (told : D → Known) (count_given failed : D 
   pub stop : IfErr r (Stops (told old.source) old.chunks at
       (range_len old.chunks at (length old.buf)) old.buf new.buf new.chunks.opened)
   pub count : CountsIf is_read (failed old.source) (failed new.source) r
-  -- after a range that is not empty its last chunk is kept, after a fault none
+  -- after a nonempty range its last chunk is kept, after a fault no chunk is
   pub kept_chunk : IfOk r
       (λ n. 0 < n → new.chunks.index ≡ Some ((at + n - 1) / chunk_size))
   pub none : OnErr r (new.chunks.index ≡ None)
-  -- the count of opened chunks never falls, and rises for each chunk that is tried; no chunk is
-  -- opened that the range does not touch, and no more is read than their sealed bytes; the first is
-  -- not counted if it is kept
+  -- the count of opened chunks never falls, and rises for each chunk that is tried; only chunks
+  -- that the range touches are opened, and only their sealed bytes are read; the first is not
+  -- counted if it was kept
   pub rises : old.chunks.opened ≤ new.chunks.opened
   pub counts : IfOk r (λ n. 0 < n → OpenedAtLeast old.chunks new.chunks.opened
       ((at + n - 1) / chunk_size + 1 - first_to_open old.chunks.index at))
@@ -188,8 +181,8 @@ pub record ReadsRange {D : Type 0} (told : D → Known) (count_given failed : D 
 abbrev pub last_len : (n : ℕ) → ℕ
 last_len n = n - sealed_chunk_size * ((n - 1) / sealed_chunk_size)
 
--- what the last piece gives was found, where `sealed` known bytes follow from offset `first` on:
--- its text is at the start of the buffer, or its fault
+-- the outcome of the last piece, if `sealed` known bytes follow from offset `first` on: its text is
+-- at the start of the buffer, or its fault is returned
 abbrev pub JudgesLast : (key : Key) (max first sealed : ℕ) (told : Known) (after : Bytes)
     (r : Result Layout StreamFault) → Type 0
 JudgesLast key max first sealed told after r =
@@ -203,8 +196,7 @@ JudgesLast key max first sealed told after r =
     ⊎ IfSome told (λ bytes.
     length bytes ≡ first + sealed → last_outcome key max (drop first bytes) ≡ Err fault))
 
--- a reader that was just opened on the payload at this offset, over a source whose contents are
--- known
+-- a reader just opened on the payload at this offset, over a source with known contents
 pub record IsOpened (file_key : FileKey) (max : ℕ) (told : Known) (at : ℕ) (s : RangeState)
     : Type 0 where
   pub opens : range_outcome file_key max (bytes_from told at)
@@ -215,7 +207,7 @@ pub record IsOpened (file_key : FileKey) (max : ℕ) (told : Known) (at : ℕ) (
   pub sound : IsSound told s
 
 -- A reader was opened, which keeps the last chunk. Or the fault is a failed read, out of memory, or
--- what opening the payload finds.
+-- that of opening the payload.
 abbrev pub OpensRanges : (file_key : FileKey) (max at : ℕ) (told : Known)
     (r : Result RangeState StreamFault) → Type 0
 OpensRanges file_key max at told r =
@@ -226,23 +218,22 @@ OpensRanges file_key max at told r =
     ⊎ ((fault ≡ Memory)
     ⊎ IfSome told (λ bytes. range_outcome file_key max (drop at bytes) ≡ Err fault)))
 
--- a fault with which opening a payload may end
+-- a fault that opening a payload may return
 abbrev pub IsOpenFault : StreamFault → Type 0
 IsOpenFault Write = ⊥
 IsOpenFault _ = ⊤
 
--- a payload was opened: the source's contents stayed, and it gave at most the nonce and the last
--- piece
+-- a payload was opened: the source's contents are unchanged, and at most the nonce and the last
+-- piece were read
 pub record Probes (source : Moved) (at given given2 : ℕ) : Type 0 where
   pub stay : source.after ≡ source.before
   pub most : given2 ≤ given + (nonce_size + sealed_chunk_size)
   pub last : IfSome source.before
       (λ bytes. given2 ≤ given + (nonce_size + length (last_piece (drop (at + nonce_size) bytes))))
 
--- what was made of a source, and what became of it, whether or not its contents are known: a reader
--- that gives no byte that was not verified, or the fault. `told` gives its contents, `given` and
--- `failed` its counts, `gave` the bytes that were read of it, and `found` the size that was
--- found.
+-- The result of opening a payload for ranges, and its effect on the source, whether or not the
+-- source's contents are known: a reader that returns only verified bytes, or the fault. `told` are
+-- the contents, `given` and `failed` the counts, `gave` the bytes read, and `found` the size found.
 abbrev pub StartsRanges : {D : Type 0} (told : D → Known) (given failed : D → ℕ)
     (gave : D → (at byte : ℕ) → Type 0) (found : D → Option ℕ) (file_key : FileKey)
     (max at : ℕ) (old new : D) (r : Result RangeState StreamFault) → Type 0

@@ -1,26 +1,21 @@
--- A reader of a payload: what its constructors and its calls do.
+-- The results of a reader of a payload: those of its constructors and its calls.
 use Rattle.std.specs.Prelude.{ℕ, ◌≡◌, ◌⊎◌, IfErr, IsErrOf, Bool, true, false, Option, None, Some, Result, Ok, Err}
 use denote.Ref.{MutBor}
-use Rattle.age_header.specs.Device.{Bytes, CountsFaultIf, CountsIf, Flow, GaveAtMost, Known, flow_by}
-use Rattle.age_header.specs.declared.file_key.FileKey.{FileKey}
-use Rattle.age_stream.specs.declared.fault.StreamFault.{StreamFault}
-use Rattle.age_stream.specs.declared.fault.StreamFault.TheVariants.{Read}
+use Rattle.age_stream.specs.Words.{Bytes, CountsFaultIf, CountsIf, Flow, GaveAtMost, Known, flow_by, FileKey, StreamFault, Read, nonce_size}
 use Rattle.age_stream.specs.declared.reader.StreamReader.{StreamReader}
 use Rattle.age_stream.specs.Counts.{is_read}
 use Rattle.age_stream.specs.Opening.{Advances, IsSpentAfter, OpenerState, Starts}
-use Rattle.age_stream.specs.Sizes.{nonce_size}
 use Rattle.age_stream.specs.Writer.{IsRefusedMemory}
 
--- the nonce was not read: the source gave fewer than 16 bytes, or failed, and then one failure more
--- was counted
+-- the nonce was not read: the source has fewer than 16 bytes, or a read failed, which was counted
 abbrev pub MissesNonce : (file_key : FileKey) (max : ℕ) (source : Flow) (before after : ℕ)
     (fault : StreamFault) → Type 0
 MissesNonce file_key max source before after fault =
     Starts file_key max source (Err fault) × CountsFaultIf is_read before after fault
     × ((fault ≡ Read) ⊎ GaveAtMost nonce_size source)
 
--- what was made of a source, and what became of it: the nonce was read, and piece 0 is the opener's
--- next; or memory was refused, and nothing was read; or the nonce was not read
+-- The result of making a reader, and its effect on the source: the nonce was read, and the opener
+-- is before piece 0; or memory was refused, and nothing was read; or the nonce was not read.
 abbrev pub StartsReader : {S : Type 0} (to_come : S → Known) (gave : S → Bytes → Type 0)
     (failed : S → ℕ) (file_key : FileKey) (max : ℕ) (old new : S)
     (r : Result OpenerState StreamFault) → Type 0
@@ -31,13 +26,13 @@ StartsReader to_come gave failed file_key max old new (Err fault) =
     IsRefusedMemory old new fault
     ⊎ MissesNonce file_key max (flow_by to_come gave old new) (failed old) (failed new) fault
 
--- the result as a Bool: true if a chunk was lent, false after the last
+-- the result as a Bool: true if a chunk was lent, false after the last chunk
 abbrev pub is_lent : {A : Type 0} → Result (Option A) StreamFault → Result Bool StreamFault
 is_lent (Ok None) = Ok false
 is_lent (Ok (Some piece)) = Ok true
 is_lent (Err fault) = Err fault
 
--- One call of a reader that keeps no fault: a failed read is counted, and a fault is kept. Unless
+-- One call of a reader that keeps no fault. A failed read is counted, and a fault is kept. Unless
 -- the fault is Read, its opener made the step `Advances`. After the last piece, and after a fault,
 -- it holds no byte.
 abbrev pub Lends : (old new : OpenerState) (source : Flow) (before after : ℕ)

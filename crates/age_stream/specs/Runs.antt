@@ -1,9 +1,9 @@
--- Chunks that are lost one after another.
+-- Runs of consecutive lost chunks.
 use Rattle.std.specs.Prelude.{◌+◌, List, [], ◌∷◌, nat_eq, Option, Some, None, if◌then◌else◌}
 use Rattle.age_stream.specs.declared.runs.LostRun.{LostRun}
 use Rattle.age_stream.specs.declared.salvaged.Lost.{Lost}
 
--- a chunk alone
+-- the run of a single chunk
 abbrev pub run_of : (chunk : Lost) → LostRun
 run_of chunk = record {
   first = chunk.chunk;
@@ -12,12 +12,12 @@ run_of chunk = record {
   end = chunk.start + chunk.len;
 }
 
--- two runs as one
+-- two consecutive runs as one
 abbrev pub span : (run next : LostRun) → LostRun
 span run next =
     record { first = run.first; last = next.last; start = run.start; end = next.end }
 
--- a run before others: one with the first of them, if no chunk is between the two
+-- a run before others: one run with the first of them if no chunk is between the two
 abbrev pub runs_from : (run : LostRun) (runs : List LostRun) → List LostRun
 runs_from run [] = run ∷ []
 runs_from run (next ∷ more) =
@@ -28,7 +28,7 @@ abbrev pub runs : List Lost → List LostRun
 runs [] = []
 runs (chunk ∷ more) = runs_from (run_of chunk) (runs more)
 
--- the same after a run that may go on
+-- the same after a run that may continue
 abbrev pub runs_after : (run : Option LostRun) (runs : List LostRun) → List LostRun
 runs_after None runs = runs
 runs_after (Some run) runs = runs_from run runs

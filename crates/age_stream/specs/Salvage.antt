@@ -1,13 +1,8 @@
--- What can be saved of a payload of which not all chunks open.
+-- Saving what is left of a payload if some chunks do not open.
 use Rattle.std.specs.Prelude.{ℕ, ◌+◌, ◌-◌, ◌≡◌, ◌≤◌, ◌<◌, ⊤, List, [], ◌∷◌, ◌++◌, Bool, true, false, not, length, map, take, drop, replicate, nat_eq, nat_le, IfSome, Option, Some, None, Result, Ok, Err, if◌then◌else◌}
 use Rattle.std.specs.Io.KnownBytes.{IsAtEnd}
 use Rattle.std.specs.List.{concat}
-use Rattle.age_cipher.specs.Bytes.{Key}
-use Rattle.age_kdf.specs.Bytes.{Bytes}
-use Rattle.age_header.specs.Device.{Flow, Gave, Moved, OfGiven, Took, WritesPart}
-use Rattle.age_header.specs.declared.file_key.FileKey.{FileKey}
-use Rattle.age_stream.specs.declared.fault.StreamFault.{StreamFault}
-use Rattle.age_stream.specs.declared.fault.StreamFault.TheVariants.{NonceTruncated, TooManyChunks, Read, Write, Memory}
+use Rattle.age_stream.specs.Words.{Bytes, Key, Flow, Gave, Moved, OfGiven, Took, WritesPart, FileKey, StreamFault, NonceTruncated, TooManyChunks, Read, Write, Memory, chunk_buf_size, nonce_size, sealed_chunk_size, tag_size}
 use Rattle.age_stream.specs.declared.salvaged.Lost.{Lost}
 use Rattle.age_stream.specs.declared.salvaged.Salvaged.{Salvaged}
 use Rattle.age_stream.specs.declared.salvaged.Saved.{Saved}
@@ -15,9 +10,8 @@ use Rattle.age_stream.specs.declared.salvaged.Saved.TheVariants.{Chunk, LastChun
 use Rattle.age_stream.specs.Opening.{EndsAt}
 use Rattle.age_stream.specs.Payload.{is_end, payload_key, pieces}
 use Rattle.age_stream.specs.Reading.{piece_opening}
-use Rattle.age_stream.specs.Sizes.{chunk_buf_size, nonce_size, sealed_chunk_size, tag_size}
 
--- what stands for a piece in the text that was saved
+-- the part of the saved text that stands for a piece
 pub record Part : Type 0 where
   pub text : Bytes
   pub saved : Saved
@@ -29,20 +23,20 @@ lost_part piece = record {
   saved = if nat_le (length piece) tag_size then Nothing else Zeros;
 }
 
--- the opening of a piece, or else another part
+-- the text of a piece that opens, or else another part
 abbrev pub opening_or : (last : Bool) (opening : Option Bytes) (other : Part) → Part
 opening_or last (Some text) other =
     record { text = text; saved = if last then LastChunk else Chunk }
 opening_or last None other = other
 
--- Piece i as the chunk that its place asks for, else as the last where it isn't, or as one of the
--- others where it is; else zeros.
+-- Piece i as the chunk of its position; if that fails, with the other value of the last-chunk byte
+-- in the nonce; if that fails too, zeros.
 abbrev pub part : (key : Key) (i : ℕ) (last : Bool) (piece : Bytes) → Part
 part key i last piece =
     opening_or last (piece_opening key i last piece)
     (opening_or (not last) (piece_opening key i (not last) piece) (lost_part piece))
 
--- the parts of these pieces, numbered from i on
+-- the parts of these pieces, with numbers from i on
 abbrev pub parts : (key : Key) (i : ℕ) (pieces : List Bytes) → List Part
 parts key i [] = []
 parts key i (piece ∷ more) = part key i (is_end more) piece ∷ parts key (i + 1) more
@@ -52,16 +46,16 @@ abbrev pub payload_parts : (file_key : FileKey) (text : Bytes) → List Part
 payload_parts file_key text =
     parts (payload_key file_key (take nonce_size text)) 0 (pieces (drop nonce_size text))
 
--- the parts, joined
+-- the texts of the parts, concatenated
 abbrev pub salvaged_text : List Part → Bytes
 salvaged_text parts = concat (map (λ p. p.text) parts)
 
--- the chunk, if zeros are in its place
+-- this chunk, if zeros stand for it
 abbrev pub loss : (saved : Saved) (lost : Lost) → List Lost
 loss Zeros lost = lost ∷ []
 loss _ lost = []
 
--- the lost chunks, in order: the first part is chunk i, at this offset
+-- the lost chunks, in order, if the first part is chunk i at offset `at`
 abbrev pub losses : (i at : ℕ) (parts : List Part) → List Lost
 losses i at [] = []
 losses i at (p ∷ more) =
@@ -74,7 +68,7 @@ last_saved [] = Nothing
 last_saved (p ∷ []) = p.saved
 last_saved (p ∷ q ∷ more) = last_saved (q ∷ more)
 
--- how many bytes, pieces and lost chunks there are, and what the last piece is
+-- the number of bytes, of pieces and of lost chunks, and what was saved of the last piece
 abbrev pub summary : (parts : List Part) → Salvaged
 summary parts = record {
   bytes = length (salvaged_text parts);
@@ -83,13 +77,15 @@ summary parts = record {
   last = last_saved parts;
 }
 
--- the end of the payload is missing
+-- The last piece opens as a chunk that is not the last, or has no text and does not open: the
+-- payload is cut short, or has bytes after its last chunk.
 abbrev pub is_cut : (last : Saved) → Bool
 is_cut Chunk = true
 is_cut Nothing = true
 is_cut _ = false
 
--- all that there was is saved: no chunk is lost, and the last piece is the last chunk
+-- No chunk is lost, and the last piece is the last chunk. A payload may have a fault all the same:
+-- an earlier piece may also open as the last chunk, or the last chunk may be empty after others.
 abbrev pub is_whole_to : (last : Saved) (lost : ℕ) → Bool
 is_whole_to LastChunk lost = nat_eq lost 0
 is_whole_to _ lost = false
@@ -97,11 +93,11 @@ is_whole_to _ lost = false
 abbrev pub is_whole : (s : Salvaged) → Bool
 is_whole s = is_whole_to s.last s.lost
 
--- the chunks that were reported as lost up to a moment, if they are known
+-- the chunks reported as lost so far, if they are known
 abbrev pub KnownLosses : Type 0
 KnownLosses = Option (List Lost)
 
--- the same before a call and after it
+-- the same before and after a call
 pub record LossesMoved : Type 0 where
   pub before : KnownLosses
   pub after : KnownLosses
@@ -112,17 +108,18 @@ losses_of before after = record { before = before; after = after }
 abbrev pub losses_by : {L : Type 0} (lost : L → KnownLosses) (old new : L) → LossesMoved
 losses_by lost old new = losses_of (lost old) (lost new)
 
--- these chunks were reported, after those that were reported before
+-- these chunks were reported after those reported before
 abbrev pub Reports : (losses : LossesMoved) (list : List Lost) → Type 0
 Reports losses list = IfSome losses.before (λ past. losses.after ≡ Some (past ++ list))
 
--- the first n parts were written, and the lost chunks among them reported
+-- the first n parts were written, and the lost chunks among them were reported
 abbrev pub Saves : (n : ℕ) (parts : List Part) (sink : Moved) (lost : LossesMoved) → Type 0
 Saves n parts sink lost =
     Took sink (salvaged_text (take n parts)) × Reports lost (losses 0 0 (take n parts))
 
--- What is returned where these are the parts: all were written, or as many as chunks are allowed,
--- or some where a read failed, and where a write failed a prefix of their text.
+-- The result for these parts. On Ok all were written; with too many chunks as many as the limit;
+-- after a failed read the first ones. After a failed write a prefix of the whole text was written,
+-- and the lost chunks among the first parts were reported, of however many parts.
 abbrev pub SavesParts : (max : ℕ) (parts : List Part) (sink : Moved) (lost : LossesMoved)
     (r : Result Salvaged StreamFault) → Type 0
 SavesParts max parts sink lost (Ok s) =
@@ -134,7 +131,7 @@ SavesParts max parts sink lost (Err Write) =
     (n : ℕ) × WritesPart sink (salvaged_text parts) × Reports lost (losses 0 0 (take n parts))
 SavesParts max parts sink lost (Err _) = ⊥
 
--- the same of a payload; nothing was written where there is no whole nonce, or no memory
+-- the same for a payload; nothing was written if the nonce is incomplete or memory was refused
 abbrev pub SavesPayload : (file_key : FileKey) (max : ℕ) (text : Bytes) (sink : Moved)
     (lost : LossesMoved) (r : Result Salvaged StreamFault) → Type 0
 SavesPayload file_key max text sink lost (Err NonceTruncated) =
@@ -145,15 +142,15 @@ SavesPayload file_key max text sink lost (Err Read) =
 SavesPayload file_key max text sink lost r =
     (nonce_size ≤ length text) × SavesParts max (payload_parts file_key text) sink lost r
 
--- the same of the bytes that the source gave
+-- the same for the bytes read from the source
 abbrev pub Salvages : (file_key : FileKey) (max : ℕ) (source : Flow) (sink : Moved)
     (lost : LossesMoved)
     (r : Result Salvaged StreamFault) → Type 0
 Salvages file_key max source sink lost r =
     OfGiven source (λ text. SavesPayload file_key max text sink lost r)
 
--- At which piece or write saving ended, and how much of the source had been read. Where a read
--- failed, and where there is no whole nonce or no memory, nothing is said.
+-- The piece or write at which saving ended, and how much of the source was read. Nothing is said
+-- about a failed read, an incomplete nonce, or refused memory.
 abbrev pub EndsSaving : (max : ℕ) (source : Flow) (sink : Moved) (fault : StreamFault) → Type 0
 EndsSaving max source sink Read = ⊤
 EndsSaving max source sink NonceTruncated = ⊤
@@ -167,12 +164,12 @@ IsOfPieces Read = ⊤
 IsOfPieces Write = ⊤
 IsOfPieces _ = ⊥
 
--- what the first piece of c gives as piece i; it is the last where no byte follows it
+-- the part for the first piece of c as piece i, which is the last if no byte follows it
 abbrev pub first_part : (key : Key) (i : ℕ) (c : Bytes) → Part
 first_part key i c =
     part key i (nat_le (length c) sealed_chunk_size) (take sealed_chunk_size c)
 
--- the summary with one part more
+-- the summary with one more part
 abbrev pub with_part : (s : Salvaged) (len : ℕ) (saved : Saved) → Salvaged
 with_part s len saved = record {
   bytes = s.bytes + len;
@@ -181,8 +178,8 @@ with_part s len saved = record {
   last = saved;
 }
 
--- So many bytes are at the start of the buffer: those that were held, and after them those that the
--- source gave. Fewer than it has room for are all up to the end of the source.
+-- n bytes are at the start of the buffer: those held, then those read from the source. If they are
+-- fewer than it has room for, the source is at its end.
 pub record ReadsAhead (held : Bytes) (n : ℕ) (after : Bytes) (source : Flow) : Type 0 where
   pub given : Bytes
   pub gave : Gave source given

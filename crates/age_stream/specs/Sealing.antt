@@ -1,20 +1,13 @@
--- A sealer of chunks between two calls, and what a call does.
+-- The state of a sealer of chunks between two calls, and the results of its calls.
 use Rattle.std.specs.Prelude.{ℕ, List, [], ◌++◌, ◌≡◌, ◌⊎◌, ◌≤◌, ◌<◌, ◌+◌, ◌-◌, ◌*◌, length, take, drop, Bool, true, false, IfSome, MatchResult, Option, Some, None, Result, Ok, Err}
 use Rattle.std.specs.Io.KnownBytes.{IsAtEnd}
 use Rattle.std.specs.List.{concat}
-use Rattle.age_cipher.specs.Bytes.{Key}
-use Rattle.age_kdf.specs.Bytes.{Bytes}
-use Rattle.age_cipher.specs.Sealing.{sealed_text}
-use Rattle.age_header.specs.Device.{Flow, GaveAtMost, GaveSome, OfGiven, WritesPart, Moved, Gave, Took}
-use Rattle.age_stream.specs.declared.done.Done.{Done}
-use Rattle.age_stream.specs.declared.fault.StreamFault.{StreamFault}
-use Rattle.age_stream.specs.declared.fault.StreamFault.TheVariants.{Read, Write, TooManyChunks}
+use Rattle.age_stream.specs.Words.{Bytes, Key, sealed_text, Flow, GaveAtMost, GaveSome, OfGiven, WritesPart, Moved, Gave, Took, Done, StreamFault, Read, Write, TooManyChunks, chunk_size, sealed_chunk_size}
 use Rattle.age_stream.specs.Cutting.{cut_after}
 use Rattle.age_stream.specs.Payload.{chunk_nonce, sealed_chunks_from}
-use Rattle.age_stream.specs.Sizes.{chunk_size, sealed_chunk_size}
 
--- a sealer: its key and limit, the number of the next chunk, the text that it holds of it, and the
--- fault that it keeps
+-- a sealer: its key and limit, the number of the next chunk, the text that it holds of that chunk,
+-- and the fault that it keeps
 pub record SealerState : Type 0 where
   pub key : Key
   pub max_chunks : ℕ
@@ -26,17 +19,17 @@ pub record SealerState : Type 0 where
 abbrev pub at_start : (key : Key) (max : ℕ) → SealerState
 at_start key max = record { key = key; max_chunks = max; index = 0; held = []; fault = None }
 
--- the sealed chunks from number i on, where `held` is held and `text` still comes
+-- the sealed chunks from number i on, if `held` is held and `text` follows
 abbrev pub sealed_chunks_after : (key : Key) (i : ℕ) (held text : Bytes) → List Bytes
 sealed_chunks_after key i held text = sealed_chunks_from key i (cut_after chunk_size held text)
 
--- what a sealer writes if `text` still comes
+-- the output of a sealer if `text` follows
 abbrev pub sealed_rest : (s : SealerState) (text : Bytes) → Bytes
 sealed_rest s text = concat (sealed_chunks_after s.key s.index s.held text)
 
 -- A sealer that held `held` before chunk i took `text`, and now holds `now` before chunk j. The
--- sealed chunks `gone` were written. Whatever `more` follows, the sealed chunks of it all are
--- `gone` and then those of the new state.
+-- sealed chunks `gone` were written. Whatever `more` follows, all sealed chunks are `gone` and then
+-- those of the new state.
 pub record Fed (key : Key) (i j : ℕ) (held text now : Bytes) (sink : Moved) : Type 0 where
   pub gone : List Bytes
   pub count : j ≡ i + length gone
@@ -50,8 +43,8 @@ pub record Fed (key : Key) (i j : ℕ) (held text now : Bytes) (sink : Moved) : 
 abbrev pub WroteAtLeast : (n : ℕ) (sink : Moved) → Type 0
 WroteAtLeast n sink = (text : Bytes) × Took sink text × (n ≤ length text)
 
--- What was written where `text` was to come and a fault was met: of a device's fault a prefix of
--- the sealed chunks; of too many chunks those with an index below the limit less one.
+-- The output if `text` was to come and a fault occurred: for a device's fault a prefix of the
+-- sealed chunks; for too many chunks those with an index below the limit less one.
 abbrev pub StopsIn : (key : Key) (max i : ℕ) (held text : Bytes) (sink : Moved)
     (fault : StreamFault) → Type 0
 StopsIn key max i held text sink Read = WritesPart sink (concat
@@ -63,7 +56,7 @@ StopsIn key max i held text sink TooManyChunks =
     × Took sink (concat (take (max - 1 - i) (sealed_chunks_after key i held text)))
 StopsIn key max i held text sink _ = ⊥
 
--- all that the source gives was read
+-- the source was read to its end
 pub record IsFed (key : Key) (i j : ℕ) (held now : Bytes) (source : Flow)
     (sink : Moved) : Type 0 where
   pub text : Bytes
@@ -71,16 +64,16 @@ pub record IsFed (key : Key) (i j : ℕ) (held now : Bytes) (source : Flow)
   pub all : IfSome source.before.to_come (λ told. told ≡ text)
   pub fed : Fed key i j held text now sink
 
--- a fault was met in the text that the source gave, with chunk j the next to be written; so much of
--- the source was read
+-- a fault occurred in the text read from the source, with chunk j the next to be written; this
+-- bounds how much of the source was read
 pub record Stopped (key : Key) (max i j : ℕ) (held : Bytes) (source : Flow) (sink : Moved)
     (fault : StreamFault) : Type 0 where
   pub stops : OfGiven source (λ text. StopsIn key max i held text sink fault)
   pub wrote : WroteAtLeast (sealed_chunk_size * (j - i)) sink
   pub gave : (fault ≡ Read) ⊎ GaveAtMost (chunk_size * (j + 1 - i) + 1 - length held) source
 
--- a sealer that keeps no fault holds a full chunk, and the source may give more; or it holds all
--- that the source gave, with what it held before; or a read failed
+-- a sealer that keeps no fault holds a full chunk, and the source may have more; or it holds the
+-- rest of the source after what it held before; or a read failed
 abbrev pub Fills : (s t : SealerState) (source : Flow) (result : Result Bool StreamFault) → Type 0
 Fills s t source (Ok more) =
     (text : Bytes) × Gave source text × (t ≡ record s { held = s.held ++ text })
@@ -90,7 +83,7 @@ Fills s t source (Err fault) =
     (fault ≡ Read) × GaveSome source × (t.key ≡ s.key) × (t.max_chunks ≡ s.max_chunks)
     × (t.fault ≡ Some Read)
 
--- all that a source gives was read by a sealer that keeps no fault
+-- a sealer that keeps no fault read the source to its end, or stopped at a fault
 abbrev pub TakesAll : {A : Type 0} (s t : SealerState) (source : Flow) (sink : Moved)
     (r : Result A StreamFault) → Type 0
 TakesAll s t source sink r =
@@ -108,8 +101,7 @@ FinishesBy s sink (Ok done) =
     × (done.chunks ≡ s.index + 1)
 FinishesBy s sink (Err fault) = (fault ≡ Write) × WritesPart sink (sealed_rest s [])
 
--- all that a source gives was sealed and written by a sealer that keeps no fault; or a fault was
--- met
+-- a sealer that keeps no fault sealed and wrote the whole source; or a fault occurred
 abbrev pub SealsAll : (s : SealerState) (source : Flow) (sink : Moved)
     (result : Result Done StreamFault) → Type 0
 SealsAll s source sink (Ok done) =
@@ -121,7 +113,7 @@ SealsAll s source sink (Err fault) =
     (chunk : ℕ) × Stopped s.key s.max_chunks s.index chunk s.held source sink fault
 
 -- the full chunk at the start of the buffer was written as chunk i, and the byte after it was moved
--- to the start; or a write of it failed, or there is no room for one more
+-- to the start; or the write failed, or the number of chunks is at its limit
 abbrev pub PutsFull : {A : Type 0} (key : Key) (max i j : ℕ) (bytes after : Bytes) (sink : Moved)
     (r : Result A StreamFault) → Type 0
 PutsFull key max i j bytes after sink r =

@@ -6,11 +6,11 @@ pub use Rattle.age_cipher.specs.Bytes.{tag_size}
 abbrev pub nonce_size : ℕ
 nonce_size = 16
 
--- the plaintext of each chunk but the last
+-- the plaintext of each chunk except the last
 abbrev pub chunk_size : ℕ
 chunk_size = 65536
 
--- a full chunk when it is sealed
+-- a full chunk after sealing
 abbrev pub sealed_chunk_size : ℕ
 sealed_chunk_size = chunk_size + tag_size
 
@@ -18,6 +18,6 @@ sealed_chunk_size = chunk_size + tag_size
 abbrev pub chunk_buf_size : ℕ
 chunk_buf_size = sealed_chunk_size + 1
 
--- how many chunks a counter of eleven bytes can number
+-- the number of chunks that a counter of eleven bytes can number
 abbrev pub most_chunks : ℕ
 most_chunks = 2 ^ 88

@@ -1,26 +1,20 @@
--- Parts of a plaintext by their offsets. Chunks that a part doesn't touch need not open (C2SP
--- age.md, "Payload").
+-- Parts of a plaintext by offset. Chunks outside a part need not open (C2SP age.md, "Payload").
 use Rattle.std.specs.Prelude.{ℕ, List, [], ◌∷◌, ◌+◌, ◌-◌, ◌*◌, ◌/◌, ◌%◌, ◌<◌, ◌≡◌, length, get_or, take, drop, nat_lt, true, min, slice_get, slice_index, Option, Some, None, Result, Err, if◌then◌else◌}
 use Rattle.std.specs.List.{sum_by}
-use Rattle.age_cipher.specs.Bytes.{Key}
-use Rattle.age_kdf.specs.Bytes.{Bytes}
-use Rattle.age_header.specs.declared.file_key.FileKey.{FileKey}
-use Rattle.age_stream.specs.declared.fault.StreamFault.{StreamFault}
-use Rattle.age_stream.specs.declared.fault.StreamFault.TheVariants.{NonceTruncated}
+use Rattle.age_stream.specs.Words.{Bytes, Key, FileKey, StreamFault, NonceTruncated, nonce_size, tag_size, chunk_size}
 use Rattle.age_stream.specs.Payload.{pieces, is_end, payload_key}
 use Rattle.age_stream.specs.Reading.{piece_opening, outcome}
-use Rattle.age_stream.specs.Sizes.{nonce_size, tag_size, chunk_size}
 
--- what each piece opens to, numbered from i on
+-- the text of each piece that opens, with numbers from i on
 abbrev pub openings : (key : Key) (i : ℕ) (pieces : List Bytes) → List (Option Bytes)
 openings key i [] = []
 openings key i (piece ∷ more) = piece_opening key i (is_end more) piece ∷ openings key (i + 1) more
 
--- what piece i of what follows the nonce opens to
+-- the text of piece i of the bytes after the nonce, if it opens
 abbrev pub opening : (key : Key) (rest : Bytes) (i : ℕ) → Option Bytes
 opening key rest i = get_or (openings key 0 (pieces rest)) i None
 
--- how long the plaintext is: each chunk has as many bytes as its piece, less the tag's
+-- the length of the plaintext: each chunk has the length of its piece less that of the tag
 abbrev pub plain_len : Bytes → ℕ
 plain_len rest = sum_by (λ piece. length piece - tag_size) (pieces rest)
 
@@ -29,7 +23,7 @@ abbrev pub chunk_len : (plain i : ℕ) → ℕ
 chunk_len plain i = min chunk_size (plain - chunk_size * i)
 
 -- xs are the plaintext's bytes from offset `at` on: for each k, piece (at + k) / chunk_size opens,
--- and byte k of xs is byte (at + k) % chunk_size of what it opens to
+-- and byte k of xs is byte (at + k) % chunk_size of its text
 abbrev pub IsSlice : (key : Key) (rest : Bytes) (at : ℕ) (xs : Bytes) → Type 0
 IsSlice key rest at xs =
     (k : ℕ) → k < length xs
@@ -40,11 +34,11 @@ IsSlice key rest at xs =
 abbrev pub last_piece : Bytes → Bytes
 last_piece rest = get_or (pieces rest) (length (pieces rest) - 1) []
 
--- what the last piece gives
+-- the outcome of the last piece
 abbrev pub last_outcome : (key : Key) (max : ℕ) (rest : Bytes) → Result Bytes StreamFault
 last_outcome key max rest = outcome key max (length (pieces rest) - 1) true (last_piece rest)
 
--- what opening a payload for ranges finds: a nonce, and what the last piece gives
+-- the result of opening a payload for ranges: it has a nonce, then the outcome of the last piece
 abbrev pub range_outcome : (file_key : FileKey) (max : ℕ) (text : Bytes) → Result Bytes StreamFault
 range_outcome file_key max text =
     if nat_lt (length text) nonce_size then Err NonceTruncated

@@ -1,20 +1,15 @@
--- A writer of a payload: what its constructors and its calls do to its sink.
+-- The results of a writer of a payload, and the effect of its constructors and calls on its sink.
 use Rattle.std.specs.Prelude.{ℕ, ◌≡◌, ◌≤◌, ◌<◌, ◌≢◌, length, MatchResult, None, Some, Result, Ok, Err}
-use Rattle.age_kdf.specs.Bytes.{Bytes}
+use Rattle.age_stream.specs.Words.{Bytes, CountsFaultIf, Known, Moved, Took, WritesPart, move_by, FileKey, StreamFault, Memory, Read, Write, chunk_size}
 use denote.Ref.{MutBor}
-use Rattle.age_header.specs.Device.{CountsFaultIf, Known, Moved, Took, WritesPart, move_by}
-use Rattle.age_header.specs.declared.file_key.FileKey.{FileKey}
-use Rattle.age_stream.specs.declared.fault.StreamFault.{StreamFault}
-use Rattle.age_stream.specs.declared.fault.StreamFault.TheVariants.{Memory, Read, Write}
 use Rattle.age_stream.specs.Counts.{is_write}
 use Rattle.age_stream.specs.declared.writer.StreamWriter.{StreamWriter}
 use Rattle.age_stream.specs.declared.refused.Refused.{Refused}
 use Rattle.age_stream.specs.Payload.{payload_key}
 use Rattle.age_stream.specs.Sealing.{Fed, SealerState, StopsIn, at_start}
-use Rattle.age_stream.specs.Sizes.{chunk_size}
 
--- A text was passed to a sealer that keeps no fault: whatever still comes, what is written is as
--- before. Or a fault was met: of the sink, or too many chunks.
+-- A sealer that keeps no fault took a text, so that the output in all does not depend on how the
+-- plaintext is split. Or a fault occurred: of the sink, or too many chunks.
 abbrev pub TakesPiece : {A : Type 0} (s t : SealerState) (piece : Bytes) (sink : Moved)
     (r : Result A StreamFault) → Type 0
 TakesPiece s t piece sink r =
@@ -25,8 +20,8 @@ TakesPiece s t piece sink r =
     (λ fault. (t.fault ≡ Some fault) × (fault ≢ Read)
     × StopsIn s.key s.max_chunks s.index s.held piece sink fault)
 
--- what was made of a sink, and what became of it: the nonce was written, and chunk 0 is the
--- sealer's next; or a write of the nonce failed
+-- The result of making a writer, and its effect on the sink: the nonce was written, and the sealer
+-- is before chunk 0; or a write of the nonce failed.
 abbrev pub StartsWriter : {W : Type 0} (taken : W → Known) (failed : W → ℕ) (file_key : FileKey)
     (nonce : Bytes) (max : ℕ) (old new : W) (r : Result SealerState StreamFault) → Type 0
 StartsWriter taken failed file_key nonce max old new (Ok sealer) =

@@ -1,4 +1,4 @@
-//! Laws over the definitions alone: functions that do nothing, each with a law as its contract.
+//! Laws: facts about the definitions alone, each the contract of a function that does nothing.
 
 ghost use Rattle.std.specs.Prelude.{◌≡◌, ◌↔◌, ◌<◌, ◌≤◌, ◌++◌, ℕ, List, [], Ok, drop, length, take};
 ghost use Rattle.age_kdf.specs.Bytes.{Bytes};
@@ -11,13 +11,13 @@ ghost use Rattle.age_stream.specs.declared.salvaged.Saved.TheVariants.{LastChunk
 ghost use Rattle.age_stream.specs.Slice.{IsSlice, plain_len, range_outcome};
 ghost use Rattle.age_stream.specs.Sizes.{nonce_size};
 
-/// A text has exactly one cut, which is the computed one.
+/// A text has exactly one cut, the computed one.
 pub fn one_cut()
     ensures { (size : ℕ) (text : Bytes) (lists : List Bytes) → 0 < size
         → IsCut size text lists ↔ (lists ≡ cut size text) }
 {}
 
-/// A payload reads whole as a plaintext exactly if it is the payload of this plaintext, and the
+/// A payload reads whole as a plaintext exactly if it is the payload of this plaintext and the
 /// number of chunks is within the limit. It then has as many pieces as the plaintext has chunks.
 pub fn ok_is_payload()
     ensures ok { (file_key : FileKey) (text plain : Bytes) (max : ℕ)
@@ -44,10 +44,10 @@ pub fn whole_is_sliced()
         → xs ≡ take (length xs) (drop at plain) }
 {}
 
-/// Salvaging a payload that reads whole is reading it. Of any payload what is saved begins with
-/// what a reading gives before its fault.
+/// Salvaging a payload that reads whole is reading it. Of any other payload, the saved text begins
+/// with what a reading gives before its fault.
 pub fn salvage_is_reading()
-    // What is saved of a payload that reads whole is its plaintext.
+    // The saved text of a payload that reads whole is its plaintext.
     ensures whole { (file_key : FileKey) (text plain : Bytes) (max : ℕ)
         → payload_reading file_key max text ≡ whole plain
         → salvaged_text (payload_parts file_key text) ≡ plain }
@@ -59,18 +59,18 @@ pub fn salvage_is_reading()
     ensures last { (file_key : FileKey) (text plain : Bytes) (max : ℕ)
         → payload_reading file_key max text ≡ whole plain
         → last_saved (payload_parts file_key text) ≡ LastChunk }
-    // Of any payload, what is saved of as many pieces as chunks are allowed begins with the text
+    // Of any payload, the saved text of as many pieces as chunks are allowed begins with the text
     // before the first fault.
     ensures plaintext { (file_key : FileKey) (text : Bytes) (max : ℕ)
         → (rest : Bytes) × (salvaged_text (take max (payload_parts file_key text))
         ≡ (payload_reading file_key max text).plaintext ++ rest) }
 {}
 
-/// What is saved stands at its offset: what a range of a damaged payload reads is there, and there
-/// are as many bytes as the plaintext had.
+/// The saved text is in place: the bytes that a range of a damaged payload reads are at their
+/// offsets in it, and it is as long as the plaintext was.
 pub fn salvage_is_sliced()
-    // A slice of the payload, of which only the chunks that it touches need to open, is the slice
-    // of what is saved.
+    // A slice of the payload, for which only the chunks that it touches need to open, is the same
+    // slice of the saved text.
     ensures slice { (file_key : FileKey) (text xs : Bytes) (at : ℕ)
         → IsSlice (payload_key file_key (take nonce_size text)) (drop nonce_size text) at xs
         → xs ≡ take (length xs) (drop at (salvaged_text (payload_parts file_key text))) }

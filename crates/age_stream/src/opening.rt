@@ -67,19 +67,16 @@ impl ChunkOpener {
         buf: ChunkBuf,
     ) -> Result<ChunkOpener, StreamFault>
         requires { max_chunks ≤ most_chunks }
-        // The nonce was read, under which piece 0 is the next; or there is no whole nonce, or a
-        // read failed.
+        // On Ok the nonce was read, and piece 0 is next under it. Otherwise there is no whole
+        // nonce, or a read failed.
         ensures starts { Starts key.now max_chunks (flow_by S.to_come S.gave source.old source.new)
             result }
-        // At most 16 bytes were read, but for a failed read.
+        // Unless a read failed, at most 16 bytes were read.
         ensures gave { IsErrOf result StreamFault.Read
             ⊎ GaveAtMost nonce_size (flow_by S.to_come S.gave source.old source.new) }
         ensures count { CountsIf is_read (S.failed source.old) (S.failed source.new) result }
     {
-        let nonce = match read_nonce(source) {
-            Ok(nonce) => nonce,
-            Err(fault) => return Err(fault),
-        };
+        let nonce = read_nonce(source)?;
         Ok(ChunkOpener {
             key: payload_key(key, &nonce),
             max_chunks,
@@ -112,25 +109,25 @@ impl ChunkOpener {
 
     /// Reads and opens the next piece; false after the last.
     pub fn advance<S: Source>(&mut self, source: &mut S) -> Result<bool, StreamFault>
-        // A fault that is kept is returned, the source is not read, and nothing changes.
+        // A kept fault is returned; the source is not read, and nothing changes.
         ensures kept_fault { IfSome self.old.fault
             (λ f. (result ≡ Err f) × (source.new ≡ source.old) × (self.new ≡ self.old)) }
-        // A fault is kept, and returned from then on.
+        // A fault is kept, and every later call returns it.
         ensures keeps { IfNone self.old.fault (IfErr result (λ f. self.new.fault ≡ Some f)) }
         ensures count { IfNone self.old.fault
             (CountsIf is_read (S.failed source.old) (S.failed source.new) result) }
-        // Unless a read failed: the next piece of what is left is opened at its number, or its
-        // fault returned; after the last there is none. Of any source, known or not, text and fault
-        // are those of the bytes which it gave, joined in order; nothing is read after the end and
-        // left out.
+        // Unless a read failed, the next piece of what is left is opened at its number, or its
+        // fault is returned; after the last piece the result is false. Text and fault are those of
+        // the bytes that the source gave, joined in order, whether or not its contents are known.
+        // Nothing is read after the end and left out.
         ensures opens { IfNone self.old.fault (IsErrOf result StreamFault.Read
             ⊎ Advances self.old self.new (flow_by S.to_come S.gave source.old source.new) result) }
-        // On a fault a piece was left, and the source gave some bytes, perhaps none.
+        // On a fault there was a piece left, and the source gave some bytes, perhaps none.
         ensures lost { IfNone self.old.fault
             (OnErr result (Loses self.old.held
             (flow_by S.to_come S.gave source.old source.new))) }
-        // After the call that returns false, and after a fault, it has no text and holds no byte of
-        // another piece.
+        // After false, and after a fault, the opener has no text and holds no byte of another
+        // piece.
         ensures blank { IfNone self.old.fault (IsSpentAfter self.new result) }
     {
         if let Some(fault) = self.fault {
@@ -236,17 +233,9 @@ fn next_piece<S: Source>(
     let Ok(n) = fill_from(source, bytes, ahead) else {
         return Err(StreamFault::Read);
     };
-    if n <= SEALED_CHUNK_SIZE {
-        match open_chunk(key, max, i, true, bytes, n) {
-            Ok(len) => Ok(Piece { len, more: false }),
-            Err(fault) => Err(fault),
-        }
-    } else {
-        match open_chunk(key, max, i, false, bytes, SEALED_CHUNK_SIZE) {
-            Ok(len) => Ok(Piece { len, more: true }),
-            Err(fault) => Err(fault),
-        }
-    }
+    let last = n <= SEALED_CHUNK_SIZE;
+    let len = open_chunk(key, max, i, last, bytes, n.min(SEALED_CHUNK_SIZE))?;
+    Ok(Piece { len, more: !last })
 }
 
 /// The 16 bytes of a payload's nonce.

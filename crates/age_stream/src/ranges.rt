@@ -41,15 +41,16 @@ impl<'a, D: ReadAt> RangeReader<'a, D> {
     ) -> Result<RangeReader<'a, D>, Refused<'a, D, StreamFault>>
         ensures same_reference { IfOk result
             (λ reader. reader.dev.ghost_name ≡ dev.entry.ghost_name) }
-        // The last chunk is kept, one was opened, and at most nonce and last piece were read; the
-        // length is that of all chunks. For a file too, the key is that of the file key and a nonce
-        // read at the offset, and the pieces end where the size that was found ends.
+        // The reader keeps the last chunk, has opened one, and has read at most the nonce and the
+        // last piece; the length is that of all chunks. Even of a file, the key is that of the file
+        // key and a nonce read at the offset, and the pieces end at the size that was found.
         ensures opens { IfOk result (λ reader. StartsRanges D.bytes D.given D.failed D.gave
             D.found key.now max_chunks payload_at dev.old reader.dev.now (Ok reader.chunks)) }
         ensures handed_back { IfErr result
             (λ refused. refused.device.ghost_name ≡ dev.entry.ghost_name) }
-        // The first that applies: out of memory, a truncated nonce, too many pieces, the last
-        // piece's fault; or a failed read, which is counted. For a file too, never a failed write.
+        // The fault is the first that applies: out of memory, a truncated nonce, too many pieces,
+        // the last piece's fault; or a failed read, which is counted. Even of a file, it is never a
+        // failed write.
         ensures refuses { IfErr result (λ refused. StartsRanges D.bytes D.given D.failed D.gave
             D.found key.now max_chunks payload_at dev.old refused.device.now (Err refused.fault)) }
     {
@@ -79,10 +80,10 @@ impl<'a, D: ReadAt> RangeReader<'a, D> {
     ) -> Result<RangeReader<'a, D>, StreamFault>
         ensures same_reference { IfOk result
             (λ reader. reader.dev.ghost_name ≡ dev.entry.ghost_name) }
-        // As `started`.
+        // As for `started`.
         ensures opens { IfOk result (λ reader. StartsRanges D.bytes D.given D.failed D.gave
             D.found key.now max_chunks payload_at dev.old reader.dev.now (Ok reader.chunks)) }
-        // As `started`, of some state of the source, which is not handed back.
+        // As for `started`, but of some state of the source, which is not handed back.
         ensures refuses { IfErr result (λ fault. (last : D)
             × StartsRanges D.bytes D.given D.failed D.gave D.found key.now max_chunks payload_at
             dev.old last (Err fault)) }
@@ -128,9 +129,10 @@ impl<'a, D: ReadAt> RangeReader<'a, D> {
     /// and no chunk is kept. A later call reads the source again.
     pub fn read_range(&mut self, at: u64, buf: &mut [u8]) -> Result<usize, StreamFault>
         ensures same_reference { self.new.dev.ghost_name ≡ self.old.dev.ghost_name }
-        // The smaller of the buffer's length and that of the plaintext from the offset on, and
-        // these bytes, if every touched chunk opens; else the first that does not, or a failed
-        // read, with the bytes before it. The rest of the buffer is unchanged.
+        // If every touched chunk opens, fills the buffer up to the end of the plaintext, and
+        // returns the smaller of the buffer's length and the length of the plaintext from the
+        // offset on. Otherwise returns the first chunk that does not open, or a failed read, with
+        // the bytes before that chunk in the buffer. The rest of the buffer is unchanged.
         ensures reads { ReadsRange D.bytes D.given D.failed D.gave at
             (record { source = self.old.dev.now; chunks = self.old.chunks; buf = buf.old })
             (record { source = self.new.dev.now; chunks = self.new.chunks; buf = buf.new })

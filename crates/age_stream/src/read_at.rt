@@ -19,7 +19,8 @@ pub trait ReadAt {
     // The size in bytes, once it was found.
     ghost found: { Self → Option ℕ };
 
-    // Whether this byte was read at this offset. The default says nothing.
+    // Whether the source gave this byte at this offset. For a slice: whether it has the byte there,
+    // read or not. The default allows every byte.
     ghost gave: { Self → (at byte : ℕ) → Type 0 } = { λ _ _ _. ⊤ };
 
     // The number of bytes read so far, saturating at the largest u64.
@@ -35,7 +36,7 @@ pub trait ReadAt {
     fn size(&mut self) -> Result<u64, DeviceFault>
         // Known contents stay.
         ensures stay { bytes self.new ≡ bytes self.old }
-        // What was read stays so.
+        // What was read before stays read.
         ensures stays_given { StaysGiven (gave self.old) (gave self.new) }
         // The size is that of the known contents; the first size that was found stays.
         ensures size { FindsSize (bytes self.old) (found self.old) (found self.new) result }
@@ -57,14 +58,15 @@ pub trait ReadAt {
         ensures bound { ReadsAtMost result buf.new }
         // The offsets of known contents fit a u64.
         ensures offsets { HasOffsets (bytes self.old) }
-        // On Ok the bytes from the offset on; none with room only past the end of the known
-        // contents, and of the size that was found: so an earlier end is an error.
+        // On Ok the bytes from the offset on. With a nonempty buffer there are none only at or past
+        // the end of the known contents, and of the size that was found: an earlier end is an
+        // error.
         ensures bytes { GivesAt (bytes self.old) (found self.old) at result buf.new }
-        // What was read stays so.
+        // What was read before stays read.
         ensures stays_given { StaysGiven (gave self.old) (gave self.new) }
-        // Each byte was read at its offset.
+        // The source gave each byte at its offset.
         ensures read { IfOk result (λ n. GaveAt (gave self.new) at (take n buf.new)) }
-        // The count of bytes rises by what was read, up to the largest u64.
+        // The count of bytes rises by the number of bytes read, up to the largest u64.
         ensures given { CountsGiven (given self.old) (given self.new) result }
         // An error raises the count of failures, an Ok leaves it.
         ensures count { Counts (failed self.old) (failed self.new) result };
@@ -88,7 +90,7 @@ pub struct MemAt<'a> {
 impl<'a> MemAt<'a> {
     /// Makes a source of these bytes, of which none was read yet.
     pub fn new(bytes: &'a [u8]) -> MemAt<'a>
-        // A source over a slice returns the slice's bytes.
+        // Its contents are the slice's bytes.
         ensures bytes { ⟦<MemAt<'a> as ReadAt>⟧.bytes result ≡ Some bytes.now }
         // No byte was read.
         ensures given { ⟦<MemAt<'a> as ReadAt>⟧.given result ≡ 0 }

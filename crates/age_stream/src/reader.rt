@@ -34,7 +34,7 @@ impl<'a, S: Source> StreamReader<'a, S> {
     pub fn over(input: &'a mut S, opener: ChunkOpener) -> StreamReader<'a, S>
         ensures same_reference { result.input.ghost_name ≡ input.entry.ghost_name }
         ensures unchanged { result.input.now ≡ input.old }
-        // It goes on where this one was.
+        // It continues where this one was.
         ensures opener { result.opener ≡ opener }
     {
         StreamReader { input, opener }
@@ -54,12 +54,12 @@ impl<'a, S: Source> StreamReader<'a, S> {
         requires { max_chunks ≤ most_chunks }
         ensures same_reference { IfOk result
             (λ reader. reader.input.ghost_name ≡ input.entry.ghost_name) }
-        // The nonce was read, and piece 0 is the next.
+        // The nonce was read, and piece 0 is next.
         ensures starts { IfOk result (λ reader. StartsReader S.to_come S.gave S.failed key.now
             max_chunks input.old reader.input.now (Ok reader.opener)) }
         ensures handed_back { IfErr result
             (λ refused. refused.device.ghost_name ≡ input.entry.ghost_name) }
-        // Out of memory, and nothing was read; or the nonce was not read.
+        // Memory was refused and nothing was read, or the nonce was not read.
         ensures misses { IfErr result (λ refused. StartsReader S.to_come S.gave S.failed key.now
             max_chunks input.old refused.device.now (Err refused.fault)) }
     {
@@ -87,10 +87,10 @@ impl<'a, S: Source> StreamReader<'a, S> {
         requires { max_chunks ≤ most_chunks }
         ensures same_reference { IfOk result
             (λ reader. reader.input.ghost_name ≡ input.entry.ghost_name) }
-        // The nonce was read, and piece 0 is the next.
+        // The nonce was read, and piece 0 is next.
         ensures starts { IfOk result (λ reader. StartsReader S.to_come S.gave S.failed key.now
             max_chunks input.old reader.input.now (Ok reader.opener)) }
-        // As `started`, of some state of the source, which is not handed back.
+        // As for `started`, but of some state of the source, which is not handed back.
         ensures misses { IfErr result (λ fault. (last : S) × StartsReader S.to_come S.gave S.failed
             key.now max_chunks input.old last (Err fault)) }
     {
@@ -133,10 +133,10 @@ impl<'a, S: Source> StreamReader<'a, S> {
     /// only a tag, `BadChunk` if no plaintext seals to it at its number. `Read` if the source
     /// failed.
     pub fn next_chunk(&mut self) -> Result<Option<&[u8]>, StreamFault>
-        // The next piece's text is lent, or its fault returned; after the last one, and after a
-        // fault, no text and no byte of another piece is held. The chunk is borrowed from the
-        // reader, so the clause speaks of the reader once the chunk is given back: it is then
-        // `last`, and the last λ holds of it. The words before that λ are the checker's.
+        // Lends the next piece's text, or returns its fault. After the last piece, and after a
+        // fault, the reader holds no text and no byte of another piece. The chunk is borrowed from
+        // the reader, so the clause can speak of the reader only once the chunk is given back: it
+        // is then `last`, and the last λ holds of it. The words before that λ are the checker's.
         // `follows_so` names the lender by its `ghost_name`, and `the_row`, with the lifetime
         // `named 1`, is the layout of its type `StreamReader<S>`.
         ensures* after { sem 𝓛 (follows_so
@@ -149,7 +149,7 @@ impl<'a, S: Source> StreamReader<'a, S> {
             (flow_by S.to_come S.gave self.old.input.now last.input.now)
             (S.failed self.old.input.now) (S.failed last.input.now) (is_lent result))
             × IfOk result (λ o. IfSome o (λ piece. piece.now ≡ last.opener.text)))) }
-        // A fault that is kept is returned.
+        // A kept fault is returned.
         ensures kept_fault { IfSome self.old.opener.fault (λ f. result ≡ Err f) }
     {
         if self.advance()? {
@@ -166,17 +166,17 @@ impl<'a, S: Source> StreamReader<'a, S> {
     /// Those of `next_chunk`: the chunks before were written. `Write` if the sink failed: a prefix
     /// of the chunks was written.
     pub fn copy_to<W: Sink>(self, out: &mut W) -> Result<Done, StreamFault>
-        // A fault that is kept is returned, and neither device is called.
+        // A kept fault is returned, and neither device is called.
         ensures kept_fault { IfSome self.entry.opener.fault (λ f.
             (result ≡ Err f) × (self.exit.0.now ≡ self.entry.input.now) × (out.new ≡ out.old)) }
-        // The openings of the pieces left were written up to the first fault, which is returned; on
-        // Ok the counts are the length of the written text and the number of its pieces. If a
-        // device failed, a prefix of them was written.
+        // Writes the openings of the pieces left, up to the first fault, which is returned. On Ok
+        // the counts are the length of the written text and the number of its pieces. If a device
+        // failed, a prefix of the openings was written.
         ensures writes_all { IfNone self.entry.opener.fault (WritesAll self.entry.opener
             (flow_by S.to_come S.gave self.entry.input.now self.exit.0.now)
             (move_by W.taken out.old out.new) result) }
-        // Of a fault but a failed read: at which piece it was met, what had been written, and how
-        // much of the source had been read.
+        // Of any fault except a failed read: at which piece it arose, what had been written, and
+        // how much of the source had been read.
         ensures ends { IfNone self.entry.opener.fault (IfErr result (λ f. (f ≡ StreamFault.Read)
             ⊎ EndsAt self.entry.opener.max_chunks 0
             (flow_by S.to_come S.gave self.entry.input.now self.exit.0.now)

@@ -50,8 +50,9 @@ impl Salvaged {
         }
     }
 
-    /// Whether the payload is cut short: its last piece is a chunk that others follow, or too short
-    /// to have text. Where zeros stand for the last piece, nobody knows.
+    /// Whether the last piece opens as a chunk that is not the last, or has no text and does not
+    /// open. The payload is then cut short, or has bytes after its last chunk. If zeros stand for
+    /// the last piece, that is unknown, and the result is false.
     pub fn is_cut(&self) -> bool
         ensures { result ≡ is_cut self.now.last }
     {

@@ -18,18 +18,18 @@ use crate::sizes::{SEALED_CHUNK_SIZE, TAG_SIZE};
 use age_header::{DeviceFault, FileKey, Sink, Source, fill_from, write_all};
 use std::alloc::Global;
 
-/// Saves what it can of a payload that is left in the source. It writes the text of each chunk that
-/// opens, at its offset: in the place of one that doesn't open there are zeros, and the chunk is
-/// reported. A chunk opens as the last or as another, wherever it stands.
+/// Saves what it can of a payload that is left in the source. Writes, at its offset, the text of
+/// every chunk that opens, and zeros in place of every chunk that does not, which it reports to
+/// `losses`. A chunk may open as the last or as another, wherever it stands.
 ///
-/// Each chunk that was saved is genuine, and stands where it stood in the plaintext. The plaintext
-/// as a whole is genuine only if no chunk was lost and the last piece is the last chunk.
+/// Each chunk that was saved is genuine, and stands where it stood in its plaintext. The plaintext
+/// as a whole can be genuine only if no chunk was lost and the last piece is the last chunk. That
+/// is not enough: a reader may still refuse the payload.
 ///
 /// # Errors
 /// `Memory` if the allocation was refused: nothing was read. `NonceTruncated` if the source returns
-/// fewer than 16 bytes. `TooManyChunks` if there are more than `max_chunks`, which were written.
-/// `Read` and `Write` if a device failed: what was saved before was written, and on `Write` a
-/// prefix of one more chunk.
+/// fewer than 16 bytes. `TooManyChunks` if there are more than `max_chunks` chunks: as many were
+/// written. `Read` and `Write` if a device failed: a prefix of the saved text was written.
 pub fn salvage_payload<S: Source, W: Sink, L: Losses>(
     alloc: Global,
     key: &FileKey,
@@ -39,30 +39,27 @@ pub fn salvage_payload<S: Source, W: Sink, L: Losses>(
     max_chunks: u128,
 ) -> Result<Salvaged, StreamFault>
     requires { max_chunks ≤ most_chunks }
-    // Each chunk that opens was written at its offset, zeros for each other, and each lost chunk
-    // was reported, in order. On a fault only a beginning of this.
+    // Writes, at its offset, every chunk that opens and zeros in place of every chunk that does
+    // not, and reports each lost chunk, in order. On a fault only a beginning of this.
     ensures salvages { Salvages key.now max_chunks
         (flow_by S.to_come S.gave source.old source.new) (move_by W.taken out.old out.new)
         (losses_by L.lost losses.old losses.new) result }
-    // Where no chunk is lost none was reported.
+    // If no chunk is lost, none was reported.
     ensures silent { IfOk result (λ s. s.lost ≡ 0 → losses.new ≡ losses.old) }
-    // Without a nonce, or memory, nothing was written or reported.
+    // If there is no whole nonce, or no memory, nothing was written or reported.
     ensures quiet { IfErr result
         (λ fault. IsOfPieces fault ⊎ ((out.new ≡ out.old) × (losses.new ≡ losses.old))) }
     ensures reads { CountsIf is_read (S.failed source.old) (S.failed source.new) result }
     ensures writes { CountsIf is_write (W.failed out.old) (W.failed out.new) result }
-    // If it ended at a piece, or at a write after 65,536 i bytes: at most the nonce, the pieces up
-    // to and including piece i and one byte were read.
+    // On a fault at piece i, or of a write after 65,536 i bytes: at most the nonce, the pieces up
+    // to and including piece i, and one more byte were read.
     ensures took { IfErr result (EndsSaving max_chunks
         (flow_by S.to_come S.gave source.old source.new) (move_by W.taken out.old out.new)) }
 {
     let Ok(buf) = ChunkBuf::new(alloc) else {
         return Err(StreamFault::Memory);
     };
-    let nonce = match read_nonce(source) {
-        Ok(nonce) => nonce,
-        Err(fault) => return Err(fault),
-    };
+    let nonce = read_nonce(source)?;
     let mut bytes = buf.into_bytes();
     let key = payload_key(key, &nonce);
     save_pieces(source, out, losses, &key, max_chunks, bytes.as_mut_slice())
@@ -148,17 +145,9 @@ fn save_first(key: &[u8; 32], i: u128, bytes: &mut [u8], n: usize) -> (usize, Sa
     ensures full { sealed_chunk_size < n → result.0 ≡ chunk_size }
 {
     let (piece, _) = bytes.split_at_mut(SEALED_CHUNK_SIZE);
-    if n <= SEALED_CHUNK_SIZE {
-        (
-            n.saturating_sub(TAG_SIZE),
-            save_piece(key, i, true, piece, n),
-        )
-    } else {
-        (
-            SEALED_CHUNK_SIZE - TAG_SIZE,
-            save_piece(key, i, false, piece, SEALED_CHUNK_SIZE),
-        )
-    }
+    let end = n.min(SEALED_CHUNK_SIZE);
+    let saved = save_piece(key, i, n <= SEALED_CHUNK_SIZE, piece, end);
+    (end.saturating_sub(TAG_SIZE), saved)
 }
 
 /// Opens the first `end` bytes in place as chunk i, last or not, the likelier first. If they open

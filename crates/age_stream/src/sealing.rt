@@ -76,10 +76,10 @@ impl ChunkSealer {
     /// # Errors
     /// `Read` if the source failed.
     pub fn fill<S: Source>(&mut self, plain: &mut S) -> Result<bool, StreamFault>
-        // A fault that is kept is returned, and the source is not read.
+        // A kept fault is returned, and the source is not read.
         ensures kept_fault { IfSome self.old.fault (λ f. (result ≡ Err f) × (self.new ≡ self.old)
             × (plain.new ≡ plain.old)) }
-        // It took what the source gives, up to a full chunk, wrote nothing, and returns whether the
+        // Takes what the source gives, up to a full chunk, writes nothing, and returns whether the
         // source may give more.
         ensures fills { IfNone self.old.fault
             (Fills self.old self.new (flow_by S.to_come S.gave plain.old plain.new) result) }
@@ -107,10 +107,10 @@ impl ChunkSealer {
         plain: &mut S,
         out: &mut W,
     ) -> Result<(), StreamFault>
-        // A fault that is kept is returned, and neither device is called.
+        // A kept fault is returned, and neither device is called.
         ensures kept_fault { IfSome self.old.fault (λ f. (result ≡ Err f) × (self.new ≡ self.old)
             × (plain.new ≡ plain.old) × (out.new ≡ out.old)) }
-        // However the plaintext is cut into calls, the chunks that were written and those that
+        // However the plaintext is split among calls, the chunks written so far and those that
         // follow are the payload's. Too many chunks are refused at the first byte of the first
         // chunk over the limit. At most 65,536 bytes are held.
         ensures takes { IfNone self.old.fault (TakesAll self.old self.new
@@ -147,10 +147,10 @@ impl ChunkSealer {
     /// Seals what is held as the last chunk, and writes it. Returns the total numbers of bytes and
     /// chunks sealed.
     pub fn finish<W: Sink>(self, out: &mut W) -> Result<Done, StreamFault>
-        // A fault that is kept is returned, and the sink is not written to.
+        // A kept fault is returned, and nothing is written.
         ensures kept_fault { IfSome self.fault (λ f. (result ≡ Err f) × (out.new ≡ out.old)) }
-        // The last chunk is what was held, or a prefix of it after a failed write; the counts are
-        // the text's length and the number of its chunks.
+        // Writes what was held as the last chunk, or a prefix of that if a write failed. The counts
+        // are the length of the text and the number of its chunks.
         ensures text { IfNone self.fault
             (FinishesBy self (move_by W.taken out.old out.new) result) }
         ensures writes { IfNone self.fault
@@ -214,9 +214,7 @@ fn feed<S: Source, W: Sink>(
         if n <= CHUNK_SIZE {
             return Ok(n);
         }
-        if let Err(fault) = put_full(out, key, max, index, bytes) {
-            return Err(fault);
-        }
+        put_full(out, key, max, index, bytes)?;
         held = 1;
     }
 }
@@ -303,7 +301,7 @@ pub fn seal_chunk(key: &[u8; 32], i: u128, last: bool, chunk: &mut [u8])
     requires high { length chunk.old ≤ sealed_chunk_size }
     requires small { i < most_chunks }
     ensures len { length chunk.new ≡ length chunk.old }
-    // The buffer has the chunk, sealed at its number.
+    // The buffer holds the chunk, sealed at its number.
     ensures sealed { chunk.new
         ≡ sealed_text key.now (chunk_nonce i last) [] (take
         (length chunk.old - tag_size) chunk.old) }

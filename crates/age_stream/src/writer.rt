@@ -27,7 +27,7 @@ impl<'a, W: Sink> StreamWriter<'a, W> {
     pub fn over(out: &'a mut W, sealer: ChunkSealer) -> StreamWriter<'a, W>
         ensures same_reference { result.out.ghost_name ≡ out.entry.ghost_name }
         ensures unchanged { result.out.now ≡ out.old }
-        // It goes on where this one was.
+        // It continues where this one was.
         ensures sealer { result.sealer ≡ sealer }
     {
         StreamWriter { out, sealer }
@@ -48,7 +48,7 @@ impl<'a, W: Sink> StreamWriter<'a, W> {
         requires high { max_chunks ≤ most_chunks }
         ensures same_reference { IfOk result
             (λ writer. writer.out.ghost_name ≡ out.entry.ghost_name) }
-        // The nonce was written, and chunk 0 is the next.
+        // The nonce was written, and chunk 0 is next.
         ensures starts { IfOk result (λ writer. StartsWriter W.taken W.failed key.now nonce.now
             max_chunks out.old writer.out.now (Ok writer.sealer)) }
         ensures handed_back { IfErr result
@@ -79,12 +79,12 @@ impl<'a, W: Sink> StreamWriter<'a, W> {
         requires high { max_chunks ≤ most_chunks }
         ensures same_reference { IfOk result
             (λ writer. writer.out.ghost_name ≡ out.entry.ghost_name) }
-        // The nonce was written, and chunk 0 is the next.
+        // The nonce was written, and chunk 0 is next.
         ensures starts { IfOk result (λ writer. StartsWriter W.taken W.failed key.now nonce.now
             max_chunks out.old writer.out.now (Ok writer.sealer)) }
         ensures handed_back { IfErr result
             (λ refused. refused.device.ghost_name ≡ out.entry.ghost_name) }
-        // Out of memory, and nothing was written; or as `started_with`.
+        // Memory was refused and nothing was written, or as for `started_with`.
         ensures loses { IfErr result (λ refused. IsRefusedMemory out.old refused.device.now
             refused.fault ⊎ StartsWriter W.taken W.failed key.now nonce.now max_chunks out.old
             refused.device.now (Err refused.fault)) }
@@ -111,10 +111,10 @@ impl<'a, W: Sink> StreamWriter<'a, W> {
         requires high { max_chunks ≤ most_chunks }
         ensures same_reference { IfOk result
             (λ writer. writer.out.ghost_name ≡ out.entry.ghost_name) }
-        // The nonce was written, and chunk 0 is the next.
+        // The nonce was written, and chunk 0 is next.
         ensures starts { IfOk result (λ writer. StartsWriter W.taken W.failed key.now nonce.now
             max_chunks out.old writer.out.now (Ok writer.sealer)) }
-        // As `started_with`, of some state of the sink, which is not handed back.
+        // As for `started_with`, but of some state of the sink, which is not handed back.
         ensures loses { IfErr result (λ fault. (last : W) × StartsWriter W.taken W.failed key.now
             nonce.now max_chunks out.old last (Err fault)) }
     {
@@ -141,10 +141,10 @@ impl<'a, W: Sink> StreamWriter<'a, W> {
         requires high { max_chunks ≤ most_chunks }
         ensures same_reference { IfOk result
             (λ writer. writer.out.ghost_name ≡ out.entry.ghost_name) }
-        // The nonce was written, and chunk 0 is the next.
+        // The nonce was written, and chunk 0 is next.
         ensures starts { IfOk result (λ writer. StartsWriter W.taken W.failed key.now nonce.now
             max_chunks out.old writer.out.now (Ok writer.sealer)) }
-        // As `started`, of some state of the sink, which is not handed back.
+        // As for `started`, but of some state of the sink, which is not handed back.
         ensures loses { IfErr result (λ fault. (last : W) × (IsRefusedMemory out.old last fault
             ⊎ StartsWriter W.taken W.failed key.now nonce.now max_chunks out.old last
             (Err fault))) }
@@ -163,11 +163,11 @@ impl<'a, W: Sink> StreamWriter<'a, W> {
     /// the text needs more than `max_chunks`: the chunks before the last one allowed were written.
     pub fn write_piece(&mut self, piece: &[u8]) -> Result<(), StreamFault>
         ensures same_reference { self.new.out.ghost_name ≡ self.old.out.ghost_name }
-        // A fault that is kept is returned, and the sink is not written to.
+        // A kept fault is returned, and nothing is written.
         ensures kept_fault { IfSome self.old.sealer.fault (λ f. (result ≡ Err f)
             × (self.new.sealer ≡ self.old.sealer) × (self.new.out.now ≡ self.old.out.now)) }
-        // Whatever still comes, all that will be written is as before; or a fault was met, of the
-        // sink or too many chunks.
+        // However the plaintext is split among calls, the same bytes are written in the end; or the
+        // fault is the sink's, or too many chunks.
         ensures takes { IfNone self.old.sealer.fault (TakesPiece self.old.sealer self.new.sealer
             piece.now (move_by W.taken self.old.out.now self.new.out.now) result) }
         ensures count { IfNone self.old.sealer.fault
@@ -184,10 +184,10 @@ impl<'a, W: Sink> StreamWriter<'a, W> {
     /// Those of `write_piece`, and `Read` if the source failed: a prefix of the sealed chunks was
     /// written.
     pub fn seal_from<S: Source>(self, plain: &mut S) -> Result<Done, StreamFault>
-        // A fault that is kept is returned, and neither device is called.
+        // A kept fault is returned, and neither device is called.
         ensures kept_fault { IfSome self.entry.sealer.fault (λ f.
             (result ≡ Err f) × (plain.new ≡ plain.old) × (self.exit.0.now ≡ self.entry.out.now)) }
-        // All that the source gave was sealed and written; or a fault was met, with how much of the
+        // Seals and writes all that the source gave; or returns a fault, and says how much of the
         // source was read.
         ensures seals { IfNone self.entry.sealer.fault (SealsAll self.entry.sealer
             (flow_by S.to_come S.gave plain.old plain.new)
@@ -211,11 +211,11 @@ impl<'a, W: Sink> StreamWriter<'a, W> {
     /// # Errors
     /// `Write` if the sink failed: a prefix of the sealed chunk was written.
     pub fn finish(self) -> Result<Done, StreamFault>
-        // A fault that is kept is returned, and the sink is not written to.
+        // A kept fault is returned, and nothing is written.
         ensures kept_fault { IfSome self.entry.sealer.fault
             (λ f. (result ≡ Err f) × (self.exit.0.now ≡ self.entry.out.now)) }
-        // The last chunk is what was held, or a prefix of it after a failed write; the counts are
-        // the text's length and the number of its chunks.
+        // Writes what was held as the last chunk, or a prefix of that if a write failed. The counts
+        // are the length of the text and the number of its chunks.
         ensures text { IfNone self.entry.sealer.fault (FinishesBy self.entry.sealer
             (move_by W.taken self.entry.out.now self.exit.0.now) result) }
         ensures count { IfNone self.entry.sealer.fault

@@ -1,7 +1,5 @@
-use Rattle.std.proofs.Common.{arith, ◌≡◌, ◌+◌, ◌-◌, ◌∙◌, ap, sym, refl, inr, take, [], Some, None}
+use Rattle.std.proofs.Common.{arith, ◌≡◌, ◌+◌, ◌-◌, ◌∙◌, ap, refl, inr, take, Some, None}
 use Rattle.std.proofs.lemmas.Bool.{OnTrue_at, OnFalse_at}
-use Rattle.age_kdf.specs.Bytes.{Bytes}
-use Rattle.age_cipher.specs.Sealing.{opened_text}
 use Rattle.age_stream.specs.Slice.{chunk_len}
 use Rattle.age_stream.proofs.LoadLemmas.{open_there}
 use Rattle.age_stream.proofs.loading.load.Goals as goal
@@ -29,16 +27,3 @@ returns-else-open_prefix-clause-lost g c =
           (ap (λ k. k + 16) c.chunk_len-end.ensures) (c.read_full.auto.buf ∙ c.requires.room)
           c.chunk_nonce-nonce.ensures (OnFalse_at c.if-open_prefix.false c.open_prefix.ensures.refused),
     )
-
-pub returns-then-open_prefix-clause-verified : goal.returns-then-open_prefix-clause-verified
-returns-then-open_prefix-clause-verified g c =
-    let n = chunk_len c.args.layout.plain c.args.i in
-    let len : c.chunk_len-end.result + 16 - 16 ≡ n = omega (arith, c.chunk_len-end.ensures) in
-    let piece : Bytes = take (c.chunk_len-end.result + 16) c.read_full.new.buf in
-    record {
-      piece = piece;
-      read = OnTrue_at c.in-Ok-true.field-0-test c.in-Ok-true.ensures.read;
-      opens = ap (λ k. opened_text c.args.layout.key k [] piece) (sym c.chunk_nonce-nonce.ensures)
-          ∙ OnTrue_at c.if-open_prefix.true c.open_prefix.ensures.opened
-          ∙ ap (λ k. Some (take k c.open_prefix.new.bytes)) len;
-    }

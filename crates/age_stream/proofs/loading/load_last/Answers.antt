@@ -1,71 +1,65 @@
-use Rattle.std.proofs.Common.{rules, arith, ◌≡◌, ◌+◌, ◌-◌, ◌*◌, ◌/◌, ◌<◌, ◌≤◌, ◌∙◌, ap, refl, inr, take, Ok, Err}
+use Rattle.std.proofs.Common.{arith, ◌≡◌, ◌+◌, ◌-◌, ◌*◌, ◌/◌, ◌≤◌, ◌∙◌, ap, refl, inr, take, Ok, Err}
 use Rattle.std.proofs.lemmas.Bool.{OnTrue_at, OnFalse_at}
 use Rattle.age_stream.specs.Slice.{chunk_len}
-use Rattle.age_stream.specs.declared.fault.StreamFault.TheVariants.{BadChunk}
-use Rattle.age_stream.specs.Sizes.{chunk_size, sealed_chunk_size}
+use Rattle.age_stream.specs.Words.{BadChunk, chunk_size, sealed_chunk_size}
 use Rattle.age_stream.proofs.JudgesLastLemmas.{last_many, last_gone, last_read, last_verified, open_len, piece_named}
 use Rattle.age_stream.proofs.loading.load_last.Goals as goal
 
 pub returns-then-last-max-clause-judges : goal.returns-then-last-max-clause-judges
 returns-then-last-max-clause-judges g c =
-    let less : c.saturating_sub.result ≡ c.args.sealed - 1 = search rules in
     inr (last_many c.args.key c.args.max c.args.first c.args.sealed (c.saturating_sub.result / sealed_chunk_size)
     (g.D.ReadAt.bytes c.args.dev.now)
-    (ap (λ n. n / sealed_chunk_size) less) (omega arith))
+    (ap (λ n. n / sealed_chunk_size) c.saturating_sub.ensures) (omega arith))
 
 pub returns-in-Ok-false-clause-judges : goal.returns-in-Ok-false-clause-judges
 returns-in-Ok-false-clause-judges g c =
-    let less : c.saturating_sub.result ≡ c.args.sealed - 1 = search rules in
     let last = c.saturating_sub.result / sealed_chunk_size in
     inr (last_gone c.args.key c.args.max c.args.first c.args.sealed last (c.args.sealed - sealed_chunk_size * last)
     (g.D.ReadAt.bytes c.args.dev.now) (BadChunk last)
-    (ap (λ n. n / sealed_chunk_size) less) refl (OnFalse_at c.in-Ok-false.field-0-test c.in-Ok-false.ensures.short))
+    (ap (λ n. n / sealed_chunk_size) c.saturating_sub.ensures) refl
+    (OnFalse_at c.in-Ok-false.field-0-test c.in-Ok-false.ensures.short))
 
 pub returns-in-Err-open_chunk-clause-judges : goal.returns-in-Err-open_chunk-clause-judges
 returns-in-Err-open_chunk-clause-judges g c =
-    let less : c.saturating_sub.result ≡ c.args.sealed - 1 = search rules in
     let last = c.saturating_sub.result / sealed_chunk_size in
     inr (last_read c.args.key c.args.max c.args.first c.args.sealed last (c.args.sealed - sealed_chunk_size * last)
     (g.D.ReadAt.bytes c.args.dev.now) c.read_full.new.buf (Err c.in-Err-open_chunk.fault)
-    (ap (λ n. n / sealed_chunk_size) less) refl (c.read_full.auto.buf ∙ c.requires.room)
+    (ap (λ n. n / sealed_chunk_size) c.saturating_sub.ensures) refl (c.read_full.auto.buf ∙ c.requires.room)
     (OnTrue_at c.in-Ok-true.field-0-test c.in-Ok-true.ensures.full) c.in-Err-open_chunk.ensures.text)
 
 pub invariant_of-result : goal.invariant_of-result
 invariant_of-result g c =
-    let less : c.saturating_sub.result ≡ c.args.sealed - 1 = search rules in
     let last = c.saturating_sub.result / sealed_chunk_size in
     let end = c.args.sealed - sealed_chunk_size * last in
-    let short : end ≤ sealed_chunk_size = omega (arith, less) in
-    let fits = c.requires.fits in
+    let short : end ≤ sealed_chunk_size = omega arith in
     let len = open_len c.args.key c.args.max last end c.in-Ok.len c.read_full.new.buf c.open_chunk.new.bytes
     (c.read_full.auto.buf ∙ c.requires.room) short
     c.in-Ok.ensures.text.0 c.in-Ok.ensures.text.1 in
-    let is : c.in-Ok.len + 16 ≡ end = len.0 in
+    let is = len.0 in
     record {
-      fits = omega (arith, is, fits, less);
+      fits = omega (arith, is, c.requires.fits);
       some = omega arith;
       covers = omega (arith, is, short);
-      tight = λ lt. let pos : 0 < c.in-Ok.len = len.1 (omega (arith, lt)) in omega (arith, pos);
+      tight = λ lt. omega (arith, len.1 (omega (arith, lt)));
     }
 
 pub returns-in-Ok-clause-judges : goal.returns-in-Ok-clause-judges
 returns-in-Ok-clause-judges g c =
-    let less : c.saturating_sub.result ≡ c.args.sealed - 1 = search rules in
     let last = c.saturating_sub.result / sealed_chunk_size in
     let end = c.args.sealed - sealed_chunk_size * last in
     let n = c.in-Ok.len in
-    let short : end ≤ sealed_chunk_size = omega (arith, less) in
+    let short : end ≤ sealed_chunk_size = omega arith in
     let room = c.read_full.auto.buf ∙ c.requires.room in
     let len = open_len c.args.key c.args.max last end n c.read_full.new.buf c.open_chunk.new.bytes room short
     c.in-Ok.ensures.text.0 c.in-Ok.ensures.text.1 in
-    let is : n + 16 ≡ end = len.0 in
+    let is = len.0 in
     let text : n ≡ chunk_len (chunk_size * last + n) (last + 1 - 1) = omega (arith, is, short) in (
       refl,
       refl,
-      omega (arith, is, less),
+      omega (arith, is),
       last_read c.args.key c.args.max c.args.first c.args.sealed last end (g.D.ReadAt.bytes c.args.dev.now)
           c.read_full.new.buf (Ok (take (chunk_len (chunk_size * last + n) (last + 1 - 1)) c.open_chunk.new.bytes))
-          (ap (λ k. k / sealed_chunk_size) less) refl room
+          (ap (λ k. k / sealed_chunk_size) c.saturating_sub.ensures) refl room
           (OnTrue_at c.in-Ok-true.field-0-test c.in-Ok-true.ensures.full)
           (c.in-Ok.ensures.text.0 ∙ ap (λ k. Ok (take k c.open_chunk.new.bytes)) text),
     )
@@ -77,15 +71,14 @@ returns-in-Err-open_chunk-clause-named g c =
 
 pub returns-in-Ok-clause-verified : goal.returns-in-Ok-clause-verified
 returns-in-Ok-clause-verified g c =
-    let less : c.saturating_sub.result ≡ c.args.sealed - 1 = search rules in
     let last = c.saturating_sub.result / sealed_chunk_size in
     let end = c.args.sealed - sealed_chunk_size * last in
     let n = c.in-Ok.len in
-    let short : end ≤ sealed_chunk_size = omega (arith, less) in
+    let short : end ≤ sealed_chunk_size = omega arith in
     let room = c.read_full.auto.buf ∙ c.requires.room in
     let len = open_len c.args.key c.args.max last end n c.read_full.new.buf c.open_chunk.new.bytes room short
     c.in-Ok.ensures.text.0 c.in-Ok.ensures.text.1 in
-    let is : n + 16 ≡ end = len.0 in
+    let is = len.0 in
     let text : n ≡ chunk_len (chunk_size * last + n) last = omega (arith, is, short) in
     last_verified c.args.max last end c.read_full.new.buf c.open_chunk.new.bytes refl
     (OnTrue_at c.in-Ok-true.field-0-test c.in-Ok-true.ensures.read) c.in-Ok.ensures.text.0 text

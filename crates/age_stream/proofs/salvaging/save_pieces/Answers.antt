@@ -25,47 +25,43 @@ returns-then-done-max-clause-ends g c =
 
 pub returns-in_default-clause-saves : goal.returns-in_default-clause-saves
 returns-in_default-clause-saves g c =
-    saves_read c.args.max c.loop-done.invariant.saved c.in_default.ensures.lost
+    saves_read c.loop-done.invariant.saved c.args.max c.in_default.ensures.lost
 
 pub returns-in-Err-clause-saves : goal.returns-in-Err-clause-saves
 returns-in-Err-clause-saves g c =
-    let saved = c.save_first-len.ensures in
-    saves_write c.args.max (g.W.Sink.taken c.write_all.new.out)
-    c.loop-done.invariant.saved c.in-Ok.ensures.reads c.read_piece.ensures.len saved.part c.in-Err.ensures.text
+    saves_write c.loop-done.invariant.saved c.in-Ok.ensures.reads c.read_piece.ensures.len
+    c.save_first-len.ensures.part c.args.max (g.W.Sink.taken c.write_all.new.out) c.in-Err.ensures.text
 
 pub returns-in-Err-clause-ends : goal.returns-in-Err-clause-ends
 returns-in-Err-clause-ends g c =
-    inr (ends_write (take c.save_first-len.result.0 c.save_first-len.new.bytes)
-    c.loop-done.invariant.saved c.in-Ok.ensures.reads c.read_piece.ensures.len c.in-Err.ensures.text)
+    inr (ends_write c.loop-done.invariant.saved c.in-Ok.ensures.reads c.read_piece.ensures.len
+    (take c.save_first-len.result.0 c.save_first-len.new.bytes) c.in-Err.ensures.text c.args.max)
 
 pub returns-then-n-le-SEALED_CHUNK_SIZE-clause-saves : goal.returns-then-n-le-SEALED_CHUNK_SIZE-clause-saves
 returns-then-n-le-SEALED_CHUNK_SIZE-clause-saves g c =
-    saves_last (g.W.Sink.taken c.write_all.new.out) (g.L.Losses.lost c.note.new.losses) c.loop-done.invariant.saved
-    c.in-Ok.ensures.reads c.read_piece.ensures.len (omega arith) (omega arith)
-    (length-take-le c.save_first-len.result.0 c.save_first-len.new.bytes (omega (
-      arith,
-      c.save_first-len.ensures.len,
-      c.save_first-len.ensures.text,
-    )))
-    c.save_first-len.ensures.part c.in-Ok-write_all.ensures.text c.note.ensures.reports c.note.ensures.counts
+    let first = c.save_first-len.ensures in
+    let wide = length-take-le c.save_first-len.result.0 c.save_first-len.new.bytes (omega
+    (arith, first.len, first.text))
+    in
+    saves_last c.loop-done.invariant.saved c.in-Ok.ensures.reads c.read_piece.ensures.len first.part
+    (g.W.Sink.taken c.write_all.new.out) (g.L.Losses.lost c.note.new.losses) wide c.in-Ok-write_all.ensures.text
+    c.note.ensures.reports c.note.ensures.counts (omega arith) (omega arith)
 
 pub loop-done-preserved : goal.loop-done-preserved
 loop-done-preserved g c =
-    let bytes = c.save_first-len.new.bytes in
+    let first = c.save_first-len.ensures in
+    let wide = length-take-le c.save_first-len.result.0 c.save_first-len.new.bytes (omega
+    (arith, first.len, first.text))
+    in
     let more = counted c.loop-done.done c.save_first-len.result.0 c.note.ensures.counts in
     record {
-      size = c.save_first-len.ensures.len;
+      size = first.len;
       ahead = omega arith;
       within = omega (arith, more.0);
-      saved = salvaging_more c.loop-done.invariant.saved
-          c.in-Ok.ensures.reads c.read_piece.ensures.len (omega arith) (c.save_first-len.ensures.full (omega arith))
-          (length-take-le c.save_first-len.result.0 c.save_first-len.new.bytes (omega (
-            arith,
-            c.save_first-len.ensures.len,
-            c.save_first-len.ensures.text,
-          )))
-          c.save_first-len.ensures.part c.in-Ok-write_all.ensures.text c.note.ensures.reports c.note.ensures.counts
-          (ahead_one bytes c.save_first-len.ensures.len ∙ c.save_first-len.ensures.rest);
+      saved = salvaging_more c.loop-done.invariant.saved c.in-Ok.ensures.reads c.read_piece.ensures.len first.part
+          (g.W.Sink.taken c.write_all.new.out) (g.L.Losses.lost c.note.new.losses) wide
+          c.in-Ok-write_all.ensures.text c.note.ensures.reports c.note.ensures.counts (omega arith)
+          (first.full (omega arith)) (ahead_one c.save_first-len.new.bytes first.len ∙ first.rest);
       silent = λ none. c.note.ensures.silent none ∙ c.loop-done.invariant.silent (omega (arith, none, more.1));
       reads = search rules;
       writes = search rules;

@@ -1,9 +1,7 @@
 use Rattle.std.proofs.Common.{◌≡◌, ◌≤◌, ◌<◌, ◌-◌, length, take}
-use Rattle.age_kdf.specs.Bytes.{Bytes}
+use Rattle.age_stream.specs.Words.{Bytes, Gave, flow_by, move_by, chunk_size, chunk_buf_size}
 use Rattle.age_stream.specs.Sealing.{Fed}
-use Rattle.age_stream.specs.Sizes.{chunk_size, chunk_buf_size}
 use Rattle.age_stream.proofs.sealing.feed.Given as goal
-use Rattle.age_header.specs.Device.{Gave, flow_by, move_by}
 
 abbrev pub invariant-loop-n : goal.invariant-loop-n
 invariant-loop-n g l = record {

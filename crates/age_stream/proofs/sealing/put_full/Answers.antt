@@ -1,4 +1,4 @@
-use Rattle.std.proofs.Common.{arith, ◌∙◌, sym, refl, inl}
+use Rattle.std.proofs.Common.{arith, ◌∙◌, sym, refl}
 use Rattle.age_stream.proofs.SealingLemmas.{one_taken, first_set}
 use Rattle.age_stream.proofs.sealing.put_full.Goals as goal
 use Rattle.age_stream.specs.Sizes.{chunk_size}
@@ -10,9 +10,3 @@ returns-in-Ok-clause-puts g c = (
   first_set c.put_sealed.new.bytes (omega (arith, c.put_sealed.ensures.size))
       ∙ sym (one_taken c.args.bytes.now chunk_size (omega (arith, c.requires.size))),
 )
-
-pub returns-in-Err-clause-puts : goal.returns-in-Err-clause-puts
-returns-in-Err-clause-puts g c = (refl, inl (refl, c.in-Err.ensures.text))
-
-pub returns-in-Ok-clause-within : goal.returns-in-Ok-clause-within
-returns-in-Ok-clause-within g c = c.if-index-max.false

@@ -8,9 +8,8 @@ use Rattle.age_stream.proofs.opening.ChunkOpener.advance.Goals as goal
 pub returns-in-Ok-clause-opens : goal.returns-in-Ok-clause-opens
 returns-in-Ok-clause-opens g c =
     let o = c.self.inside in
-    advances_ok o.key o.max_chunks o.index o.ahead o.len o.more o.buf.items c.as_mut_slice.result.now
-    c.next_piece.new.bytes (with_items o.buf c.next_piece.new.bytes).items o.fault c.in-Ok.piece
-    c.self.view_is (search rules) (search rules) c.as_mut_slice.ensures.value c.self.invariant.0 c.self.invariant.1
+    advances_ok o.ahead o.len o.buf.items c.self.view_is (search rules)
+    (search rules) c.as_mut_slice.ensures.value c.self.invariant.0 c.self.invariant.1
     c.in-Ok.ensures.len
     (written_all c.next_piece.new.bytes o.buf.items o.buf.len (c.in-Ok.ensures.len ∙ sym c.self.invariant.0)
     (search rules))
@@ -19,19 +18,17 @@ returns-in-Ok-clause-opens g c =
 pub returns-in-Err-clause-opens : goal.returns-in-Err-clause-opens
 returns-in-Err-clause-opens g c =
     let o = c.self.inside in
-    advances_err o.key o.max_chunks o.index o.ahead o.len o.more o.buf.items c.as_mut_slice.result.now
-    c.next_piece.new.bytes (with_items o.buf c.next_piece.new.bytes).items o.fault c.in-Err.fault
-    c.self.view_is (search rules) c.as_mut_slice.ensures.value c.self.invariant.0 c.self.invariant.1 c.self.invariant.4
+    advances_err o.ahead o.len o.buf.items (with_items o.buf c.next_piece.new.bytes).items c.self.view_is
+    (search rules) c.as_mut_slice.ensures.value c.self.invariant.0 c.self.invariant.1 c.self.invariant.4
     c.in-Err.ensures.opens c.in-Err.ensures.at
 
 pub returns-in-Err-clause-lost : goal.returns-in-Err-clause-lost
 returns-in-Err-clause-lost g c =
     let o = c.self.inside in
-    loses_held o.key o.max_chunks o.index o.ahead o.len o.more o.buf.items o.fault c.self.view_is (search rules)
-    c.in-Err.ensures.lost
+    loses_held o.ahead o.len o.buf.items c.self.view_is (search rules) c.in-Err.ensures.lost
 
 pub returns-then-not-self-clause-opens : goal.returns-then-not-self-clause-opens
 returns-then-not-self-clause-opens g c =
     let o = c.self.inside in
-    advances_none (seen_by g.S.Source.to_come g.S.Source.gave c.args.source.now) o.key o.max_chunks o.index o.ahead
-    o.len o.more o.buf.items o.fault c.self.view_is (search rules) (search rules) c.self.invariant.4
+    advances_none (seen_by g.S.Source.to_come g.S.Source.gave c.args.source.now) o.ahead o.len o.buf.items
+    c.self.view_is (search rules) (search rules) c.self.invariant.4

@@ -13,9 +13,9 @@ loop-done-init g c = record {
 pub returns-in-Ok-false-clause-writes_all : goal.returns-in-Ok-false-clause-writes_all
 returns-in-Ok-false-clause-writes_all g c =
     let o = c.loop-done.invariant.opened in
-    writes_done c.advance.new.self c.loop-done.done o
+    writes_done o
     (advanced_ok false c.loop-done.opener c.advance.new.self o.none
-    (rw c.in-Ok-false.field-0-test at c.in-Ok-false.ensures.opens)) refl c.loop-done.invariant.count
+    (rw c.in-Ok-false.field-0-test at c.in-Ok-false.ensures.opens)) c.loop-done.done refl c.loop-done.invariant.count
 
 pub returns-in-Err-clause-writes_all : goal.returns-in-Err-clause-writes_all
 returns-in-Err-clause-writes_all g c =
@@ -37,9 +37,9 @@ overflow_add-done g c =
 pub overflow_add-done-in-Ok : goal.overflow_add-done-in-Ok
 overflow_add-done-in-Ok g c =
     let o = c.loop-done.invariant.opened in
-    opened_room c.advance.new.self (length c.text-in-Ok.result.now) o
-    (advanced_ok true c.loop-done.opener c.advance.new.self o.none
-    (rw c.in-Ok-true.field-0-test at c.in-Ok-true.ensures.opens)) c.text-in-Ok.ensures.len
+    opened_room o (advanced_ok true c.loop-done.opener c.advance.new.self o.none
+    (rw c.in-Ok-true.field-0-test at c.in-Ok-true.ensures.opens)) (length c.text-in-Ok.result.now)
+    c.text-in-Ok.ensures.len
 
 pub loop-done-smaller : goal.loop-done-smaller
 loop-done-smaller g c =
@@ -56,7 +56,7 @@ loop-done-preserved g c =
     (rw c.in-Ok-true.field-0-test at c.in-Ok-true.ensures.opens) in
     record {
       opened = rw c.text-in-Ok.ensures.text
-          (opened_more c.advance.new.self o adv (rw c.text.ensures.text at c.text.ensures.len)
+          (opened_more o adv (rw c.text.ensures.text at c.text.ensures.len)
           (rw c.text.ensures.text at c.in-Ok.ensures.text));
       count = omega (arith, c.loop-done.invariant.count, o.index, adv.keeps.1);
       reads = search rules;
@@ -66,15 +66,13 @@ loop-done-preserved g c =
 pub returns-in-Err-write_all-clause-writes_all : goal.returns-in-Err-write_all-clause-writes_all
 returns-in-Err-write_all-clause-writes_all g c =
     let o = c.loop-done.invariant.opened in
-    (writes_write c.advance.new.self (g.W.Sink.taken c.write_all.new.out) o
-    (advanced_ok true c.loop-done.opener c.advance.new.self o.none
-    (rw c.in-Ok-true.field-0-test at c.in-Ok-true.ensures.opens))
+    (writes_write o (advanced_ok true c.loop-done.opener c.advance.new.self o.none
+    (rw c.in-Ok-true.field-0-test at c.in-Ok-true.ensures.opens)) (g.W.Sink.taken c.write_all.new.out)
     (rw c.text.ensures.text at c.in-Err-write_all.ensures.text))
 
 pub returns-in-Err-write_all-clause-ends : goal.returns-in-Err-write_all-clause-ends
 returns-in-Err-write_all-clause-ends g c =
     let o = c.loop-done.invariant.opened in
-    (inr (ends_write c.advance.new.self o
-    (advanced_ok true c.loop-done.opener c.advance.new.self o.none
+    (inr (ends_write o (advanced_ok true c.loop-done.opener c.advance.new.self o.none
     (rw c.in-Ok-true.field-0-test at c.in-Ok-true.ensures.opens))
     (rw c.text.ensures.text at c.in-Err-write_all.ensures.text)))

@@ -1,5 +1,6 @@
 use Rattle.age_header.specs.Device.{flow_by}
-use Rattle.age_stream.proofs.SealingLemmas.{seals_err, seals_finish, when_none}
+use Rattle.age_stream.proofs.KeptLemmas.{when_none}
+use Rattle.age_stream.proofs.SealingLemmas.{seals_err, seals_finish}
 use Rattle.age_stream.proofs.writer.StreamWriter+W.seal_from.Goals as goal
 use Rattle.age_stream.proofs.writer.StreamWriter+W.seal_from.Goals.{in-Ok, in-Err}
 
@@ -9,7 +10,6 @@ returns-clause-seals g c = when_none c.args.self.sealer.fault (λ none. elim c.m
       (seals_finish c.args.self.sealer c.write_from.new.self
       (flow_by g.S.Source.to_come g.S.Source.gave c.args.plain.now c.write_from.new.plain)
       (g.W.Sink.taken c.args.self.out.now) (g.W.Sink.taken c.write_from.new.out) (g.W.Sink.taken w.finish.new.out)
-      w.finish.result none w.in-Ok.ensures.takes w.finish.ensures.text))
-  | in-Err w ↦ rw w.result-is (rw w.out-is
-      (seals_err c.args.self.sealer c.write_from.new.self w.in-Err.fault none w.in-Err.ensures.takes))
+      none w.in-Ok.ensures.takes w.finish.result w.finish.ensures.text))
+  | in-Err w ↦ rw w.result-is (rw w.out-is (seals_err c.write_from.new.self none w.in-Err.ensures.takes))
 ])
