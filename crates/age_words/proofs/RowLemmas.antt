@@ -11,7 +11,7 @@ use Rattle.clap.specs.Words.{ReadsOne, Text}
 use Rattle.std.specs.Option.{is_some}
 use Rattle.age_job.specs.Job.{IsBetween, NamesInput}
 use Rattle.age_job.specs.declared.job.Command.{Command}
-use Rattle.age_job.specs.declared.job.Command.TheVariants.{Encrypt, Decrypt, Inspect, Range, Rewrap, Salvage}
+use Rattle.age_job.specs.declared.job.Command.TheVariants.{Range}
 use Rattle.age_words.specs.JobOf.{number_of}
 
 pub copies_take : (xs : List (Bor Text)) {i : ℕ} (d : Bor Text) (old : List (String Global))
@@ -66,10 +66,6 @@ nows xs = map (λ t. t.now) xs
 
 pub names_input : {A : Type 0} (f : A → Text) (command : Command) (o : Option A) {v : Option Text} → option_map f o ≡ v
     → NamesInput command v → NamesInput command o
-names_input f Encrypt o e h = tt
-names_input f Decrypt o e h = tt
-names_input f Inspect o e h = tt
-names_input f Rewrap o e h = tt
-names_input f Salvage o e h = tt
 names_input f Range None e h = ap is_some e ∙ h
 names_input f Range (Some x) e h = refl
+names_input f command o e h = tt

@@ -1,6 +1,6 @@
 -- Where `clap` finds no fault in the words, a subcommand of the program was named, and its values
 -- make a job.
-use Rattle.std.proofs.Common.{◌≡◌, ◌∙◌, ◌<◌, ◌⊎◌, inl, inr, ℕ, Bool, cond, true, false, true≢false, not, ◌&&◌, ◌||◌, ◌==◌, refl, sym, ap, subst, List, [], ◌∷◌, ◌++◌, length, Option, Some, None, IfSome, codes, arith, nat_lt, length-append, unwrap_or, ltb-true}
+use Rattle.std.proofs.Common.{◌≡◌, ◌∙◌, ◌<◌, ◌⊎◌, inl, inr, ℕ, Bool, cond, true, false, true≢false, not, ◌&&◌, ◌||◌, ◌==◌, refl, sym, ap, subst, List, [], ◌∷◌, ◌++◌, length, Option, Some, None, IfSome, codes, arith, nat_lt, length-append, ltb-true}
 use Rattle.std.proofs.lemmas.Bool.{ne_eqb}
 use Rattle.std.proofs.lemmas.Slice.Eq.{bytes_eq-Decides}
 use Rattle.std.specs.Prelude.{if◌then◌else◌, is_some, slice_get, option_and_then, option_map, ⊤}
@@ -107,7 +107,7 @@ with_values_passes id s values rows written some pass q = search (at_row_passes,
           (
             p.0,
             omega (arith, p.1, length-append r.values values),
-            each_append (Passes r.id) r.values values p.2 (subst (λ (i : Text). Each (Passes i) values) same pass),
+            each_append (Passes r.id) r.values values p.2 (rw same at pass),
           ),
           tt,
         )
@@ -124,8 +124,7 @@ accepts_too (vp.Unsigned a b) (vp.Unsigned x y) v f h =
 accepts_too p q v f h = absurd (true≢false (sym f))
 
 test_passes : {b : Bool} (k : ErrorKind) → cond b [] (k ∷ []) ≡ [] → b ≡ true
-test_passes {b = true} k f = refl
-test_passes {b = false} k f = cc
+test_passes k f = grind arith
 
 values_pass : (id : Text) (parser : ValueParser) (values : List Text) → covers (parser_for id) parser ≡ true
     → values_kinds false parser values ≡ [] → Each (Passes id) values
@@ -144,22 +143,16 @@ record IsGood (a : Rule) : Type 0 where
   value : has_value a ≡ true
 
 reads : {r : Reading} → is_as_written r ≡ true → r ≡ AsWritten
-reads {r = AsWritten} e = refl
-reads {r} e = absurd (true≢false (sym e))
+reads e = grind arith
 
 good_of : (a : Rule) → is_good a ≡ true → IsGood a
 good_of a e =
-    let p = both e in
-    let q = both p.1 in
-    let r = both q.1 in
-    let t = both r.1 in
-    record {
-      covered = p.0;
-      exact = not_true q.0;
-      written = reads r.0;
-      no_count = not_true t.0;
-      value = t.1;
-    }
+    let (covers, (exact, (written, (no_count, value)))) = all_five e in
+    record { covered = covers; exact = exact; written = reads written; no_count = no_count; value = value }
+  where
+    all_five : {p q r s t : Bool} → (p && (not q && (r && (not s && t)))) ≡ true
+        → (p ≡ true) × ((q ≡ false) × ((r ≡ true) × ((s ≡ false) × (t ≡ true))))
+    all_five e = grind arith
 
 faults_pass : {a : Rule} → IsGood a → (values : List Text) → values_fault a values ≡ [] → Each (Passes a.id) values
 faults_pass {a} g values e = values_pass a.id (parser_of_value a.parser) values g.covered (rw g.exact at e)
@@ -187,8 +180,7 @@ stored again g Count c values rows some e q = absurd (true≢false c)
 stored again g x c values rows some e q = q
 
 or_other : {b c : Bool} → (b || c) ≡ true → (b && true) ≡ false → (b ≡ false) × (c ≡ true)
-or_other {b = false} e f = (refl, e)
-or_other {b = true} e f = absurd (true≢false f)
+or_other e f = grind arith
 
 one_value : (a : Rule) (values : List Text)
     → (nat_lt 0 (unwrap_or_range a.range).start_inclusive || nat_lt 0 (length a.missing)) ≡ true
@@ -232,32 +224,34 @@ defaults_well again a good rows e q = go (has_row a.id rows) e
 
 -- ---- what the rows of a level give
 
-find_passes : (id : Text) (rows : List Row) → Each RowPasses rows
-    → IfSome (find (λ r. bytes_eq r.id id) rows) (λ r. (r.id ≡ id) × RowPasses r)
-find_passes id [] q = tt
-find_passes id (r ∷ rs) q = go (find_passes id rs q.1) refl
+found_where : {X : Type 0} (U : X → Type 0) (p : X → Bool) (xs : List X) → Each U xs
+    → IfSome (find p xs) (λ x. (p x ≡ true) × U x)
+found_where U p [] h = tt
+found_where U p (x ∷ xs) h = go refl (found_where U p xs h.1)
   where
-    go : IfSome (find (λ r. bytes_eq r.id id) rs) (λ r. (r.id ≡ id) × RowPasses r) → {b : Bool} → bytes_eq r.id id ≡ b
-        → IfSome (cond b (Some r) (find (λ r. bytes_eq r.id id) rs)) (λ r. (r.id ≡ id) × RowPasses r)
-    go rest {b = true} e = ((bytes_eq-Decides r.id id).0 e, q.0)
-    go rest {b = false} e = rest
+    go : {b : Bool} → p x ≡ b → IfSome (find p xs) (λ x. (p x ≡ true) × U x)
+        → IfSome (cond b (Some x) (find p xs)) (λ x. (p x ≡ true) × U x)
+    go {b = true} e i = (e, h.0)
+    go {b = false} e i = i
 
 has_number : {least most : ℕ} (id : Text) (rows : List Row) → parser_for id ≡ vp.Unsigned least most
     → Each RowPasses rows → HasNumber least most id rows
-has_number {least} {most} id rows p q = go (find (λ r. bytes_eq r.id id) rows) (find_passes id rows q)
+has_number {least} {most} id rows p q =
+    go (find (λ r. bytes_eq r.id id) rows) (found_where RowPasses (λ r. bytes_eq r.id id) rows q)
   where
     first : (r : Row) (values : List Text) → r.reading ≡ AsWritten → Each (Passes id) values
         → IfSome (option_map (Rattle.clap.specs.Values.read_as r.reading) (slice_get values 0))
         (IsUnsignedIn least most)
     first r [] w e = tt
     first r (v ∷ vs) w e =
-        rw w (accepts-Accepts false (vp.Unsigned least most) v
-        (subst (λ (x : ValueParser). accepts false x v ≡ true) p e.0))
+        rw w (accepts-Accepts false (vp.Unsigned least most) v (rw p at e.0))
 
-    go : (o : Option Row) → IfSome o (λ r. (r.id ≡ id) × RowPasses r)
+    go : (o : Option Row) → IfSome o (λ r. (bytes_eq r.id id ≡ true) × RowPasses r)
         → IfSome (option_and_then row_text o) (IsUnsignedIn least most)
     go None h = tt
-    go (Some r) h = first r r.values h.1.0 (subst (λ (i : Text). Each (Passes i) r.values) h.0 h.1.2)
+    go (Some r) (is, (written, some, passes)) =
+        first r r.values written (subst (λ (i : Text). Each (Passes i) r.values)
+        ((bytes_eq-Decides r.id id).0 is) passes)
 
 -- ---- what is required is there
 
@@ -279,23 +273,21 @@ wanted_given id (a ∷ rest) rows none some = go (wanted_given id rest rows) a.r
 
 given_first : (id : Text) (rows : List Row) → Each RowPasses rows → is_given id rows ≡ true
     → is_some (first_of id rows) ≡ true
-given_first id rows q g = go (find (λ r. bytes_eq r.id id) rows) (find_passes id rows q) g
+given_first id rows q g =
+    go (find (λ r. bytes_eq r.id id) rows) (found_where RowPasses (λ r. bytes_eq r.id id) rows q) g
   where
     first : (values : List Text) → 0 < length values → is_some (slice_get values 0) ≡ true
     first [] h = absurd (omega arith)
     first (v ∷ vs) h = refl
 
-    go : (o : Option Row) → IfSome o (λ r. (r.id ≡ id) × RowPasses r)
+    go : (o : Option Row) → IfSome o (λ r. (bytes_eq r.id id ≡ true) × RowPasses r)
         → option_map_or (λ r. explicit_source r.source) o false ≡ true
         → is_some (option_and_then (λ r. slice_get r.values 0) o) ≡ true
     go None h e = cc
     go (Some r) h e = first r.values h.1.1
 
 wanted_kind : {a b c : Bool} → Rattle.clap.specs.Kinds.check_kinds a b c ≡ [] → (a ≡ false) × (b ≡ false) × (c ≡ false)
-wanted_kind {a = true} e = cc
-wanted_kind {a = false} {b = true} e = cc
-wanted_kind {a = false} {b = false} {c = true} e = cc
-wanted_kind {a = false} {b = false} {c = false} e = (refl, refl, refl)
+wanted_kind e = grind arith
 
 -- ---- a subcommand
 
@@ -340,25 +332,11 @@ each_good : {P : Rule → Type 0} (rules : List Rule) → ((a : Rule) → is_goo
 each_good [] p e = tt
 each_good (a ∷ rest) p e = let h = both e in (p a h.0, each_good rest p h.1)
 
-found_where : {X : Type 0} (U : X → Type 0) (p : X → Bool) (xs : List X) → Each U xs
-    → IfSome (find p xs) (λ x. (p x ≡ true) × U x)
-found_where U p [] h = tt
-found_where U p (x ∷ xs) h = go refl (found_where U p xs h.1)
-  where
-    go : {b : Bool} → p x ≡ b → IfSome (find p xs) (λ x. (p x ≡ true) × U x)
-        → IfSome (cond b (Some x) (find p xs)) (λ x. (p x ≡ true) × U x)
-    go {b = true} e i = (e, h.0)
-    go {b = false} e i = i
-
 names_input : (command : Command) (s : Shape) (rows : List Row) → wants command s ≡ true → Each RowPasses rows
     → list_any (λ a. a.required && not (is_given a.id rows)) s.rules ≡ false
     → NamesInput command (first_of (codes "input") rows)
-names_input Encrypt s rows w q n = tt
-names_input Decrypt s rows w q n = tt
-names_input Inspect s rows w q n = tt
-names_input Rewrap s rows w q n = tt
-names_input Salvage s rows w q n = tt
 names_input Range s rows w q n = given_first (codes "input") rows q (wanted_given (codes "input") s.rules rows n w)
+names_input command s rows w q n = tt
 
 level_taken : {command : Command} (s : Shape) (words : List Text) → is_good_for command s ≡ true
     → level_fault s [] nothing_held words false [] ≡ []
@@ -380,8 +358,7 @@ level_taken {command} s words good e =
     }
   where
     negated : {b c : Bool} → b ≡ false → (not (b && false) && c) ≡ false → c ≡ false
-    negated {b = false} e f = f
-    negated {b = true} e f = absurd (true≢false e)
+    negated e f = grind arith
 
 abbrev pub Taken : Text → List Row → Type 0
 Taken name rows = (command : Command) × (name ≡ name_of command) × IsTaken command rows
@@ -402,30 +379,23 @@ no_help words has below none =
     (λ name e. plain e) words has below none).1
   where
     plain : {b : Bool} → (b && true) ≡ false → b ≡ false
-    plain {b = false} e = refl
-    plain {b = true} e = e
+    plain e = grind arith
 
 -- `help` is entered by its name alone
 is_help : (s : Shape) (word : Text) → s.name ≡ codes "help" → s.aliases ≡ [] → answers_to word (label_of s) ≡ true
     → bytes_eq word (codes "help") ≡ true
 is_help s word name none e =
-    let plain : (bytes_eq (codes "help") word || false) ≡ true = subst (λ (l : Text × List Text). answers_to word l ≡ true) both_are e in
-    (bytes_eq-Decides word (codes "help")).1 (sym ((bytes_eq-Decides (codes "help") word).0 (one plain)))
+    (bytes_eq-Decides word (codes "help")).1
+    (sym ((bytes_eq-Decides (codes "help") word).0 (one (rw (name, none) at e))))
   where
-    both_are : label_of s ≡ (codes "help", [])
-    both_are = λ i. (name i, none i)
-
     one : {b : Bool} → (b || false) ≡ true → b ≡ true
-    one {b = true} e = refl
-    one {b = false} e = e
+    one e = grind arith
 
 pair_same : {a b : Text} {x y : List Row} → ◌≡◌ {A = Option (Text × List Row)} (Some (a, x)) (Some (b, y)) → (a ≡ b)
     × (x ≡ y)
-pair_same {a} {x} e = (
-  ap (λ (o : Option (Text × List Row)). (unwrap_or o (a, x)).0) e,
-  ap
-      (λ (o : Option (Text × List Row)). (unwrap_or o (a, x)).1) e,
-)
+pair_same {a} {b} {x} {y} e =
+    let same : ◌≡◌ {A = Text × List Row} (a, x) (b, y) = cc in
+    (ap (λ (p : Text × List Row). p.0) same, ap (λ (p : Text × List Row). p.1) same)
 
 at_shape : {name : Text} {rows : List Row} (p : Text × List Text) → bytes_eq p.0 (codes "help") ≡ false
     → (o : Option Shape)
@@ -474,11 +444,7 @@ command_of name =
 known : (command : Command) → command_of (name_of command) ≡ Some command
 unfolding command_of
 known Encrypt = refl
-known Decrypt = refl
-known Inspect = refl
-known Range = refl
-known Rewrap = refl
-known Salvage = refl
+known command = refl
 
 pub one_command : {a b : Command} → name_of a ≡ name_of b → a ≡ b
 one_command {a} {b} e = let same : Some a ≡ Some b = sym (known a) ∙ ap command_of e ∙ known b in cc

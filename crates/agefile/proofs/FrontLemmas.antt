@@ -13,7 +13,6 @@ use Rattle.age_header.proofs.VerdictFirstLineLemmas.{cap_prefix}
 use Rattle.age_header.proofs.VerdictPathLemmas.{both, take_past}
 use Rattle.age_header.proofs.VerdictUniqueLemmas as headers
 use Rattle.age_header.specs.declared.file_key.FileKey.{FileKey}
-use Rattle.age_stream.specs.Payload.{payload_key}
 use Rattle.age_file.specs.declared.fault.Fault.{Fault}
 use Rattle.age_file.specs.declared.fault.Fault.TheVariants.{HeaderTruncated, NonceTruncated}
 use Rattle.age_file.specs.Verdict.{Answering, parts_of, header_key}
@@ -22,25 +21,21 @@ use Rattle.agefile.specs.declared.report.Report.{Report}
 use Rattle.agefile.specs.declared.start.Start.{Start}
 use Rattle.agefile.specs.Codes.{fault_code}
 use Rattle.agefile.specs.Sizes.{limits, front_size}
-use Rattle.agefile.specs.Unlock.{IsStart, Opens, StartsAt, start_of, start_under}
+use Rattle.agefile.specs.Unlock.{IsStart, Opens, StartsAt, start_under}
 use Rattle.agefile.proofs.HeaderLemmas.{whole_verdict}
 use Rattle.agefile.proofs.UnlockLemmas.{found_start, opened_start, under}
 
 -- ---- the bytes after the header
-
-start_there : (len : ℕ) (rest : Bytes) (k : FileKey) → 16 ≤ length rest
-    → start_under len rest (Ok k) ≡ Ok (record { first = len + 16; key = payload_key k (take 16 rest) })
-start_there len rest k ge = rw (le-ltb (length rest) 16 ge) refl
 
 -- the first sixteen say where the chunks start
 start_in : (len m : ℕ) (rest : Bytes) (key : Result FileKey Fault) → 16 ≤ m
     → start_under len (take m rest) key ≡ start_under len rest key
 start_in len m rest (Err fault) le = refl
 start_in len m rest (Ok k) le = elim (cases_lt (length rest) 16) [
-  | inl lt ↦ ap (λ r. start_under len r (Ok k)) (take_all m rest (omega arith))
-  | inr ge ↦ start_there len (take m rest) k (omega (arith, length-take m rest))
-      ∙ ap (λ n. Ok (record { first = len + 16; key = payload_key k n })) (take-take 16 m rest le)
-      ∙ sym (start_there len rest k ge)
+  | inl lt ↦ rw (take_all m rest (omega arith)) refl
+  | inr ge ↦
+      let long : 16 ≤ length (take m rest) = omega (arith, length-take m rest) in
+      rw (le-ltb (length (take m rest)) 16 long, le-ltb (length rest) 16 ge, take-take 16 m rest le) refl
 ]
 
 -- the same of a beginning of a file
@@ -48,13 +43,7 @@ start_behind : (len n : ℕ) (b : Bytes) (key : Result FileKey Fault) → len + 
     → start_under len (drop len (take n b)) key ≡ start_under len (drop len b) key
 start_behind len n b key le =
     let split : n ≡ len + (n - len) = omega arith in
-    ap (λ k. start_under len (drop len (take k b)) key) split
-    ∙ ap (λ r. start_under len r key) (drop-take len (n - len) b)
-    ∙ start_in len (n - len) (drop len b) key (omega arith)
-
-first_of : (len : ℕ) (rest : Bytes) (key : Result FileKey Fault) (s : Start) → Ok s ≡ start_under len rest key
-    → s.first ≡ len + 16
-first_of len rest key s is = ap (λ (x : Start). x.first) (under len rest key s is).is
+    rw (split, drop-take len (n - len) b) (start_in len (n - len) (drop len b) key (omega arith))
 
 -- ---- a beginning that holds header and nonce
 
@@ -69,22 +58,19 @@ whole_start answers b start (Ok found, verdict, is) =
     let key = header_key answers (parts_of found) in
     (Ok found, there, is ∙ start_behind (length found.text) front_size b key (omega arith))
 
-longer : (answers : Answering) (n : ℕ) (b : Bytes) (s : Start) → IsStart answers (take n b) (Ok s)
+pub longer : (answers : Answering) (n : ℕ) (b : Bytes) (s : Start) → IsStart answers (take n b) (Ok s)
     → IsStart answers b (Ok s)
 longer answers n b s (Err e, verdict, is) = absurd (cc)
 longer answers n b s (Ok found, verdict, is) =
     let w = headers.begins_found (take n b) limits.max_header found verdict in
     let len : ℕ = length found.text in
     let key = header_key answers (parts_of found) in
-    let long = (under len (drop len (take n b)) key s is).long in (
+    let long = (under len (drop len (take n b)) key s is).long in
+    let begins : b ≡ found.text ++ (w.rest ++ drop n b) = sym (take-append-drop n b)
+    ∙ ap (λ t. t ++ drop n b) w.prefix ∙ append_assoc found.text w.rest (drop n b) in (
       Ok found,
-      headers.found_begins b limits.max_header found (record {
-        rest = w.rest ++ drop n b;
-        head = w.head;
-        prefix = sym (take-append-drop n b) ∙ ap (λ t. t ++ drop n b) w.prefix
-            ∙ append_assoc found.text w.rest (drop n b);
-        fits = w.fits;
-      }),
+      subst (λ x. Finds x limits.max_header found) (sym begins)
+          (headers.found_again (take n b) limits.max_header found verdict (w.rest ++ drop n b)),
       is ∙ start_behind len n b key (omega (arith, long, length-drop len (take n b), length-take n b)),
     )
 
@@ -93,55 +79,31 @@ found_within : (n : ℕ) (b : Bytes) (found : Found) → Finds b limits.max_head
     → Finds (take n b) limits.max_header found
 found_within n b found h le =
     let w = headers.begins_found b limits.max_header found h in
-    headers.found_begins (take n b) limits.max_header found (record {
-      rest = take (n - length found.text) w.rest;
-      head = w.head;
-      prefix = ap (take n) w.prefix ∙ take_past found.text w.rest n le;
-      fits = w.fits;
-    })
+    rw (w.prefix, take_past found.text w.rest n le)
+    (headers.found_again b limits.max_header found h (take (n - length found.text) w.rest))
 
-shorter : (answers : Answering) (n : ℕ) (b : Bytes) (s : Start) → s.first ≤ n → IsStart answers b (Ok s)
+pub shorter : (answers : Answering) (n : ℕ) (b : Bytes) (s : Start) → s.first ≤ n → IsStart answers b (Ok s)
     → IsStart answers (take n b) (Ok s)
 shorter answers n b s within (Err e, verdict, is) = absurd (cc)
 shorter answers n b s within (Ok found, verdict, is) =
     let len : ℕ = length found.text in
     let key = header_key answers (parts_of found) in
-    let first = first_of len (drop len b) key s is in
-    (Ok found, found_within n b found verdict (omega arith), is ∙ sym (start_behind len n b key (omega arith)))
+    let first = (under len (drop len b) key s is).first in
+    (Ok found, found_within n b found verdict (omega arith), rw (start_behind len n b key (omega arith)) is)
 
 -- bytes have one start
-pub one_start : (answers : Answering) (b : Bytes) (r s : Result Start Fault) → IsStart answers b r → IsStart answers b s
+pub one_start : (answers : Answering) (b : Bytes) {r s : Result Start Fault} → IsStart answers b r → IsStart answers b s
     → r ≡ s
-one_start answers b r s (h, first, is) (k, second, so) = is
-    ∙ ap (start_of answers b) (headers.one_verdict b limits.max_header h k first second) ∙ sym so
+one_start answers b (h, first, is) (k, second, so) =
+    rw (is, so, headers.one_verdict b limits.max_header h k first second) refl
 
--- what a call gave, by its start
-gave : (s : Start) (p q : Payload) (report r : Report) (code : ℕ) (start : Result Start Fault)
-    → StartsAt (Ok s) p report 0 → start ≡ Ok s → StartsAt start q r code
-    → (code ≡ 0) × ((q ≡ p) × (r ≡ report))
-gave s p q report r code start first same second =
-    let h : StartsAt (Ok s) q r code = subst (λ x. StartsAt x q r code) same second in
-    (h.0, (h.2 ∙ sym first.2, h.1 ∙ sym first.1))
-
--- what a beginning opened, the file opens
-pub front_opens : (answers : Answering) (n : ℕ) (b : Bytes) (p q : Payload) (report r : Report) (code : ℕ)
-    → Opens answers (take n b) p report 0
-    → Opens answers b q r code → code ≢ 17 → (code ≡ 0) × ((q ≡ p) × (r ≡ report))
-front_opens answers n b p q report r code first second other =
-    let (s, is, at) = opened_start answers (take n b) p report first in
-    let (start, there, gives) = found_start answers b q r code second other in
-    gave s p q report r code start at (one_start answers b start (Ok s) there (longer answers n b s is)) gives
-
--- what the file opened, a beginning opens that holds header and nonce
-pub file_opens : (answers : Answering) (n : ℕ) (b : Bytes) (p q : Payload) (report r : Report) (code : ℕ)
-    → Opens answers b p report 0 → report.len ≤ n
-    → Opens answers (take n b) q r code → code ≢ 17 → (code ≡ 0) × ((q ≡ p) × (r ≡ report))
-file_opens answers n b p q report r code first within second other =
-    let (s, is, at) = opened_start answers b p report first in
-    let (start, there, gives) = found_start answers (take n b) q r code second other in
-    let low : s.first ≤ n = subst (λ (x : Report). x.len ≤ n) at.1 within in
-    gave s p q report r code start at (one_start answers (take n b) start (Ok s) there (shorter answers n b s low is))
-    gives
+-- what calls gave, where the bytes have this start
+pub gave : (answers : Answering) (b : Bytes) {s : Start} {p q : Payload} {report r : Report} {code : ℕ}
+    {start : Result Start Fault} → StartsAt (Ok s) p report 0 → IsStart answers b (Ok s)
+    → IsStart answers b start → StartsAt start q r code → (code ≡ 0) × ((q ≡ p) × (r ≡ report))
+gave answers b (zero, place, payload) is there second =
+    let (code_is, place_is, payload_is) = rw (one_start answers b there is) at second in
+    (code_is, (payload_is ∙ sym payload, place_is ∙ sym place))
 
 -- ---- a beginning of a header
 
@@ -186,27 +148,26 @@ cut_short b max n x h short =
     let low : length p < max = omega (arith, length-take n b, short, fits) in
     let same : take max p ≡ p = take_all max p (omega (arith, low)) in
     let behind : Bytes = drop n (take max b) in
-    let front : take max b ≡ p ++ behind = sym (take-append-drop n (take max b))
-    ∙ ap (λ (z : Bytes). z ++ behind) (take-take n max b (omega (arith, short, fits))) in
-    let version : b ≡ version_line ++ (w.head.body ++ (line (codes "--- " ++ w.head.characters) ++ w.rest)) =
-    w.prefix ∙ ap (λ (z : Bytes). z ++ w.rest) w.head.spelled
+    let front : take max b ≡ p ++ behind =
+    rw (take-take n max b (omega (arith, short, fits))) at (sym (take-append-drop n (take max b))) in
+    let after : Bytes = w.head.body ++ (line (codes "--- " ++ w.head.characters) ++ w.rest) in
+    let version : b ≡ version_line ++ after =
+    w.prefix ∙ ap (λ z. z ++ w.rest) w.head.spelled
     ∙ append_assoc (version_line ++ w.head.body) (line (codes "--- " ++ w.head.characters)) w.rest
     ∙ append_assoc version_line w.head.body (line (codes "--- " ++ w.head.characters) ++ w.rest) in
-    let age : BeginsAsAge p = subst (λ (z : Bytes). BeginsAsAge (take n z)) (sym version)
-    (begun n (w.head.body ++ (line (codes "--- " ++ w.head.characters) ++ w.rest))) in
-    let few : length p < length (lines_text h.lines) = omega (arith, length-take n b, short, ap length h.is) in (
-      subst (λ (z : Bytes). BeginsAsAge z) (sym same) age,
+    let age : BeginsAsAge p = rw version (begun n after) in
+    let few : length p < length (lines_text h.lines) = omega (arith, length-take n b, short, ap length h.is) in
+    rw same (
+      age,
       λ ks d.
-          let lines : AreLines ks p = subst (AreLines ks) same d.lines in
           let there : AreLines ks (take max b) = record {
-            rest = lines.rest ++ behind;
-            each = lines.each;
-            prefix =
-                front ∙ ap (λ (z : Bytes). z ++ behind) lines.prefix
-                ∙ append_assoc (lines_text ks) lines.rest behind;
+            rest = d.lines.rest ++ behind;
+            each = d.lines.each;
+            prefix = front ∙ ap (λ z. z ++ behind) d.lines.prefix
+                ∙ append_assoc (lines_text ks) d.lines.rest behind;
           } in
           let f = h.decides.first ks there
-          (fewer_lines ks h.lines p (take max b) lines h.decides.lines behind front few) in
+          (fewer_lines ks h.lines p (take max b) d.lines h.decides.lines behind front few) in
           both d.decided f.0 f.1,
       low,
     )
@@ -215,37 +176,23 @@ cut_short b max n x h short =
 abbrev ShortStart : (answers : Answering) (p : Bytes) → Type 0
 ShortStart answers p = IsStart answers p (Err HeaderTruncated) ⊎ IsStart answers p (Err NonceTruncated)
 
-short_start : (answers : Answering) (n : ℕ) (b : Bytes) (s : Start) → n < s.first → IsStart answers b (Ok s)
+pub short_start : (answers : Answering) (n : ℕ) (b : Bytes) (s : Start) → n < s.first → IsStart answers b (Ok s)
     → ShortStart answers (take n b)
 short_start answers n b s low (Err e, verdict, is) = absurd (cc)
 short_start answers n b s low (Ok found, verdict, is) =
     let len : ℕ = length found.text in
     let rest : Bytes = drop len (take n b) in
     let u = under len (drop len b) (header_key answers (parts_of found)) s is in
-    let first = first_of len (drop len b) (header_key answers (parts_of found)) s is in
     elim (cases_lt n len) [
       | inl short ↦ inl (Err Truncated, cut_short b limits.max_header n found verdict short, refl)
       | inr ge ↦
-          let few : length rest < 16 = omega (arith, length-drop len (take n b), length-take n b) in
+          let few : length rest < 16 = omega (arith, u.first, length-drop len (take n b), length-take n b) in
           inr (
             Ok found,
             found_within n b found verdict ge,
             rw (u.unlocks, lt-ltb (length rest) 16 few) refl,
           )
     ]
-
--- what a call gave for it
-gave_short : (answers : Answering) (p : Bytes) (q : Payload) (r : Report) (code : ℕ) (start : Result Start Fault)
-    → IsStart answers p start → StartsAt start q r code → ShortStart answers p
-    → (code ≡ fault_code HeaderTruncated) ⊎ (code ≡ fault_code NonceTruncated)
-gave_short answers p q r code start there second (inl header) =
-    let h : StartsAt (Err HeaderTruncated) q r code =
-    subst (λ x. StartsAt x q r code) (one_start answers p start (Err HeaderTruncated) there header) second in
-    inl h.returned
-gave_short answers p q r code start there second (inr nonce) =
-    let h : StartsAt (Err NonceTruncated) q r code =
-    subst (λ x. StartsAt x q r code) (one_start answers p start (Err NonceTruncated) there nonce) second in
-    inr h.returned
 
 pub short_fronts : (answers : Answering) (n : ℕ) (b : Bytes) (p q : Payload) (report r : Report) (code : ℕ)
     → Opens answers b p report 0 → n < report.len
@@ -254,5 +201,11 @@ pub short_fronts : (answers : Answering) (n : ℕ) (b : Bytes) (p q : Payload) (
 short_fronts answers n b p q report r code first low second other =
     let (s, is, at) = opened_start answers b p report first in
     let (start, there, gives) = found_start answers (take n b) q r code second other in
-    let below : n < s.first = subst (λ (x : Report). n < x.len) at.1 low in
-    gave_short answers (take n b) q r code start there gives (short_start answers n b s below is)
+    gave_short there gives (short_start answers n b s (rw at.1 at low) is)
+  where
+    gave_short : {start : Result Start Fault} → IsStart answers (take n b) start → StartsAt start q r code
+        → ShortStart answers (take n b) → (code ≡ fault_code HeaderTruncated) ⊎ (code ≡ fault_code NonceTruncated)
+    gave_short there gives (inl header) =
+        let h = rw (one_start answers (take n b) there header) at gives in inl h.returned
+    gave_short there gives (inr nonce) =
+        let h = rw (one_start answers (take n b) there nonce) at gives in inr h.returned

@@ -1,5 +1,5 @@
 -- The header in front of bytes that lie in memory.
-use Rattle.std.proofs.Common.{◌≡◌, ◌⊎◌, ℕ, ◌<◌, ◌≤◌, ◌-◌, ◌^◌, List, [], ◌∷◌, ◌++◌, length, length-take, take, map, flat_map, min, ◌∙◌, sym, ap, refl, subst, inl, inr, arith, Some, None, Result, Ok, Err}
+use Rattle.std.proofs.Common.{◌≡◌, ◌⊎◌, ℕ, ◌<◌, ◌≤◌, ◌-◌, ◌^◌, List, [], ◌∷◌, ◌++◌, length, length-take, take, map, flat_map, min, ◌∙◌, ap, refl, inl, inr, arith, Some, None, Result, Ok, Err}
 use Rattle.std.specs.Prelude.{String, IfOk}
 use Rattle.std.proofs.lemmas.List.{take-take}
 use Rattle.std.specs.Global.{Global}
@@ -9,18 +9,17 @@ use Rattle.age_kdf.specs.Bytes.{Bytes}
 use Rattle.age_header.specs.Device.{CountsIf, Flow}
 use Rattle.age_header.specs.declared.fault.HeaderFault.{HeaderFault}
 use Rattle.age_header.specs.declared.fault.HeaderFault.TheVariants as header
-use Rattle.age_header.specs.Header.{Head, HeaderParts, StanzaParts}
-use Rattle.age_header.specs.Verdict.{BeginsAsAge, Decides, Found, HeaderVerdict, IsUndecided}
+use Rattle.age_header.specs.Header.{Head, HeaderParts}
+use Rattle.age_header.specs.Verdict.{Found, HeaderVerdict}
 use Rattle.age_header.specs.Reader.{ReadsHeaderOf}
 use Rattle.age_header.proofs.HeaderLemmas.{one_text}
 use Rattle.age_header.proofs.VerdictUniqueLemmas.{begins_found}
 use Rattle.age_header.proofs.ReaderLemmas.{reads_known}
 use Rattle.age_file.specs.declared.fault.Fault.{Fault}
 use Rattle.age_file.specs.declared.fault.Fault.TheVariants.{OutOfMemory}
-use Rattle.age_file.specs.AgeFile.{Bounds}
 use Rattle.age_file.specs.Device.{is_read}
 use Rattle.age_file.specs.Inspect.{Inspects, file_result}
-use Rattle.age_file.specs.Verdict.{header_fault}
+use Rattle.age_file.specs.Verdict.{finding, header_fault}
 use Rattle.agefile.specs.declared.inspecting.StanzaSummary.{StanzaSummary}
 use Rattle.agefile.specs.declared.inspecting.Summary.{Summary}
 use Rattle.agefile.specs.declared.report.Report.{Report}
@@ -30,70 +29,52 @@ use Rattle.agefile.specs.Inspect.{GivesStanzas, HeaderOf, Inspected, InspectsSta
 use Rattle.agefile.specs.Sizes.{limits, front_size}
 
 -- what a reader returned
-of_answer : (b : Bytes) (source : Flow) (r : Result HeaderParts Fault) (answer : Result HeaderParts HeaderFault)
-    → r ≡ file_result answer
-    → CountsIf is_read 0 0 r → ReadsHeaderOf b source limits.max_header answer → HeaderOf b r
-of_answer b source r (Ok h) same count (text, verdict, taken) = subst (HeaderOf b) (sym same) (text, verdict)
-of_answer b source r (Err header.Memory) same count h = subst (HeaderOf b) (sym same) (inl refl)
-of_answer b source r (Err header.Read) same count h = let rises = subst (CountsIf is_read 0 0) same count in
-    absurd (omega arith)
-of_answer b source r (Err reason) same count h = subst (HeaderOf b) (sym same) (inr (reason, h, refl))
-
-pub header_found : {l : Bounds} {b : Bytes} {source : Flow} {r : Result HeaderParts Fault} → l ≡ limits
-    → source.before.to_come ≡ Some b
-    → CountsIf is_read 0 0 r → Inspects l source r → HeaderOf b r
-header_found {b} {source} {r} at come count h =
-    let inspects = subst (λ bounds. Inspects bounds source r) at h in
-    of_answer b source r inspects.0 inspects.1 count
-    (reads_known b source limits.max_header inspects.0 come inspects.2)
+pub header_found : {b : Bytes} {source : Flow} {r : Result HeaderParts Fault} → source.before.to_come ≡ Some b
+    → CountsIf is_read 0 0 r → Inspects limits source r → HeaderOf b r
+header_found {b} {source} {r} come count (answer, is, reads) =
+    rw is (of_answer answer (rw is at count) (reads_known b source limits.max_header answer come reads))
+  where
+    of_answer : (answer : Result HeaderParts HeaderFault) → CountsIf is_read 0 0 (file_result answer)
+        → ReadsHeaderOf b source limits.max_header answer → HeaderOf b (file_result answer)
+    of_answer (Ok h) rises (text, verdict, taken) = (text, verdict)
+    of_answer (Err header.Memory) rises h = inl refl
+    of_answer (Err header.Read) rises h = absurd (omega arith)
+    of_answer (Err reason) rises h = inr (reason, h, refl)
 
 -- ---- a front of 65,552 bytes
 
 -- it has the header verdict of its file
-cut_front : (b : Bytes) → take limits.max_header (take front_size b) ≡ take limits.max_header b
-cut_front b = take-take limits.max_header front_size b (omega arith)
-
 pub whole_verdict : (b : Bytes) (r : Result Found HeaderFault) → HeaderVerdict (take front_size b) limits.max_header r
     → HeaderVerdict b limits.max_header r
-whole_verdict b (Ok found) h = record {
-  lines = h.lines;
-  begun = subst BeginsAsAge (cut_front b) h.begun;
-  decides = subst (Decides h.lines) (cut_front b) h.decides;
-  is = h.is;
-  head = h.head;
-}
-whole_verdict b (Err header.NotAge) h = λ begins. h (subst BeginsAsAge (sym (cut_front b)) begins)
-whole_verdict b (Err (header.BadLine n)) h =
-    (subst BeginsAsAge (cut_front b) h.0, (h.1.0, h.1.1, subst (Decides h.1.0) (cut_front b) h.1.2, h.1.3))
-whole_verdict b (Err header.Truncated) h =
-    let short : length (take front_size b) < limits.max_header = h.2 in
-    (subst BeginsAsAge (cut_front b) h.0, subst IsUndecided (cut_front b) h.1, omega (arith, length-take front_size b))
-whole_verdict b (Err header.TooLarge) h =
-    let long : limits.max_header ≤ length (take front_size b) = h.2 in
-    (subst BeginsAsAge (cut_front b) h.0, subst IsUndecided (cut_front b) h.1, omega (arith, length-take front_size b))
-whole_verdict b (Err header.Read) h = absurd h
-whole_verdict b (Err header.Memory) h = absurd h
+whole_verdict b r h = whole r (take-take limits.max_header front_size b (omega arith)) h
+  where
+    whole : (r : Result Found HeaderFault) → take limits.max_header (take front_size b) ≡ take limits.max_header b
+        → HeaderVerdict (take front_size b) limits.max_header r → HeaderVerdict b limits.max_header r
+    whole (Ok found) same h = record {
+      lines = h.lines;
+      begun = rw same at h.begun;
+      decides = rw same at h.decides;
+      is = h.is;
+      head = h.head;
+    }
+    whole (Err header.NotAge) same h = rw same at h
+    whole (Err (header.BadLine n)) same h = rw same at h
+    whole (Err header.Truncated) same h =
+        let short : length (take front_size b) < limits.max_header = h.2 in
+        (rw same at h.0, rw same at h.1, omega (arith, length-take front_size b))
+    whole (Err header.TooLarge) same h =
+        let long : limits.max_header ≤ length (take front_size b) = h.2 in
+        (rw same at h.0, rw same at h.1, omega (arith, length-take front_size b))
+    whole (Err header.Read) same h = absurd h
+    whole (Err header.Memory) same h = absurd h
 
 -- and its header
 pub found_whole : (b : Bytes) {front : Bytes} (r : Result HeaderParts Fault) → front ≡ take front_size b
     → HeaderOf front r → HeaderOf b r
-found_whole b (Ok h) same (text, found) =
-    let one : Found = record { stanzas = h.stanzas; mac = h.mac; text = text } in
-    (text, whole_verdict b (Ok one) (subst (λ f. HeaderVerdict f limits.max_header (Ok one)) same found))
+found_whole b (Ok h) same (text, found) = (text, whole_verdict b (Ok (finding text h)) (rw same at found))
 found_whole b (Err fault) same (inl memory) = inl memory
 found_whole b (Err fault) same (inr (reason, found, is)) =
-    let front = subst (λ f. HeaderVerdict f limits.max_header (Err reason)) same found in
-    inr (reason, whole_verdict b (Err reason) front, is)
-
--- the length of a header that was found is that of its text
-pub found_len : (b text h : Bytes) (ss : List StanzaParts) (mac : Bytes) (len : ℕ)
-    → HeaderVerdict b limits.max_header (Ok (record { stanzas = ss; mac = mac; text = text })) → Head ss mac h
-    → len ≡ min (length h) (2 ^ 64 - 1) → len ≡ length text
-found_len b text h ss mac len found head is =
-    let front = begins_found b limits.max_header (record { stanzas = ss; mac = mac; text = text }) found in
-    let fits : length text ≤ limits.max_header = front.fits in
-    let same : length h ≡ length text = ap length (one_text ss mac h text head front.head) in
-    omega arith
+    inr (reason, whole_verdict b (Err reason) (rw same at found), is)
 
 -- what a caller is given of a header
 pub inspected : (b : Bytes) {h : Bytes} (header : HeaderParts) {old : Summary} {report : Report} {len stanzas : ℕ}
@@ -101,23 +82,20 @@ pub inspected : (b : Bytes) {h : Bytes} (header : HeaderParts) {old : Summary} {
     → Head header.stanzas header.mac h → len ≡ min (length h) (2 ^ 64 - 1) → stanzas ≡ length header.stanzas
     → mac ≡ header.mac
     → Inspected b old (record { header_len = len; stanzas = stanzas; mac = mac }) report 0
-inspected b {h} header {len} {stanzas} {mac} (text, found) none head is count same =
-    inr (
-      Ok (record { stanzas = header.stanzas; mac = header.mac; text = text }),
-      found,
-      (refl, none, rw (found_len b text h header.stanzas header.mac len found head is, count, same) refl),
-    )
+inspected b {h} header {len} (text, found) none head is count same =
+    let front = begins_found b limits.max_header (finding text header) found in
+    let fits : length text ≤ limits.max_header = front.fits in
+    let size : len ≡ length text =
+    omega (arith, is, ap length (one_text header.stanzas header.mac h text head front.head)) in
+    inr (Ok (finding text header), found, (refl, none, rw (size, count, same) refl))
 
 -- a fault is returned, which is this one; or it is that of a refused allocation
-pub refused_as : {S : Type 0} {old : S} {report : Report} {code : ℕ} {fault : Fault} (other : Fault)
+refused_as : {S : Type 0} {old : S} {report : Report} {code : ℕ} {fault : Fault} (other : Fault)
     → report ≡ report_of 0 (Some fault) → code ≡ fault_code fault → fault ≡ other → Refuses other old old report code
-refused_as other place returned is = record {
-  returned = returned ∙ ap fault_code is;
-  reported = place ∙ ap (λ f. report_of 0 (Some f)) is;
-  same = refl;
-}
+refused_as other place returned is =
+    record { returned = rw is at returned; reported = rw is at place; same = refl }
 
-pub refused_up : {S : Type 0} {old new : S} {report : Report} {code : ℕ} → Refuses OutOfMemory old new report code
+refused_up : {S : Type 0} {old new : S} {report : Report} {code : ℕ} → Refuses OutOfMemory old new report code
     → Returns 17 None old new report code
 refused_up up = record { returned = up.returned; reported = up.reported; same = up.same }
 
@@ -160,4 +138,4 @@ pub list_found : (b : Bytes) (header : HeaderParts) {before after : List StanzaS
     → InspectsStanzas b before after old new report code
 list_found b header of (inl up) = inl up
 list_found b header (text, found) (inr gives) =
-    inr (Ok (record { stanzas = header.stanzas; mac = header.mac; text = text }), found, gives)
+    inr (Ok (finding text header), found, gives)

@@ -1,5 +1,5 @@
 -- A header that is made of a text of stanzas, and a new file that begins with it.
-use Rattle.std.proofs.Common.{◌≡◌, ◌≢◌, ℕ, ◌+◌, ◌-◌, ◌<◌, ◌≤◌, Bool, true, false, List, [], ◌∷◌, ◌++◌, length, take, replicate, codes, cond, sym, ◌∙◌, ap, refl, subst, arith, inl, inr, length-append, append_assoc, Vec, Result, Ok, Err}
+use Rattle.std.proofs.Common.{◌≡◌, ◌≢◌, ℕ, ◌+◌, ◌-◌, ◌<◌, ◌≤◌, Bool, true, false, List, [], ◌∷◌, ◌++◌, length, take, replicate, codes, cond, sym, ◌∙◌, ap, refl, arith, inl, inr, length-append, append_assoc, Vec, Result, Ok, Err}
 use Rattle.std.specs.Prelude.{String, IfOk, slice_index}
 use Rattle.std.specs.Global.{Global}
 use Rattle.std.specs.String.{string_bytes}
@@ -9,7 +9,6 @@ use Rattle.age_kdf.specs.Bytes.{Bytes}
 use Rattle.age_header.specs.Base64.{IsBase64, base64_of}
 use Rattle.age_header.specs.Header.{AreStanzas, Head, HeaderParts, StanzaParts, line, version_line, IsStanza}
 use Rattle.age_header.specs.Mac.{header_mac}
-use Rattle.age_header.specs.Verdict.{Found, HeaderVerdict}
 use Rattle.age_header.proofs.LengthLemmas.{length-line, length-version_line}
 use Rattle.age_header.proofs.VerdictUniqueLemmas.{begins_found}
 use Rattle.age_header.proofs.TextLemmas.{characters_are}
@@ -17,10 +16,10 @@ use Rattle.age_header.specs.declared.file_key.FileKey.{FileKey}
 use Rattle.age_file.specs.declared.fault.Fault.{Fault}
 use Rattle.age_file.specs.declared.fault.Fault.TheVariants.{BadLine, MixedPassphrase, OutOfMemory}
 use Rattle.age_file.specs.AgeFile.{is_mixed, AgeFile}
-use Rattle.age_file.specs.Verdict.{header_fault}
+use Rattle.age_file.specs.Verdict.{finding, header_fault}
 use Rattle.age_file.specs.NewFile.{IsHeading}
 use Rattle.age_file.proofs.DecryptLemmas.{err_err}
-use Rattle.agefile.specs.Heading.{FindsMac, HasStanzas, MakesHeader, ReadsAs, heading, gathering_of, in_text, lines_in, probe, stanzas_in, unless_mixed}
+use Rattle.agefile.specs.Heading.{FindsMac, HasStanzas, MakesHeader, ReadsAs, heading, gathering_of, in_text, lines_in, probe, unless_mixed}
 use Rattle.agefile.specs.Inspect.{HeaderOf}
 use Rattle.agefile.specs.Sizes.{file_len, limits, sealed_len}
 use Rattle.age_recipient.proofs.HeaderSizeLemmas.{b64_size, key_header, pass_header}
@@ -36,29 +35,24 @@ use Rattle.agefile.proofs.SizeLemmas.{payload_size}
 
 pub mac_none : (text : Bytes) (k : FileKey) (fault : Fault) {other : Fault} → other ≡ in_text fault
     → HeaderOf (probe text) (Err fault) → FindsMac text k (Err other)
-mac_none text k fault is (inl memory) = inl (ap Err (is ∙ ap in_text memory))
+mac_none text k fault is (inl memory) = inl (rw (is, memory) refl)
 mac_none text k fault is (inr (reason, h, same)) =
-    inr (Err (in_text (header_fault reason)), (Err reason, h, refl), ap Err (is ∙ ap in_text same))
-
-abbrev found_of : (b rest : Bytes) (h : HeaderParts) → Fronts b rest h → Found
-found_of b rest h f = record { stanzas = h.stanzas; mac = h.mac; text = f.text }
+    inr (Err (in_text (header_fault reason)), (Err reason, h, refl), rw (is, same) refl)
 
 pub mac_early : (text rest front : Bytes) (h : HeaderParts) (k : FileKey) {fault : Fault} → Fronts (probe text) rest h
     → 0 < length rest
     → front ≡ take (length (probe text) - length rest) (probe text) → fault ≡ BadLine (lines_in front - 1)
     → FindsMac text k (Err fault)
-mac_early text rest front h k {fault} f some is count =
+mac_early text rest front h k f some is count =
     let size : length (probe text) ≡ length f.text + length rest = ap length f.begins ∙ length-append f.text rest in
     let len : length (probe text) - length rest ≡ length f.text = omega (arith, size) in
-    let same : front ≡ f.text = is ∙ ap (λ n. take n (probe text)) len ∙ ap (take (length f.text)) f.begins
+    let same : front ≡ f.text = rw len at is ∙ ap (take (length f.text)) f.begins
     ∙ take_at f.text rest (length f.text) refl in
-    let less : length f.text < length (probe text) = omega (arith, size, some) in
-    let early : stanzas_in text (Ok (found_of (probe text) rest h f)) ≡ Err (BadLine (lines_in f.text - 1)) =
-    rw (lt-ltb (length f.text) (length (probe text)) less) refl in
+    let early = lt-ltb (length f.text) (length (probe text)) (omega (arith, size, some)) in
     inr (
       Err (BadLine (lines_in f.text - 1)),
-      (Ok (found_of (probe text) rest h f), f.verdict, ap unless_mixed (sym early)),
-      ap Err (count ∙ ap (λ x. BadLine (lines_in x - 1)) same),
+      (Ok (finding f.text h), f.verdict, rw early refl),
+      rw (count, same) refl,
     )
 
 -- the whole probe is the header
@@ -66,23 +60,20 @@ whole_text : (text rest : Bytes) (h : HeaderParts) (s : Result (List StanzaParts
     → length rest ≡ 0 → s ≡ unless_mixed (Ok h.stanzas) → ReadsAs text s
 whole_text text rest h s f none is =
     let size : length (probe text) ≡ length f.text + length rest = ap length f.begins ∙ length-append f.text rest in
-    let whole : stanzas_in text (Ok (found_of (probe text) rest h f)) ≡ Ok h.stanzas =
-    rw (le-ltb (length f.text) (length (probe text)) (omega (arith, size, none))) refl in
-    (Ok (found_of (probe text) rest h f), f.verdict, is ∙ ap unless_mixed (sym whole))
+    let whole = le-ltb (length f.text) (length (probe text)) (omega (arith, size, none)) in
+    (Ok (finding f.text h), f.verdict, rw (is, whole) refl)
 
 pub mac_mixed : (text rest : Bytes) (h : HeaderParts) (k : FileKey) → Fronts (probe text) rest h → length rest ≡ 0
     → is_mixed h.stanzas ≡ true → FindsMac text k (Err MixedPassphrase)
 mac_mixed text rest h k f none mixed =
-    let one : Result (List StanzaParts) Fault = Err MixedPassphrase in
-    inr (one, whole_text text rest h one f none (rw mixed refl), refl)
+    (inr (Err MixedPassphrase, whole_text text rest h (Err MixedPassphrase) f none (rw mixed refl), refl))
 
 pub mac_made : (text rest : Bytes) {mac : Bytes} (h : HeaderParts) (k : FileKey)
     → Fronts (probe text) rest h → length rest ≡ 0
     → is_mixed h.stanzas ≡ false → mac ≡ header_mac k.0 h.stanzas
     → FindsMac text k (Ok mac)
 mac_made text rest h k f none mixed is =
-    let one : Result (List StanzaParts) Fault = Ok h.stanzas in
-    inr (one, whole_text text rest h one f none (rw mixed refl), ap Ok is)
+    inr (Ok h.stanzas, whole_text text rest h (Ok h.stanzas) f none (rw mixed refl), ap Ok is)
 
 -- ---- the header
 
@@ -93,11 +84,6 @@ header_none fault some (inr (Ok ss, reads, is)) = absurd (cc)
 header_none fault some (inr (Err f, reads, is)) =
     inr (Err f, inr (some, reads), ap Err (err_err {A = Bytes} fault f is))
 
-unmixed : (b : Bool) (xs ss : List StanzaParts)
-    → ◌≡◌ {A = Result (List StanzaParts) Fault} (cond b (Err MixedPassphrase) (Ok xs)) (Ok ss) → (b ≡ false) × (xs ≡ ss)
-unmixed true xs ss e = absurd (cc)
-unmixed false xs ss e = (refl, ok_ok e)
-
 -- what is known of a text whose probe was read to its end
 pub record Reads (text : Bytes) (ss : List StanzaParts) : Type 0 where
   pub alone : is_mixed ss ≡ false
@@ -105,46 +91,34 @@ pub record Reads (text : Bytes) (ss : List StanzaParts) : Type 0 where
   pub head : Head ss mac (probe text)
   pub fits : length (probe text) ≤ limits.max_header
 
-read_whole : (text : Bytes) (found : Found) (ss : List StanzaParts)
-    → HeaderVerdict (probe text) limits.max_header (Ok found) → length (probe text) ≤ length found.text
-    → Ok ss ≡ unless_mixed (stanzas_in text (Ok found)) → Reads text ss
-read_whole text found ss h ge eq =
-    let b = begins_found (probe text) limits.max_header found h in
-    let size : length (probe text) ≡ length found.text + length b.rest = ap length b.prefix
-    ∙ length-append found.text b.rest in
-    let whole : found.text ≡ probe text =
-    sym (append-nil found.text) ∙ ap (λ r. found.text ++ r) (sym (nil_from_length b.rest (omega (arith, size, ge))))
-    ∙ sym b.prefix in
-    let late : stanzas_in text (Ok found) ≡ Ok found.stanzas =
-    rw (le-ltb (length found.text) (length (probe text)) ge) refl in
-    let u = unmixed (is_mixed found.stanzas) found.stanzas ss (sym (eq ∙ ap unless_mixed late)) in
-    record {
-      alone = subst (λ xs. is_mixed xs ≡ false) u.1 u.0;
-      mac = found.mac;
-      head = subst (λ xs. Head xs found.mac (probe text)) u.1 (subst (Head found.stanzas found.mac) whole b.head);
-      fits = omega (arith, size, ge, b.fits);
-    }
+unmixed : (b : Bool) (xs ss : List StanzaParts)
+    → ◌≡◌ {A = Result (List StanzaParts) Fault} (cond b (Err MixedPassphrase) (Ok xs)) (Ok ss) → (b ≡ false) × (xs ≡ ss)
+unmixed true xs ss e = absurd (cc)
+unmixed false xs ss e = (refl, ok_ok e)
 
 reads : (text : Bytes) (ss : List StanzaParts) → ReadsAs text (Ok ss) → Reads text ss
 reads text ss (Err reason, h, eq) = absurd (cc)
 reads text ss (Ok found, h, eq) = elim (cases_lt (length found.text) (length (probe text))) [
-  | inl lt ↦
-      let early : stanzas_in text (Ok found) ≡ Err (BadLine (lines_in found.text - 1)) =
-      rw (lt-ltb (length found.text) (length (probe text)) lt) refl in
-      let clash : ◌≡◌ {A = Result (List StanzaParts) Fault} (Ok ss) (Err (BadLine (lines_in found.text - 1))) = eq
-      ∙ ap unless_mixed early in
-      absurd (cc)
-  | inr ge ↦ read_whole text found ss h ge eq
+  | inl lt ↦ absurd (cc (rw (lt-ltb (length found.text) (length (probe text)) lt) at eq))
+  | inr ge ↦
+      let w = begins_found (probe text) limits.max_header found h in
+      let size : length (probe text) ≡ length found.text + length w.rest = ap length w.prefix
+      ∙ length-append found.text w.rest in
+      let none : w.rest ≡ [] = nil_from_length w.rest (omega (arith, size, ge)) in
+      let whole : probe text ≡ found.text = rw (none, append-nil) at w.prefix in
+      let all = rw (le-ltb (length found.text) (length (probe text)) ge) at eq in
+      let (alone, same) = unmixed (is_mixed found.stanzas) found.stanzas ss (sym all) in
+      record {
+        alone = rw same at alone;
+        mac = found.mac;
+        head = rw (← whole, same) at w.head;
+        fits = omega (arith, size, ge, w.fits);
+      }
 ]
 
 pub read_of : (text : Bytes) (ss : List StanzaParts) → HasStanzas text (Ok ss) → Reads text ss
 read_of text ss (inl (none, is)) = absurd (cc)
 read_of text ss (inr (some, h)) = reads text ss h
-
-same_front : {a : Bytes} (b : Bytes) {c : Bytes} (d : Bytes) → a ++ b ≡ c ++ d → length b ≡ length d → a ≡ c
-same_front {a} b {c} d e len =
-    let size : length c ≡ length a = omega (arith, ap length e, length-append a b, length-append c d, len) in
-    sym (take_at a b (length a) refl) ∙ ap (take (length a)) e ∙ take_at c d (length a) size
 
 framed_size : (text characters : Bytes) → length characters ≡ 43 → length (heading text characters) ≡ length text + 70
 framed_size text characters len =
@@ -167,6 +141,12 @@ same_body text mac ss h =
     let long : length mine ≡ length theirs =
     omega (arith, sized, length-line (codes "--- " ++ h.characters), length-append (codes "--- ") h.characters) in
     append_cancel_left version_line text h.body (same_front mine theirs h.spelled long)
+  where
+    same_front : {a : Bytes} (b : Bytes) {c : Bytes} (d : Bytes) → a ++ b ≡ c ++ d → length b ≡ length d → a ≡ c
+    same_front {a} b {c} d e len =
+        let size : length c ≡ length a =
+        omega (arith, ap length e, length-append a b, length-append c d, len) in
+        sym (take_at a b (length a) refl) ∙ ap (take (length a)) e ∙ take_at c d (length a) size
 
 -- the same text with the right MAC is the header
 heading_of : (text mac characters : Bytes) (k : FileKey) (ss : List StanzaParts) → Reads text ss
@@ -178,16 +158,15 @@ heading_of text mac characters k ss r is bytes len =
     record {
       gives = refl;
       unmixed = r.alone;
-      head = subst (λ m. Head ss m (heading text characters)) is
-          (record {
-            body = text;
-            characters = characters;
-            some = r.head.some;
-            stanza_text = subst (AreStanzas ss) (sym (same_body text r.mac ss r.head)) r.head.stanza_text;
-            mac_len = len;
-            mac_text = bytes;
-            spelled = refl;
-          });
+      head = rw (← is) (record {
+        body = text;
+        characters = characters;
+        some = r.head.some;
+        stanza_text = rw (same_body text r.mac ss r.head) r.head.stanza_text;
+        mac_len = len;
+        mac_text = bytes;
+        spelled = refl;
+      });
       fits = omega (arith, framed_size text characters sized, framed_size text (replicate 43 65) refl, fits);
     }
 
@@ -196,18 +175,16 @@ pub header_made : {text : Bytes} (mac characters : Bytes) {k : FileKey} {made : 
     → made.items ≡ heading text characters → MakesHeader text k (Ok made)
 header_made mac characters some (inl memory) bytes len spelled = absurd (cc)
 header_made mac characters some (inr (Err f, h, is)) bytes len spelled = absurd (cc)
-header_made {text} mac characters {k} some (inr (Ok ss, h, is)) bytes len spelled =
-    inr (
-      Ok ss,
-      inr (some, h),
-      subst (IsHeading limits k (gathering_of ss) ss) (sym spelled)
-          (heading_of text mac characters k ss (reads text ss h) (ok_ok is) bytes len),
-    )
+header_made {text} mac characters {k} some (inr (Ok ss, h, is)) bytes len spelled = inr (
+  Ok ss,
+  inr (some, h),
+  rw spelled (heading_of text mac characters k ss (reads text ss h) (ok_ok is) bytes len),
+)
 
 pub characters_known : {E : Type 0} (mac : Bytes) (r : Result (String Global) E) → ((i : ℕ) → slice_index mac i < 256)
     → IfOk r (λ t. string_bytes t ≡ base64_of mac)
     → IfOk r (λ t. IsBase64 mac (string_bytes t))
-characters_known mac (Ok t) bytes is = subst (IsBase64 mac) (sym is) (characters_are mac bytes)
+characters_known mac (Ok t) bytes is = rw is (characters_are mac bytes)
 characters_known mac (Err e) bytes is = tt
 
 pub framed_text : (first text characters : Bytes) {all : Bytes} → first ≡ codes "age-encryption.org/v1" ++ 10 ∷ []
@@ -220,8 +197,7 @@ framed_text first text characters same is =
 
 -- ---- a new file
 
--- ---- any stanzas
-
+-- of any stanzas
 pub new_file : (stanzas file_key nonce plain file : Bytes) → length nonce ≡ 16
     → IsNewFile stanzas file_key nonce plain file
     → (ss : List StanzaParts) × AgeFile limits (record { 0 = file_key }) ss plain file × Reads stanzas ss
@@ -242,33 +218,27 @@ new_file stanzas file_key nonce plain file len (header, inr (Ok ss, has, heading
   read_of stanzas ss has,
 )
 
--- ---- one stanza
-
--- two headers of one text have the same stanzas
-same_stanzas : (text m n : Bytes) (ss ts : List StanzaParts) → Head ss m text → Head ts n text → ss ≡ ts
-same_stanzas text m n ss ts h k = (reading ss ts m n text [] h (subst (Head ts n) (sym (append-nil text)) k)).1
-
 -- a text of one stanza is read as this stanza
 alone_of : (text : Bytes) (s : StanzaParts) (ss : List StanzaParts) → IsStanza s text → Reads text ss → ss ≡ s ∷ []
 alone_of text s ss is r =
     let mine : AreStanzas (s ∷ []) text = (text, [], is, refl, sym (append-nil text)) in
-    same_stanzas (probe text) r.mac r.mac ss (s ∷ []) r.head
-    (record {
+    let head : Head (s ∷ []) r.mac (probe text) = record {
       body = r.head.body;
       characters = r.head.characters;
       some = λ e. absurd (cc);
-      stanza_text = subst (AreStanzas (s ∷ [])) (same_body text r.mac ss r.head) mine;
+      stanza_text = rw (same_body text r.mac ss r.head) at mine;
       mac_len = r.head.mac_len;
       mac_text = r.head.mac_text;
       spelled = r.head.spelled;
-    })
+    } in
+    (reading ss (s ∷ []) r.mac r.mac (probe text) [] r.head (rw append-nil head)).1
 
 pub one_file : (stanza : StanzaParts) (text file_key nonce plain file : Bytes) → length nonce ≡ 16
     → IsStanza stanza text → IsNewFile text file_key nonce plain file
     → AgeFile limits (record { 0 = file_key }) (stanza ∷ []) plain file
 one_file stanza text file_key nonce plain file len is new =
-    let f = new_file text file_key nonce plain file len new in
-    subst (λ ss. AgeFile limits (record { 0 = file_key }) ss plain file) (alone_of text stanza f.0 is f.2) f.1
+    let (ss, whole, reads) = new_file text file_key nonce plain file len new in
+    rw (alone_of text stanza ss is reads) at whole
 
 -- ---- sizes
 

@@ -1,5 +1,6 @@
 mod DecryptingLemmas
 mod FrontLemmas
+mod GroupLemmas
 mod HeaderLemmas
 pub mod RangeLemmas
 mod RunLemmas

@@ -1,10 +1,10 @@
 -- The pieces of a payload by their places in the file.
-use Rattle.std.proofs.Common.{◌≡◌, ℕ, [], ◌++◌, ◌+◌, ◌-◌, ◌*◌, ◌/◌, ◌%◌, ◌<◌, length, take, drop, min, nat_le, sym, ◌∙◌, ap, arith, true, Bool, Some, Ok, subst}
+use Rattle.std.proofs.Common.{◌≡◌, refl, ℕ, [], ◌++◌, ◌+◌, ◌-◌, ◌*◌, ◌/◌, ◌%◌, ◌<◌, length, take, drop, nat_le, sym, ◌∙◌, ap, arith, true, Bool, Some, Ok}
 use Rattle.std.proofs.lemmas.List.{length-drop, length-take, drop-drop, take_all, take_min}
 use Rattle.age_kdf.specs.Bytes.{Bytes}
 use Rattle.age_cipher.proofs.OpeningLemmas.{length-sealed_text, opened_text-sealed_text}
 use Rattle.age_stream.specs.Payload.{pieces, chunk_nonce}
-use Rattle.age_stream.specs.Reading.{piece_opening, outcome}
+use Rattle.age_stream.specs.Reading.{outcome}
 use Rattle.age_stream.specs.Slice.{IsSlice, last_outcome, opening, plain_len}
 use Rattle.age_stream.specs.Sizes.{chunk_size, sealed_chunk_size}
 use Rattle.age_stream.proofs.JudgesLastLemmas.{last_is, piece_count, some_or_none}
@@ -12,24 +12,20 @@ use Rattle.age_stream.proofs.PayloadLemmas.{outcome_opens}
 use Rattle.age_stream.proofs.SliceLemmas.{opening_at, plain_count, slice_on}
 use Rattle.agefile.specs.declared.ranges.Ranges.{Ranges}
 use Rattle.agefile.specs.Sizes.{limits}
-use Rattle.agefile.specs.Ranges.{piece_outcome, last_index, piece_at, piece_len, plain_of}
+use Rattle.agefile.specs.Ranges.{piece_outcome, last_index, piece_at, plain_of}
 
 -- how many bytes are left from the first sealed chunk on
 left : (r : Ranges) (b : Bytes) → length b ≡ r.first + r.sealed_len → length (drop r.first b) ≡ r.sealed_len
-left r b size = let d : length (drop r.first b) ≡ length b - r.first = length-drop r.first b in omega arith
+left r b size = omega (arith, size, length-drop r.first b)
 
 -- a piece by its place in the file is the piece by its place in the payload
 piece_there : (r : Ranges) (b : Bytes) (i : ℕ) → length b ≡ r.first + r.sealed_len
     → piece_at r b i ≡ take sealed_chunk_size (drop (sealed_chunk_size * i) (drop r.first b))
 piece_there r b i size =
-    let rest : Bytes = drop r.first b in
-    let d : length (drop (sealed_chunk_size * i) rest) ≡ length rest - sealed_chunk_size * i =
-    length-drop (sealed_chunk_size * i) rest in
-    let e : r.sealed_len - sealed_chunk_size * i ≡ length (drop (sealed_chunk_size * i) rest) =
-    sym (d ∙ ap (λ n. n - sealed_chunk_size * i) (left r b size)) in
-    ap (take (piece_len r.sealed_len i)) (sym (drop-drop (sealed_chunk_size * i) r.first b))
-    ∙ ap (λ n. take (min sealed_chunk_size n) (drop (sealed_chunk_size * i) rest)) e
-    ∙ take_min sealed_chunk_size (drop (sealed_chunk_size * i) rest)
+    let there : Bytes = drop (r.first + sealed_chunk_size * i) b in
+    let len : r.sealed_len - sealed_chunk_size * i ≡ length there =
+    omega (arith, size, length-drop (r.first + sealed_chunk_size * i) b) in
+    rw (drop-drop (sealed_chunk_size * i) r.first b, len) (take_min sealed_chunk_size there)
 
 pub last_there : (r : Ranges) (b : Bytes) → length b ≡ r.first + r.sealed_len
     → outcome r.key limits.max_chunks (last_index r.sealed_len) true (piece_at r b (last_index r.sealed_len))
@@ -38,11 +34,9 @@ last_there r b size =
     let rest : Bytes = drop r.first b in
     let last : ℕ = last_index r.sealed_len in
     let n : length rest ≡ r.sealed_len = left r b size in
-    let d : length (drop (sealed_chunk_size * last) rest) ≡ length rest - sealed_chunk_size * last =
-    length-drop (sealed_chunk_size * last) rest in
-    ap (outcome r.key limits.max_chunks last true)
-    (piece_there r b last size ∙ take_all sealed_chunk_size (drop (sealed_chunk_size * last) rest) (omega arith))
-    ∙ sym (last_is r.key limits.max_chunks rest last (ap last_index (sym n)))
+    let whole = take_all sealed_chunk_size (drop (sealed_chunk_size * last) rest)
+    (omega (arith, length-drop (sealed_chunk_size * last) rest)) in
+    rw (piece_there r b last size, whole) (sym (last_is r.key limits.max_chunks rest last (rw n refl)))
 
 pub len_there : (r : Ranges) (b text : Bytes) → length b ≡ r.first + r.sealed_len
     → last_outcome r.key limits.max_chunks (drop r.first b) ≡ Ok text
@@ -51,13 +45,13 @@ len_there r b text size h =
     let rest : Bytes = drop r.first b in
     let last : ℕ = last_index r.sealed_len in
     let n : length rest ≡ r.sealed_len = left r b size in
-    let is : last ≡ (length rest - 1) / sealed_chunk_size = ap last_index (sym n) in
-    let d : length (drop (sealed_chunk_size * last) rest) ≡ length rest - sealed_chunk_size * last =
-    length-drop (sealed_chunk_size * last) rest in
-    let o = outcome_opens r.key limits.max_chunks last true (drop (sealed_chunk_size * last) rest) text
+    let is : last ≡ (length rest - 1) / sealed_chunk_size = rw n refl in
+    let piece : Bytes = drop (sealed_chunk_size * last) rest in
+    let o = outcome_opens r.key limits.max_chunks last true piece text
     (sym (last_is r.key limits.max_chunks rest last is) ∙ h) in
-    let len : length (drop (sealed_chunk_size * last) rest) ≡ length text + 16 = ap length o.sealed_so
+    let len : length piece ≡ length text + 16 = ap length o.sealed_so
     ∙ length-sealed_text r.key (chunk_nonce last true) [] text in
+    let d = length-drop (sealed_chunk_size * last) rest in
     let count : plain_len rest + 16 * (last + 1) ≡ length rest =
     plain_count last rest (some_or_none last (length rest) is) (omega arith) (omega arith) in
     omega arith
@@ -72,24 +66,20 @@ slice_there r b text at size within h =
     let skip : ℕ = at % chunk_size in
     let last : ℕ = last_index r.sealed_len in
     let n : length rest ≡ r.sealed_len = left r b size in
-    let count : length (pieces rest) ≡ last + 1 = piece_count rest last (ap last_index (sym n)) in
+    let count : length (pieces rest) ≡ last + 1 = piece_count rest last (rw n refl) in
     let piece : Bytes = take sealed_chunk_size (drop (sealed_chunk_size * i) rest) in
-    let there : piece_at r b i ≡ piece = piece_there r b i size in
-    let d : length (drop (sealed_chunk_size * i) rest) ≡ length rest - sealed_chunk_size * i =
-    length-drop (sealed_chunk_size * i) rest in
-    let l : length piece ≡ min sealed_chunk_size (length (drop (sealed_chunk_size * i) rest)) =
-    length-take sealed_chunk_size (drop (sealed_chunk_size * i) rest) in
+    let d = length-drop (sealed_chunk_size * i) rest in
+    let l = length-take sealed_chunk_size (drop (sealed_chunk_size * i) rest) in
     let flag : Bool = nat_le r.sealed_len (sealed_chunk_size * (i + 1)) in
     let o = outcome_opens r.key limits.max_chunks i flag piece text
-    (ap (outcome r.key limits.max_chunks i flag) (sym there) ∙ h) in
+    (rw (piece_there r b i size) at h) in
     let len : length piece ≡ length text + 16 = ap length o.sealed_so
     ∙ length-sealed_text r.key (chunk_nonce i flag) [] text in
     let opens : opening r.key rest i ≡ Some text =
-    opening_at r.key rest i (omega arith) ∙ ap (λ m. piece_opening r.key i (nat_le m (sealed_chunk_size *
-    (i + 1))) piece) n
-    ∙ ap (piece_opening r.key i flag) o.sealed_so ∙ opened_text-sealed_text r.key (chunk_nonce i flag) [] text in
-    let t : length (drop skip text) ≡ length text - skip = length-drop skip text in
+    rw (opening_at r.key rest i (omega arith), n, o.sealed_so)
+    (opened_text-sealed_text r.key (chunk_nonce i flag) [] text) in
+    let t = length-drop skip text in
     let part : IsSlice r.key rest at ([] ++ take (length text - skip) (drop skip text)) =
     slice_on r.key rest [] text at i skip (length text - skip) (omega arith) opens (omega arith) (omega arith)
     (λ k lt. absurd (omega arith)) in
-    (omega arith, subst (IsSlice r.key rest at) (take_all (length text - skip) (drop skip text) (omega arith)) part)
+    (omega arith, rw (take_all (length text - skip) (drop skip text) (omega arith)) at part)

@@ -1,5 +1,5 @@
 -- Sealing the chunks of a plaintext into a buffer.
-use Rattle.std.proofs.Common.{◌≡◌, ◌⊎◌, ℕ, ◌+◌, ◌-◌, ◌*◌, ◌<◌, ◌≤◌, [], ◌++◌, length, take, drop, min, nat_le, true, false, sym, ◌∙◌, ap, ap₂, refl, subst, arith, inl, inr, append_assoc, length-append, length-drop, ◌^◌, Vec, None, Ok}
+use Rattle.std.proofs.Common.{◌≡◌, ◌⊎◌, ℕ, ◌+◌, ◌-◌, ◌*◌, ◌<◌, ◌≤◌, [], ◌++◌, length, take, drop, min, nat_le, true, false, sym, ◌∙◌, ap, ap₂, refl, arith, inl, inr, append_assoc, length-append, length-drop, ◌^◌, Vec, None, Ok}
 use Rattle.std.specs.Global.{Global}
 use Rattle.std.specs.List.{concat}
 use Rattle.std.proofs.lemmas.Bool.{le-leb, lt-leb}
@@ -14,11 +14,11 @@ use Rattle.age_stream.proofs.CuttingLemmas.{cut_last}
 use Rattle.age_stream.proofs.ReadingLemmas.{cut_step, is_end_cut}
 use Rattle.agefile.specs.declared.report.Report.{Report}
 use Rattle.agefile.specs.WholeFiles.{Encrypts}
-use Rattle.agefile.specs.Giving.{Exceeds, Fits}
 use Rattle.agefile.specs.Heading.{MakesHeader}
 use Rattle.agefile.specs.Report.{report_of}
 use Rattle.agefile.specs.Sizes.{chunk_count, file_len}
 use Rattle.agefile.proofs.HeadingLemmas.{size_of}
+use Rattle.agefile.proofs.RunLemmas.{text_of}
 use Rattle.agefile.proofs.SizeLemmas.{chunks_size, first_cut}
 
 -- ---- one chunk
@@ -35,24 +35,12 @@ pub first_sealed : (key : Bytes) (number size : ℕ) (left : Bytes) {text : Byte
     → chunk ≡ sealed_text key (chunk_nonce number (nat_le (length left) chunk_size)) []
     (take (length (front ++ back) - 16) (front ++ back)) → rest ≡ drop (size + 16) room
     → SealsFirst key number left room (chunk ++ rest)
-first_sealed key number size left front back {rest} room sized is copied tag sealed_so behind =
+first_sealed key number size left front back room sized is copied tag sealed_so behind =
     let same : take (length (front ++ back) - 16) (front ++ back) ≡ take chunk_size left =
-    take_at front back (length (front ++ back) - 16) (omega (arith, tag, length-append front back)) ∙ copied ∙ is
-    ∙ first_cut chunk_size size left sized in
-    ap (λ c. c ++ rest) (sealed_so ∙ ap (sealed_text key (chunk_nonce number (nat_le
-    (length left) chunk_size)) []) same)
-    ∙ ap (λ r. sealed_text key (chunk_nonce number (nat_le (length left) chunk_size)) [] (take chunk_size left) ++ r)
-    (behind ∙ ap (λ n. drop (n + 16) room) sized)
+    text_of front back tag ∙ copied ∙ is ∙ first_cut chunk_size size left sized in
+    rw (sealed_so, same, behind, sized) refl
 
 -- ---- one chunk after another
-
--- the same of what is left, and of the room
-sealed_there : (key plain out left room mid : Bytes) (at done number : ℕ) → left ≡ drop at plain
-    → room ≡ drop done out → SealsFirst key number left room mid
-    → SealsFirst key number (drop at plain) (drop done out) mid
-sealed_there key plain out left room mid at done number left_is room_is is =
-    subst (λ r. SealsFirst key number (drop at plain) r mid) room_is
-    (subst (λ l. SealsFirst key number l room mid) left_is is)
 
 -- so many chunks were sealed, and are at the start of the buffer
 pub record IsSealedTo (key plain out : Bytes) (at done number : ℕ) : Type 0 where
@@ -76,62 +64,51 @@ last_fills key plain out at done number r size last =
       | inr lt ↦ omega (arith, lt, left, r.place, r.sealed_so, size, last)
     ]
 
-pub seals_end : {key plain from room : Bytes} (out mid : Bytes) {new : Bytes} (at done number : ℕ)
+pub seals_end : {key plain left room : Bytes} (out mid : Bytes) {new : Bytes} (at done number : ℕ)
     → IsSealedTo key plain out at done number → length out ≡ length plain + 16 * chunk_count (length plain)
-    → from ≡ drop at plain → room ≡ drop done out → length (drop at plain) ≤ chunk_size
-    → SealsFirst key number from room mid → new ≡ take done out ++ mid
+    → left ≡ drop at plain → room ≡ drop done out → length left ≤ chunk_size
+    → SealsFirst key number left room mid → new ≡ take done out ++ mid
     → new ≡ concat (sealed_chunks_from key 0 (chunks plain))
-seals_end {key} {plain} {from} {room} out mid at done number r size from_is room_is last sealed_so joined =
-    let left : Bytes = drop at plain in
-    let fills = last_fills key plain out at done number r size last in
+seals_end {key} {plain} {left} {room} out mid at done number r size left_is room_is last is joined =
+    let fills = last_fills key plain out at done number r size (rw left_is at last) in
     let skip : ℕ = min (length left) chunk_size + 16 in
-    let none : drop skip (drop done out) ≡ [] =
-    nil_from_length (drop skip (drop done out))
-    (omega (arith, fills, last, length-drop done out, length-drop skip (drop done out))) in
-    let one : mid ≡ sealed_text key (chunk_nonce number true) [] left ++ [] =
-    sealed_there key plain out from room mid at done number from_is room_is sealed_so
-    ∙ ap (λ d. sealed_text key (chunk_nonce number (nat_le (length left) chunk_size)) [] (take chunk_size left)
-    ++ d) none
-    ∙ ap (λ b. sealed_text key (chunk_nonce number b) [] (take chunk_size left)
-    ++ []) (le-leb (length left) chunk_size last)
-    ∙ ap (λ t. sealed_text key (chunk_nonce number true) [] t ++ []) (take_all chunk_size left last) in
+    let none : drop skip room ≡ [] =
+    nil_from_length (drop skip room)
+    (omega (arith, fills, ap length left_is, ap length room_is, length-drop done out, length-drop skip room)) in
     let rest : concat (sealed_chunks_from key number (chunks left))
     ≡ sealed_text key (chunk_nonce number true) [] left ++ [] =
     ap (λ cs. concat (sealed_chunks_from key number cs)) (cut_last chunk_size left last) in
-    joined ∙ ap₂ ◌++◌ r.begins (one ∙ sym rest) ∙ sym r.seals
+    let filled = rw (none, le-leb (length left) chunk_size last, take_all chunk_size left last, ← rest) at is in
+    joined ∙ ap₂ ◌++◌ r.begins filled ∙ sym (rw (← left_is) at r.seals)
 
-pub seals_more : {key plain from room : Bytes} (out mid : Bytes) {new : Bytes} (at done number : ℕ)
-    → IsSealedTo key plain out at done number → from ≡ drop at plain → room ≡ drop done out
-    → chunk_size < length (drop at plain) → SealsFirst key number from room mid → new ≡ take done out ++ mid
+pub seals_more : {key plain left room : Bytes} (out mid : Bytes) {new : Bytes} (at done number : ℕ)
+    → IsSealedTo key plain out at done number → left ≡ drop at plain → room ≡ drop done out
+    → chunk_size < length left → SealsFirst key number left room mid → new ≡ take done out ++ mid
     → IsSealedTo key plain new (at + chunk_size) (done + sealed_chunk_size) (number + 1)
-seals_more {key} {plain} {from} {room} out mid {new} at done number r from_is room_is more sealed_so joined =
-    let left : Bytes = drop at plain in
+seals_more {key} {plain} {left} {room} out mid {new} at done number r left_is room_is more is joined =
     let next : Bytes = drop chunk_size left in
     let text : Bytes = take chunk_size left in
     let one : Bytes = sealed_text key (chunk_nonce number false) [] text in
-    let after : Bytes = drop (min (length left) chunk_size + 16) (drop done out) in
+    let after : Bytes = drop (min (length left) chunk_size + 16) room in
     let full : length text ≡ chunk_size = length-take-le chunk_size left (omega (arith, more)) in
     let long : length one ≡ length text + 16 = length-sealed_text key (chunk_nonce number false) [] text in
     let count : length (r.text ++ one) ≡ done + sealed_chunk_size =
     omega (arith, full, long, r.count, length-append r.text one) in
-    let put : mid ≡ one ++ after = sealed_there key plain out from room mid at done number from_is room_is sealed_so
-    ∙ ap (λ b. sealed_text key (chunk_nonce number b) [] text ++ after) (lt-leb (length left) chunk_size more) in
+    let put : mid ≡ one ++ after = rw (lt-leb (length left) chunk_size more) at is in
     let later : Bytes = concat (sealed_chunks_from key (number + 1) (chunks next)) in
     let rest : concat (sealed_chunks_from key number (chunks left)) ≡ one ++ later =
-    ap (λ cs. concat (sealed_chunks_from key number cs)) (cut_step chunk_size left (omega arith) more)
-    ∙ ap (λ b. sealed_text key (chunk_nonce number b) [] text ++ later) (is_end_cut chunk_size [] next) in
+    rw (cut_step chunk_size left (omega arith) more, is_end_cut chunk_size [] next) refl in
     record {
       text = r.text ++ one;
-      begins = ap (take (done + sealed_chunk_size))
-          (joined ∙ ap₂ ◌++◌ r.begins put ∙ sym (append_assoc r.text one after))
-          ∙ take_at (r.text ++ one) after (done + sealed_chunk_size) count;
+      begins = rw (joined, r.begins, put, ← append_assoc r.text one after) (take_at (r.text ++ one) after
+          (done + sealed_chunk_size) count);
       place = omega (arith, r.place);
       sealed_so = omega (arith, r.sealed_so);
       count = count;
-      some = inr (omega (arith, more, length-drop at plain));
-      seals = r.seals ∙ ap (λ t. r.text ++ t) rest ∙ sym (append_assoc r.text one later)
+      some = inr (omega (arith, more, ap length left_is, length-drop at plain));
+      seals = rw (← left_is, rest, ← append_assoc r.text one later) at r.seals
           ∙ ap (λ c. (r.text ++ one) ++ concat (sealed_chunks_from key (number + 1) (chunks c)))
-          (drop-drop chunk_size at plain);
+          (ap (drop chunk_size) left_is ∙ drop-drop chunk_size at plain);
     }
 
 -- ---- the whole file
@@ -148,10 +125,15 @@ pub encrypts_exceeds : {stanzas file_key nonce plain old : Bytes} (header : Vec 
     → length plain < 2 ^ 63 → size ≡ length (header.items ++ payload (record { 0 = file_key }) nonce plain)
     → report ≡ report_of size None → length old < size
     → Encrypts stanzas file_key nonce plain old old report 21
-encrypts_exceeds {file_key} {nonce} {plain} {old} header {report} size made low is reported more =
-    let gives : Exceeds (length (header.items ++ payload (record { 0 = file_key }) nonce plain)) old old report 21 =
-    record { exceeds = omega (arith, is, more); returned = refl; reported = rw is at reported; buffer = refl } in
-    inr (Ok header, made, (omega (arith, low, chunks_size plain), inr gives))
+encrypts_exceeds {plain} header size made low is reported more =
+    inr (
+      Ok header,
+      made,
+      (
+        omega (arith, low, chunks_size plain),
+        inr (record { exceeds = rw is at more; returned = refl; reported = rw is at reported; buffer = refl }),
+      ),
+    )
 
 pub encrypts_whole : {stanzas file_key nonce plain old : Bytes} (file : Bytes) {rest : Bytes} (header : Vec ℕ Global)
     {report : Report} (size : ℕ) → MakesHeader stanzas (record { 0 = file_key }) (Ok header)
@@ -159,13 +141,16 @@ pub encrypts_whole : {stanzas file_key nonce plain old : Bytes} (file : Bytes) {
     → report ≡ report_of size None → size ≤ length old
     → file ≡ header.items ++ payload (record { 0 = file_key }) nonce plain → rest ≡ drop size old
     → Encrypts stanzas file_key nonce plain old (file ++ rest) report 0
-encrypts_whole {file_key} {nonce} {plain} {old} file {rest} header {report} size made low is reported fits written
-    behind =
-    let text : Bytes = header.items ++ payload (record { 0 = file_key }) nonce plain in
-    let gives : Fits text None old (file ++ rest) report 0 = record {
-      fits = omega (arith, is, fits);
+encrypts_whole {plain} file header size made low is reported fits written behind = inr (
+  Ok header,
+  made,
+  (
+    omega (arith, low, chunks_size plain),
+    inl (record {
+      fits = rw is at fits;
       returned = refl;
       reported = rw is at reported;
-      buffer = ap₂ ◌++◌ written (behind ∙ ap (λ n. drop n old) is);
-    } in
-    inr (Ok header, made, (omega (arith, low, chunks_size plain), inl gives))
+      buffer = rw (written, behind, is) refl;
+    }),
+  ),
+)

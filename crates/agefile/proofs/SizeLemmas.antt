@@ -1,5 +1,5 @@
 -- How long a payload is, and at most the plaintext of a verdict.
-use Rattle.std.proofs.Common.{◌≡◌, ℕ, ◌+◌, ◌-◌, ◌*◌, ◌/◌, List, [], ◌∷◌, length, length-append, take, min, ◌∙◌, refl, ap, inl, inr, arith, ◌≤◌, ◌++◌, length-drop, drop, true, false, nat_lt, cond, sym, subst, Result, Ok, Err}
+use Rattle.std.proofs.Common.{◌≡◌, ℕ, ◌+◌, ◌-◌, ◌*◌, ◌/◌, List, [], ◌∷◌, length, length-append, take, min, ◌∙◌, refl, ap, inl, inr, arith, ◌≤◌, length-drop, drop, true, false, nat_lt, cond, Result, Ok, Err}
 use Rattle.std.specs.List.{concat, AllByRecursion}
 use Rattle.std.proofs.lemmas.Bool.{cases_lt}
 use Rattle.std.proofs.lemmas.List.{take_min}
@@ -14,7 +14,6 @@ use Rattle.age_stream.specs.Payload.{chunks, is_end, payload, payload_key, chunk
 use Rattle.age_stream.specs.Sizes.{chunk_size, sealed_chunk_size}
 use Rattle.age_header.specs.declared.fault.HeaderFault.{HeaderFault}
 use Rattle.age_header.specs.Verdict.{Found, HeaderVerdict}
-use Rattle.age_stream.specs.declared.fault.StreamFault.{StreamFault}
 use Rattle.age_stream.specs.declared.fault.StreamFault.TheVariants.{NonceTruncated}
 use Rattle.age_stream.specs.Reading.{Reading, plaintext_of, outcome, outcomes, payload_reading, reading_from, stop}
 use Rattle.age_stream.proofs.PayloadLemmas.{outcome_opens, result_cases}
@@ -24,8 +23,9 @@ use Rattle.age_recipient.proofs.HeaderSizeLemmas.{least_header}
 
 -- the first of the pieces of this size, by as many bytes as it has
 pub first_cut : (most size : ℕ) (left : Bytes) → size ≡ min (length left) most → take size left ≡ take most left
-first_cut most size left sized = let same : size ≡ min most (length left) = omega arith in
-    ap (λ n. take n left) same ∙ take_min most left
+first_cut most size left sized =
+    let same : size ≡ min most (length left) = omega arith in
+    rw same (take_min most left)
 
 -- the number of chunks
 pub chunks_size : (plain : Bytes) → length (chunks plain) ≡ chunk_count (length plain)
@@ -73,22 +73,12 @@ front_comes : (key : Bytes) (max i : ℕ) (cs : List Bytes) → AreSmall cs
 front_comes key max i [] all = (0, omega arith, omega arith)
 front_comes key max i (c ∷ more) all = elim (result_cases (outcome key max i (is_end more) c)) [
   | inl some ↦
-      let rest = front_comes key max (i + 1) more all.1 in
-      let size : length c ≤ sealed_chunk_size = all.0 in
+      let (m, low, high) = front_comes key max (i + 1) more all.1 in
       let len : length c ≡ length some.0 + 16 =
       ap length (outcome_opens key max i (is_end more) c some.0 some.1).sealed_so
       ∙ length-sealed_text key (chunk_nonce i (is_end more)) [] some.0 in
-      let low : length (plaintext_of (outcomes key max (i + 1) more)) ≤ chunk_size * rest.0 = rest.1 in
-      let high : length (plaintext_of (outcomes key max (i + 1) more)) + 16 * rest.0 ≤ length (concat more) = rest.2 in
-      let both = length-append some.0 (plaintext_of (outcomes key max (i + 1) more)) in
-      let sum = length-append c (concat more) in
-      subst (λ (r : Result Bytes StreamFault). Comes (length (plaintext_of (r ∷ outcomes key max (i + 1) more)))
-      (length (c ++ concat more))) (sym some.1)
-      (rest.0 + 1, omega arith, omega arith)
-  | inr none ↦ subst (λ (r : Result Bytes StreamFault). Comes (length (plaintext_of (r ∷ outcomes key max
-      (i + 1) more)))
-      (length (c ++ concat more))) (sym none.1)
-      (0, omega arith, omega arith)
+      rw (some.1, length-append c (concat more), length-append) (m + 1, omega (arith, low, all.0), omega (arith, high))
+  | inr none ↦ rw none.1 (0, omega arith, omega arith)
 ]
 
 comes_at_most : {n : ℕ} (r most : ℕ) → Comes n r → r ≤ most → n ≤ opened_len most
@@ -131,6 +121,4 @@ judged_at_most answers b (Ok found) h =
 
 pub verdict_at_most : (answers : Answering) (b : Bytes) (verdict : Reading Fault) → IsVerdict limits answers b verdict
     → length verdict.plaintext ≤ plain_len_at_most (length b)
-verdict_at_most answers b verdict is =
-    subst (λ (v : Reading Fault). length v.plaintext ≤ plain_len_at_most (length b)) (sym is.is)
-    (judged_at_most answers b is.header is.header_verdict)
+verdict_at_most answers b verdict is = rw is.is (judged_at_most answers b is.header is.header_verdict)

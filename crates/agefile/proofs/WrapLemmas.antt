@@ -1,12 +1,12 @@
 -- The text of a stanza that is written.
-use Rattle.std.proofs.Common.{◌≡◌, ℕ, zero, suc, ◌-◌, ◌<◌, ◌≤◌, List, [], ◌∷◌, ◌++◌, length, take, drop, codes, flat_map, get_or, sym, ◌∙◌, ap, refl, subst, arith, inl, inr, append_assoc, length-append, None}
+use Rattle.std.proofs.Common.{◌≡◌, ℕ, zero, suc, ◌-◌, ◌<◌, ◌≤◌, List, [], ◌∷◌, ◌++◌, length, take, drop, codes, flat_map, get_or, sym, ◌∙◌, ap, refl, arith, inl, inr, append_assoc, length-append, None}
 use Rattle.std.specs.List.{AllByRecursion}
 use Rattle.std.specs.Str.{IsUtf8}
 use Rattle.std.proofs.lemmas.List.{append-nil, drop_at, take_at}
 use Rattle.age_kdf.specs.Bytes.{Bytes}
 use Rattle.age_header.specs.declared.stanza.StanzaError.{StanzaError}
 use Rattle.age_header.specs.declared.stanza.StanzaError.TheVariants.{NoArgs, EmptyArg, BadByte, Memory}
-use Rattle.age_header.specs.Header.{AreArguments, IsArgument, IsStanza, StanzaParts, version_line}
+use Rattle.age_header.specs.Header.{IsArgument, StanzaParts, version_line}
 use Rattle.age_header.specs.Stanza.{IsStanzaError}
 use Rattle.age_header.specs.Text.{IsHeaderValue, IsWhole, signed_text, stanza_text}
 use Rattle.age_header.proofs.LengthLemmas.{length-version_line}
@@ -38,21 +38,19 @@ between ss =
     let body : Bytes = flat_map stanza_text ss in
     let split : signed_text ss ≡ (version_line ++ body) ++ codes "---" = spelled ss
     ∙ sym (append_assoc version_line body (codes "---")) in
-    let front : length (version_line ++ body) ≡ length (signed_text ss) - 3 =
-    omega (arith, ap length split, length-append (version_line ++ body) (codes "---")) in
-    ap (drop 22) (ap (take (length (signed_text ss) - 3)) split
-    ∙ take_at (version_line ++ body) (codes "---") (length (signed_text ss) - 3) front)
-    ∙ drop_at version_line body 22 length-version_line
+    let front : length (version_line ++ body) ≡ length ((version_line ++ body) ++ codes "---") - 3 =
+    omega (arith, length-append (version_line ++ body) (codes "---")) in
+    rw (split, take_at (version_line ++ body) (codes "---") _ front)
+    (drop_at version_line body 22 length-version_line)
 
 pub text_given : (s : StanzaParts) (ss : List StanzaParts) {mac : Bytes} (text : Bytes) {part old new : Bytes}
     {report : Report} {code : ℕ} → ss ≡ s ∷ [] → IsHeaderValue ss mac → text ≡ signed_text ss
     → part ≡ drop 22 (take (length text - 3) text) → Gives part None old new report code
     → GivesText s old new report code
 text_given s ss text {part} {old} {new} {report} {code} one whole is cut gives =
-    let mine : IsWhole s = (subst (λ xs. AllByRecursion IsWhole xs) one whole.each).0 in
-    let same : part ≡ stanza_text s = cut ∙ ap (λ t. drop 22 (take (length t - 3) t)) is ∙ between ss
-    ∙ ap (flat_map stanza_text) one ∙ append-nil (stanza_text s) in
-    inr (stanza_text s, stanza_text_is s mine, subst (λ t. Gives t None old new report code) same gives)
+    let mine : IsWhole s = (rw one at whole.each).0 in
+    let same : part ≡ stanza_text s = rw (is, between ss, one, append-nil) at cut in
+    inr (stanza_text s, stanza_text_is s mine, rw same at gives)
 
 -- ---- a caller's own arguments
 
@@ -60,11 +58,8 @@ pub own_given : {s : StanzaParts} {args body old new : Bytes} {report : Report} 
     → s.args ≡ words args → s.body ≡ body → GivesText s old new report code
     → GivesOwn args body old new report code
 own_given utf8 same_args same_body (inl up) = inl up
-own_given {s} {args} {body} utf8 same_args same_body (inr (text, is, gives)) =
-    let mine : IsStanza (record { args = words args; body = body }) text =
-    subst (λ a. IsStanza (record { args = a; body = body }) text) same_args
-    (subst (λ b. IsStanza (record { args = s.args; body = b }) text) same_body is) in
-    inr (inr ((utf8, subst AreArguments same_args is.arguments), inr (text, mine, gives)))
+own_given utf8 same_args same_body (inr (text, is, gives)) =
+    rw (← same_args, ← same_body) (inr (inr ((utf8, is.arguments), inr (text, is, gives))))
 
 at_index : (xs : List Bytes) (i : ℕ) (d : Bytes) → AllByRecursion IsArgument xs → i < length xs
     → IsArgument (get_or xs i d)
@@ -77,7 +72,7 @@ pub own_refused : {args body old new : Bytes} {report : Report} {code : ℕ} (er
     → GivesOwn args body old new report code
 own_refused NoArgs h up = inr (inl (λ are. are.1.0 h, up))
 own_refused {args} (EmptyArg i) h up =
-    inr (inl (λ are. (subst IsArgument h.2 (at_index (words args) i [] are.1.1 h.0)).0 refl, up))
+    inr (inl (λ are. (rw h.2 at (at_index (words args) i [] are.1.1 h.0)).0 refl, up))
 own_refused {args} (BadByte i) (a, some, bad, h) up =
-    inr (inl (λ are. bad (subst IsArgument h.2 (at_index (words args) i a are.1.1 h.0)), up))
+    inr (inl (λ are. bad (rw h.2 at (at_index (words args) i a are.1.1 h.0)), up))
 own_refused Memory h up = inl up

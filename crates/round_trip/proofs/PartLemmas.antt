@@ -15,7 +15,7 @@ use Rattle.age_recipient.specs.declared.unwrapped.Unwrapped.{Unwrapped}
 use Rattle.age_stream.specs.declared.layout.Layout.{Layout}
 use Rattle.age_stream.specs.Cutting.{IsFilled}
 use Rattle.age_stream.specs.Payload.{chunk_nonce, chunks, is_end, payload_key, pieces, sealed_chunks_from}
-use Rattle.age_stream.specs.Ranges.{HasPlain, IsSound, RangeState, source_opening}
+use Rattle.age_stream.specs.Ranges.{HasPlain, IsSound, RangeState}
 use Rattle.age_stream.specs.Reading.{piece_opening, payload_reading, whole}
 use Rattle.age_stream.specs.Slice.{opening, openings}
 use Rattle.age_stream.specs.Sizes.{chunk_size}
@@ -106,7 +106,7 @@ part_is : (plain : Bytes) (range : Range) (xs : Bytes) → xs ≡ take (length x
 part_is plain range xs is size =
     let d : length (drop range.at plain) ≡ length plain - range.at = length-drop range.at plain in
     elim (cases_lt range.len (length plain - range.at)) [
-      | inl less ↦ let same : length xs ≡ range.len = omega arith in is ∙ ap (λ n. take n (drop range.at plain)) same
+      | inl less ↦ let same : length xs ≡ range.len = omega arith in rw same at is
       | inr all ↦ is ∙ take_all (length xs) (drop range.at plain) (omega arith)
           ∙ sym (take_all range.len (drop range.at plain) (omega arith))
     ]
@@ -114,25 +114,21 @@ part_is plain range xs is size =
 parts_more : (plain : Bytes) (rs : List Range) (i : ℕ) (r : Range) → i < length rs → r ≡ get_or rs i r
     → parts plain (take (i + 1) rs) ≡ parts plain (take i rs) ++ part plain r
 parts_more plain rs i r lt is =
-    ap (parts plain) (take_more rs i r lt) ∙ flat_map-append (part plain) (take i rs) (get_or rs i r ∷ [])
-    ∙ ap (λ t. parts plain (take i rs) ++ t) (append-nil (part plain (get_or rs i r)))
-    ∙ ap (λ x. parts plain (take i rs) ++ part plain x) (sym is)
+    rw (take_more rs i r lt, ← is)
+    (flat_map-append (part plain) (take i rs) (r ∷ [])
+    ∙ ap (λ t. parts plain (take i rs) ++ t) (append-nil (part plain r)))
 
 pub lost_part : {told t2 : Known} {s s2 : RangeState} {plain : Bytes} (range : Range) (old new : Bytes) {fault : Fault}
     → t2 ≡ told → s2.layout ≡ s.layout
     → (IsSound told s → IsSound told s2) → IsSound told s → IsSliced told s.layout plain
     → (IsSound t2 s2 → AddsPart t2 s2 range.at range.len old new (Err fault)) → (fault ≡ OutOfMemory) ⊎ (fault ≡ Read)
 lost_part {told} {s2} {plain} range old new {fault} stay same keeps sound sliced adds =
-    let at_told = subst (λ t. IsSound t s2 → AddsPart t s2 range.at range.len old new (Err fault)) stay adds in
-    elim (at_told (keeps sound)) [
+    elim ((rw stay at adds) (keeps sound)) [
       | inl memory ↦ inl memory
-      | inr more ↦ elim more [
-        | inl read ↦ inr read
-        | inr bad ↦
-            let size : s2.layout.plain ≡ length plain = ap (λ (l : Layout). l.plain) same ∙ sliced.len in
-            let lt : chunk_size * bad.0 < s2.layout.plain = bad.2 in
-            absurd (sliced.opens bad.0 (omega arith) (subst (λ l. source_opening told l bad.0 ≡ None) same bad.3))
-      ]
+      | inr (inl read) ↦ inr read
+      | inr (inr (i, is, lt, none)) ↦
+          let size : s2.layout.plain ≡ length plain = ap (λ (l : Layout). l.plain) same ∙ sliced.len in
+          absurd (sliced.opens i (omega (arith, lt)) (rw same at none))
     ]
 
 pub more_parts : {told t2 : Known} {s s2 : RangeState} (plain : Bytes) (rs : List Range) (i : ℕ) {range : Range}
@@ -141,14 +137,12 @@ pub more_parts : {told t2 : Known} {s s2 : RangeState} (plain : Bytes) (rs : Lis
     → range ≡ get_or rs i range → old ≡ parts plain (take i rs)
     → (IsSound t2 s2 → AddsPart t2 s2 range.at range.len old new (Ok tt)) → new ≡ parts plain (take (i + 1) rs)
 more_parts {told} {s2} plain rs i {range} {old} {new} stay same keeps sound sliced lt is before adds =
-    let at_told = subst (λ t. IsSound t s2 → AddsPart t s2 range.at range.len old new (Ok tt)) stay adds in
-    let a = at_told (keeps sound) in
+    let (xs, has, len, joined) = (rw stay at adds) (keeps sound) in
     let size : s2.layout.plain ≡ length plain = ap (λ (l : Layout). l.plain) same ∙ sliced.len in
-    let len : length a.0 ≡ min range.len (s2.layout.plain - range.at) = a.2 in
-    let xs : a.0 ≡ part plain range = part_is plain range a.0
-    (sliced.slice range.at a.0 (subst (λ l. HasPlain told l range.at a.0) same a.1)) (omega arith) in
-    a.3 ∙ ap (λ t. t ++ a.0) before ∙ ap (λ t. parts plain (take i rs) ++ t) xs
-    ∙ sym (parts_more plain rs i range lt is)
+    let xs_are : xs ≡ part plain range =
+    part_is plain range xs (sliced.slice range.at xs (subst (λ l. HasPlain told l range.at xs) same has))
+    (omega (arith, len)) in
+    rw (joined, before, xs_are) (sym (parts_more plain rs i range lt is))
 
 pub all_parts : (plain : Bytes) (rs : List Range) {i : ℕ} {text : Bytes} → length rs ≤ i
     → text ≡ parts plain (take i rs) → text ≡ parts plain rs
@@ -166,11 +160,8 @@ pub unopened : {X : Type 0} (laws : SlicedLaws) {limits : Bounds} (meaning : X �
     → CountsFaultIf is_read 0 0 fault → MissesRanges limits (λ s. map (λ i. meaning i s) xs) bytes fault
     → IsVerdict limits (λ s. meaning x s ∷ []) b (whole plain) → fault ≡ OutOfMemory
 unopened laws {limits} meaning {xs} {x} {b} {plain} {fault} list is count misses v =
-    elim (laws.opens limits (λ s. meaning x s ∷ []) b plain fault v
-    (subst (λ z. MissesRanges limits (λ s. map (λ i. meaning i s) z) (Some b) fault) list
-    (subst (λ k. MissesRanges limits (λ s. map (λ i. meaning i s) xs) k fault) is misses))) [
-      | inl read ↦ let none : CountsFaultIf is_read 0 0 Read =
-          subst (λ f. CountsFaultIf is_read 0 0 f) read count in absurd (omega arith)
+    elim (laws.opens limits (λ s. meaning x s ∷ []) b plain fault v (rw (list, is) at misses)) [
+      | inl read ↦ let none : CountsFaultIf is_read 0 0 Read = rw read at count in absurd (omega arith)
       | inr memory ↦ memory
     ]
 
@@ -182,13 +173,10 @@ pub opened_sliced : {X : Type 0} (laws : SlicedLaws) {limits : Bounds} (meaning 
     → IsSound told s × ((plain : Bytes) → IsVerdict limits (λ st. meaning x st ∷ []) b (whole plain)
     → IsSliced told s.layout plain)
 opened_sliced laws {limits} meaning {xs} {x} {b} {told} {s} given given2 list is stay ranges =
-    let some : IsRangesOf limits (λ st. map (λ i. meaning i st) xs) b s given given2 =
-    subst (λ k. IfSome k (λ c. IsRangesOf limits (λ st. map (λ i. meaning i st) xs) c s given given2)) is ranges in
-    let one = subst (λ z. IsRangesOf limits (λ st. map (λ i. meaning i st) z) b s given given2) list some in
-    let same : told ≡ Some b = stay ∙ is in (
-      subst (λ k. IsSound k s) (sym same) one.opened.sound,
-      λ plain v. subst (λ k. IsSliced k s.layout plain) (sym same)
-          (sliced_of laws limits (λ st. meaning x st ∷ []) b plain s given given2 v one),
+    let one : IsRangesOf limits (λ st. meaning x st ∷ []) b s given given2 = rw (list, is) at ranges in
+    rw (stay, is) (
+      one.opened.sound,
+      λ plain v. sliced_of laws limits (λ st. meaning x st ∷ []) b plain s given given2 v one,
     )
 
 -- what holds of a result for each plaintext

@@ -73,13 +73,9 @@ refused_by limits answers gathered k stanzas plain b fault file chosen h =
     let unlocks = unlocked_is limits answers k stanzas plain b file chosen in
     elim (subst (λ r. IsRefusedBy limits answers gathered r fault)
     (header_is limits answers k stanzas plain b file h.0 chosen h.1) h.2) [
-      | inl stopped ↦ absurd (ok-err (sym unlocks ∙ stopped))
-      | inr refused ↦ subst (λ key. IsRefusal limits key (gathered key) fault)
-          (ok_key refused.0 k (sym refused.1 ∙ unlocks)) refused.2
+      | inl stopped ↦ absurd (cc (unlocks, stopped))
+      | inr (key, is, refused) ↦ rw (ok_key key k (sym is ∙ unlocks)) at refused
     ]
-  where
-    ok-err : ◌≡◌ {A = Result FileKey Fault} (Ok k) (Err fault) → ⊥
-    ok-err e = absurd (cc)
 
 unrewrapped : (limits : Bounds) (answers : Answering) (gathered : FileKey → Gathering) (k : FileKey)
     (stanzas : List StanzaParts) (plain b : Bytes) (fault : Fault) (old new : Known) → length b < 2 ^ 64
@@ -108,12 +104,11 @@ unrewrapped_one {limits} meaning {x} wraps labels {ys} {y} {b} {fault} old new s
     λ stanzas k plain file means.
     unrewrapped limits (λ s. meaning x s ∷ []) (λ key. Gathered (wraps y key ∷ []) (labels y ∷ [])) k stanzas plain b
     fault old new short file (ap (λ u. choice (u ∷ [])) means) count
-    (of_known (λ z. RewrapsText limits (λ s. meaning x s ∷ []) (λ key. Gathered (wraps y key ∷ []) (labels y ∷ [])) z
-    (move_of old new) (Err fault)) source b come
-    (subst (λ z. Rewraps limits (λ s. meaning x s ∷ []) (λ key. Gathered (map (λ r. wraps r key) z) (map labels z))
-    source (move_of old new) (Err fault)) to
-    (subst (λ z. Rewraps limits (λ s. map (λ i. meaning i s) z)
-    (λ key. Gathered (map (λ r. wraps r key) ys) (map labels ys)) source (move_of old new) (Err fault)) list h)))
+    (subst (λ zs. RewrapsText limits (λ s. meaning x s ∷ [])
+    (λ key. Gathered (map (λ r. wraps r key) zs) (map labels zs)) b (move_of old new) (Err fault)) to
+    (subst (λ zs. RewrapsText limits (λ s. map (λ i. meaning i s) zs)
+    (λ key. Gathered (map (λ r. wraps r key) ys) (map labels ys)) b (move_of old new) (Err fault)) list
+    (of_known _ source b come h)))
 
 -- what was written of one recipient
 pub rewrapped_one : {X Y : Type 0} {limits : Bounds} (meaning : X → List StanzaParts → Unwrapped) {xs : List X} {x : X}
@@ -122,18 +117,9 @@ pub rewrapped_one : {X Y : Type 0} {limits : Bounds} (meaning : X → List Stanz
     → Rewraps limits (λ s. map (λ i. meaning i s) xs) (λ key. Gathered (map (λ r. wraps r key) ys) (map labels ys))
     source (move_of (Some []) (Some c)) (Ok tt)
     → (is : Rewrapped limits (λ s. meaning x s ∷ []) b c) × (wraps y is.key ≡ Ok is.stanzas)
-rewrapped_one {limits} meaning {x} wraps labels {ys} {y} {b} {c} list to {source} come h =
-    let t = of_known
-    (λ z. RewrapsText limits (λ s. meaning x s ∷ []) (λ key. Gathered (wraps y key ∷ []) (labels y ∷ [])) z
-    (move_of (Some []) (Some c)) (Ok tt)) source b come
-    (subst (λ z. Rewraps limits (λ s. meaning x s ∷ []) (λ key. Gathered (map (λ r. wraps r key) z) (map labels z))
-    source (move_of (Some []) (Some c)) (Ok tt)) to
-    (subst (λ z. Rewraps limits (λ s. map (λ i. meaning i s) z)
-    (λ key. Gathered (map (λ r. wraps r key) ys) (map labels ys)) source (move_of (Some []) (Some c))
-    (Ok tt)) list h)) in
-    let is : c ≡ t.0 = t.2 in
-    subst (λ z. (is : Rewrapped limits (λ s. meaning x s ∷ []) b z) × (wraps y is.key ≡ Ok is.stanzas)) (sym is)
-    (t.1.0, gathered_one (wraps y t.1.0.key) (labels y ∷ []) t.1.0.stanzas t.1.1)
+rewrapped_one meaning wraps labels {y} {b} list to {source} come h =
+    let (made, (is, gives), same) = rw (list, to) at (of_known _ source b come h) in
+    rw same (is, gathered_one (wraps y is.key) (labels y ∷ []) is.stanzas gives)
 
 -- a rewrapped file reads whole for an identity that finds the key
 pub whole_of_rewrapped : (limits : Bounds) (old new : List StanzaParts → Unwrapped) (k : FileKey)

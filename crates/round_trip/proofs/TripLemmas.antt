@@ -9,7 +9,7 @@ use Rattle.age_file.specs.declared.fault.Fault.{Fault}
 use Rattle.age_file.specs.declared.fault.Fault.TheVariants.{TooManyChunks, Read, Write, OutOfMemory}
 use Rattle.age_file.specs.declared.limits.Fresh.{Fresh}
 use Rattle.age_file.specs.AgeFile.{AgeFile, Bounds}
-use Rattle.age_file.specs.Decrypt.{Decrypts, DecryptsText, GivesVerdict}
+use Rattle.age_file.specs.Decrypt.{Decrypts, DecryptsText}
 use Rattle.age_file.specs.Device.{is_read}
 use Rattle.age_file.specs.NewFile.{EncryptsGiven, EncryptsText, Gathered, Gathering, RefusesFirst, IsRefusal}
 use Rattle.age_file.specs.Verdict.{Answering, IsVerdict}
@@ -31,13 +31,10 @@ pub file_of_one : (limits : Bounds) (fresh : Fresh) {wrapped : Result (List Stan
     → EncryptsGiven limits fresh (Gathered (wrapped ∷ []) meant) source (move_of (Some []) (Some file)) (Ok done)
     → (stanzas : List StanzaParts) × (wrapped ≡ Ok stanzas) × AgeFile limits fresh.file_key stanzas plain file
 file_of_one limits fresh {wrapped} meant plain file done {source} come given =
-    let h = of_known
-    (λ x. EncryptsText limits fresh (Gathered (wrapped ∷ []) meant) x (move_of (Some []) (Some file)) (Ok done))
-    source plain come given in
-    let is : file ≡ h.0 = h.2 in (
+    let h = of_known _ source plain come given in (
       h.1.stanzas,
       gathered_one wrapped meant h.1.stanzas h.1.heading.gives,
-      subst (λ f. AgeFile limits fresh.file_key h.1.stanzas plain f) (sym is) h.1.file,
+      subst (λ f. AgeFile limits fresh.file_key h.1.stanzas plain f) (sym h.2) h.1.file,
     )
 
 -- bytes have one verdict
@@ -51,19 +48,11 @@ pub text_of_whole : (limits : Bounds) {answers : Answering} (b plain text : Byte
     → Decrypts limits answers source (move_of (Some []) (Some text)) (Ok done)
     → text ≡ plain
 text_of_whole limits {answers} b plain text done once is {source} come decrypts =
-    let h = of_known (λ x. DecryptsText limits answers x (move_of (Some []) (Some text))
-    (Ok done)) source b come decrypts
-    in
+    let h = of_known _ source b come decrypts in
     h.3 ∙ ap (λ (v : Reading Fault). v.plaintext) (once h.0 (whole plain) h.1 is)
 
 -- what is read whole has no fault
-no_fault : (limits : Bounds) (answers : Answering) (b plain : Bytes) (fault : Fault) (old new : Known)
-    → IsOnce limits answers b
-    → IsVerdict limits answers b (whole plain) → GivesVerdict limits answers b (move_of old new) (Err fault) → ⊥
-no_fault limits answers b plain fault old new once is h =
-    none-some fault (ap (λ (v : Reading Fault). v.fault) (once (whole plain) h.0 is h.1) ∙ h.2)
-
-pub lost_of_whole : (limits : Bounds) (answers : Answering) (b plain : Bytes) (fault : Fault) (old new : Known)
+lost_of_whole : (limits : Bounds) (answers : Answering) (b plain : Bytes) (fault : Fault) (old new : Known)
     → IsOnce limits answers b
     → IsVerdict limits answers b (whole plain) → CountsFaultIf is_read 0 0 fault
     → DecryptsText limits answers b (move_of old new) (Err fault) → IsMemoryFault fault
@@ -71,7 +60,7 @@ lost_of_whole limits answers b plain OutOfMemory old new once is count h = inl r
 lost_of_whole limits answers b plain Write old new once is count h = inr refl
 lost_of_whole limits answers b plain Read old new once is count h = absurd (omega arith)
 lost_of_whole limits answers b plain fault old new once is count h =
-    absurd (no_fault limits answers b plain fault old new once is h)
+    absurd (none-some fault (ap (λ (v : Reading Fault). v.fault) (once (whole plain) h.0 is h.1) ∙ h.2))
 
 -- the same where the identity stands alone in a list
 pub lost_of_one : {X : Type 0} {limits : Bounds} (meaning : X → List StanzaParts → Unwrapped) {xs : List X} {x : X}
@@ -82,8 +71,8 @@ pub lost_of_one : {X : Type 0} {limits : Bounds} (meaning : X → List StanzaPar
     → Decrypts limits (λ s. map (λ i. meaning i s) xs) source (move_of old new) (Err fault) → IsMemoryFault fault
 lost_of_one {limits} meaning {x} {b} {plain} {fault} old new list once is count {source} come h =
     lost_of_whole limits (λ s. meaning x s ∷ []) b plain fault old new once is count
-    (of_known (λ z. DecryptsText limits (λ s. meaning x s ∷ []) z (move_of old new) (Err fault)) source b come
-    (subst (λ z. Decrypts limits (λ s. map (λ i. meaning i s) z) source (move_of old new) (Err fault)) list h))
+    (subst (λ z. DecryptsText limits (λ s. map (λ i. meaning i s) z) b (move_of old new) (Err fault)) list
+    (of_known _ source b come h))
 
 -- why no file was written from memory
 unwritten : (limits : Bounds) (fresh : Fresh) (gathered : Gathering) (plain : Bytes) (fault : Fault) (old new : Known)
@@ -107,12 +96,9 @@ pub unwritten_of_one : {X : Type 0} (limits : Bounds) (fresh : Fresh) (wraps : X
     → IsUnwritten (IsRefusal limits fresh.file_key (Gathered (wraps x ∷ []) (labels x ∷ []))) limits plain fault
 unwritten_of_one limits fresh wraps labels {x} {plain} {fault} old new list count refused {source} come h =
     unwritten limits fresh (Gathered (wraps x ∷ []) (labels x ∷ [])) plain fault old new count
-    (subst (λ z. RefusesFirst limits fresh.file_key (Gathered (map wraps z) (map labels z)) fault) list refused)
-    (of_known (λ z. EncryptsText limits fresh (Gathered (wraps x ∷ []) (labels x ∷ [])) z (move_of old new) (Err fault))
-    source plain come
-    (subst (λ z. EncryptsGiven limits fresh (Gathered (map wraps z) (map labels z)) source (move_of old new)
-    (Err fault))
-    list h))
+    (rw list at refused)
+    (subst (λ z. EncryptsText limits fresh (Gathered (map wraps z) (map labels z)) plain (move_of old new) (Err fault))
+    list (of_known _ source plain come h))
 
 -- a loss where no header is refused
 pub no_refusal : {refuses : Fault → Type 0} (limits : Bounds) (plain : Bytes) {fault : Fault}

@@ -8,12 +8,13 @@ use Rattle.agefile.proofs.heading.mac_under.Goals as goal
 pub returns-in-Err : goal.returns-in-Err
 returns-in-Err c stanzas is =
     mac_none stanzas c.args.key.now c.in-Err.fault c.in_text.ensures
-    (header_found c.limits.ensures (c.new-source.ensures ∙ ap Some is) c.in-Err.ensures.reads c.in-Err.ensures.verdict)
+    (header_found (c.new-source.ensures ∙ ap Some is) c.in-Err.ensures.reads
+    (rw c.limits.ensures at c.in-Err.ensures.verdict))
 
 pub returns-then-rest-gt0 : goal.returns-then-rest-gt0
 returns-then-rest-gt0 c stanzas is =
     mac_early stanzas c.rest-rest.result.now c.split_at.result.0.now c.in-Ok.header c.args.key.now
-    (fronts c.limits.ensures (c.new-source.ensures ∙ ap Some is) c.rest-rest.ensures c.in-Ok.ensures.verdict)
+    (fronts (c.new-source.ensures ∙ ap Some is) c.rest-rest.ensures (rw c.limits.ensures at c.in-Ok.ensures.verdict))
     c.if-rest-gt0.true
     (subst (λ b. c.split_at.result.0.now ≡ take (length b - length c.rest-rest.result.now) b) is
     c.split_at.ensures.front)
@@ -21,14 +22,16 @@ returns-then-rest-gt0 c stanzas is =
 
 pub returns-then-is_mixed : goal.returns-then-is_mixed
 returns-then-is_mixed c stanzas is =
-    let f = fronts c.limits.ensures (c.new-source.ensures ∙ ap Some is) c.rest-rest.ensures c.in-Ok.ensures.verdict in
+    let f = fronts (c.new-source.ensures ∙ ap Some is) c.rest-rest.ensures
+    (rw c.limits.ensures at c.in-Ok.ensures.verdict) in
     let mixed = rw c.stanzas.ensures.value at (sym c.is_mixed.ensures ∙ c.if-is_mixed.true) in
     let none : length c.rest-rest.result.now ≡ 0 = omega (arith, c.if-rest-gt0.false) in
     search (mac_mixed, f, none, mixed)
 
 pub returns-in-Ok-mac_of : goal.returns-in-Ok-mac_of
 returns-in-Ok-mac_of c stanzas is =
-    let f = fronts c.limits.ensures (c.new-source.ensures ∙ ap Some is) c.rest-rest.ensures c.in-Ok.ensures.verdict in
+    let f = fronts (c.new-source.ensures ∙ ap Some is) c.rest-rest.ensures
+    (rw c.limits.ensures at c.in-Ok.ensures.verdict) in
     let mixed = rw c.stanzas.ensures.value at (sym c.is_mixed.ensures ∙ c.if-is_mixed.false) in
     let mac = rw c.stanzas-2.ensures.value at c.in-Ok-mac_of.ensures in
     let none : length c.rest-rest.result.now ≡ 0 = omega (arith, c.if-rest-gt0.false) in

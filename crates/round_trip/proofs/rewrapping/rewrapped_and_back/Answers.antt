@@ -1,8 +1,3 @@
-use Rattle.std.proofs.Common.{◌≡◌, ◌∙◌, [], ◌∷◌, sym, ap, subst}
-use Rattle.age_recipient.specs.declared.unwrapped.Unwrapped.TheVariants.{Key}
-use Rattle.age_recipient.specs.Key.{IsFileKey}
-use Rattle.age_file.specs.NewFile.{Gathered, IsRefusal}
-use Rattle.round_trip.specs.Losses.{IsUnwritten}
 use Rattle.round_trip.proofs.RewrapLemmas.{whole_of_rewrapped}
 use Rattle.round_trip.proofs.rewrapping.rewrapped_and_back.Goals as goal
 
@@ -14,10 +9,9 @@ returns-in-Ok-decrypted-clause-back g c = λ stanzas k plain key file means.
     ((goal.Identity-dyn g (c.args.identity.vtable, c.args.identity.value)).meaning c.args.identity.value) k stanzas
     plain c.args.file.now c.in-Ok.new.items
     ((goal.Recipient-dyn g (c.args.recipient.vtable, c.args.recipient.value)).wraps c.args.recipient.value)
-    (λ found same made wraps. subst (λ m. m made ≡ Key found) (sym c.requires.identity)
-    (c.opens.ensures found made (subst IsFileKey (sym same) key)
-    (ap (λ f. f found) (sym c.requires.recipient) ∙ wraps)))
-    file (ap (λ m. m stanzas) c.requires.old ∙ means) is.0 is.1
+    (λ found same made wraps. rw c.requires.identity
+    (c.opens.ensures found made (rw same key) (rw c.requires.recipient at wraps)))
+    file (rw c.requires.old means) is.0 is.1
     (λ v chosen was. (c.rewrap_keeps.ensures c.args.limits.now _ _ c.args.file.now c.in-Ok.new.items is.0 chosen v).0
     was) in
     c.in-Ok-decrypted.ensures.text plain (rw c.as_slice.ensures.value verdict)
@@ -30,18 +24,13 @@ returns-clause-lost g c = λ stanzas k plain key file means.
     ((goal.Identity-dyn g (c.args.identity.vtable, c.args.identity.value)).meaning c.args.identity.value) k stanzas
     plain c.args.file.now c.in-Ok.new.items
     ((goal.Recipient-dyn g (c.args.recipient.vtable, c.args.recipient.value)).wraps c.args.recipient.value)
-    (λ found same made wraps. subst (λ m. m made ≡ Key found) (sym c.requires.identity)
-    (c.opens.ensures found made (subst IsFileKey (sym same) key)
-    (ap (λ f. f found) (sym c.requires.recipient) ∙ wraps)))
-    file (ap (λ m. m stanzas) c.requires.old ∙ means) is.0 is.1
+    (λ found same made wraps. rw c.requires.identity
+    (c.opens.ensures found made (rw same key) (rw c.requires.recipient at wraps)))
+    file (rw c.requires.old means) is.0 is.1
     (λ v chosen was. (c.rewrap_keeps.ensures c.args.limits.now _ _ c.args.file.now c.in-Ok.new.items is.0 chosen v).0
     was) in
     c.in-Err-decrypted.ensures.lost plain (rw c.as_slice.ensures.value verdict)
 
 pub returns-in-Err-clause-lost : goal.returns-in-Err-clause-lost
 returns-in-Err-clause-lost g c = λ stanzas k plain key file means.
-    let labels = (goal.Recipient-dyn g (c.args.recipient.vtable, c.args.recipient.value)).the_labels
-    c.args.recipient.value in
-    subst (λ wraps. IsUnwritten (IsRefusal c.args.limits.now k (Gathered (wraps k ∷ []) (labels ∷ [])))
-    c.args.limits.now plain c.in-Err.fault) c.requires.recipient
-    (c.in-Err.ensures.lost stanzas k plain file (ap (λ m. m stanzas) c.requires.old ∙ means))
+    rw c.requires.recipient at (c.in-Err.ensures.lost stanzas k plain file (rw c.requires.old means))
