@@ -37,10 +37,9 @@ grown xs more (Some ys) None a k = absurd k
 grown xs more (Some ys) (Some zs) a k = ap Some (k ∙ a)
 
 -- what an output has after work that succeeded
-ended : (xs : Bytes) (taken new : Known) {work : Result ⊤ Fault} → Ends (move_of (Some xs) new) taken work (Ok tt)
-    → (work ≡ Ok tt) × Keeps taken new
-ended xs taken new (inl (is, keeps)) = (sym is, keeps)
-ended xs taken new (inr (is, rest)) = absurd (cc)
+ended : (taken new : Known) {work : Result ⊤ Fault} → Ends taken new work (Ok tt) → (work ≡ Ok tt) × Keeps taken new
+ended taken new (keeps, inl is) = (sym is, keeps)
+ended taken new (keeps, inr is) = absurd (cc)
 
 abbrev pub OkIsAgeFile : Type 0
 OkIsAgeFile = (limits : Bounds) (answers : Answering) (b plain : Bytes) → IsVerdict limits answers b (whole plain)
@@ -63,10 +62,10 @@ decrypted_whole law limits answers b xs taken new counts (verdict, judged, (none
 decrypted : OkIsAgeFile → (limits : Bounds) (answers : Answering) (b xs : Bytes) (taken new : Known)
     (done : Result Done Fault) (work : Result ⊤ Fault)
     → work ≡ without_counts done → OfKnown (Some b) (λ x. DecryptsText limits answers x (move_of (Some xs) taken) done)
-    → Ends (move_of (Some xs) new) taken work (Ok tt) → Gained limits b xs new
-decrypted law limits answers b xs taken new (Err fault) work is d ends = absurd (cc (is, (ended xs taken new ends).0))
+    → Ends taken new work (Ok tt) → Gained limits b xs new
+decrypted law limits answers b xs taken new (Err fault) work is d ends = absurd (cc (is, (ended taken new ends).0))
 decrypted law limits answers b xs taken new (Ok counts) work is d ends =
-    decrypted_whole law limits answers b xs taken new counts d.2 (ended xs taken new ends).1
+    decrypted_whole law limits answers b xs taken new counts d.2 (ended taken new ends).1
 
 pub done_decrypt : OkIsAgeFile → (job : Job) (b xs : Bytes) (new : Known) → job.command ≡ command.Decrypt
     → Finishes job (Some b) (move_of (Some xs) new) → Gained (limits_of job) b xs new
@@ -90,11 +89,11 @@ encrypted : (limits : Bounds) (fresh : Fresh) (gathered : Gathering) (plain xs :
     (done : Result Done Fault) (work : Result ⊤ Fault)
     → work ≡ without_counts done
     → OfKnown (Some plain) (λ x. EncryptsText limits fresh gathered x (move_of (Some xs) taken) done)
-    → Ends (move_of (Some xs) new) taken work (Ok tt) → Made limits plain xs new
+    → Ends taken new work (Ok tt) → Made limits plain xs new
 encrypted limits fresh gathered plain xs taken new (Err fault) work is e ends =
-    absurd (cc (is, (ended xs taken new ends).0))
+    absurd (cc (is, (ended taken new ends).0))
 encrypted limits fresh gathered plain xs taken new (Ok counts) work is e ends =
-    encrypted_whole limits fresh gathered plain xs taken new counts e.2 (ended xs taken new ends).1
+    encrypted_whole limits fresh gathered plain xs taken new counts e.2 (ended taken new ends).1
 
 pub done_encrypt : (job : Job) (plain xs : Bytes) (new : Known) → job.command ≡ command.Encrypt
     → Finishes job (Some plain) (move_of (Some xs) new) → Made (limits_of job) plain xs new
@@ -110,10 +109,10 @@ Rewrote limits b xs new = (answers : Answering) × (c : Bytes) × Rewrapped limi
 rewrote : (limits : Bounds) (answers : Answering) (gathered : FileKey → Gathering) (b xs : Bytes) (taken new : Known)
     (work : Result ⊤ Fault)
     → OfKnown (Some b) (λ x. RewrapsText limits answers gathered x (move_of (Some xs) taken) work)
-    → Ends (move_of (Some xs) new) taken work (Ok tt) → Rewrote limits b xs new
-rewrote limits answers gathered b xs taken new (Err fault) r ends = absurd (cc (ended xs taken new ends).0)
+    → Ends taken new work (Ok tt) → Rewrote limits b xs new
+rewrote limits answers gathered b xs taken new (Err fault) r ends = absurd (cc (ended taken new ends).0)
 rewrote limits answers gathered b xs taken new (Ok u) (given, one, (c, is, took)) ends =
-    (answers, c, is.0, grown xs c taken new took (ended xs taken new ends).1)
+    (answers, c, is.0, grown xs c taken new took (ended taken new ends).1)
 
 pub done_rewrap : (job : Job) (b xs : Bytes) (new : Known) → job.command ≡ command.Rewrap
     → Finishes job (Some b) (move_of (Some xs) new) → Rewrote (limits_of job) b xs new
@@ -130,10 +129,10 @@ Showed limits raw b xs new =
 
 showed : (limits : Bounds) (raw : Bool) (key : Option Bytes) (b xs : Bytes) (taken new : Known) (work : Result ⊤ Fault)
     → OfKnown (Some b) (λ x. InspectsText limits raw key x (move_of (Some xs) taken) work)
-    → Ends (move_of (Some xs) new) taken work (Ok tt) → Showed limits raw b xs new
-showed limits raw key b xs taken new (Err fault) i ends = absurd (cc (ended xs taken new ends).0)
+    → Ends taken new work (Ok tt) → Showed limits raw b xs new
+showed limits raw key b xs taken new (Err fault) i ends = absurd (cc (ended taken new ends).0)
 showed limits raw key b xs taken new (Ok u) (given, one, t) ends =
-    let keeps = (ended xs taken new ends).1 in
+    let keeps = (ended taken new ends).1 in
     (t.header, t.text, t.verdict, (key, t.shown, t.is, grown xs t.shown taken new t.holds.1 keeps))
 
 pub done_inspect : (job : Job) (b xs : Bytes) (new : Known) → job.command ≡ command.Inspect
@@ -148,13 +147,13 @@ GainedAtMost len xs new = (part : Bytes) × (length part ≤ len) × (new ≡ So
 
 ranged : (job : Job) (secret : Secret) (from : Known) (xs : Bytes) (taken new : Known) (work : Result ⊤ Fault)
     → Performs job (task.Range secret) from (move_of (Some xs) taken) work
-    → Ends (move_of (Some xs) new) taken work (Ok tt) → GainedAtMost job.len xs new
-ranged job secret from xs taken new (Err fault) r ends = absurd (cc (ended xs taken new ends).0)
+    → Ends taken new work (Ok tt) → GainedAtMost job.len xs new
+ranged job secret from xs taken new (Err fault) r ends = absurd (cc (ended taken new ends).0)
 ranged job secret from xs taken new (Ok u) (size, inl none) ends = absurd none
 ranged job secret from xs taken new (Ok u) (size, inr o) ends =
     let one = o.writes in
     let n : length one.part ≡ range_len o.state job.at job.len = one.size in
-    (one.part, omega arith, grown xs one.part taken new one.appends (ended xs taken new ends).1)
+    (one.part, omega arith, grown xs one.part taken new one.appends (ended taken new ends).1)
 
 pub done_range : (job : Job) (from : Known) (xs : Bytes) (new : Known) → job.command ≡ command.Range
     → Finishes job from (move_of (Some xs) new) → GainedAtMost job.len xs new

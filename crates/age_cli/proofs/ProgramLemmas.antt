@@ -10,7 +10,7 @@ use Rattle.age_words.specs.JobOf.{AreWrong, AskForText, Reads}
 use Rattle.age_words.proofs.RefusalLemmas.{shown, wrong}
 use Rattle.age_cli.specs.declared.failure.Failure.{Failure}
 use Rattle.age_commands.specs.declared.task.Task.{Task}
-use Rattle.age_cli.specs.Program.{AnswersRefusal, Begins, Completes, Finishes, FinishesOn, IsInput, IsOutput, IsTaskOf, PerformsOn, UsesStreams, Works}
+use Rattle.age_cli.specs.Program.{AnswersRefusal, Begins, Completes, Finishes, FinishesOn, IsInput, IsOutput, IsTaskOf, PerformsOn, PerformsTo, UsesStreams, Works}
 
 -- standard input, where no file is named
 input_is : {A : Type 0} (F : Type 0) (remaining : F → Known) (o : Option A) (standard from : Known) → o ≡ None
@@ -37,6 +37,13 @@ completes remaining contents job task from source sink (Ok u) is i (target, o, w
     (source, i, (target, o, (task, is, w)))
 completes {F} remaining contents job task from source sink (Err failure) is i h = λ silent.
     begins F remaining job task from source sink is i (h silent)
+
+-- what work comes to that writes to standard output
+pub performs_alone : {F : Type 0} (contents : F → Known) (job : Job) (task : Task) (from : Known) (sink : Moved)
+    (r : Result ⊤ Failure) → job.output ≡ None → PerformsTo job task from sink r
+    → PerformsOn F contents job task from sink r
+performs_alone contents job task from sink (Ok u) none works = (sink, rw none refl, works)
+performs_alone contents job task from sink (Err failure) none (fault, is, works) = λ silent. inr (fault, works)
 
 -- what is done from standard input to standard output
 pub alone : (F : Type 0) (remaining contents : F → Known) (job : Job) {from : Known} {sink : Moved} → job.input ≡ None

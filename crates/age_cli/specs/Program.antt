@@ -1,4 +1,4 @@
--- What a job comes to, from its input to its output.
+-- The results of a job, from its input to its output.
 use Rattle.std.specs.Prelude.{◌≡◌, ◌≢◌, ◌≤◌, ◌⊎◌, ◌^◌, ℕ, ⊤, List, Option, None, Some, Result, Ok, Err}
 use Rattle.age_header.specs.Device.{Bytes, Known, Moved, move_of, Stays}
 use Rattle.age_file.specs.AgeFile.{Bounds}
@@ -21,10 +21,10 @@ use Rattle.age_commands.specs.Task.{Performs, PerformsQuietly}
 abbrev pub IsSecretFor : (job : Job) (secret : Secret) → Type 0
 IsSecretFor job secret = IsSecretOf job.pass job.key job.more_keys.items secret
 
--- A task of this job: its secret is a passphrase if a passphrase file alone is named, else one key
--- or more, and no more than key files are named; `rewrap` has the old one and the new one in their
--- roles, and no new passphrase is empty; `inspect` has a file key exactly if `-f` names one,
--- without `-r`.
+-- A task of this job. Its secret is a passphrase if only a passphrase file is named, else one or
+-- more keys, not more than the key files named. `rewrap` has the old secret and the new one in
+-- their roles. No new passphrase is empty. `inspect` has a file key exactly if `-f` names one and
+-- `-r` is absent.
 abbrev pub IsTaskOf : (job : Job) (task : Task) → Type 0
 IsTaskOf job (Encrypt secret seed) =
     (job.command ≡ command.Encrypt) × IsSecretFor job secret × IsNewSecret secret
@@ -37,37 +37,39 @@ IsTaskOf job (Inspect key) =
 IsTaskOf job (Range secret) = (job.command ≡ command.Range) × IsSecretFor job secret
 IsTaskOf job (Salvage secret) = (job.command ≡ command.Salvage) × IsSecretFor job secret
 
--- The work of a task, where the input gives `from`: a buffer before the output takes what the
--- library writes, and the output ends with what the buffer took.
+-- The work of a task, where the input gives `from`: the output has `taken` after it, and is flushed
+-- then.
 abbrev pub Works : (job : Job) (task : Task) (from : Known) (sink : Moved)
     (result : Result ⊤ FileFault) → Type 0
 Works job task from sink result =
     (taken : Known) × (work : Result ⊤ FileFault)
     × Performs job task from (move_of sink.before taken) work
-    × PerformsQuietly task sink.before taken work × Ends sink taken work result
+    × PerformsQuietly task sink.before taken work × Ends taken sink.after work result
 
--- the same with what a failure names as its fault
+-- the same, with the fault of a failure
 abbrev pub PerformsTo : (job : Job) (task : Task) (from : Known) (sink : Moved)
     (result : Result ⊤ Failure) → Type 0
 PerformsTo job task from sink (Ok _) = Works job task from sink (Ok tt)
 PerformsTo job task from sink (Err failure) =
     (fault : FileFault) × (failure.fault ≡ AgeFile fault) × Works job task from sink (Err fault)
 
--- the bytes to come from IN: from standard input, or from a file that was opened
+-- the bytes to come from IN: those of standard input, or, if IN is named, those of some value of
+-- the file type
 abbrev pub IsInput : {A : Type 0} (F : Type 0) (remaining : F → Known) (name : Option A)
     (standard from : Known) → Type 0
 IsInput F remaining None standard from = from ≡ standard
 IsInput F remaining (Some name) standard from = (file : F) × (from ≡ remaining file)
 
--- what OUT had before the work and after it: standard output, or a file that was opened
+-- the contents of OUT before and after the work: those of standard output, or, if OUT is named, of
+-- some two values of the file type
 abbrev pub IsOutput : {A : Type 0} (F : Type 0) (contents : F → Known) (name : Option A)
     (standard sink : Moved) → Type 0
 IsOutput F contents None standard sink = sink ≡ standard
 IsOutput F contents (Some name) standard sink =
     (old new : F) × (sink ≡ move_of (contents old) (contents new))
 
--- What work comes to that writes to OUT: it is done. Or it failed: then standard output is as it
--- was, or has what the work wrote. Of a file nothing is said then.
+-- The result of work that writes to OUT. On Ok it was performed. On a fault standard output is
+-- unchanged or has what the work wrote; if OUT is named, this says nothing.
 abbrev pub PerformsOn : (F : Type 0) (contents : F → Known) (job : Job) (task : Task)
     (from : Known) (sink : Moved) (result : Result ⊤ Failure) → Type 0
 PerformsOn F contents job task from sink (Ok _) =
@@ -77,20 +79,20 @@ PerformsOn F contents job task from sink (Err failure) =
     job.output ≡ None
     → Stays sink ⊎ ((fault : FileFault) × Works job task from sink (Err fault))
 
--- a task of the job is done
+-- a task of the job was performed
 abbrev pub Finishes : (job : Job) (from : Known) (sink : Moved) → Type 0
 Finishes job from sink =
     (task : Task) × IsTaskOf job task × Works job task from sink (Ok tt)
 
--- A task of the job is done, from its IN to its OUT. F has the files, with what they are known to
--- give and to have taken.
+-- A task of the job was performed from its IN to its OUT. F is the type of the files, `remaining`
+-- and `contents` are what is known of them.
 abbrev pub FinishesOn : (F : Type 0) (remaining contents : F → Known) (job : Job) (from : Known)
     (sink : Moved) → Type 0
 FinishesOn F remaining contents job from sink =
     (source : Known) × IsInput F remaining job.input from source
     × ((target : Moved) × IsOutput F contents job.output sink target × Finishes job source target)
 
--- nothing was written, or a task of the job ended with a fault, from its IN
+-- nothing was written, or a task of the job on its IN ended with a fault
 abbrev pub Begins : (F : Type 0) (remaining : F → Known) (job : Job) (from : Known)
     (sink : Moved) → Type 0
 Begins F remaining job from sink =
@@ -99,7 +101,7 @@ Begins F remaining job from sink =
     × ((task : Task) × IsTaskOf job task
     × ((fault : FileFault) × Works job task source sink (Err fault))))
 
--- what the job's work comes to
+-- the result of a job
 abbrev pub Completes : (F : Type 0) (remaining contents : F → Known) (job : Job) (from : Known)
     (sink : Moved) (result : Result ⊤ Failure) → Type 0
 Completes F remaining contents job from sink (Ok _) =
@@ -107,13 +109,13 @@ Completes F remaining contents job from sink (Ok _) =
 Completes F remaining contents job from sink (Err failure) =
     job.output ≡ None → Begins F remaining job from sink
 
--- the words make a job, and it is done
+-- the words make a job, and it was done
 abbrev pub FinishesWords : (F : Type 0) (remaining contents : F → Known) (words : List Bytes)
     (from : Known) (sink : Moved) → Type 0
 FinishesWords F remaining contents words from sink =
     (job : Job) × Makes words job × FinishesOn F remaining contents job from sink
 
--- the limits that the words set
+-- the limits set by the words
 abbrev pub word_limits : (words : List Bytes) → Bounds
 word_limits words = record { max_header = header_limit words; max_chunks = 2 ^ 88 }
 
@@ -123,16 +125,16 @@ abbrev pub BeginsWords : (F : Type 0) (remaining : F → Known) (words : List By
 BeginsWords F remaining words from sink =
     (job : Job) × Makes words job × (job.output ≡ None → Begins F remaining job from sink)
 
--- Standard input is unread and standard output unwritten, but for a text that the words ask for,
--- and for a job that they make: of it the first if it names IN, the second if it names OUT.
+-- If the words make a job that names IN, standard input was not read; if it names OUT, nothing was
+-- written to standard output. If they make none, neither was used, but for a text they ask for.
 abbrev pub UsesStreams : (words : List Bytes) (unread unwritten : Type 0) → Type 0
 UsesStreams words unread unwritten =
     (AskForText words × unread) ⊎ (unread × unwritten)
     ⊎ ((job : Job) × Makes words job × (job.input ≢ None → unread)
     × (job.output ≢ None → unwritten))
 
--- How a refusal is answered: memory by status 1, a text that was asked for by 0, or 1 if it was not
--- written, and wrong words by 2. But for the text nothing is written.
+-- The answer to a refusal: status 1 for refused memory; for a text that was asked for 0, or 1 if it
+-- could not be written; 2 for wrong words. Nothing is written, except this text.
 abbrev pub AnswersRefusal : (fault : WordsFault) (status : ℕ) (unwritten : Type 0) → Type 0
 AnswersRefusal Memory status unwritten = (status ≡ 1) × unwritten
 AnswersRefusal (Refused error) status unwritten =

@@ -1,10 +1,10 @@
 -- What reading a header returns, as what `inspect` says of it.
-use Rattle.std.proofs.Common.{◌≡◌, ◌∙◌, ◌++◌, ◌∷◌, ◌+◌, ◌<◌, ℕ, List, ap, arith, get_or, length, take, Option, Bool, Ok, Err, inl, inr, refl, [], subst, sym}
+use Rattle.std.proofs.Common.{◌≡◌, ◌∙◌, ◌++◌, ◌∷◌, ◌+◌, ◌<◌, ℕ, List, ap, arith, get_or, length, take, Option, Bool, Ok, Err, refl, [], subst, sym}
 use Rattle.std.proofs.lemmas.List.{append_assoc, append-nil, length-take-le, take_more}
 use Rattle.std.specs.Prelude.{⊤, ◌^◌, ◌-◌, OnOk, Result, codes, min}
 use Rattle.std.specs.Io.KnownBytes.{Appends}
 use Rattle.std.proofs.KnownBytes.{Appends-trans, Keeps-refl}
-use Rattle.age_header.specs.Device.{Bytes, Flow, Known, Moved, OfGiven, Seen, Took, WritesPart, flow, move_of}
+use Rattle.age_header.specs.Device.{Bytes, Flow, Known, OfGiven, Seen, flow, move_of}
 use Rattle.age_header.specs.declared.fault.HeaderFault.{HeaderFault}
 use Rattle.age_header.specs.declared.fault.HeaderFault.TheVariants as header
 use Rattle.age_header.specs.Base64.{IsBase64}
@@ -16,7 +16,7 @@ use Rattle.age_file.specs.AgeFile.{Bounds}
 use Rattle.age_file.specs.Inspect.{Inspects}
 use Rattle.age_file.specs.Verdict.{header_fault}
 use Rattle.age_commands.specs.declared.inspect.Check.{Check}
-use Rattle.age_commands.specs.Inspect.{Inspecting, InspectsText, IsShown, IsTable, OfShown, Shows, check_of, first_lines, last_lines, row, rows}
+use Rattle.age_commands.specs.Inspect.{Inspecting, InspectsText, IsShown, IsTable, OfShown, check_of, first_lines, last_lines, row, rows}
 
 missed_of : (limits : Bounds) (raw : Bool) (key : Option Bytes) (b : Bytes) (source : Flow) (old : Known)
     (e : HeaderFault)
@@ -47,8 +47,8 @@ missed {limits} raw key {from} {to} old {fault} same (Err e, is, reads) =
     (subst (λ (m : Bounds). ReadsHeader (flow from to) m.max_header (Err e)) same reads))
 
 -- what was shown of a header that was read
-shown_of : {limits l : Bounds} (raw : Bool) (key : Option Bytes) {from to : Seen} {h : HeaderParts} {checked : Check}
-    (P : Check → Bytes → Type 0) (text : Bytes) → l ≡ limits → Inspects l (flow from to) (Ok h)
+pub shown_of : {limits l : Bounds} (raw : Bool) (key : Option Bytes) {from to : Seen} {h : HeaderParts}
+    {checked : Check} (P : Check → Bytes → Type 0) (text : Bytes) → l ≡ limits → Inspects l (flow from to) (Ok h)
     → checked ≡ check_of key h → IsShown raw h checked text → P checked text
     → OfGiven (flow from to) (λ b. OfShown limits raw key b P)
 shown_of raw key P text same (Err e, is, reads) made spelled holds = absurd (cc)
@@ -63,26 +63,6 @@ shown_of {l} raw key {from} {to} {h} P text same (Ok g, is, reads) made spelled 
       is = subst (λ (x : Check). IsShown raw h x text) made spelled;
       holds = subst (λ (x : Check). P x text) made holds;
     })
-
--- all of a header was shown
-pub shown : (Q : Check → Type 0) {limits l : Bounds} (raw : Bool) (key : Option Bytes) {from to : Seen}
-    (sink : Moved) {h : HeaderParts} {checked : Check} → l ≡ limits → Inspects l (flow from to) (Ok h)
-    → checked ≡ check_of key h → Shows raw h checked sink (Ok tt) → Q checked
-    → OfGiven (flow from to) (λ b. OfShown limits raw key b (λ x text. Q x × Took sink text))
-shown Q raw key sink same inspects made (text, spelled, took) holds =
-    shown_of raw key (λ x s. Q x × Took sink s) text same inspects made spelled (holds, took)
-
--- a header that was not shown to its end, or not at all where memory was refused
-pub shown_in_part : {limits l : Bounds} (raw : Bool) (key : Option Bytes) {from to : Seen} (sink : Moved)
-    {h : HeaderParts} {checked : Check} {fault : Fault} → l ≡ limits
-    → Inspects l (flow from to) (Ok h) → checked ≡ check_of key h → Shows raw h checked sink (Err fault)
-    → Inspecting limits raw key (flow from to) sink (Err fault)
-shown_in_part {limits} raw key {from} {to} sink same inspects made (inl (is, (text, spelled, part))) =
-    subst (λ f. Inspecting limits raw key (flow from to) sink (Err f)) (sym is)
-    (shown_of raw key (λ x s. WritesPart sink s) text same inspects made spelled part)
-shown_in_part {limits} raw key {from} {to} sink same (r, found, reads) made (inr (is, stays)) =
-    subst (λ f. Inspecting limits raw key (flow from to) sink (Err f)) (sym is)
-    (of_map reads (λ b some. stays))
 
 -- the rows of one more stanza
 rows_push : (n : ℕ) (xs : List StanzaParts) (x : StanzaParts)

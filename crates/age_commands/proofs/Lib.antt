@@ -1,5 +1,4 @@
 mod InspectLemmas
-mod OutputLemmas
 mod RangeLemmas
 mod SecretLemmas
 pub mod TaskLemmas

@@ -1,13 +1,11 @@
 -- What is written of a range, piece by piece.
-use Rattle.std.proofs.Common.{◌≡◌, ◌∙◌, ◌⊎◌, ◌++◌, ◌∷◌, List, Result, map, ◌+◌, ◌-◌, ◌*◌, ◌/◌, ◌%◌, ◌<◌, ◌≤◌, ℕ, [], ap, arith, inl, inr, length, min, refl, slice_get, slice_index, subst, sym, take, None, Some, Err}
+use Rattle.std.proofs.Common.{◌≡◌, ◌∙◌, ◌⊎◌, ◌++◌, Result, ◌+◌, ◌-◌, ◌*◌, ◌/◌, ◌%◌, ◌<◌, ◌≤◌, ℕ, [], ap, arith, inl, inr, length, min, refl, slice_get, slice_index, subst, sym, take, None, Some, Err}
 use Rattle.std.specs.Prelude.{⊤, IfSome}
 use Rattle.std.proofs.KnownBytes.{Appends-nil, Appends-trans, Keeps-refl}
 use Rattle.std.proofs.lemmas.List.{length-append, length-take, length-take-le, take-append-le, get_or-take, get_or_append_left, get_or-append-add}
 use Rattle.std.proofs.lemmas.Bool.{cases_lt}
 use Rattle.std.specs.Io.KnownBytes.{Appends}
 use Rattle.age_header.specs.Device.{Bytes, Known, Moved, WritesPart, move_of}
-use Rattle.age_header.specs.Header.{StanzaParts}
-use Rattle.age_recipient.specs.declared.unwrapped.Unwrapped.{Unwrapped}
 use Rattle.age_stream.specs.declared.fault.StreamFault.{StreamFault}
 use Rattle.age_stream.specs.declared.layout.Layout.{Layout}
 use Rattle.age_stream.specs.Ranges.{HasPlain, IsSound, RangeState, Stops, bytes_from, source_opening, range_len}
@@ -17,6 +15,7 @@ use Rattle.age_file.specs.declared.fault.Fault.{Fault}
 use Rattle.age_file.specs.AgeFile.{Bounds}
 use Rattle.age_file.specs.Ranges.{IsRangesOf, MissesRanges}
 use Rattle.age_file.specs.Verdict.{stream_fault}
+use Rattle.age_file.specs.Verdict.{Answering}
 use Rattle.age_commands.specs.Range.{Ranging, WritesPlain, WritesRange}
 
 -- nothing is written
@@ -199,36 +198,27 @@ failed_on {told} {again} {s} {t} begin len at left {old} {mid} {new} et el end l
       ),
     )
 
--- a source that was opened, by one identity in a list
-pub ranged : {X : Type 0} (m : X → List StanzaParts → Unwrapped) (x : X) (at len : ℕ) {items : List X}
-    {l limits : Bounds} {told again : Known} {s : RangeState} (given given2 : ℕ) (sink : Moved) (r : Result ⊤ Fault)
-    → items ≡ x ∷ [] → l ≡ limits → again ≡ told
-    → IfSome told (λ b. IsRangesOf l (λ stanzas. map (λ i. m i stanzas) items) b s given given2)
+-- a source that was opened
+pub ranged : (limits : Bounds) (at len : ℕ) {f answers : Answering} {told again : Known} {s : RangeState}
+    (given given2 : ℕ) (sink : Moved) (r : Result ⊤ Fault) → f ≡ answers → again ≡ told
+    → IfSome told (λ b. IsRangesOf limits f b s given given2)
     → (IsSound again s → WritesRange again s at len sink r)
-    → Ranging limits (λ stanzas. m x stanzas ∷ []) at len told sink r
-ranged m x at len {told = None} given given2 sink r one is et opens writes = tt
-ranged m x at len {l} {limits} {told = Some b} {s} given given2 sink r one is et opens writes =
-    let opened : IsRangesOf limits (λ stanzas. m x stanzas ∷ []) b s given given2 =
-    subst (λ (k : Bounds). IsRangesOf k (λ stanzas. m x stanzas ∷ []) b s given given2) is
-    (subst (λ xs. IsRangesOf l (λ stanzas. map (λ i. m i stanzas) xs) b s given given2) one opens) in
+    → Ranging limits answers at len told sink r
+ranged limits at len {told = None} given given2 sink r means et opens writes = tt
+ranged limits at len {told = Some b} {s} given given2 sink r means et opens writes =
     inr (record {
       state = s;
       given = given;
       given2 = given2;
-      opened = opened;
+      opened = subst (λ (a : Answering). IsRangesOf limits a b s given given2) means opens;
       writes = subst (λ (k : Known). WritesRange k s at len sink r) et
-          (writes (subst (λ (k : Known). IsSound k s) (sym et) opened.opened.sound));
+          (writes (subst (λ (k : Known). IsSound k s) (sym et) opens.opened.sound));
     })
 
 -- one that was not
-pub unopened : {X : Type 0} (m : X → List StanzaParts → Unwrapped) (x : X) (at len : ℕ) {items : List X}
-    {l limits : Bounds} (told old : Known) {fault : Fault} → items ≡ x ∷ [] → l ≡ limits
-    → MissesRanges l (λ stanzas. map (λ i. m i stanzas) items) told fault
-    → Ranging limits (λ stanzas. m x stanzas ∷ []) at len told (move_of old old) (Err fault)
-unopened m x at len None old one is misses = tt
-unopened m x at len {l} (Some b) old {fault} one is misses =
-    inl (
-      subst (λ (k : Bounds). MissesRanges k (λ stanzas. m x stanzas ∷ []) (Some b) fault) is
-          (subst (λ xs. MissesRanges l (λ stanzas. map (λ i. m i stanzas) xs) (Some b) fault) one misses),
-      Keeps-refl old,
-    )
+pub unopened : (limits : Bounds) (at len : ℕ) {f answers : Answering} (told old : Known) {fault : Fault}
+    → f ≡ answers → MissesRanges limits f told fault
+    → Ranging limits answers at len told (move_of old old) (Err fault)
+unopened limits at len None old means misses = tt
+unopened limits at len (Some b) old {fault} means misses =
+    inl (subst (λ (a : Answering). MissesRanges limits a (Some b) fault) means misses, Keeps-refl old)

@@ -24,8 +24,7 @@ use Rattle.age_file.specs.Verdict.{Answering}
 use Rattle.age_file.specs.Rewrap.{Rewraps}
 use Rattle.age_job.specs.declared.secret.Secret.{Secret}
 use Rattle.age_job.specs.declared.secret.Secret.TheVariants.{Passphrase, Keys}
-use Rattle.age_commands.specs.declared.identity.SecretIdentity.{SecretIdentity}
-use Rattle.age_commands.specs.Secret.{gathering_of, labels_of, recipient_of, unwraps_of, wraps_of}
+use Rattle.age_commands.specs.Secret.{gathering_of, labels_of, recipient_of, wraps_of}
 use Rattle.age_commands.specs.Task.{Encrypting}
 
 -- a trait object that was just made reads as what it holds
@@ -39,11 +38,6 @@ pub answers_meant : {f g : List StanzaParts → Unwrapped} {answers : Answering}
     → (λ s. f s ∷ []) ≡ answers
 answers_meant same is = ap {B = Answering} (λ (m : List StanzaParts → Unwrapped) s. m s ∷ []) same ∙ is
 
--- the same of an identity that was moved into a box
-pub secret_meant : {f : List StanzaParts → Unwrapped} {x identity : SecretIdentity} {answers : Answering}
-    → f ≡ unwraps_of x → x ≡ identity → (λ s. unwraps_of identity s ∷ []) ≡ answers → (λ s. f s ∷ []) ≡ answers
-secret_meant same is means = answers_meant (same ∙ ap unwraps_of is) means
-
 -- what the recipient of a secret gives, alone in a list
 pub gathering_meant : {w : FileKey → Result (List StanzaParts) ℕ} {l : Labels} (secret : Secret) (work : ℕ)
     (salt : Bytes) → w ≡ wraps_of (recipient_of secret work salt) → l ≡ labels_of (recipient_of secret work salt)
@@ -51,27 +45,10 @@ pub gathering_meant : {w : FileKey → Result (List StanzaParts) ℕ} {l : Label
 gathering_meant (Passphrase pass) work salt wraps labels = rw (wraps, labels)
 gathering_meant (Keys keys) work salt wraps labels = rw (wraps, labels)
 
-pub decrypts_alone : {X : Type 0} (m : X → List StanzaParts → Unwrapped) {items : List X} (x : X) {l limits : Bounds}
-    {source : Flow} (old new : Known) (r : Result Done Fault)
-    → items ≡ x ∷ [] → l ≡ limits → Decrypts l (λ s. map (λ i. m i s) items) source (move_of old new) r
-    → Decrypts limits (λ s. m x s ∷ []) source (move_of old new) r
-decrypts_alone m x {l} {source} old new r one is h =
-    subst (λ b. Decrypts b (λ s. m x s ∷ []) source (move_of old new) r) is
-    (subst (λ xs. Decrypts l (λ s. map (λ i. m i s) xs) source (move_of old new) r) one h)
-
 pub decrypting_meant : {f g : Answering} (limits : Bounds) {source : Flow} (old new : Known) (r : Result Done Fault)
     → f ≡ g → Decrypts limits f source (move_of old new) r → Decrypts limits g source (move_of old new) r
 decrypting_meant limits {source} old new r same h =
     subst (λ (a : Answering). Decrypts limits a source (move_of old new) r) same h
-
-pub salvages_alone : {X : Type 0} (m : X → List StanzaParts → Unwrapped) {items : List X} (x : X) {l limits : Bounds}
-    {source : Flow} (sink : Moved) (losses : LossesMoved) (r : Result Salvaged Fault)
-    → items ≡ x ∷ [] → l ≡ limits
-    → SalvagesFile l (λ s. map (λ i. m i s) items) source sink losses r
-    → SalvagesFile limits (λ s. m x s ∷ []) source sink losses r
-salvages_alone m x {l} {source} sink losses r one is h =
-    subst (λ b. SalvagesFile b (λ s. m x s ∷ []) source sink losses r) is
-    (subst (λ xs. SalvagesFile l (λ s. map (λ i. m i s) xs) source sink losses r) one h)
 
 pub salvaging_meant : {f g : Answering} (limits : Bounds) {source : Flow} (sink : Moved) (losses : LossesMoved)
     (r : Result Salvaged Fault) → f ≡ g
@@ -84,21 +61,6 @@ pub encrypting_meant : {f g : FileKey → Gathering} {limits : Bounds} {fresh : 
     → Encrypting limits fresh (g fresh.file_key) source (move_of old new) r
 encrypting_meant {limits} {fresh} {source} {old} {new} {r} same h =
     subst (λ (f : FileKey → Gathering). Encrypting limits fresh (f fresh.file_key) source (move_of old new) r) same h
-
-pub rewraps_alone : {X Y : Type 0} (m : X → List StanzaParts → Unwrapped)
-    (w : Y → FileKey → Result (List StanzaParts) ℕ) (labels : Y → Labels) {items : List X} (x : X) {others : List Y}
-    (y : Y) {l limits : Bounds} {source : Flow} (old new : Known) (r : Result ⊤ Fault)
-    → items ≡ x ∷ [] → others ≡ y ∷ [] → l ≡ limits
-    → Rewraps l (λ s. map (λ i. m i s) items) (λ key. Gathered (map (λ o. w o key) others) (map (λ o. labels o) others))
-    source (move_of old new) r
-    → Rewraps limits (λ s. m x s ∷ []) (λ key. Gathered (w y key ∷ []) (labels y ∷ [])) source (move_of old new) r
-rewraps_alone m w labels x {others} y {l} {source} old new r one other is h =
-    subst (λ b. Rewraps b (λ s. m x s ∷ []) (λ key. Gathered (w y key ∷ []) (labels y ∷ [])) source (move_of old new) r)
-    is
-    (subst (λ ys. Rewraps l (λ s. m x s ∷ []) (λ key. Gathered (map (λ o. w o key) ys) (map (λ o. labels o) ys)) source
-    (move_of old new) r) other
-    (subst (λ xs. Rewraps l (λ s. map (λ i. m i s) xs)
-    (λ key. Gathered (map (λ o. w o key) others) (map (λ o. labels o) others)) source (move_of old new) r) one h))
 
 pub rewrapping_meant : {f g : Answering} {v w : FileKey → Gathering} (limits : Bounds) {source : Flow} (old new : Known)
     (r : Result ⊤ Fault) → f ≡ g → v ≡ w

@@ -1,5 +1,5 @@
 -- What a task does, of which proofs see the bytes to come alone.
-use Rattle.std.proofs.Common.{[], Some, None, Err, inl, inr, refl}
+use Rattle.std.proofs.Common.{[], Some, None, Err, inl, refl}
 use Rattle.std.proofs.KnownBytes.{Appends-nil, Keeps-refl}
 use Rattle.age_stream.specs.Salvage.{losses_of}
 use Rattle.age_header.specs.Device.{Bytes, Known, move_of}
@@ -7,7 +7,7 @@ use Rattle.age_file.specs.declared.fault.Fault.TheVariants.{OutOfMemory}
 use Rattle.age_job.specs.declared.job.Job.{Job}
 use Rattle.age_commands.specs.declared.task.Task.{Task}
 use Rattle.age_commands.specs.declared.task.Task.TheVariants.{Encrypt, Decrypt, Rewrap, Inspect, Range, Salvage}
-use Rattle.age_commands.specs.Task.{OfKnown, Performs, PerformsQuietly}
+use Rattle.age_commands.specs.Task.{OfKnown, Performs}
 
 -- what holds of any bytes
 pub known_any : (from : Known) {P : Bytes → Type 0} → ((b : Bytes) → P b) → OfKnown from P
@@ -24,7 +24,3 @@ no_memory job (Inspect key) from old = known_any from (λ b. Keeps-refl old)
 no_memory job (Salvage secret) from old =
     (Err OutOfMemory, refl, (losses_of None None, known_any from (λ b. (Appends-nil old, tt))))
 no_memory job (Range secret) from old = (None, inl (tt, Keeps-refl old))
-
-pub no_memory_quiet : {W : Type 0} (task : Task) (old : W) → PerformsQuietly task old old (Err OutOfMemory)
-no_memory_quiet (Inspect key) old = inr (inr refl)
-no_memory_quiet task old = inr refl

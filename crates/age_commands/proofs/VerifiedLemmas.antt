@@ -1,13 +1,11 @@
 -- What is written of a range of any source, piece by piece.
-use Rattle.std.proofs.Common.{◌≡◌, ◌∙◌, ◌++◌, ◌∷◌, List, Result, map, ◌+◌, ◌-◌, ◌*◌, ◌<◌, ◌≤◌, ℕ, [], ap, arith, inl, inr, length, min, refl, slice_index, subst, sym, take, Option, None, Ok, Err}
+use Rattle.std.proofs.Common.{◌≡◌, ◌∙◌, ◌++◌, Result, ◌+◌, ◌-◌, ◌*◌, ◌<◌, ◌≤◌, ℕ, [], ap, arith, inl, inr, length, min, refl, slice_index, subst, sym, take, Option, None, Ok, Err}
 use Rattle.std.specs.Prelude.{⊤}
 use Rattle.std.proofs.KnownBytes.{Appends-nil, Appends-trans, Keeps-refl}
 use Rattle.std.proofs.lemmas.List.{length-append, length-take, length-take-le, take-append-le, get_or-take, get_or_append_left, get_or-append-add}
 use Rattle.std.proofs.lemmas.Bool.{cases_lt}
 use Rattle.std.specs.Io.KnownBytes.{Appends}
 use Rattle.age_header.specs.Device.{Bytes, CountsFaultIf, Known, Moved, WritesPart, move_of}
-use Rattle.age_header.specs.Header.{StanzaParts}
-use Rattle.age_recipient.specs.declared.unwrapped.Unwrapped.{Unwrapped}
 use Rattle.age_stream.proofs.VerifiedLemmas.{byte_stays}
 use Rattle.age_stream.specs.declared.fault.StreamFault.{StreamFault}
 use Rattle.age_stream.specs.declared.layout.Layout.{Layout}
@@ -160,18 +158,16 @@ failed_on {early} {late} s t begin len at left {old} {mid} {new} {fault} stays e
       ),
     )
 
--- a source that was opened, by one identity in a list
-pub ranged : {D X : Type 0} (m : X → List StanzaParts → Unwrapped) (x : X) {gave : D → ℕ → ℕ → Type 0}
-    {found : D → Option ℕ} {items : List X} {l limits : Bounds} {at len : ℕ} (source : D) {new : D} {s : RangeState}
-    {old taken : Known} {r : Result ⊤ Fault} → items ≡ x ∷ [] → l ≡ limits
-    → BeginsFile l (λ stanzas. map (λ i. m i stanzas) items) (gave source) (found source) s
+-- a source that was opened
+pub ranged : {D : Type 0} {gave : D → ℕ → ℕ → Type 0} {found : D → Option ℕ} {limits : Bounds}
+    {f answers : Answering} {at len : ℕ} (source : D) {new : D} {s : RangeState} {old taken : Known}
+    {r : Result ⊤ Fault} → f ≡ answers → BeginsFile limits f (gave source) (found source) s
     → WritesAny (gave new) s at len (move_of old taken) r
-    → RangingAny gave found limits (λ stanzas. m x stanzas ∷ []) at len new (move_of old taken) r
-ranged m x {gave} {found} {l} source {s} one is begins writes = inr (record {
+    → RangingAny gave found limits answers at len new (move_of old taken) r
+ranged {gave} {found} {limits} source {s} means begins writes = inr (record {
   source = source;
   state = s;
-  begins = subst (λ (k : Bounds). BeginsFile k (λ stanzas. m x stanzas ∷ []) (gave source) (found source) s) is
-      (subst (λ xs. BeginsFile l (λ stanzas. map (λ i. m i stanzas) xs) (gave source) (found source) s) one begins);
+  begins = subst (λ (a : Answering). BeginsFile limits a (gave source) (found source) s) means begins;
   writes = writes;
 })
 
@@ -180,13 +176,6 @@ pub unopened : {D : Type 0} {gave : D → ℕ → ℕ → Type 0} {found : D →
     (at len : ℕ) {new : D} {old : Known} {fault : Fault} → IsOpenFault fault
     → RangingAny gave found limits answers at len new (move_of old old) (Err fault)
 unopened at len {old} named = inl (named, Keeps-refl old)
-
-pub ranging_meant : {D : Type 0} {gave : D → ℕ → ℕ → Type 0} {found : D → Option ℕ} {f g : Answering}
-    {limits : Bounds} {at len : ℕ} {new : D} {old taken : Known} {r : Result ⊤ Fault} → f ≡ g
-    → RangingAny gave found limits f at len new (move_of old taken) r
-    → RangingAny gave found limits g at len new (move_of old taken) r
-ranging_meant {gave} {found} {limits} {at} {len} {new} {old} {taken} {r} same h =
-    subst (λ (a : Answering). RangingAny gave found limits a at len new (move_of old taken) r) same h
 
 -- a range of a source, of which proofs see the size alone
 pub ranges_unseen : {D : Type 0} {found : D → Option ℕ} (job : Job) (secret : Secret) (from : Known) {new : D}

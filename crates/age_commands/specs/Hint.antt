@@ -1,9 +1,9 @@
--- What a hint's numbers mean.
+-- The meaning of a hint's numbers.
 use Rattle.std.specs.Prelude.{ℕ}
 use Rattle.age_commands.specs.declared.hint.Unit.{Unit}
 use Rattle.age_commands.specs.declared.hint.Unit.TheVariants.{KiB, MiB, GiB}
 
--- how many bytes a unit is
+-- the number of bytes in a unit
 abbrev pub unit_size : Unit → ℕ
 unit_size KiB = 1024
 unit_size MiB = 1048576

@@ -1,5 +1,5 @@
 -- What the command `inspect` writes and returns.
-use Rattle.std.specs.Prelude.{◌≡◌, ◌≢◌, ◌⊎◌, ◌^◌, ◌-◌, ◌+◌, ◌∷◌, ◌++◌, ℕ, List, [], ⊤, Bool, true, false, Result, Ok, Err, if◌then◌else◌, codes, decimal, flat_map, length, min}
+use Rattle.std.specs.Prelude.{◌≡◌, ◌≢◌, ◌^◌, ◌-◌, ◌+◌, ◌∷◌, ◌++◌, ℕ, List, [], ⊤, Bool, true, false, Result, Ok, Err, if◌then◌else◌, codes, decimal, flat_map, length, min}
 use Rattle.std.specs.Fmt.{format_spec, styled_decimal}
 use Rattle.std.specs.Str.{bytes_eq}
 use Rattle.std.specs.declared.option.Option.{Option}
@@ -30,7 +30,7 @@ check_name check.None = codes "none"
 check_name check.Good = codes "good"
 check_name check.Bad = codes "bad"
 
--- n in decimal, at the right of so many columns, as the standard library writes it
+-- n in decimal, right-aligned in `width` columns, as the standard library writes it
 abbrev pub padded_decimal : (width n : ℕ) → Bytes
 padded_decimal width n = styled_decimal (format_spec 32 3 0 width (2 ^ 64 - 1)) n
 
@@ -44,7 +44,7 @@ row index stanza =
     line (padded_decimal 4 index ++ codes " " ++ padded_decimal 8 (length stanza.body)
     ++ spaced_arguments stanza.args)
 
--- the lines of stanzas that are counted from `index` on
+-- the lines of these stanzas, which are numbered from `index` on
 abbrev pub rows : (index : ℕ) (stanzas : List StanzaParts) → Bytes
 rows index [] = []
 rows index (stanza ∷ more) = row index stanza ++ rows (index + 1) more
@@ -53,14 +53,14 @@ rows index (stanza ∷ more) = row index stanza ++ rows (index + 1) more
 abbrev pub first_lines : (count : ℕ) → Bytes
 first_lines count = codes "version age-encryption.org/v1\nstanzas " ++ decimal count ++ codes "\n"
 
--- what follows the MAC
+-- the lines after the MAC
 abbrev pub last_lines : (len : ℕ) (checked : Check) → Bytes
 last_lines len checked =
     codes "\nheader " ++ (decimal len ++ (codes " bytes\ncheck " ++ (check_name checked
     ++ codes "\n")))
 
 -- The table has the version, the number of stanzas, for each its index, the length of its body and
--- its arguments, the base64 of the MAC, the length of the header, and the result of the check.
+-- its arguments, then the base64 of the MAC, the length of the header, and the result of the check.
 pub record IsTable (header : HeaderParts) (checked : Check) (shown : Bytes) : Type 0 where
   pub characters : Bytes
   pub text : Bytes
@@ -70,12 +70,12 @@ pub record IsTable (header : HeaderParts) (checked : Check) (shown : Bytes) : Ty
       ≡ first_lines (length header.stanzas) ++ rows 0 header.stanzas ++ codes "mac " ++ characters
       ++ last_lines (min (length text) (2 ^ 64 - 1)) checked
 
--- what is shown of a header: its own text, or else the table
+-- the text written for a header: its own text, or the table
 abbrev pub IsShown : (raw : Bool) (header : HeaderParts) (checked : Check) (shown : Bytes) → Type 0
 IsShown true header checked shown = Head header.stanzas header.mac shown
 IsShown false header checked shown = IsTable header checked shown
 
--- b begins with a header, and P holds of the result of its check and of what is shown of it
+-- b begins with a header, and P holds of the result of its check and of the text written for it
 pub record OfShown (limits : Bounds) (raw : Bool) (key : Option Bytes) (b : Bytes)
     (P : (checked : Check) (shown : Bytes) → Type 0) : Type 0 where
   pub header : HeaderParts
@@ -85,9 +85,9 @@ pub record OfShown (limits : Bounds) (raw : Bool) (key : Option Bytes) (b : Byte
   pub is : IsShown raw header (check_of key header) shown
   pub holds : P (check_of key header) shown
 
--- What `inspect` returns where b was to come, and what it writes: all that is shown of its header,
--- also if the check fails, a prefix where a write failed, or else nothing. Any other fault is that
--- of b, which begins with no header.
+-- The result of `inspect` for the bytes b, and its output: the text for the header, even if the
+-- check fails; a prefix of it if a write failed; otherwise nothing. Any other fault is the
+-- header's.
 abbrev pub InspectsText : (limits : Bounds) (raw : Bool) (key : Option Bytes) (b : Bytes)
     (sink : Moved) (result : Result ⊤ Fault) → Type 0
 InspectsText limits raw key b sink (Ok _) =
@@ -102,17 +102,8 @@ InspectsText limits raw key b sink (Err fault) =
     (e : HeaderFault) × HeaderVerdict b limits.max_header (Err e) × (fault ≡ header_fault e)
     × Stays sink
 
--- the same of the bytes that the source gave
+-- the same for the bytes read from the source
 abbrev pub Inspecting : (limits : Bounds) (raw : Bool) (key : Option Bytes) (source : Flow)
     (sink : Moved) (result : Result ⊤ Fault) → Type 0
 Inspecting limits raw key source sink result =
     OfGiven source (λ b. InspectsText limits raw key b sink result)
-
--- what showing a header writes: all of it, a prefix where a write failed, or nothing
-abbrev pub Shows : (raw : Bool) (header : HeaderParts) (checked : Check) (sink : Moved)
-    (result : Result ⊤ Fault) → Type 0
-Shows raw header checked sink (Ok _) =
-    (shown : Bytes) × IsShown raw header checked shown × Took sink shown
-Shows raw header checked sink (Err fault) =
-    ((fault ≡ Write) × ((shown : Bytes) × IsShown raw header checked shown × WritesPart sink shown))
-    ⊎ ((fault ≡ OutOfMemory) × Stays sink)

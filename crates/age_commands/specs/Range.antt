@@ -1,4 +1,4 @@
--- What the command `range` writes and returns.
+-- The output and the results of the command `range`.
 use Rattle.std.specs.Prelude.{◌≡◌, ◌⊎◌, ◌<◌, ◌≤◌, ◌+◌, ◌*◌, ◌-◌, ℕ, ⊤, length, slice_index, Option, None, Some, Result, Ok, Err}
 use Rattle.age_header.specs.Device.{Bytes, Known, Moved, Took, Stays}
 use Rattle.age_stream.specs.declared.layout.Layout.{Layout}
@@ -10,27 +10,27 @@ use Rattle.age_file.specs.AgeFile.{Bounds}
 use Rattle.age_file.specs.Ranges.{BeginsFile, IsOpenFault, IsRangesOf, MissesRanges}
 use Rattle.age_file.specs.Verdict.{Answering}
 
--- the plaintext's n bytes from offset `at` on were written
+-- n bytes of the plaintext from offset `at` on were written
 pub record WritesPlain (told : Known) (layout : Layout) (at n : ℕ) (sink : Moved) : Type 0 where
   pub part : Bytes
   pub size : length part ≡ n
   pub plain : HasPlain told layout at part
   pub appends : Took sink part
 
--- a range of at most `len` bytes from `at` on has bytes of chunk i
+-- a range of at most `len` bytes from `at` on includes bytes of chunk i
 pub record HasBytesOf (s : RangeState) (at len i : ℕ) : Type 0 where
   pub some : 0 < range_len s at len
   pub from : at < chunk_size * (i + 1)
   pub to : chunk_size * i < at + range_len s at len
 
--- a range has bytes of chunk i, which does not open; those before the chunk were written
+-- a range includes bytes of chunk i, which does not open; the bytes before the chunk were written
 pub record StopsAt (told : Known) (s : RangeState) (at len i : ℕ) (sink : Moved) : Type 0 where
   pub has : HasBytesOf s at len i
   pub lost : source_opening told s.layout i ≡ None
   pub writes : WritesPlain told s.layout at (chunk_size * i - at) sink
 
--- What is written of an opened file, at most `len` bytes from `at` on: all that there are, or those
--- before the first chunk that does not open. After a failed read or write, some from `at` on.
+-- The output for an opened file and at most `len` bytes from `at` on: all of them, or those before
+-- the first chunk that does not open; after a failed read or write, some from `at` on.
 abbrev pub WritesRange : (told : Known) (s : RangeState) (at len : ℕ) (sink : Moved)
     (result : Result ⊤ Fault) → Type 0
 WritesRange told s at len sink (Ok _) = WritesPlain told s.layout at (range_len s at len) sink
@@ -39,7 +39,7 @@ WritesRange told s at len sink (Err fault) =
     ⊎ (((fault ≡ Read) ⊎ (fault ≡ Write))
     × ((n : ℕ) × (n ≤ range_len s at len) × WritesPlain told s.layout at n sink))
 
--- the same of the next bytes, which are of one chunk
+-- the same for the next bytes, all in one chunk
 abbrev pub WritesNext : (told : Known) (s : RangeState) (at left : ℕ) (sink : Moved)
     (result : Result ℕ Fault) → Type 0
 WritesNext told s at left sink (Ok n) = WritesPlain told s.layout at n sink
@@ -51,7 +51,7 @@ abbrev pub Unopened : (limits : Bounds) (answers : Answering) (b : Bytes) (sink 
 Unopened limits answers b sink (Ok _) = ⊥
 Unopened limits answers b sink (Err fault) = MissesRanges limits answers (Some b) fault × Stays sink
 
--- b was opened for ranges, under the key that was chosen, and a part of its plaintext was written
+-- b was opened for ranges, under the key chosen, and a part of its plaintext was written
 pub record OpensPart (limits : Bounds) (answers : Answering) (b : Bytes) (at len : ℕ)
     (sink : Moved) (result : Result ⊤ Fault) : Type 0 where
   pub state : RangeState
@@ -60,7 +60,7 @@ pub record OpensPart (limits : Bounds) (answers : Answering) (b : Bytes) (at len
   pub opened : IsRangesOf limits answers b state given given2
   pub writes : WritesRange (Some b) state at len sink result
 
--- What `range` returns and writes, of a source whose contents are known.
+-- The result and the output of `range` for a source with known contents.
 abbrev pub Ranging : (limits : Bounds) (answers : Answering) (at len : ℕ) (told : Known)
     (sink : Moved) (result : Result ⊤ Fault) → Type 0
 Ranging limits answers at len None sink result = ⊤
@@ -69,7 +69,7 @@ Ranging limits answers at len (Some b) sink result =
 
 -- ---- any source, whether or not its contents are known
 
--- n bytes of a plaintext from `at` on were written, each of which was verified
+-- n bytes from offset `at` on were written, each of which was verified
 pub record WritesVerified (gave : (at byte : ℕ) → Type 0) (layout : Layout) (at n : ℕ)
     (sink : Moved) : Type 0 where
   pub part : Bytes
@@ -78,14 +78,14 @@ pub record WritesVerified (gave : (at byte : ℕ) → Type 0) (layout : Layout) 
       → IsVerifiedByte gave layout (at + k) (slice_index part k)
   pub appends : Took sink part
 
--- a fault with which the work on an opened file may end: a damaged chunk of the range, or a failed
--- read or write
+-- a fault with which work on an opened file may end: a damaged chunk of the range, or a failed read
+-- or write
 abbrev pub IsPartFault : (s : RangeState) (at len : ℕ) (fault : Fault) → Type 0
 IsPartFault s at len fault =
     ((i : ℕ) × (fault ≡ BadChunk i) × HasBytesOf s at len i)
     ⊎ ((fault ≡ Read) ⊎ (fault ≡ Write))
 
--- Of an opened file at most `len` bytes from `at` on were written: all that there are, or some
+-- Of an opened file at most `len` bytes from `at` on were written: all of them, or some.
 abbrev pub WritesAny : (gave : (at byte : ℕ) → Type 0) (s : RangeState) (at len : ℕ)
     (sink : Moved) (result : Result ⊤ Fault) → Type 0
 WritesAny gave s at len sink (Ok _) =
@@ -94,7 +94,7 @@ WritesAny gave s at len sink (Err fault) =
     IsPartFault s at len fault
     × ((n : ℕ) × (n ≤ range_len s at len) × WritesVerified gave s.layout at n sink)
 
--- the same of the next bytes, which are of one chunk
+-- the same for the next bytes, all in one chunk
 abbrev pub WritesNextAny : (gave : (at byte : ℕ) → Type 0) (s : RangeState) (at left : ℕ)
     (sink : Moved) (result : Result ℕ Fault) → Type 0
 WritesNextAny gave s at left sink (Ok n) = WritesVerified gave s.layout at n sink
@@ -105,8 +105,8 @@ abbrev pub OpensNone : (sink : Moved) (result : Result ⊤ Fault) → Type 0
 OpensNone sink (Ok _) = ⊥
 OpensNone sink (Err fault) = IsOpenFault fault × Stays sink
 
--- A file was opened, under the key that was chosen for its header, and a part of its plaintext was
--- written. `source` is the source when the file was open, and `new` at the end.
+-- A file was opened, under the key chosen for its header, and a part of its plaintext was written.
+-- `source` is the source after the file was opened, `new` the source at the end.
 pub record OpensVerified {D : Type 0} (gave : D → (at byte : ℕ) → Type 0) (found : D → Option ℕ)
     (limits : Bounds) (answers : Answering) (at len : ℕ) (new : D) (sink : Moved)
     (result : Result ⊤ Fault) : Type 0 where
@@ -115,7 +115,7 @@ pub record OpensVerified {D : Type 0} (gave : D → (at byte : ℕ) → Type 0) 
   pub begins : BeginsFile limits answers (gave source) (found source) state
   pub writes : WritesAny (gave new) state at len sink result
 
--- What `range` returns and writes, of any source. `gave` has the bytes that were given of it.
+-- The result and the output of `range` for any source. `gave` has the bytes read from it.
 abbrev pub RangingAny : {D : Type 0} (gave : D → (at byte : ℕ) → Type 0) (found : D → Option ℕ)
     (limits : Bounds) (answers : Answering) (at len : ℕ) (new : D) (sink : Moved)
     (result : Result ⊤ Fault) → Type 0

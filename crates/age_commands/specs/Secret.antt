@@ -1,4 +1,4 @@
--- What a job's secrets and limits mean.
+-- The meaning of a job's secrets and limits.
 use Rattle.std.specs.Prelude.{◌^◌, ℕ, List, [], ◌∷◌, map, Result, Ok}
 use Rattle.age_header.specs.Device.{Bytes}
 use Rattle.age_header.specs.Header.{StanzaParts}
@@ -22,11 +22,11 @@ use Rattle.age_commands.specs.declared.recipient.SecretRecipient.TheVariants as 
 use Rattle.age_job.specs.declared.secret.Secret.{Secret}
 use Rattle.age_job.specs.declared.secret.Secret.TheVariants.{Passphrase, Keys}
 
--- the job's limit of a header, and the default limit of chunks
+-- the job's limit on a header, and the default limit on chunks
 abbrev pub limits_of : Job → Bounds
 limits_of job = record { max_header = job.max_header; max_chunks = 2 ^ 88 }
 
--- What a secret answers to a header's stanzas, as one identity: the first answer that decides, of
+-- The answers of a secret to a header's stanzas, as one identity: the first answer that decides, of
 -- its passphrase with the job's greatest work factor, or of its keys in order.
 abbrev pub answers_of : (secret : Secret) (max_work : ℕ) → Answering
 answers_of (Passphrase pass) max_work =
@@ -34,8 +34,8 @@ answers_of (Passphrase pass) max_work =
 answers_of (Keys keys) max_work =
     λ stanzas. decision (map (λ key. decision (map (keyed_answer key) stanzas)) keys.items) ∷ []
 
--- What a secret may give for a file key, as one recipient: a stanza of its passphrase, with the
--- salt and the job's work factor, alone in its file, or one of each key in order, with the salt.
+-- The stanzas of a secret for a file key, as one recipient: a stanza of its passphrase with salt
+-- and work factor, alone in its file; or a stanza of each key in order, with the salt.
 abbrev pub gathering_of : (secret : Secret) (work : ℕ) (salt : Bytes) (file_key : FileKey)
     → Gathering
 gathering_of (Passphrase pass) work salt file_key =
@@ -45,11 +45,11 @@ gathering_of (Keys keys) work salt file_key =
 
 -- ---- the same of the types that hold a secret
 
--- what keys answer, asked in order
+-- the answer of keys that are called in order
 abbrev pub keys_unwrap : (keys : List Bytes) (stanzas : List StanzaParts) → Unwrapped
 keys_unwrap keys stanzas = decision (map (λ key. key_unwraps key stanzas) keys)
 
--- what the identity of a secret answers
+-- the answer of a secret's identity
 abbrev pub unwraps_of : (identity : SecretIdentity) (stanzas : List StanzaParts) → Unwrapped
 unwraps_of (identity.Passphrase guess) stanzas = pass_unwraps guess stanzas
 unwraps_of (identity.Keys keys) stanzas = keys_unwrap keys.items stanzas
@@ -60,14 +60,14 @@ recipient_of (Passphrase pass) work salt =
     recipient.Passphrase (record { pass = pass.items; salt = salt; work = work })
 recipient_of (Keys keys) work salt = recipient.Keys keys salt
 
--- what it gives for a file key
+-- the stanzas of a secret's recipient for a file key
 abbrev pub wraps_of : (recipient : SecretRecipient) (file_key : FileKey)
     → Result (List StanzaParts) ℕ
 wraps_of (recipient.Passphrase secret) file_key = pass_wraps secret file_key
 wraps_of (recipient.Keys keys salt) file_key =
     Ok (map (λ key. keyed_stanza key salt file_key) keys.items)
 
--- its labels
+-- the labels of a secret's recipient
 abbrev pub labels_of : SecretRecipient → Labels
 labels_of (recipient.Passphrase _) = Alone
 labels_of (recipient.Keys keys salt) = Names []

@@ -1,4 +1,4 @@
--- What a job does with its secrets: from what its input gives to what its output takes.
+-- The results of a job with its secrets, from the bytes of its input to those of its output.
 use Rattle.std.specs.Prelude.{◌≡◌, ◌⊎◌, ℕ, ⊤, IfErr, IfSome, Option, Result, Ok, Err, if◌then◌else◌}
 use Rattle.age_header.specs.Device.{Bytes, Flow, Known, Moved}
 use Rattle.age_stream.specs.declared.done.Done.{Done}
@@ -26,31 +26,31 @@ abbrev pub without_counts : Result Done Fault → Result ⊤ Fault
 without_counts (Ok _) = Ok tt
 without_counts (Err fault) = Err fault
 
--- what `encrypt` returns and writes, and how much it reads
+-- the result and the output of `encrypt`, and how much it reads
 pub record Encrypting (limits : Bounds) (fresh : Fresh) (gathered : Gathering) (source : Flow)
     (sink : Moved) (done : Result Done Fault) : Type 0 where
   pub encrypts : EncryptsGiven limits fresh gathered source sink done
   pub refused : IfErr done (RefusesFirst limits fresh.file_key gathered)
   pub took : IfErr done (TookWhileEncrypting limits fresh gathered source sink)
 
--- the result of salvaging: success only where all is saved
+-- the result of salvaging: Ok only if everything is saved
 abbrev pub if_whole : Result Salvaged Fault → Result ⊤ Fault
 if_whole (Ok s) = if is_whole s then Ok tt else Err (BadChunk s.chunks)
 if_whole (Err fault) = Err fault
 
--- what `salvage` returns and writes, whatever is known of what it reports
+-- the result and the output of `salvage`, with some reports, of whatever receiver
 abbrev pub SalvagesAll : (limits : Bounds) (answers : Answering) (source : Flow) (sink : Moved)
     (result : Result ⊤ Fault) → Type 0
 SalvagesAll limits answers source sink result =
     (done : Result Salvaged Fault) × (result ≡ if_whole done)
     × ((lost : LossesMoved) × SalvagesFile limits answers source sink lost done)
 
--- this holds of some bytes, and of those to come, if they are known
+-- P holds of some bytes, and of those to come, if they are known
 abbrev pub OfKnown : (from : Known) (P : Bytes → Type 0) → Type 0
 OfKnown from P = (given : Bytes) × P given × IfSome from P
 
--- What is returned, and what the output takes, where the input gives `from`. Of a range's input
--- nothing is known: said is how many bytes are written at most, and which faults there are.
+-- The result, and the output, for an input with the bytes `from`. Of the input of a range nothing
+-- is known: only the number of bytes written and the kind of fault are bounded.
 abbrev pub Performs : (job : Job) (task : Task) (from : Known) (sink : Moved)
     (result : Result ⊤ Fault) → Type 0
 Performs job (Encrypt secret seed) from sink result =
@@ -77,8 +77,8 @@ Performs job (Range secret) from sink result =
     (size : Option ℕ) × RangingAny (λ _ _ _. ⊤) (λ found. found) (limits_of job)
     (answers_of secret job.max_work) job.at job.len size sink result
 
--- a task that ends with a fault which is not late leaves the output as it was, whether its contents
--- are known or not; `inspect` shows a header whose MAC is wrong
+-- a task that ends with a fault which is not late leaves the output unchanged, whether or not its
+-- contents are known; but `inspect` writes a header whose MAC is wrong
 abbrev pub PerformsQuietly : {W : Type 0} (task : Task) (old new : W) (result : Result ⊤ Fault)
     → Type 0
 PerformsQuietly (Inspect key) old new result = (result ≡ Err BadMac) ⊎ IsQuiet old new result

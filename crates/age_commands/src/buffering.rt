@@ -8,15 +8,14 @@ use age_job::Job;
 use std::alloc::Global;
 use std::io::{BufReader, Read, Seek};
 
-/// The size of the buffer for reading a header before its payload. The payload's bytes that it
-/// holds are copied out of it. The rest of the payload is read straight into the buffer in which it
-/// is opened.
+/// The size of the buffer through which a header is read. Bytes of the payload in it are copied;
+/// the rest of the payload is read directly into the buffer in which it is opened.
 const HEADER_BUFFER_LEN: usize = 8_192;
 
-/// The limits of this job.
+/// Returns the limits of this job.
 pub fn limits_of(job: &Job) -> Limits
     requires { IsInRange job.now }
-    // The limits are those of `-H` and 2^88 chunks.
+    // The limits are that of `-H` and 2^88 chunks.
     ensures { result ≡ limits_of job.now }
 {
     let Some(limits) = Limits::new(job.max_header, MOST_CHUNKS) else {
@@ -25,7 +24,7 @@ pub fn limits_of(job: &Job) -> Limits
     limits
 }
 
-/// Makes a source over this reader, for a header alone.
+/// Makes a source over this reader, for a header only.
 pub(crate) fn header_source<R: Read + Drop>(
     alloc: Global,
     input: R,

@@ -1,5 +1,5 @@
 //! The command `decrypt`: the plaintext of a file of the format.
-ghost use Rattle.std.specs.Prelude.{◌∷◌, [], IfErr};
+ghost use Rattle.std.specs.Prelude.{IfErr};
 ghost use Rattle.age_file.specs.Decrypt.{Decrypts, TookUpTo};
 ghost use Rattle.age_file.specs.Device.{IsQuiet, is_read, is_write};
 ghost use Rattle.age_job.specs.Job.{IsInRange};
@@ -12,7 +12,7 @@ use age_file::{Done, Fault, Identity, Sink, Source};
 use age_job::{Job, Secret};
 use std::alloc::Global;
 
-/// Decrypts the source to the sink, with the identity of this secret, as `age_file::decrypt` does.
+/// Decrypts the source to the sink with the identity of this secret, as `age_file::decrypt` does.
 /// On a fault of the payload the plaintext of the chunks before it was written.
 pub(crate) fn decrypt<S: Source, W: Sink>(
     alloc: Global,
@@ -30,36 +30,12 @@ pub(crate) fn decrypt<S: Source, W: Sink>(
     ensures took { IfErr result (TookUpTo (limits_of job.now)
         (flow_by S.to_come S.gave input.old input.new) (move_by W.taken out.old out.new)) }
 {
-    let Ok(identity) = SecretIdentity::new(alloc, job, secret) else {
+    let Ok(identity) = SecretIdentity::boxed(alloc, job, secret) else {
         return Err(Fault::OutOfMemory);
     };
-    match Box::new(alloc, identity) {
-        Ok(identity) => decrypt_by(alloc, job, identity, input, out),
-        Err(_) => Err(Fault::OutOfMemory),
+    let mut identities: Vec<Box<dyn Identity>> = Vec::new(alloc);
+    if identities.push(identity).is_err() {
+        return Err(Fault::OutOfMemory);
     }
-}
-
-/// The same with any identity.
-fn decrypt_by<S: Source, W: Sink>(
-    alloc: Global,
-    job: &Job,
-    identity: Box<dyn Identity>,
-    input: &mut S,
-    out: &mut W,
-) -> Result<Done, Fault>
-    requires { IsInRange job.now }
-    ensures decrypts { Decrypts (limits_of job.now) (λ stanzas. meaning identity stanzas ∷ [])
-        (flow_by S.to_come S.gave input.old input.new) (move_by W.taken out.old out.new) result }
-    ensures quiet { IsQuiet out.old out.new result }
-    ensures reads { CountsIf is_read (S.failed input.old) (S.failed input.new) result }
-    ensures writes { CountsIf is_write (W.failed out.old) (W.failed out.new) result }
-    ensures took { IfErr result (TookUpTo (limits_of job.now)
-        (flow_by S.to_come S.gave input.old input.new) (move_by W.taken out.old out.new)) }
-{
-    match vec![in alloc; identity] {
-        Ok(identities) => {
-            age_file::decrypt(alloc, input, out, identities.as_slice(), &limits_of(job))
-        }
-        Err(_) => Err(Fault::OutOfMemory),
-    }
+    age_file::decrypt(alloc, input, out, identities.as_slice(), &limits_of(job))
 }

@@ -1,7 +1,7 @@
 //! The command `encrypt`: a file of the format, made of any bytes.
-ghost use Rattle.std.specs.Prelude.{◌≡◌, ◌⊎◌, ◌∷◌, [], Err};
+ghost use Rattle.std.specs.Prelude.{◌≡◌, ◌⊎◌, Err};
 ghost use Rattle.age_file.specs.Device.{IsQuiet, is_read, is_write};
-ghost use Rattle.age_file.specs.NewFile.{FillsChunk, Gathered};
+ghost use Rattle.age_file.specs.NewFile.{FillsChunk};
 ghost use Rattle.age_job.specs.Job.{IsInRange};
 ghost use Rattle.age_commands.specs.Secret.{gathering_of, limits_of};
 ghost use Rattle.age_commands.specs.Task.{Encrypting};
@@ -10,11 +10,11 @@ ghost use Rattle.age_header.specs.Device.{CountsIf, flow_by, move_by};
 use crate::buffering::limits_of;
 use crate::recipient::SecretRecipient;
 use crate::seed::Seed;
-use age_file::{Done, Fault, Fresh, Recipient, Sink, Source};
+use age_file::{Done, Fault, Recipient, Sink, Source};
 use age_job::{Job, Secret};
 use std::alloc::Global;
 
-/// Encrypts the source to the sink, for the recipient of this secret, as `age_file::encrypt` does.
+/// Encrypts the source to the sink for the recipient of this secret, as `age_file::encrypt` does.
 pub(crate) fn encrypt<S: Source, W: Sink>(
     alloc: Global,
     job: &Job,
@@ -33,45 +33,19 @@ pub(crate) fn encrypt<S: Source, W: Sink>(
     ensures spared { result ≡ Err Fault.Read
         → (out.new ≡ out.old) ⊎ FillsChunk (flow_by S.to_come S.gave input.old input.new) }
 {
-    let Ok(recipient) = SecretRecipient::new(alloc, job, secret, seed.salt) else {
+    let Ok(recipient) = SecretRecipient::boxed(alloc, job, secret, seed.salt) else {
         return Err(Fault::OutOfMemory);
     };
-    match Box::new(alloc, recipient) {
-        Ok(recipient) => encrypt_for(alloc, job, recipient, &seed.fresh, input, out),
-        Err(_) => Err(Fault::OutOfMemory),
+    let mut recipients: Vec<Box<dyn Recipient>> = Vec::new(alloc);
+    if recipients.push(recipient).is_err() {
+        return Err(Fault::OutOfMemory);
     }
-}
-
-/// The same for any recipient.
-fn encrypt_for<S: Source, W: Sink>(
-    alloc: Global,
-    job: &Job,
-    recipient: Box<dyn Recipient>,
-    fresh: &Fresh,
-    input: &mut S,
-    out: &mut W,
-) -> Result<Done, Fault>
-    requires { IsInRange job.now }
-    ensures encrypts { Encrypting (limits_of job.now) fresh.now
-        (Gathered (wraps recipient fresh.now.file_key ∷ []) (the_labels recipient ∷ []))
-        (flow_by S.to_come S.gave input.old input.new) (move_by W.taken out.old out.new) result }
-    ensures quiet { IsQuiet out.old out.new result }
-    ensures reads { CountsIf is_read (S.failed input.old) (S.failed input.new) result }
-    ensures writes { CountsIf is_write (W.failed out.old) (W.failed out.new) result }
-    ensures spared { result ≡ Err Fault.Read
-        → (out.new ≡ out.old) ⊎ FillsChunk (flow_by S.to_come S.gave input.old input.new) }
-{
-    match vec![in alloc; recipient] {
-        Ok(recipients) => {
-            age_file::encrypt(
-                alloc,
-                input,
-                out,
-                recipients.as_slice(),
-                fresh,
-                &limits_of(job),
-            )
-        }
-        Err(_) => Err(Fault::OutOfMemory),
-    }
+    age_file::encrypt(
+        alloc,
+        input,
+        out,
+        recipients.as_slice(),
+        &seed.fresh,
+        &limits_of(job),
+    )
 }

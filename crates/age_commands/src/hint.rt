@@ -1,5 +1,5 @@
-//! What helps with a file that could not be read as an age file: what its first bytes, its header
-//! and its size tell.
+//! Hints for `--verbose` on a file that could not be read as an age file, from its first bytes, its
+//! header and its size.
 
 ghost use Rattle.std.specs.Prelude.{◌≡◌, ◌<◌, ◌≤◌, ◌+◌, ◌*◌, ◌^◌, Some, IfSome, IfNone};
 ghost use Rattle.age_stream.specs.Sizes.{chunk_size, most_chunks, nonce_size, sealed_chunk_size};
@@ -18,47 +18,47 @@ use std::alloc::Global;
 use std::fmt;
 use std::fmt::Write;
 
-/// How many types of stanzas a message names at most.
+/// The most types of stanzas that a message names.
 const MOST_TYPES: usize = 5;
 
-/// What is known of a file beside its fault.
+/// What is known about a file beside its fault.
 #[derive(Drop)]
 pub enum Hint {
     /// Nothing more.
     None,
     Empty,
-    /// The file ends within its header, after so many bytes.
+    /// The file ends within its header, after this many bytes.
     EndsInHeader(u64),
     Armor,
     ByteOrderMark,
     NoVersionLine,
     /// The maximum size of a header in bytes.
     HeaderLimit(usize),
-    /// No secret opens the stanzas that are for it. The secrets' files are to be named after it.
+    /// No secret opens the stanzas for it. The message ends with the names of the secrets' files.
     WrongKey,
-    /// No identity fits the stanzas of this header.
+    /// No stanza of this header is for the identities.
     Stanzas(Header),
     /// The work factor of this header is too high.
     WorkFactor(Header),
-    /// This line of the header has another form.
+    /// This line of the header is malformed.
     HeaderLine(u64),
-    /// A stanza has another form.
+    /// A stanza is malformed.
     Stanza,
-    /// A key fits, and the header's MAC does not.
+    /// A key opens a stanza, but the header's MAC is wrong.
     ChangedHeader,
-    /// The MAC does not fit a file key that was given.
+    /// The header's MAC is not the one under the file key given.
     OtherFileKey,
     /// The file ends within the payload's nonce.
     EndsInNonce,
-    /// The damaged chunk, which others follow.
+    /// The damaged chunk, which is not the last.
     Chunk(u128),
     /// The damaged chunk is the last of the file.
     LastChunk(u128),
-    /// The last chunk has so many bytes, fewer than a tag.
+    /// The index of the last chunk and its length, which is less than that of a tag.
     EndsInChunk(u128, u128),
 }
 
-/// What is known of the file that was read, after this fault.
+/// Returns what is known about the file read, after this fault.
 pub fn hint_at<R>(alloc: Global, job: &Job, fault: Fault, input: &Watched<R>) -> Hint
     requires { IsInRange job.now }
 {
@@ -86,7 +86,7 @@ pub fn hint_at<R>(alloc: Global, job: &Job, fault: Fault, input: &Watched<R>) ->
     }
 }
 
-/// What the first bytes of a file say that is no age file.
+/// The hint in the first bytes of a file that is not an age file.
 fn first_bytes<'a>(prefix: &[u8]) -> Hint {
     if prefix.starts_with(b"-----BEGIN AGE") {
         return Hint::Armor;
@@ -97,14 +97,14 @@ fn first_bytes<'a>(prefix: &[u8]) -> Hint {
     Hint::NoVersionLine
 }
 
-/// The header of the file that was read.
+/// Returns the header of the file read.
 pub fn header_of<R>(alloc: Global, job: &Job, input: &Watched<R>) -> Option<Header>
     requires { IsInRange job.now }
 {
     inspect(alloc, &mut MemSource::new(input.prefix()), &limits_of(job)).ok()
 }
 
-/// What is known of this chunk, from the size of the file and of its header.
+/// What is known about this chunk, from the sizes of the file and of its header.
 fn chunk<R>(alloc: Global, job: &Job, index: u128, input: &Watched<R>) -> Hint
     requires { IsInRange job.now }
 {
@@ -118,7 +118,7 @@ fn chunk<R>(alloc: Global, job: &Job, index: u128, input: &Watched<R>) -> Hint
     }
 }
 
-/// How many bytes the file has from the start of this sealed chunk on, if its size is known.
+/// The number of bytes of the file from the start of this sealed chunk on, if its size is known.
 fn bytes_from(index: u128, header: u64, size: Option<u64>) -> Option<u128>
     ensures some { IfSome result (λ left.
         size ≡ Some (header + (nonce_size + (sealed_chunk_size * index + left)))) }
@@ -206,7 +206,7 @@ fn first_byte(index: u128) -> u128
     index.saturating_mul(CHUNK_SIZE as u128)
 }
 
-/// The offset of the last byte of this chunk, which others follow.
+/// The offset of the last byte of this chunk, which is not the last.
 fn last_byte(index: u128) -> u128
     ensures { index < most_chunks → result + 1 ≡ chunk_size * (index + 1) }
 {
@@ -221,10 +221,10 @@ fn type_of(stanza: &Stanza) -> &str {
     }
 }
 
-/// Writes the types of these stanzas, and who opens them.
+/// Writes the types of these stanzas, and which program opens them.
 fn write_stanzas<W: fmt::Write>(stanzas: &[Stanza], f: &mut fmt::Formatter<W>) -> fmt::Result {
     f.write_str("its stanzas are of type ")?;
-    // No type is empty, so an empty name is a free place.
+    // No type is empty, so an empty name is free.
     let mut named = [""; MOST_TYPES];
     let mut count = 0usize;
     for stanza in stanzas {
@@ -257,7 +257,8 @@ fn has_type(stanzas: &[Stanza], name: &str) -> bool {
     stanzas.iter().any(|stanza| type_of(stanza) == name)
 }
 
-/// Writes the work factor of the first of these stanzas, which is too high, and what accepts it.
+/// Writes the work factor of the first of these stanzas, which is too high, and the option that
+/// accepts it.
 fn write_work<W: fmt::Write>(stanzas: &[Stanza], f: &mut fmt::Formatter<W>) -> fmt::Result {
     let Some(digits) = stanzas.first().and_then(|stanza| stanza.args().get(2)) else {
         return f.write_str("its work factor is too high");
@@ -305,7 +306,7 @@ impl fmt::Display for Unit {
     }
 }
 
-/// The memory that scrypt takes with this work factor, 2^work KiB.
+/// The memory that scrypt needs for this work factor, 2^work KiB.
 fn memory_of(work: u64) -> (u64, Unit)
     ensures { work ≤ MOST_WORK → result.0 * unit_size result.1 ≡ 2 ^ (work + 10) }
 {

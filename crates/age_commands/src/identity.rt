@@ -1,5 +1,5 @@
 //! The identity of a secret.
-ghost use Rattle.std.specs.Prelude.{◌≡◌, ◌∷◌, [], IfOk};
+ghost use Rattle.std.specs.Prelude.{◌≡◌, ◌∷◌, [], IfOk, box_value};
 ghost use Rattle.age_job.specs.Job.{IsInRange};
 ghost use Rattle.age_commands.specs.Secret.{answers_of, keys_unwrap, unwraps_of};
 
@@ -7,7 +7,7 @@ use age_file::{Identity, KeyIdentity, PassError, PassIdentity, Stanza, Unwrapped
 use age_job::{Job, Secret};
 use std::alloc::{AllocError, Global};
 
-/// The identity of a secret: that of its passphrase, or those of its keys, asked in order.
+/// The identity for a secret: that of its passphrase, or those of its keys, called in order.
 #[derive(Drop)]
 pub(crate) enum SecretIdentity {
     Passphrase(PassIdentity),
@@ -15,25 +15,25 @@ pub(crate) enum SecretIdentity {
 }
 
 impl SecretIdentity {
-    /// The identity of this secret. A passphrase has the job's greatest work factor.
-    pub(crate) fn new(
+    /// The identity of this secret, in a box. A passphrase has the job's greatest work factor.
+    pub(crate) fn boxed(
         alloc: Global,
         job: &Job,
         secret: Secret,
-    ) -> Result<SecretIdentity, AllocError>
+    ) -> Result<Box<SecretIdentity>, AllocError>
         requires { IsInRange job.now }
-        ensures { IfOk result (λ identity. (λ stanzas. unwraps_of identity stanzas ∷ [])
+        ensures { IfOk result (λ identity. (λ stanzas. unwraps_of (box_value identity) stanzas ∷ [])
             ≡ answers_of secret job.now.max_work) }
     {
         match secret {
             Secret::Passphrase(passphrase) => {
                 match PassIdentity::new(alloc, passphrase.as_slice(), job.max_work) {
-                    Ok(identity) => Ok(SecretIdentity::Passphrase(identity)),
+                    Ok(identity) => Ok(Box::new(alloc, SecretIdentity::Passphrase(identity))?),
                     Err(PassError::WorkFactor) => unreachable!(),
                     Err(PassError::Memory) => Err(AllocError),
                 }
             }
-            Secret::Keys(keys) => Ok(SecretIdentity::Keys(keys)),
+            Secret::Keys(keys) => Ok(Box::new(alloc, SecretIdentity::Keys(keys))?),
         }
     }
 }

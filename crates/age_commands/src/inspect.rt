@@ -1,15 +1,15 @@
-//! The command `inspect`: what a header holds, as a table or as its own bytes.
+//! The command `inspect`: writes the contents of a header, as a table or as its own text.
 ghost use Rattle.std.specs.Prelude.{◌≡◌, ◌⊎◌, map, Err, IfOk, OnOk};
 ghost use Rattle.std.specs.String.{string_bytes};
 ghost use Rattle.std.specs.Io.KnownBytes.{Appends};
 ghost use Rattle.age_header.specs.Device.{Bytes, CountsIf, flow_by, move_by};
 ghost use Rattle.age_file.specs.Device.{IsQuiet, is_read, is_write};
 ghost use Rattle.age_job.specs.Job.{IsInRange};
-ghost use Rattle.age_commands.specs.Inspect.{Inspecting, IsTable, Shows, check_of, row, rows, spaced_arguments};
+ghost use Rattle.age_commands.specs.Inspect.{Inspecting, IsShown, IsTable, check_of, row, rows, spaced_arguments};
 ghost use Rattle.age_commands.specs.Secret.{limits_of};
 
 use crate::buffering::limits_of;
-use age_file::{Fault, Header, Sink, Source, Stanza, mac_of, write_all, write_header};
+use age_file::{Fault, Header, Sink, Source, Stanza, header_text, mac_of, write_all};
 use age_job::Job;
 use std::alloc::{AllocError, Global};
 use std::io::Write;
@@ -39,8 +39,8 @@ impl fmt::Display for Check {
     }
 }
 
-/// Shows the header at the start of the source. If there is none, nothing is written. A header that
-/// fails its check is shown before the fault is returned.
+/// Writes the header at the start of the source. If there is none, nothing is written. A header
+/// whose MAC is wrong is written before the fault is returned.
 pub(crate) fn inspect<S: Source, W: Sink>(
     alloc: Global,
     job: &Job,
@@ -62,42 +62,33 @@ pub(crate) fn inspect<S: Source, W: Sink>(
     let Ok(check) = check_of(alloc, &header, file_key) else {
         return Err(Fault::OutOfMemory);
     };
-    show(alloc, job.raw, &header, check, out)?;
+    let Ok(shown) = shown_of(alloc, job.raw, &header, check) else {
+        return Err(Fault::OutOfMemory);
+    };
+    let Ok(()) = write_all(out, shown.as_slice()) else {
+        return Err(Fault::Write);
+    };
     match check {
         Check::Bad => Err(Fault::BadMac),
         Check::None | Check::Good => Ok(()),
     }
 }
 
-/// Writes the header's own text, or the table of it.
-fn show<W: Sink>(
-    alloc: Global,
-    raw: bool,
-    header: &Header,
-    check: Check,
-    out: &mut W,
-) -> Result<(), Fault>
-    ensures shows { Shows raw header.now check (move_by W.taken out.old out.new) result }
-    ensures quiet { IsQuiet out.old out.new result }
-    ensures writes { CountsIf is_write (W.failed out.old) (W.failed out.new) result }
+/// The header's own text, or the table of it.
+fn shown_of(alloc: Global, raw: bool, header: &Header, check: Check) -> Result<Vec<u8>, AllocError>
+    ensures { IfOk result (λ shown. IsShown raw header.now check shown.items) }
 {
     if raw {
-        return match write_header(header, out) {
-            Ok(()) => Ok(()),
-            Err(_) => Err(Fault::Write),
-        };
+        return header_text(alloc, header);
     }
     let mut table = Vec::new(alloc);
-    if write_table(header, check, &mut table).is_err() {
-        return Err(Fault::OutOfMemory);
-    }
-    match write_all(out, table.as_slice()) {
-        Ok(()) => Ok(()),
-        Err(_) => Err(Fault::Write),
+    match write_table(header, check, &mut table) {
+        Ok(()) => Ok(table),
+        Err(_) => Err(AllocError),
     }
 }
 
-/// Whether the header's MAC is the one of its stanzas under the file key.
+/// Checks whether the header's MAC is that of its stanzas under the file key.
 fn check_of(
     alloc: Global,
     header: &Header,
@@ -112,7 +103,7 @@ fn check_of(
     }
 }
 
-/// Writes the table of a header. A column is wider where a number is longer than it.
+/// Writes the table of a header. A column grows with a number that does not fit it.
 fn write_table<W: Write>(header: &Header, check: Check, out: &mut W) -> io::Result<()>
     ensures { OnOk result ((shown : Bytes) × IsTable header.now check shown
         × Appends (W.contents out.old) (W.contents out.new) shown) }

@@ -1,5 +1,5 @@
 //! The command `range`: a part of the plaintext of a file of the format.
-ghost use Rattle.std.specs.Prelude.{◌≤◌, ◌<◌, ◌≡◌, ◌+◌, ◌-◌, ◌^◌, ◌%◌, ◌∷◌, [], length, min, IfOk};
+ghost use Rattle.std.specs.Prelude.{◌≤◌, ◌<◌, ◌≡◌, ◌+◌, ◌-◌, ◌^◌, ◌%◌, length, min, IfOk};
 ghost use Rattle.age_stream.specs.Offsets.{StaysGiven};
 ghost use Rattle.age_stream.specs.Ranges.{IsSound, KeepsVerified, chunks_of, range_len, source_at_of};
 ghost use Rattle.age_stream.specs.Sizes.{chunk_size};
@@ -17,8 +17,8 @@ use age_job::{Job, Secret};
 use std::alloc::Global;
 
 /// Writes the plaintext of the source from the job's offset on to the sink, at most as many bytes
-/// as the job requests. On a fault of a chunk the plaintext up to that chunk was written. If it
-/// requests none, key, header and last chunk are checked all the same.
+/// as the job requests. On a chunk's fault the plaintext before that chunk was written. The key,
+/// the header and the last chunk are checked even if the job requests no bytes.
 pub(crate) fn range_of<D: ReadAt, W: Sink>(
     alloc: Global,
     job: &Job,
@@ -27,14 +27,15 @@ pub(crate) fn range_of<D: ReadAt, W: Sink>(
     out: &mut W,
 ) -> Result<(), Fault>
     requires { IsInRange job.now }
-    // The plaintext's bytes from the job's offset on, up to its length, of the payload that opens
-    // under this secret and these limits. Before a chunk that does not open: the bytes before it;
-    // after a failed read or write a prefix. If the file does not open: nothing, and that fault.
+    // If the contents are known, writes the plaintext from the job's offset on, at most as many
+    // bytes as the job requests, of the payload that opens under this secret and these limits. At a
+    // chunk that does not open: the bytes before it. After a failed read or write: a prefix. If the
+    // file does not open: nothing, and that fault.
     ensures known { Ranging (limits_of job.now) (answers_of secret job.now.max_work) job.now.at
         job.now.len (D.bytes input.old) (move_by W.taken out.old out.new) result }
-    // Of any source, as a file, each byte that was written was verified at its place, in order from
-    // the job's offset on and no more than its length, on Ok all that there are. A fault is one of
-    // opening, after which nothing was written, or a damaged chunk, a failed read or write.
+    // Even of a file, each byte written was verified at its offset; the bytes are in order from the
+    // job's offset on, at most as many as requested, on Ok all of them. A fault is one of opening,
+    // after which nothing was written, a damaged chunk, or a failed read or write.
     ensures any { RangingAny D.gave D.found (limits_of job.now)
         (answers_of secret job.now.max_work) job.now.at job.now.len input.new
         (move_by W.taken out.old out.new) result }
@@ -42,36 +43,13 @@ pub(crate) fn range_of<D: ReadAt, W: Sink>(
     ensures reads { CountsIf is_read (D.failed input.old) (D.failed input.new) result }
     ensures writes { CountsIf is_write (W.failed out.old) (W.failed out.new) result }
 {
-    let Ok(identity) = SecretIdentity::new(alloc, job, secret) else {
+    let Ok(identity) = SecretIdentity::boxed(alloc, job, secret) else {
         return Err(Fault::OutOfMemory);
     };
-    match Box::new(alloc, identity) {
-        Ok(identity) => range_by(alloc, job, identity, input, out),
-        Err(_) => Err(Fault::OutOfMemory),
+    let mut identities: Vec<Box<dyn Identity>> = Vec::new(alloc);
+    if identities.push(identity).is_err() {
+        return Err(Fault::OutOfMemory);
     }
-}
-
-/// The same with any identity.
-fn range_by<D: ReadAt, W: Sink>(
-    alloc: Global,
-    job: &Job,
-    identity: Box<dyn Identity>,
-    input: &mut D,
-    out: &mut W,
-) -> Result<(), Fault>
-    requires { IsInRange job.now }
-    ensures known { Ranging (limits_of job.now) (λ stanzas. meaning identity stanzas ∷ [])
-        job.now.at job.now.len (D.bytes input.old) (move_by W.taken out.old out.new) result }
-    ensures any { RangingAny D.gave D.found (limits_of job.now)
-        (λ stanzas. meaning identity stanzas ∷ []) job.now.at job.now.len input.new
-        (move_by W.taken out.old out.new) result }
-    ensures quiet { IsQuiet out.old out.new result }
-    ensures reads { CountsIf is_read (D.failed input.old) (D.failed input.new) result }
-    ensures writes { CountsIf is_write (W.failed out.old) (W.failed out.new) result }
-{
-    let Ok(identities) = vec![in alloc; identity] else {
-        return Err(Fault::OutOfMemory);
-    };
     let Ok(mut piece) = vec![in alloc; 0u8; CHUNK_SIZE] else {
         return Err(Fault::OutOfMemory);
     };
@@ -79,7 +57,7 @@ fn range_by<D: ReadAt, W: Sink>(
         Ok(mut reader) => {
             let written = write_range(&mut reader, job.at, job.len, piece.as_mut_slice(), out);
             let source = reader.into_inner();
-            // The proof reads from this what the source gave.
+            // The proof sees here what was read from the source.
             let _ = &*source;
             written
         }
@@ -87,7 +65,7 @@ fn range_by<D: ReadAt, W: Sink>(
     }
 }
 
-/// Writes at most `len` bytes from offset `at` on.
+/// Writes at most `len` bytes of the plaintext from offset `at` on.
 fn write_range<D: ReadAt, W: Sink>(
     reader: &mut RangeReader<'_, D>,
     at: u64,
@@ -124,8 +102,8 @@ fn write_range<D: ReadAt, W: Sink>(
     Ok(())
 }
 
-/// Writes as many of `left` bytes from offset `at` on as the chunk there has, and returns their
-/// number. No read crosses the end of a chunk, so a failed one leaves nothing in the buffer to
+/// Writes, of the `left` bytes from offset `at` on, those in the chunk there, and returns their
+/// number. No read crosses the end of a chunk, so a failed read leaves nothing in the buffer to
 /// write.
 fn write_next<D: ReadAt, W: Sink>(
     reader: &mut RangeReader<'_, D>,

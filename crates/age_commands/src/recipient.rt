@@ -1,5 +1,5 @@
 //! The recipient of a secret.
-ghost use Rattle.std.specs.Prelude.{◌≡◌, Ok, map, IfOk};
+ghost use Rattle.std.specs.Prelude.{◌≡◌, Ok, map, IfOk, box_value};
 ghost use Rattle.age_recipient.specs.KeyedStanza.{keyed_stanza};
 ghost use Rattle.age_recipient.specs.Wrap.{WrapsAs};
 ghost use Rattle.age_job.specs.Job.{IsInRange};
@@ -11,36 +11,38 @@ use age_file::{
 use age_job::{Job, Secret};
 use std::alloc::{AllocError, Global};
 
-/// The recipient of a secret: that of its passphrase, or those of its keys in order, all with one
-/// salt: it is the key that tells the wrapping keys apart. It is one object, since a function that
-/// returns a list of boxes which it made can't be proved.
+/// The recipient for a secret: that of its passphrase, or those of its keys in order. All share one
+/// salt, because the keys differ, and so do the wrap keys. It is one object because a function that
+/// returns a list of boxes that it made cannot be proved.
 #[derive(Drop)]
 pub(crate) enum SecretRecipient {
     Passphrase(PassRecipient),
-    /// With their salt.
+    /// The keys and their salt.
     Keys(Vec<[u8; 32]>, [u8; 16]),
 }
 
 impl SecretRecipient {
-    /// The recipient of this secret, with this salt. A passphrase has the job's work factor.
-    pub(crate) fn new(
+    /// The recipient of this secret, with this salt, in a box. A passphrase has the job's work
+    /// factor.
+    pub(crate) fn boxed(
         alloc: Global,
         job: &Job,
         secret: Secret,
         salt: [u8; 16],
-    ) -> Result<SecretRecipient, AllocError>
+    ) -> Result<Box<SecretRecipient>, AllocError>
         requires { IsInRange job.now }
-        ensures { IfOk result (λ recipient. recipient ≡ recipient_of secret job.now.work salt) }
+        ensures { IfOk result
+            (λ recipient. box_value recipient ≡ recipient_of secret job.now.work salt) }
     {
         match secret {
             Secret::Passphrase(passphrase) => {
                 match PassRecipient::new(alloc, passphrase.as_slice(), salt, job.work) {
-                    Ok(recipient) => Ok(SecretRecipient::Passphrase(recipient)),
+                    Ok(recipient) => Ok(Box::new(alloc, SecretRecipient::Passphrase(recipient))?),
                     Err(PassError::WorkFactor) => unreachable!(),
                     Err(PassError::Memory) => Err(AllocError),
                 }
             }
-            Secret::Keys(keys) => Ok(SecretRecipient::Keys(keys, salt)),
+            Secret::Keys(keys) => Ok(Box::new(alloc, SecretRecipient::Keys(keys, salt))?),
         }
     }
 }

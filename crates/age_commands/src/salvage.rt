@@ -1,5 +1,5 @@
 //! The command `salvage`: what can be saved of a damaged file.
-ghost use Rattle.std.specs.Prelude.{◌≡◌, ◌∷◌, [], IfOk, OnOk};
+ghost use Rattle.std.specs.Prelude.{◌≡◌, IfOk, OnOk};
 ghost use Rattle.age_file.specs.Device.{IsQuiet, is_read, is_write};
 ghost use Rattle.age_file.specs.Salvage.{SalvagesFile};
 ghost use Rattle.age_job.specs.Job.{IsInRange};
@@ -14,15 +14,16 @@ use age_file::{Fault, Identity, Losses, Salvaged, Sink, Source};
 use age_job::{Job, Secret};
 use std::alloc::Global;
 
-/// Where `salvage` reports what is missing.
+/// A receiver of the reports of `salvage`.
 pub trait Report: Losses {
-    /// The file is cut short after so many bytes of the plaintext.
+    /// Receives that the file counts as cut short (`Salvaged::is_cut`), after this many bytes of
+    /// the plaintext.
     fn cut(&mut self, bytes: u128);
 }
 
-/// Saves what it can of the source to the sink, with the identity of this secret. It reports each
-/// lost chunk, and at the end that the file is cut short. Where not all is saved the fault is
-/// `BadChunk`, with the number of pieces: what was reported says more.
+/// Saves what is left of the source to the sink with the identity of this secret. Reports each lost
+/// chunk, and at the end whether the file is cut short. If not everything is saved, the fault is
+/// `BadChunk` with the number of pieces; the reports say more.
 pub(crate) fn salvage_all<S: Source, W: Sink, L: Report>(
     alloc: Global,
     job: &Job,
@@ -34,7 +35,7 @@ pub(crate) fn salvage_all<S: Source, W: Sink, L: Report>(
     requires { IsInRange job.now }
     ensures salvages { SalvagesAll (limits_of job.now) (answers_of secret job.now.max_work)
         (flow_by S.to_come S.gave input.old input.new) (move_by W.taken out.old out.new) result }
-    // Where all is saved nothing was reported.
+    // If everything is saved, nothing was reported.
     ensures silent { OnOk result (report.new ≡ report.old) }
     ensures quiet { IsQuiet out.old out.new result }
     ensures writes { CountsIf is_write (W.failed out.old) (W.failed out.new) result }
@@ -51,8 +52,8 @@ pub(crate) fn salvage_all<S: Source, W: Sink, L: Report>(
     }
 }
 
-/// Saves what it can of the source to the sink, with the identity of this secret, as
-/// `age_file::salvage` does. Each lost chunk is reported.
+/// Saves what is left of the source to the sink with the identity of this secret, as
+/// `age_file::salvage` does. Reports each lost chunk.
 fn salvage<S: Source, W: Sink, L: Losses>(
     alloc: Global,
     job: &Job,
@@ -62,50 +63,25 @@ fn salvage<S: Source, W: Sink, L: Losses>(
     losses: &mut L,
 ) -> Result<Salvaged, Fault>
     requires { IsInRange job.now }
-    // What is returned, written and reported is what the library says of the identity and the
-    // limits that the job and its secret mean.
+    // Returns, writes and reports what the library does for the identity and the limits of the job
+    // and its secret.
     ensures salvages { SalvagesFile (limits_of job.now) (answers_of secret job.now.max_work)
         (flow_by S.to_come S.gave input.old input.new) (move_by W.taken out.old out.new)
         (losses_by L.lost losses.old losses.new) result }
-    // Where no chunk is lost none was reported.
+    // If no chunk is lost, none was reported.
     ensures silent { IfOk result (λ s. s.lost ≡ 0 → losses.new ≡ losses.old) }
-    // On a fault of the header or its key, or out of memory, the sink is as it was.
+    // On a fault other than a chunk's, `TooManyChunks`, `Read` and `Write` the sink is unchanged.
     ensures quiet { IsQuiet out.old out.new result }
     ensures reads { CountsIf is_read (S.failed input.old) (S.failed input.new) result }
     ensures writes { CountsIf is_write (W.failed out.old) (W.failed out.new) result }
 {
-    let Ok(identity) = SecretIdentity::new(alloc, job, secret) else {
+    let Ok(identity) = SecretIdentity::boxed(alloc, job, secret) else {
         return Err(Fault::OutOfMemory);
     };
-    match Box::new(alloc, identity) {
-        Ok(identity) => salvage_by(alloc, job, identity, input, out, losses),
-        Err(_) => Err(Fault::OutOfMemory),
+    let mut identities: Vec<Box<dyn Identity>> = Vec::new(alloc);
+    if identities.push(identity).is_err() {
+        return Err(Fault::OutOfMemory);
     }
-}
-
-/// The same with any identity.
-fn salvage_by<S: Source, W: Sink, L: Losses>(
-    alloc: Global,
-    job: &Job,
-    identity: Box<dyn Identity>,
-    input: &mut S,
-    out: &mut W,
-    losses: &mut L,
-) -> Result<Salvaged, Fault>
-    requires { IsInRange job.now }
-    ensures salvages { SalvagesFile (limits_of job.now) (λ stanzas. meaning identity stanzas ∷ [])
-        (flow_by S.to_come S.gave input.old input.new) (move_by W.taken out.old out.new)
-        (losses_by L.lost losses.old losses.new) result }
-    ensures silent { IfOk result (λ s. s.lost ≡ 0 → losses.new ≡ losses.old) }
-    ensures quiet { IsQuiet out.old out.new result }
-    ensures reads { CountsIf is_read (S.failed input.old) (S.failed input.new) result }
-    ensures writes { CountsIf is_write (W.failed out.old) (W.failed out.new) result }
-{
-    match vec![in alloc; identity] {
-        Ok(identities) => {
-            let limits = &limits_of(job);
-            age_file::salvage(alloc, input, out, losses, identities.as_slice(), limits)
-        }
-        Err(_) => Err(Fault::OutOfMemory),
-    }
+    let limits = &limits_of(job);
+    age_file::salvage(alloc, input, out, losses, identities.as_slice(), limits)
 }

@@ -1,4 +1,4 @@
-//! The random bytes of a new file, and how they are made of a seed.
+//! The random bytes of a new file, and how a seed is divided into them.
 
 ghost use Rattle.std.specs.Prelude.{◌≡◌, ◌≢◌, take, drop, length, IfSome, IfNone};
 
@@ -10,18 +10,18 @@ use age_job::exactly;
 pub struct Seed {
     /// The file key and the payload's nonce.
     pub fresh: Fresh,
-    /// The salt of the stanzas.
+    /// The salt of all stanzas.
     pub salt: [u8; 16],
 }
 
-/// The seed of these bytes, if they are 48: the first 16 are the file key, the next 16 the nonce,
-/// and the last 16 the salt.
+/// Makes a seed of 48 bytes: the first 16 are the file key, the next 16 the nonce, and the last 16
+/// the salt. Returns `None` for any other length.
 pub fn seed_of(bytes: &[u8]) -> Option<Seed>
     // The first 16 bytes are the file key, the next 16 the nonce, the last 16 the salt.
     ensures some { IfSome result (λ seed. (seed.fresh.file_key.0 ≡ take 16 bytes.now)
         × (seed.fresh.nonce ≡ take 16 (drop 16 bytes.now))
         × (seed.salt ≡ drop 16 (drop 16 bytes.now))) }
-    // They are not 48.
+    // There are not 48 bytes.
     ensures none { IfNone result (length bytes.now ≢ 48) }
 {
     let (file_key, rest) = bytes.split_at_checked(16)?;

@@ -1,4 +1,4 @@
-//! A command with its secrets, and its work from an input to a sink.
+//! A command with its secrets, from an input to an output.
 ghost use Rattle.std.specs.Prelude.{◌≡◌, OnOk};
 ghost use Rattle.age_job.specs.Job.{IsInRange};
 ghost use Rattle.age_commands.specs.Task.{Performs, PerformsQuietly, without_counts};
@@ -31,8 +31,9 @@ pub enum Task {
     Salvage(Secret),
 }
 
-/// Does the work from this input to this sink, and reports what `salvage` misses. A range reads its
-/// input at offsets, and the other tasks read theirs from the start to the end.
+/// Performs this task from this input to this sink. `salvage` reports lost chunks to `report`; no
+/// clause says which ones. A range reads its input at offsets, the other tasks read it from start
+/// to end.
 pub fn perform_between<R: Read + Seek, W: Sink, L: Report>(
     alloc: Global,
     job: &Job,
@@ -42,15 +43,15 @@ pub fn perform_between<R: Read + Seek, W: Sink, L: Report>(
     report: &mut L,
 ) -> Result<(), Fault>
     requires { IsInRange job.now }
-    // Each command returns and writes what the library says of the recipient, the identity and the
-    // limits that the job and its secrets mean; `encrypt` passes the seed's file key, nonce and
-    // salt, and `rewrap` its salt.
+    // Returns and writes what the library does for the recipient, the identity and the limits of
+    // the job and its secrets. `encrypt` uses the seed's file key, nonce and salt, `rewrap` its
+    // salt.
     ensures performs { Performs job.now task (R.remaining input.old)
         (move_by W.taken out.old out.new) result }
-    // On a fault of the header or its key, or out of memory, the sink is as it was, also where its
-    // contents are not known; but `inspect` shows a header whose MAC is wrong.
+    // On a fault other than a chunk's, `TooManyChunks`, `Read` and `Write` the sink is unchanged,
+    // whether or not its contents are known. But `inspect` writes a header whose MAC is wrong.
     ensures quiet { PerformsQuietly task out.old out.new result }
-    // What is done with success reported nothing.
+    // On Ok nothing was reported.
     ensures silent { OnOk result (report.new ≡ report.old) }
     ensures writes { CountsIf is_write (W.failed out.old) (W.failed out.new) result }
 {

@@ -18,13 +18,13 @@ use Rattle.age_stream.specs.declared.done.Done.{Done}
 use Rattle.age_stream.specs.declared.fault.StreamFault.{StreamFault}
 use Rattle.age_stream.specs.declared.fault.StreamFault.TheVariants as stream
 use Rattle.age_stream.specs.Counts as counts
-use Rattle.age_stream.specs.Opening.{EndsAt, IsAtPiece, OpenerState, Starts, WritesAll, WritesReading}
+use Rattle.age_stream.specs.Opening.{EndsAt, OpenerState, Starts, WritesAll, WritesReading}
 use Rattle.age_stream.specs.Payload.{pieces}
 use Rattle.age_stream.specs.Reader.{MissesNonce}
 use Rattle.age_stream.specs.Reading.{Reading, payload_reading, stop}
 use Rattle.age_stream.specs.Sizes.{chunk_size, sealed_chunk_size}
 use Rattle.age_file.specs.declared.fault.Fault.{Fault}
-use Rattle.age_file.specs.declared.fault.Fault.TheVariants.{NotAge, BadLine, HeaderTruncated, HeaderTooLarge, Read, Write, OutOfMemory}
+use Rattle.age_file.specs.declared.fault.Fault.TheVariants.{Read, Write, OutOfMemory}
 use Rattle.age_file.specs.AgeFile.{Bounds}
 use Rattle.age_file.specs.Decrypt.{BeginsVerdict, Decrypts, DecryptsText, GivesVerdict, TookUpTo, TookThrough, payload_pieces}
 use Rattle.age_file.specs.Device.{is_read}
@@ -89,17 +89,8 @@ header_text : (limits : Bounds) (answers : Answering) (b : Bytes) (old : Known) 
     → Refuses b limits.max_header g → DecryptsText limits answers b (move_of old old) (Err (header_fault g))
 header_text limits answers b old header.Read h = begins_none limits answers b old
 header_text limits answers b old header.Memory h = tt
-header_text limits answers b old header.NotAge h =
-    stops_decrypts limits answers b old NotAge (record { header = Err header.NotAge; header_verdict = h; is = refl })
-header_text limits answers b old (header.BadLine n) h =
-    stops_decrypts limits answers b old (BadLine n)
-    (record { header = Err (header.BadLine n); header_verdict = h; is = refl })
-header_text limits answers b old header.Truncated h =
-    stops_decrypts limits answers b old HeaderTruncated
-    (record { header = Err header.Truncated; header_verdict = h; is = refl })
-header_text limits answers b old header.TooLarge h =
-    stops_decrypts limits answers b old HeaderTooLarge
-    (record { header = Err header.TooLarge; header_verdict = h; is = refl })
+header_text limits answers b old g h =
+    stops_decrypts limits answers b old (header_fault g) (record { header = Err g; header_verdict = h; is = refl })
 
 header_decrypts : (limits : Bounds) (answers : Answering) (come mid : Seen) (old : Known) (g : HeaderFault)
     → ReadsHeader (flow come mid) limits.max_header (Err g)
@@ -210,11 +201,7 @@ payload_text limits answers come mid h i k c old new r key w = go r w
     go (Err stream.Read) x = (v, is, x)
     go (Err stream.Write) x = (v, is, x)
     go (Err stream.Memory) x = tt
-    go (Err stream.NonceTruncated) x = gives stream.NonceTruncated x.0 x.1
-    go (Err (stream.ChunkShort n)) x = gives (stream.ChunkShort n) x.0 x.1
-    go (Err (stream.EmptyFinal n)) x = gives (stream.EmptyFinal n) x.0 x.1
-    go (Err (stream.BadChunk n)) x = gives (stream.BadChunk n) x.0 x.1
-    go (Err stream.TooManyChunks) x = gives stream.TooManyChunks x.0 x.1
+    go (Err fault) x = gives fault x.0 x.1
 
 payload_decrypts : (r : Result Done StreamFault) {limits : Bounds} (answers : Answering) {come mid to : Seen}
     (old new : Known) {h : HeaderParts} {k : FileKey} {max : ℕ} → Inspects limits (flow come mid) (Ok h)
@@ -287,56 +274,30 @@ took_piece limits come mid to old new h i fault n e le =
 ends_takes : (limits : Bounds) (come mid to : Seen) (old new : Known) (h : HeaderParts) (i : IsHeaded limits come mid h)
     (fault : StreamFault) → EndsAt limits.max_chunks 16 (flow mid to) (move_of old new) fault
     → TookUpTo limits (flow come to) (move_of old new) (stream_fault fault)
-ends_takes limits come mid to old new h i stream.Write e = go e.at
-  where
-    not-piece : IsAtPiece limits.max_chunks e.piece stream.Write → ⊥
-    not-piece x = x
-
-    go : ((◌≡◌ {A = StreamFault} stream.Write stream.Write) × (chunk_size * e.piece ≤ length e.text))
-        ⊎ IsAtPiece limits.max_chunks e.piece stream.Write → TookUpTo limits (flow come to) (move_of old new) Write
-    go (inl (is, le)) = (
-      e.text,
-      e.written,
-      took_piece limits come mid to old new h i stream.Write (length e.text / chunk_size) e (omega arith),
-    )
-    go (inr at) = absurd (not-piece at)
-ends_takes limits come mid to old new h i (stream.ChunkShort j) e = go e.at
-  where
-    not-write : ◌≡◌ {A = StreamFault} (stream.ChunkShort j) stream.Write → ⊥
-    not-write x = cc
-
-    go : ((◌≡◌ {A = StreamFault} (stream.ChunkShort j) stream.Write) × (chunk_size * e.piece ≤ length e.text))
-        ⊎ IsAtPiece limits.max_chunks e.piece (stream.ChunkShort j) → TookThrough limits j (flow come to)
-    go (inl (is, le)) = absurd (not-write is)
-    go (inr at) = took_piece limits come mid to old new h i (stream.ChunkShort j) j e (omega (arith, at))
-ends_takes limits come mid to old new h i (stream.EmptyFinal j) e = go e.at
-  where
-    not-write : ◌≡◌ {A = StreamFault} (stream.EmptyFinal j) stream.Write → ⊥
-    not-write x = cc
-
-    go : ((◌≡◌ {A = StreamFault} (stream.EmptyFinal j) stream.Write) × (chunk_size * e.piece ≤ length e.text))
-        ⊎ IsAtPiece limits.max_chunks e.piece (stream.EmptyFinal j) → TookThrough limits j (flow come to)
-    go (inl (is, le)) = absurd (not-write is)
-    go (inr at) = took_piece limits come mid to old new h i (stream.EmptyFinal j) j e (omega (arith, at))
-ends_takes limits come mid to old new h i (stream.BadChunk j) e = go e.at
-  where
-    not-write : ◌≡◌ {A = StreamFault} (stream.BadChunk j) stream.Write → ⊥
-    not-write x = cc
-
-    go : ((◌≡◌ {A = StreamFault} (stream.BadChunk j) stream.Write) × (chunk_size * e.piece ≤ length e.text))
-        ⊎ IsAtPiece limits.max_chunks e.piece (stream.BadChunk j) → TookThrough limits j (flow come to)
-    go (inl (is, le)) = absurd (not-write is)
-    go (inr at) = took_piece limits come mid to old new h i (stream.BadChunk j) j e (omega (arith, at))
-ends_takes limits come mid to old new h i stream.TooManyChunks e = go e.at
-  where
-    not-write : ◌≡◌ {A = StreamFault} stream.TooManyChunks stream.Write → ⊥
-    not-write x = cc
-
-    go : ((◌≡◌ {A = StreamFault} stream.TooManyChunks stream.Write) × (chunk_size * e.piece ≤ length e.text))
-        ⊎ IsAtPiece limits.max_chunks e.piece stream.TooManyChunks
-        → TookThrough limits limits.max_chunks (flow come to)
-    go (inl (is, le)) = absurd (not-write is)
-    go (inr at) = took_piece limits come mid to old new h i stream.TooManyChunks limits.max_chunks e (omega (arith, at))
+ends_takes limits come mid to old new h i stream.Write e = elim e.at [
+  | inl (is, le) ↦ (
+    e.text,
+    e.written,
+    took_piece limits come mid to old new h i stream.Write (length e.text / chunk_size) e (omega arith),
+  )
+  | inr at ↦ absurd at
+]
+ends_takes limits come mid to old new h i (stream.ChunkShort j) e = elim e.at [
+  | inl (is, le) ↦ absurd (cc)
+  | inr at ↦ took_piece limits come mid to old new h i (stream.ChunkShort j) j e (omega (arith, at))
+]
+ends_takes limits come mid to old new h i (stream.EmptyFinal j) e = elim e.at [
+  | inl (is, le) ↦ absurd (cc)
+  | inr at ↦ took_piece limits come mid to old new h i (stream.EmptyFinal j) j e (omega (arith, at))
+]
+ends_takes limits come mid to old new h i (stream.BadChunk j) e = elim e.at [
+  | inl (is, le) ↦ absurd (cc)
+  | inr at ↦ took_piece limits come mid to old new h i (stream.BadChunk j) j e (omega (arith, at))
+]
+ends_takes limits come mid to old new h i stream.TooManyChunks e = elim e.at [
+  | inl (is, le) ↦ absurd (cc)
+  | inr at ↦ took_piece limits come mid to old new h i stream.TooManyChunks limits.max_chunks e (omega (arith, at))
+]
 ends_takes limits come mid to old new h i fault e = tt
 
 pub payload_takes : {limits : Bounds} {come : Seen} (mid : Seen) {to : Seen} {old new : Known} {h : HeaderParts}

@@ -1,5 +1,5 @@
 -- What a call of `encrypt` has written.
-use Rattle.std.proofs.Common.{Bool, true, false, ◌≡◌, ◌⊎◌, ℕ, ◌+◌, ◌-◌, ◌*◌, ◌<◌, ◌≤◌, List, [], ◌++◌, length, take, refl, sym, subst, inl, inr, arith, IfNone, Result, Ok, Err, append_assoc}
+use Rattle.std.proofs.Common.{Bool, true, false, ◌≡◌, ℕ, ◌+◌, ◌-◌, ◌*◌, ◌<◌, ◌≤◌, List, [], ◌++◌, length, take, refl, sym, subst, inl, inr, arith, IfNone, Result, Ok, Err, append_assoc}
 use Rattle.std.proofs.lemmas.List.{append-nil, length-append}
 use Rattle.std.specs.List.{concat}
 use Rattle.std.specs.Io.KnownBytes.{Appends}
@@ -21,8 +21,7 @@ use Rattle.age_file.specs.declared.fault.Fault.{Fault}
 use Rattle.age_file.specs.declared.fault.Fault.TheVariants.{TooManyChunks, Read, Write, OutOfMemory}
 use Rattle.age_file.specs.declared.limits.Fresh.{Fresh}
 use Rattle.age_file.specs.AgeFile.{Bounds}
-use Rattle.age_file.specs.Device.{IsLate}
-use Rattle.age_file.specs.NewFile.{BegunFile, EncryptsGiven, EncryptsText, FailsHeading, Gathering, IsHeading, FillsChunk, IsRefusal, RefusesFirst, SealsRest, TookWhileEncrypting, TookChunks}
+use Rattle.age_file.specs.NewFile.{BegunFile, EncryptsGiven, EncryptsText, FailsHeading, Gathering, IsHeading, FillsChunk, IsRefusal, SealsRest, TookWhileEncrypting, TookChunks}
 use Rattle.age_file.specs.Verdict.{stream_fault}
 use Rattle.age_file.proofs.DecryptLemmas.{file_result}
 
@@ -35,10 +34,6 @@ pub record Made (limits : Bounds) (k : FileKey) (gathered : Gathering) (text : B
 abbrev pub HeaderMade : Bounds → FileKey → (Gathering) → List StanzaParts → Bytes → Type 0
 HeaderMade limits k gathered stanzas mac = (mac ≡ header_mac k.0 stanzas)
     × ((text : Bytes) × IsHeading limits k gathered stanzas text)
-
--- what `write_front` says of the text of that header, `Puts` being what it wrote
-abbrev pub FrontWritten : List StanzaParts → Bytes → (Bytes → Type 0) → Type 0
-FrontWritten stanzas mac Puts = (text : Bytes) × Head stanzas mac text × Puts text
 
 pub made : {limits : Bounds} {k : FileKey} {gathered : Gathering} {stanzas : List StanzaParts} {mac written : Bytes}
     → HeaderMade limits k gathered stanzas mac → Head stanzas mac written → Made limits k gathered written
@@ -71,13 +66,11 @@ encrypts_unmade limits fresh gathered from to old new fault some (inr refusal) =
     go plain f h = tt
 
 -- a prefix of the header and the nonce was written
-pub encrypts_begun : {limits : Bounds} {fresh : Fresh} {gathered : Gathering} {stanzas : List StanzaParts} {mac : Bytes}
-    {from to : Seen} {old new : Known} → GaveSome (flow from to)
-    → HeaderMade limits fresh.file_key gathered stanzas mac
-    → FrontWritten stanzas mac (λ text. WritesPart (move_of old new) (text ++ fresh.nonce))
+pub encrypts_begun : {limits : Bounds} {fresh : Fresh} {gathered : Gathering} {text : Bytes} {from to : Seen}
+    {old new : Known} → GaveSome (flow from to) → Made limits fresh.file_key gathered text
+    → WritesPart (move_of old new) (text ++ fresh.nonce)
     → EncryptsGiven limits fresh gathered (flow from to) (move_of old new) (Err Write)
-encrypts_begun {limits} {fresh} {gathered} {stanzas} {mac} {from} {to} {old} {new} some header (text, head, part) =
-    let m = made header head in
+encrypts_begun {fresh} {text} {old} {new} some m part =
     let front : Bytes = text ++ fresh.nonce in
     of_any some (λ plain.
     let rest : Bytes = concat (sealed_chunks fresh.file_key fresh.nonce plain) in
@@ -187,16 +180,15 @@ sealed_filled {key} {max} {t} {more = true} {from} {mid} to a c r some fills sea
 sealed_filled {key} {max} {t} {more = false} {from} {mid} to a c r some fills (finishes, same) =
     filled_finishes key max t from mid to a c r some fills same finishes
 
--- the payload after the header and the nonce
-encrypts_payload : (limits : Bounds) (fresh : Fresh) (gathered : Gathering) (text : Bytes) (from to : Seen)
-    (a b c : Known)
-    (r : Result Done StreamFault) → length fresh.nonce ≡ 16
-    → Made limits fresh.file_key gathered text → Appends a b (text ++ fresh.nonce)
+-- the payload after the header and the nonce, with which the sink has b
+pub encrypts_payload : (r : Result Done StreamFault) {limits : Bounds} (fresh : Fresh) {gathered : Gathering}
+    {text : Bytes} {from to : Seen} (a b c : Known) → Made limits fresh.file_key gathered text
+    → Appends a b (text ++ fresh.nonce) → length fresh.nonce ≡ 16
     → SealsAll (at_start (payload_key fresh.file_key fresh.nonce) limits.max_chunks) (flow from to) (move_of b c) r
     → EncryptsGiven limits fresh gathered (flow from to) (move_of a c) (file_result r)
-encrypts_payload limits fresh gathered text from to a b c (Ok done) sixteen m front h =
+encrypts_payload (Ok done) {limits} fresh {gathered} {text} a b c m front sixteen h =
     of_map h (λ plain q. whole limits fresh gathered text plain a b c done sixteen m front q.0 q.1 q.2 q.3)
-encrypts_payload limits fresh gathered text from to a b c (Err fault) sixteen m front (chunk, s) =
+encrypts_payload (Err fault) {limits} fresh {gathered} {text} {from} {to} a b c m front sixteen (chunk, s) =
     go fault s.stops
   where
     key : Bytes
@@ -210,17 +202,6 @@ encrypts_payload limits fresh gathered text from to a b c (Err fault) sixteen m 
     go stream.TooManyChunks h =
         of_map h (λ plain q. up_to_limit limits fresh gathered text plain a b c m front q.0 q.1)
     go f h = absurd h.holds
-
--- the header, the nonce and the payload
-pub encrypts_sealed : (r : Result Done StreamFault) {limits : Bounds} (fresh : Fresh) {gathered : Gathering}
-    {stanzas : List StanzaParts} {mac : Bytes} {from to : Seen} (a b c : Known)
-    → HeaderMade limits fresh.file_key gathered stanzas mac
-    → FrontWritten stanzas mac (λ text. Appends a b (text ++ fresh.nonce)) → length fresh.nonce ≡ 16
-    → SealsAll (at_start (payload_key fresh.file_key fresh.nonce) limits.max_chunks) (flow from to) (move_of b c) r
-    → EncryptsGiven limits fresh gathered (flow from to) (move_of a c) (file_result r)
-encrypts_sealed r {limits} fresh {gathered} {stanzas} {mac} {from} {to} a b c header (text, head, front) sixteen seals =
-    encrypts_payload limits fresh gathered text from to a b c r sixteen
-    (made header head) front seals
 
 -- a read failed after something was written: the source gave a whole chunk
 pub read_late : {key : Bytes} {max : ℕ} {t : SealerState} {more : Bool} {from mid to : Seen} (a c : Known)
@@ -238,15 +219,12 @@ read_late {more = false} a c fault fills ((write, part), same) read =
 
 -- ---- what was taken
 
-pub takes_begun : {limits : Bounds} {fresh : Fresh} {gathered : Gathering} {stanzas : List StanzaParts} {mac key :
-    Bytes} {max : ℕ} {t : SealerState} {more : Bool} {from mid : Seen} {old new : Known}
-    → HeaderMade limits fresh.file_key gathered stanzas mac
-    → FrontWritten stanzas mac (λ text. WritesPart (move_of old new) (text ++ fresh.nonce))
+pub takes_begun : {limits : Bounds} {fresh : Fresh} {gathered : Gathering} {text key : Bytes} {max : ℕ}
+    {t : SealerState} {more : Bool} {from mid : Seen} {old new : Known} → Made limits fresh.file_key gathered text
+    → WritesPart (move_of old new) (text ++ fresh.nonce)
     → Fills (at_start key max) t (flow from mid) (Ok more)
     → TookWhileEncrypting limits fresh gathered (flow from mid) (move_of old new) Write
-takes_begun {limits} {fresh} {gathered} {stanzas} {mac} header (text, head, part)
-    (x, gave, is, fits, full, ended) =
-    let m = made header head in
+takes_begun {fresh} {text} m part (x, gave, is, fits, full, ended) =
     let le : length x ≤ chunk_size = subst (λ (u : SealerState). length u.held ≤ chunk_size) is fits in
     record {
       stanzas = m.stanzas;
@@ -281,55 +259,18 @@ took limits fresh gathered text from to a b c chunk fault sixteen m front s gave
       gave = (gave.0, gave.1, omega (arith, gave.2));
     }
 
-takes_payload : (limits : Bounds) (fresh : Fresh) (gathered : Gathering) (text : Bytes) (from to : Seen) (a b c : Known)
-    (fault : StreamFault) → length fresh.nonce ≡ 16
+pub takes_payload : (limits : Bounds) (fresh : Fresh) (gathered : Gathering) (text : Bytes) (from to : Seen)
+    (a b c : Known) (fault : StreamFault) → length fresh.nonce ≡ 16
     → Made limits fresh.file_key gathered text → Appends a b (text ++ fresh.nonce)
     → SealsAll (at_start (payload_key fresh.file_key fresh.nonce) limits.max_chunks) (flow from to) (move_of b c)
     (Err fault)
     → TookWhileEncrypting limits fresh gathered (flow from to) (move_of a c) (stream_fault fault)
-takes_payload limits fresh gathered text from to a b c stream.Write sixteen m front (chunk, s) = go s.gave
-  where
-    not_read : stream.Write ≡ stream.Read → ⊥
-    not_read e = cc
-
-    go : (stream.Write ≡ stream.Read) ⊎ GaveAtMost (chunk_size * (chunk + 1 - 0) + 1 - 0) (flow from to)
-        → TookChunks limits fresh gathered (flow from to) (move_of a c)
-    go (inl e) = absurd (not_read e)
-    go (inr gave) = took limits fresh gathered text from to a b c chunk stream.Write sixteen m front s gave
-takes_payload limits fresh gathered text from to a b c stream.TooManyChunks sixteen m front (chunk, s) = go s.gave
-  where
-    not_read : stream.TooManyChunks ≡ stream.Read → ⊥
-    not_read e = cc
-
-    go : (stream.TooManyChunks ≡ stream.Read) ⊎ GaveAtMost (chunk_size * (chunk + 1 - 0) + 1 - 0) (flow from to)
-        → TookChunks limits fresh gathered (flow from to) (move_of a c)
-    go (inl e) = absurd (not_read e)
-    go (inr gave) = took limits fresh gathered text from to a b c chunk stream.TooManyChunks sixteen m front s gave
+takes_payload limits fresh gathered text from to a b c stream.Write sixteen m front (chunk, s) = elim s.gave [
+  | inl e ↦ absurd (cc)
+  | inr gave ↦ took limits fresh gathered text from to a b c chunk stream.Write sixteen m front s gave
+]
+takes_payload limits fresh gathered text from to a b c stream.TooManyChunks sixteen m front (chunk, s) = elim s.gave [
+  | inl e ↦ absurd (cc)
+  | inr gave ↦ took limits fresh gathered text from to a b c chunk stream.TooManyChunks sixteen m front s gave
+]
 takes_payload limits fresh gathered text from to a b c fault sixteen m front s = tt
-
--- a fault of the payload names no reason against the header, and comes late
-pub refuses_none : (limits : Bounds) (fresh : Fresh) (gathered : Gathering) (from to : Seen) (b c : Known)
-    (fault : StreamFault)
-    → SealsAll (at_start (payload_key fresh.file_key fresh.nonce) limits.max_chunks) (flow from to) (move_of b c)
-    (Err fault)
-    → RefusesFirst limits fresh.file_key gathered (stream_fault fault) × IsLate (stream_fault fault)
-refuses_none limits fresh gathered from to b c stream.Read h = (tt, tt)
-refuses_none limits fresh gathered from to b c stream.Write h = (tt, tt)
-refuses_none limits fresh gathered from to b c stream.TooManyChunks h = (tt, tt)
-refuses_none limits fresh gathered from to b c stream.Memory h = absurd h.1.stops.holds
-refuses_none limits fresh gathered from to b c stream.NonceTruncated h = absurd h.1.stops.holds
-refuses_none limits fresh gathered from to b c (stream.ChunkShort i) h = absurd h.1.stops.holds
-refuses_none limits fresh gathered from to b c (stream.EmptyFinal i) h = absurd h.1.stops.holds
-refuses_none limits fresh gathered from to b c (stream.BadChunk i) h = absurd h.1.stops.holds
-
-pub takes_sealed : {limits : Bounds} (fresh : Fresh) {gathered : Gathering} {stanzas : List StanzaParts} {mac : Bytes}
-    {from to : Seen} (a : Known) {b c : Known} {fault : StreamFault}
-    → HeaderMade limits fresh.file_key gathered stanzas mac
-    → FrontWritten stanzas mac (λ text. Appends a b (text ++ fresh.nonce)) → length fresh.nonce ≡ 16
-    → SealsAll (at_start (payload_key fresh.file_key fresh.nonce) limits.max_chunks) (flow from to) (move_of b c)
-    (Err fault)
-    → TookWhileEncrypting limits fresh gathered (flow from to) (move_of a c) (stream_fault fault)
-takes_sealed {limits} fresh {gathered} {stanzas} {mac} {from} {to} a {b} {c} {fault} header
-    (text, head, front) sixteen seals =
-    takes_payload limits fresh gathered text from to a b c fault sixteen
-    (made header head) front seals

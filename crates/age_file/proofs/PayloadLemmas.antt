@@ -9,7 +9,7 @@ use Rattle.age_header.proofs.DeviceLemmas.{gave_more, of_any, of_map, of_then}
 use Rattle.age_header.specs.declared.file_key.FileKey.{FileKey}
 use Rattle.age_stream.specs.declared.done.Done.{Done}
 use Rattle.age_stream.specs.declared.fault.StreamFault.{StreamFault}
-use Rattle.age_stream.specs.declared.fault.StreamFault.TheVariants.{NonceTruncated, ChunkShort, EmptyFinal, BadChunk, TooManyChunks, Read, Write, Memory}
+use Rattle.age_stream.specs.declared.fault.StreamFault.TheVariants.{NonceTruncated, Read}
 use Rattle.age_stream.specs.Opening.{EndsAt, OpenerState, Starts, WritesAll, WritesReading, at_start}
 use Rattle.age_stream.specs.Payload.{payload_key, pieces}
 use Rattle.age_stream.specs.Reading.{payload_reading, reading_from, stop}
@@ -48,12 +48,7 @@ nonce_writes k max from mid a NonceTruncated h = of_map h.1 (λ c less.
     let all : payload_reading k max c ≡ stop NonceTruncated = rw short refl in
     subst (λ x. WritesReading x (length (pieces (drop 16 c))) (move_of a a) (Err NonceTruncated)) (sym all)
     (refl, Appends-nil a))
-nonce_writes k max from mid a (ChunkShort i) h = absurd (cc)
-nonce_writes k max from mid a (EmptyFinal i) h = absurd (cc)
-nonce_writes k max from mid a (BadChunk i) h = absurd (cc)
-nonce_writes k max from mid a TooManyChunks h = absurd (cc)
-nonce_writes k max from mid a Write h = absurd (cc)
-nonce_writes k max from mid a Memory h = absurd (cc)
+nonce_writes k max from mid a fault h = absurd (cc)
 
 -- what was taken, with the nonce
 pub payload_ends : (k : FileKey) {max : ℕ} {s : OpenerState} {from mid to : Seen} {a b : Known} {fault : StreamFault}

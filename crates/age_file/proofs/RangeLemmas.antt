@@ -124,11 +124,7 @@ payload_missed limits answers (Some b) at h k fault found (inr key) (inr (inr e)
 
 inspect_open : (g : HeaderFault) → IsOpenFault (header_fault g)
 inspect_open header.NotAge = tt
-inspect_open (header.BadLine n) = tt
-inspect_open header.Truncated = tt
-inspect_open header.TooLarge = tt
-inspect_open header.Read = tt
-inspect_open header.Memory = tt
+inspect_open g = tt
 
 pub header_named : (limits : Bounds) {old mid : Seen} (fault : Fault) → Inspects limits (flow old mid) (Err fault)
     → IsOpenFault fault
@@ -143,9 +139,7 @@ either_open false x y p q = q
 
 unlock_open : (e : UnlockFault) → IsOpenFault (unlock_fault e)
 unlock_open unlock.NoMatch = tt
-unlock_open unlock.WrongKey = tt
-unlock_open (unlock.Malformed s) = tt
-unlock_open unlock.Memory = tt
+unlock_open e = tt
 
 checked_open : (h : HeaderParts) (r : Result FileKey UnlockFault) → IfErr (checked_key h r) IsOpenFault
 checked_open h (Err e) = unlock_open e
@@ -161,14 +155,8 @@ locked_named answers h fault (inr key) =
     (checked_open h (choice (answers h.stanzas))))
 
 pub payload_named : (e : StreamFault) → stream.IsOpenFault e → IsOpenFault (stream_fault e)
-payload_named fault.NonceTruncated h = tt
-payload_named (fault.ChunkShort i) h = tt
-payload_named (fault.EmptyFinal i) h = tt
-payload_named (fault.BadChunk i) h = tt
-payload_named fault.TooManyChunks h = tt
-payload_named fault.Read h = tt
 payload_named fault.Write h = absurd h
-payload_named fault.Memory h = tt
+payload_named e h = tt
 
 -- ---- why a file was not opened
 

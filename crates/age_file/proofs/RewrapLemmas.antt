@@ -19,14 +19,14 @@ use Rattle.age_header.specs.declared.file_key.FileKey.{FileKey}
 use Rattle.age_recipient.specs.Choice.{choice}
 use Rattle.age_stream.specs.Reading.{Reading}
 use Rattle.age_file.specs.declared.fault.Fault.{Fault}
-use Rattle.age_file.specs.declared.fault.Fault.TheVariants.{HeaderTooLarge, MixedPassphrase, NoMatch, WrongKey, Malformed, BadMac, TooManyChunks, Read, Write, OutOfMemory, NoRecipients, Refused, IncompatibleRecipients}
+use Rattle.age_file.specs.declared.fault.Fault.TheVariants.{MixedPassphrase, NoMatch, BadMac, TooManyChunks, Read, Write, OutOfMemory}
 use Rattle.age_file.specs.AgeFile.{Bounds, is_mixed}
 use Rattle.age_file.specs.Copying.{Copies}
 use Rattle.age_file.specs.Device.{IsLate}
 use Rattle.age_file.specs.Inspect.{Inspects}
 use Rattle.age_file.specs.NewFile.{FailsHeading, Gathering, IsRefusal}
 use Rattle.age_file.specs.Rewrap.{BeginsRewrapped, IsRewrapped, RefusesRewrap, Rewrapped, Rewraps, RewrapsText}
-use Rattle.age_file.specs.Verdict.{Answering, IsVerdict, checked_key, finding, header_fault, reading_after, parts_of, reading_under, header_key}
+use Rattle.age_file.specs.Verdict.{Answering, IsVerdict, checked_key, finding, header_fault, reading_after, parts_of, reading_under, header_key, unlock_fault}
 use Rattle.age_file.proofs.DecryptLemmas.{IsHeaded, err_err}
 use Rattle.age_file.proofs.EncryptLemmas.{Made}
 use Rattle.age_file.proofs.FileLemmas.{behind, key_unlocked}
@@ -60,10 +60,7 @@ no_header : (limits : Bounds) (answers : Answering) (gathered : FileKey → Gath
     → Refuses b limits.max_header g → RewrapsText limits answers gathered b (move_of old old) (Err (header_fault g))
 no_header limits answers gathered b old header.Read h = inl (keeps_same old)
 no_header limits answers gathered b old header.Memory h = tt
-no_header limits answers gathered b old header.NotAge h = (Err header.NotAge, h, refl)
-no_header limits answers gathered b old (header.BadLine n) h = (Err (header.BadLine n), h, refl)
-no_header limits answers gathered b old header.Truncated h = (Err header.Truncated, h, refl)
-no_header limits answers gathered b old header.TooLarge h = (Err header.TooLarge, h, refl)
+no_header limits answers gathered b old g h = (Err g, h, refl)
 
 none_read : (limits : Bounds) (answers : Answering) (gathered : FileKey → Gathering) (come mid : Seen) (old : Known)
     (g : HeaderFault)
@@ -85,9 +82,7 @@ early_checked : (h : HeaderParts) (c : Result FileKey UnlockFault) (fault : Faul
     → IsEarly fault
 unfolding IsEarly
 early_checked h (Err unlock.NoMatch) fault e = subst IsEarly (err_err {A = FileKey} NoMatch fault e) tt
-early_checked h (Err unlock.WrongKey) fault e = subst IsEarly (err_err {A = FileKey} WrongKey fault e) tt
-early_checked h (Err (unlock.Malformed s)) fault e = subst IsEarly (err_err {A = FileKey} (Malformed s) fault e) tt
-early_checked h (Err unlock.Memory) fault e = subst IsEarly (err_err {A = FileKey} OutOfMemory fault e) tt
+early_checked h (Err f) fault e = subst IsEarly (err_err {A = FileKey} (unlock_fault f) fault e) tt
 early_checked h (Ok k) fault e = go (bytes_eq h.mac (header_mac k.0 h.stanzas)) e
   where
     go : (t : Bool) → ◌≡◌ {A = Result FileKey Fault} (cond t (Ok k) (Err BadMac)) (Err fault) → IsEarly fault
@@ -126,12 +121,10 @@ locked_rewraps limits answers gathered {come} {mid} old {h} fault i (inr is) =
 early_refusal : (limits : Bounds) (k : FileKey) (gathered : Gathering) (fault : Fault)
     → IsRefusal limits k gathered fault → IsEarly fault
 unfolding IsEarly
-early_refusal limits k gathered (Refused i code) h = tt
-early_refusal limits k gathered (IncompatibleRecipients i) h = tt
-early_refusal limits k gathered NoRecipients h = tt
-early_refusal limits k gathered MixedPassphrase h = tt
-early_refusal limits k gathered HeaderTooLarge h = tt
-early_refusal limits k gathered fault h = absurd h
+early_refusal limits k gathered Read h = absurd h
+early_refusal limits k gathered Write h = absurd h
+early_refusal limits k gathered TooManyChunks h = absurd h
+early_refusal limits k gathered fault h = tt
 
 -- no new header was made
 pub heading_rewraps : (limits : Bounds) (answers : Answering) (gathered : FileKey → Gathering) {come mid : Seen}

@@ -6,7 +6,6 @@ ghost use Rattle.age_stream.specs.Writer.{device_of, fault_of};
 ghost use Rattle.age_file.specs.Verdict.{answers_by, header_key};
 
 use crate::fault::Fault;
-use crate::fault_conversions::stream_fault;
 use crate::inspecting::inspect;
 use crate::limits::Limits;
 use crate::unlocking::{is_mixed, unlock_header};
@@ -16,7 +15,7 @@ use age_stream::{ChunkBuf, ChunkOpener, Refused, StreamReader};
 use std::alloc::Global;
 
 /// A file whose header was read. The caller's source is at the first byte after the header.
-/// `unlock` consumes it.
+/// `unlock` consumes the `Decryptor`.
 #[derive(Drop)]
 pub struct Decryptor<'a, S, H = Header> {
     input: &'a mut S,
@@ -28,7 +27,7 @@ impl<'a, S: Source> Decryptor<'a, S> {
     ghost use Rattle.age_file.specs.States.{StartsDecryptor, StartsUnder};
     ghost use Rattle.age_file.specs.States.{header_of, input_of, limits_of};
 
-    /// A file with this header; the source returns the bytes after it.
+    /// Makes a file of this header. The source returns the bytes after it.
     fn over(input: &'a mut S, header: Header, limits: &Limits) -> Decryptor<'a, S>
         ensures same_reference { (input_of result).ghost_name ≡ input.entry.ghost_name }
         ensures unchanged { (input_of result).now ≡ input.old }
@@ -60,7 +59,7 @@ impl<'a, S: Source> Decryptor<'a, S> {
         ensures limits { IfOk result (λ d. limits_of d ≡ limits.now) }
         ensures handed_back { IfErr result
             (λ refused. (device_of refused).ghost_name ≡ input.entry.ghost_name) }
-        // Otherwise the fault of `inspect`, or `MixedPassphrase`.
+        // The fault is that of `inspect`, or `MixedPassphrase`.
         ensures refuses { IfErr result (λ refused. StartsDecryptor S.to_come S.gave S.failed
             limits.now input.old (device_of refused).now (Err (fault_of refused))) }
     {
@@ -74,8 +73,8 @@ impl<'a, S: Source> Decryptor<'a, S> {
         Ok(Decryptor::over(input, header, limits))
     }
 
-    /// Reads the header of a file (C2SP `age.md`), and from the source exactly the header's bytes.
-    /// It does not verify the MAC. `started` says more about the source after an error.
+    /// Reads the header of a file (C2SP `age.md`), and exactly the header's bytes from the source.
+    /// Does not verify the MAC. `started` says more about the source after an error.
     ///
     /// # Errors
     /// Those of `inspect`, then `MixedPassphrase` if a `scrypt` stanza is not alone.
@@ -87,7 +86,7 @@ impl<'a, S: Source> Decryptor<'a, S> {
             input.old (input_of d).now (Ok (header_of d))) }
         // It keeps the limits.
         ensures limits { IfOk result (λ d. limits_of d ≡ limits.now) }
-        // As `started`, of some state of the source, which is not handed back.
+        // As for `started`, but of some state of the source, which is not handed back.
         ensures refuses { IfErr result (λ fault. (last : S)
             × StartsDecryptor S.to_come S.gave S.failed limits.now input.old last (Err fault)) }
     {
@@ -107,9 +106,9 @@ impl<'a, S: Source> Decryptor<'a, S> {
     /// Like `unlock`, but returns the source with the fault.
     ///
     /// # Errors
-    /// `NoMatch`, `WrongKey`, `Malformed` as `age_recipient::unlock` says; `BadMac`; `OutOfMemory`
+    /// `NoMatch`, `WrongKey`, `Malformed`, as for `age_recipient::unlock`; `BadMac`; `OutOfMemory`
     /// if an allocation was refused or an identity returned it. On these nothing was read. Then
-    /// `NonceTruncated` if the source returns fewer than 16 bytes, `Read` if it failed.
+    /// `NonceTruncated` if the source returns fewer than 16 bytes, and `Read` if it failed.
     pub fn unlocked(
         self,
         alloc: Global,
@@ -117,15 +116,16 @@ impl<'a, S: Source> Decryptor<'a, S> {
     ) -> Result<StreamReader<'a, S>, Refused<'a, S, Fault>>
         ensures same_reference { IfOk result
             (λ reader. (source_of reader).ghost_name ≡ (input_of self.entry).ghost_name) }
-        // A reader before piece 0 under the key that the identities choose; at most 16 bytes were
-        // read.
+        // The reader is before piece 0, under the key that the identities choose; at most 16 bytes
+        // were read.
         ensures starts { IfOk result
             (λ reader. StartsUnder S.to_come S.gave S.failed (limits_of self.entry)
             (header_key (answers_by identities.now (λ i s. meaning i s)) (header_of self.entry))
             (input_of self.entry).now (source_of reader).now (Ok (opener_of reader))) }
         ensures handed_back { IfErr result
             (λ refused. (device_of refused).ghost_name ≡ (input_of self.entry).ghost_name) }
-        // Otherwise the fault up to the MAC, or of a nonce that was not read, or out of memory.
+        // The fault is the first one up to the MAC, or that of a nonce that was not read, or out of
+        // memory.
         ensures misses { IfErr result
             (λ refused. StartsUnder S.to_come S.gave S.failed (limits_of self.entry)
             (header_key (answers_by identities.now (λ i s. meaning i s)) (header_of self.entry))
@@ -145,7 +145,7 @@ impl<'a, S: Source> Decryptor<'a, S> {
         };
         match ChunkOpener::start(&key, input, limits.max_chunks(), buf) {
             Ok(opener) => Ok(StreamReader::over(input, opener)),
-            Err(fault) => Err(Refused::of(input, stream_fault(fault))),
+            Err(fault) => Err(Refused::of(input, Fault::from(fault))),
         }
     }
 
@@ -153,9 +153,9 @@ impl<'a, S: Source> Decryptor<'a, S> {
     /// reader of the payload. `unlocked` says more about the source after an error.
     ///
     /// # Errors
-    /// `NoMatch`, `WrongKey`, `Malformed` as `age_recipient::unlock` says; `BadMac`; `OutOfMemory`
+    /// `NoMatch`, `WrongKey`, `Malformed`, as for `age_recipient::unlock`; `BadMac`; `OutOfMemory`
     /// if an allocation was refused or an identity returned it. On these nothing was read. Then
-    /// `NonceTruncated` if the source returns fewer than 16 bytes, `Read` if it failed.
+    /// `NonceTruncated` if the source returns fewer than 16 bytes, and `Read` if it failed.
     pub fn unlock(
         self,
         alloc: Global,
@@ -163,13 +163,13 @@ impl<'a, S: Source> Decryptor<'a, S> {
     ) -> Result<StreamReader<'a, S>, Fault>
         ensures same_reference { IfOk result
             (λ reader. (source_of reader).ghost_name ≡ (input_of self.entry).ghost_name) }
-        // A reader before piece 0 under the key that the identities choose; at most 16 bytes were
-        // read.
+        // The reader is before piece 0, under the key that the identities choose; at most 16 bytes
+        // were read.
         ensures starts { IfOk result
             (λ reader. StartsUnder S.to_come S.gave S.failed (limits_of self.entry)
             (header_key (answers_by identities.now (λ i s. meaning i s)) (header_of self.entry))
             (input_of self.entry).now (source_of reader).now (Ok (opener_of reader))) }
-        // As `unlocked`, of some state of the source, which is not handed back.
+        // As for `unlocked`, but of some state of the source, which is not handed back.
         ensures misses { IfErr result
             (λ fault. (last : S) × StartsUnder S.to_come S.gave S.failed (limits_of self.entry)
             (header_key (answers_by identities.now (λ i s. meaning i s)) (header_of self.entry))

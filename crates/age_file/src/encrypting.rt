@@ -8,31 +8,35 @@ ghost use Rattle.age_file.specs.NewFile.{EncryptsGiven, FillsChunk, RefusesFirst
 ghost use Rattle.age_stream.specs.Counts as stream;
 
 use crate::fault::Fault;
-use crate::fault_conversions::stream_fault;
 use crate::limits::{Fresh, Limits};
-use crate::new_header::header_for;
+use crate::new_header::{header_for, header_text};
 use age_header::{DeviceFault, Header, Sink, Source, write_all, write_header};
 use age_recipient::Recipient;
 use age_stream::{ChunkBuf, ChunkSealer, Done, StreamFault, StreamWriter};
 use std::alloc::Global;
 
 /// Writes the age file (C2SP `age.md`) of a plaintext, which is all bytes left in the source, for
-/// these recipients. It allocates before it writes the first byte, and writes the first byte once
-/// the first chunk is full or the source has ended. It writes each chunk as soon as a byte after it
-/// was read.
+/// these recipients. Allocates everything before it writes the first byte. Writes the header and
+/// the nonce once the first chunk is full or the source has ended, and each chunk as soon as a byte
+/// after it was read.
 ///
-/// `fresh`, and the salts of the recipients, must be random and used only for this file: the same
-/// values again repeat the keys of a file. A passphrase recipient takes 2^work KiB of memory while
-/// it wraps. What was written before an error is not a complete file.
+/// `fresh` and the salts of the recipients must be random and used only for this file, because
+/// using them again repeats the keys of a file. A passphrase recipient takes 2^work KiB of memory
+/// while it wraps. What was written before an error is not a complete file.
 ///
 /// # Errors
-/// The first that applies, in this order: `Refused` at the first recipient that refuses,
-/// `IncompatibleRecipients` at the first whose labels do not go together with those of recipient 0,
-/// `NoRecipients` if there is no stanza at all, `MixedPassphrase` if a `scrypt` stanza is not
-/// alone, `HeaderTooLarge`. On these, and on `OutOfMemory`, nothing was written. `TooManyChunks` if
-/// the plaintext has more chunks than are allowed: the header, the nonce and the sealed chunks with
-/// an index below the limit less one were written. `Read` and `Write` if a device failed: a prefix
-/// of the file was written; on `Read` before the first chunk was full, nothing.
+/// The first that applies of:
+/// - `Refused` at the first recipient that refuses;
+/// - `IncompatibleRecipients` at the first whose labels do not go together with those of recipient
+///   0;
+/// - `NoRecipients` if there is no stanza at all;
+/// - `MixedPassphrase` if a `scrypt` stanza is not alone;
+/// - `HeaderTooLarge`.
+///
+/// On these, and on `OutOfMemory`, nothing was written. `TooManyChunks` if the plaintext has more
+/// chunks than are allowed: the header, the nonce and the sealed chunks with an index below the
+/// limit less one were written. `Read` and `Write` if a device failed: a prefix of the file was
+/// written, and on `Read` before the first chunk was full, nothing.
 pub fn encrypt<S: Source, W: Sink>(
     alloc: Global,
     plain: &mut S,
@@ -41,51 +45,51 @@ pub fn encrypt<S: Source, W: Sink>(
     fresh: &Fresh,
     limits: &Limits,
 ) -> Result<Done, Fault>
-    // On Ok the file of the recipients' stanzas, plaintext, file key and nonce was written, and the
-    // counts are the plaintext's length and chunks. No such result comes where a reason of
-    // [refused] applies. If a device failed, a prefix of that file was written.
+    // On Ok the file of the recipients' stanzas, the plaintext, the file key and the nonce was
+    // written, and the counts are the length of the plaintext and the number of its chunks. Ok is
+    // not returned if a reason of [refused] applies. If a device failed, a prefix of that file was
+    // written.
     ensures encrypts { EncryptsGiven limits.now fresh.now
         (gathering_by recipients.now (λ r k. wraps r k) (λ r. the_labels r) fresh.now.file_key)
         (flow_by S.to_come S.gave plain.old plain.new) (move_by W.taken out.old out.new) result }
-    // The first that applies: a refusal, with its index; the least index above 0 whose labels do
-    // not go together with those of recipient 0; no stanza; a `scrypt` stanza that is not alone; a
-    // header over the limit. The labels are some that the recipients may have returned.
+    // The fault is the first that applies: a refusal, with its index; the least index above 0 whose
+    // labels do not go together with those of recipient 0; no stanza; a `scrypt` stanza that is not
+    // alone; a header over the limit. The labels are some that the recipients may have returned.
     ensures refused { IfErr result (RefusesFirst limits.now fresh.now.file_key
         (gathering_by recipients.now (λ r k. wraps r k) (λ r. the_labels r) fresh.now.file_key)) }
-    // On a fault of a header or its key, a truncated nonce, a refusal, recipients that do not go
-    // together, no stanza, or out of memory the sink is as it was, whether or not its contents are
-    // known.
+    // On a fault the sink is unchanged, whether or not its contents are known, unless the fault is
+    // a chunk's, `TooManyChunks`, `Read` or `Write`.
     ensures quiet { IsQuiet out.old out.new result }
-    // If a failed read is returned and something was written, the source gave 65,536 bytes or more.
+    // If the fault is `Read` and something was written, the source gave 65,536 bytes or more.
     ensures spared { result ≡ Err Fault.Read
         → (out.new ≡ out.old) ⊎ FillsChunk (flow_by S.to_come S.gave plain.old plain.new) }
     ensures reads { CountsIf is_read (S.failed plain.old) (S.failed plain.new) result }
     ensures writes { CountsIf is_write (W.failed out.old) (W.failed out.new) result }
-    // At a write or with too many chunks, after n full sealed chunks: at most 65,536 (n + 2) bytes
-    // of plaintext were read.
+    // On a fault of a write or too many chunks, after n full sealed chunks were written: at most
+    // 65,536 (n + 2) bytes of plaintext were read.
     ensures took { IfErr result (TookWhileEncrypting limits.now fresh.now
         (gathering_by recipients.now (λ r k. wraps r k) (λ r. the_labels r) fresh.now.file_key)
         (flow_by S.to_come S.gave plain.old plain.new) (move_by W.taken out.old out.new)) }
 {
     let header = header_for(alloc, recipients, &fresh.file_key, limits)?;
-    let Ok(buf) = ChunkBuf::new(alloc) else {
-        return Err(Fault::OutOfMemory);
-    };
+    let mut front = header_text(alloc, &header)?;
+    front.extend_from_slice(&fresh.nonce)?;
+    let buf = ChunkBuf::new(alloc)?;
     let mut sealer = ChunkSealer::new(&fresh.file_key, &fresh.nonce, limits.max_chunks(), buf);
     let is_open = match sealer.fill(plain) {
         Ok(is_open) => is_open,
         Err(_) => return Err(Fault::Read),
     };
-    let Ok(()) = write_front(&header, &fresh.nonce, out) else {
+    let Ok(()) = write_all(out, front.as_slice()) else {
         return Err(Fault::Write);
     };
     match seal_rest(sealer, is_open, plain, out) {
         Ok(done) => Ok(done),
-        Err(fault) => Err(stream_fault(fault)),
+        Err(fault) => Err(Fault::from(fault)),
     }
 }
 
-/// Seals what the sealer holds, with all that the source still gives if it is open.
+/// Seals what the sealer holds and, if the source is open, all that is left in it.
 fn seal_rest<S: Source, W: Sink>(
     sealer: ChunkSealer,
     is_open: bool,
@@ -105,16 +109,16 @@ fn seal_rest<S: Source, W: Sink>(
     writer.finish()
 }
 
-/// Writes a header, and then the nonce of its payload, 16 bytes.
+/// Writes a header and then the nonce of its payload, 16 bytes.
 ///
 /// # Errors
-/// `DeviceFault` if the sink failed: a prefix of both was written.
+/// `DeviceFault` if the sink failed: a prefix of header and nonce was written.
 pub fn write_front<W: Sink>(
     header: &Header,
     nonce: &[u8; 16],
     out: &mut W,
 ) -> Result<(), DeviceFault>
-    // The header and then the nonce; on an error a prefix of both.
+    // Writes the header and then the nonce; on an error a prefix of both.
     ensures text { (text : Bytes) × Head header.now.stanzas header.now.mac text
         × Writes (move_by W.taken out.old out.new) result (text ++ nonce.now) }
     ensures count { Counts (W.failed out.old) (W.failed out.new) result }

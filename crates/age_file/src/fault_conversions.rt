@@ -2,12 +2,13 @@
 
 ghost use Rattle.std.specs.Prelude.{◌≡◌};
 ghost use Rattle.age_file.specs.Device.{IsNoDeviceFault};
-ghost use Rattle.age_file.specs.Verdict.{header_fault, stream_fault, unlock_fault};
+ghost use Rattle.age_file.specs.Verdict.{header_fault, unlock_fault};
 
 use crate::fault::Fault;
 use age_header::HeaderFault;
 use age_recipient::UnlockFault;
 use age_stream::StreamFault;
+use std::alloc::AllocError;
 
 /// The `Fault` of a header's error.
 pub(crate) fn header_fault(fault: HeaderFault) -> Fault
@@ -23,7 +24,7 @@ pub(crate) fn header_fault(fault: HeaderFault) -> Fault
     }
 }
 
-/// The `Fault` of an error of finding the file key.
+/// The `Fault` of an error in finding the file key.
 pub(crate) fn unlock_fault(fault: UnlockFault) -> Fault
     ensures name { result ≡ unlock_fault fault }
     ensures no_device { IsNoDeviceFault result }
@@ -36,28 +37,31 @@ pub(crate) fn unlock_fault(fault: UnlockFault) -> Fault
     }
 }
 
-/// The `Fault` of a payload's error.
-pub(crate) fn stream_fault(fault: StreamFault) -> Fault
-    ensures { result ≡ stream_fault fault }
-{
-    match fault {
-        StreamFault::NonceTruncated => Fault::NonceTruncated,
-        StreamFault::ChunkShort(i) => Fault::ChunkShort(i),
-        StreamFault::EmptyFinal(i) => Fault::EmptyFinal(i),
-        StreamFault::BadChunk(i) => Fault::BadChunk(i),
-        StreamFault::TooManyChunks => Fault::TooManyChunks,
-        StreamFault::Read => Fault::Read,
-        StreamFault::Write => Fault::Write,
-        StreamFault::Memory => Fault::OutOfMemory,
-    }
-}
-
 impl From<StreamFault> for Fault {
     ghost use Rattle.age_file.specs.Verdict.{stream_fault};
 
     ghost from_gives = { λ stream fault. fault ≡ stream_fault stream };
 
     fn from(fault: StreamFault) -> Fault {
-        stream_fault(fault)
+        match fault {
+            StreamFault::NonceTruncated => Fault::NonceTruncated,
+            StreamFault::ChunkShort(i) => Fault::ChunkShort(i),
+            StreamFault::EmptyFinal(i) => Fault::EmptyFinal(i),
+            StreamFault::BadChunk(i) => Fault::BadChunk(i),
+            StreamFault::TooManyChunks => Fault::TooManyChunks,
+            StreamFault::Read => Fault::Read,
+            StreamFault::Write => Fault::Write,
+            StreamFault::Memory => Fault::OutOfMemory,
+        }
+    }
+}
+
+impl From<AllocError> for Fault {
+    ghost use Rattle.age_file.specs.declared.fault.Fault.TheVariants.{OutOfMemory};
+
+    ghost from_gives = { λ error fault. fault ≡ OutOfMemory };
+
+    fn from(_error: AllocError) -> Fault {
+        Fault::OutOfMemory
     }
 }

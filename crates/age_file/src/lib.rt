@@ -1,5 +1,5 @@
-//! Whole age v1 files (C2SP `age.md`). Start here: this crate re-exports what a caller needs of
-//! those below it.
+//! Whole age v1 files (C2SP `age.md`). Start here: this crate re-exports what a caller needs of the
+//! crates below it.
 //!
 //! ```
 //! let limits = &Limits::default();
@@ -11,27 +11,31 @@
 //! decrypt(alloc, &mut MemSource::new(file.as_slice()), &mut back, identities, limits)?;
 //! ```
 //!
-//! `encrypt` needs recipients and `decrypt` identities, in boxes; `Fresh` is 32 random bytes that
-//! are never used for two files. `rewrap` gives a file another passphrase or key, `open_ranges`
-//! reads any part of a plaintext, `salvage` saves what it can of a damaged file, `inspect` reads a
-//! header, and `Encryptor` and `Decryptor` are the two in steps: the first takes the plaintext
-//! piece by piece, the second returns it chunk by chunk. One definition, the verdict
-//! (`specs/Verdict.antt`), says what bytes are to given identities. The contracts and the laws in
-//! `laws` cite it. The terms are defined in docs/DESIGN.md, "Words".
+//! - `encrypt` and `decrypt` take recipients and identities in boxes. `Fresh` is 32 random bytes,
+//!   which must never be used for two files.
+//! - `Encryptor` and `Decryptor` do the same in steps: the first takes the plaintext piece by
+//!   piece, the second returns it chunk by chunk.
+//! - `rewrap` gives a file another passphrase or key.
+//! - `open_ranges` reads any part of a plaintext.
+//! - `salvage` saves what it can of a damaged file.
+//! - `inspect` reads a header.
 //!
-//! `fault` has the texts of the errors, and `limits` the limits of a header and of the number of
-//! chunks. The chunk size is in `age_stream` (`src/sizes.rt`, `specs/Sizes.antt`), the range of
-//! work factors in `age_recipient` (`specs/PassphraseHolders.antt`), and the program's default work
+//! One definition, the verdict (`specs/Verdict.antt`), says what bytes are to given identities. The
+//! contracts and the laws in `laws` cite it. docs/DESIGN.md, "Words", defines the terms.
+//!
+//! The texts of the errors are in `fault`, the limits of a header and of the number of chunks in
+//! `limits`, the chunk size in `age_stream` (`src/sizes.rt`, `specs/Sizes.antt`), the range of work
+//! factors in `age_recipient` (`specs/PassphraseHolders.antt`), and the program's default work
 //! factors in `age_words` (`src/options.rt`). CONTRIBUTING.md, "Where a change goes", says what
-//! follows from a change of each.
+//! else changes with each.
 //!
 //! *What a contract sees.* `Limits` is the record `Bounds`, a header `HeaderParts`, and `Fresh` its
 //! two lists of bytes. An `Encryptor` is the record `EncryptorState` of its header, fresh values
-//! and limits; of a `Decryptor`, a reader or a writer `input_of`, `header_of`, `source_of` and
-//! `sink_of` give the parts. Recipients and identities are their meanings, in order.
+//! and limits. `input_of`, `header_of`, `source_of` and `sink_of` give the parts of a `Decryptor`,
+//! a reader or a writer. Recipients and identities are their meanings, in order.
 //!
-//! Limits: those of `Limits`. A source is read to its end. What was written before an error is
-//! genuine, but incomplete.
+//! Limits: those of `Limits`. A source is read to its end. What is written before an error is
+//! genuine but incomplete.
 #![tactic(auto)]
 
 mod at_source;
@@ -73,7 +77,7 @@ pub use encryptor::Encryptor;
 pub use fault::Fault;
 pub use inspecting::inspect;
 pub use limits::{Fresh, Limits, MOST_CHUNKS};
-pub use new_header::header_for;
+pub use new_header::{header_for, header_text};
 pub use ranges::{open_ranges, opened_ranges};
 pub use rewrapping::rewrap;
 pub use salvaging::salvage;

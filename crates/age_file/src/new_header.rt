@@ -3,6 +3,7 @@
 ghost use Rattle.std.specs.Prelude.{◌≡◌, ◌≤◌, Some, None, map, IfOk, IfErr};
 ghost use Rattle.std.specs.List.{AllZip};
 ghost use Rattle.age_header.specs.Device.{Bytes};
+ghost use Rattle.age_header.specs.Header.{Head};
 ghost use Rattle.age_header.specs.Mac.{header_mac};
 ghost use Rattle.age_recipient.specs.Labels.{MayLabel};
 ghost use Rattle.age_recipient.specs.Wrap.{WrapsAs};
@@ -11,17 +12,15 @@ ghost use Rattle.age_file.specs.NewFile.{FailsHeading, Gathers, IsHeading, Wraps
 use crate::fault::Fault;
 use crate::limits::Limits;
 use crate::unlocking::is_mixed;
-use age_header::{Header, Stanza, mac_of};
+use age_header::{Header, MemSink, Stanza, mac_of, write_header};
 use age_recipient::{FileKey, Labels, Recipient, WrapFault, first_incompatible};
 use std::alloc::{AllocError, Global};
 
 /// Makes the header of a new file for these recipients, with its MAC under the file key.
 ///
 /// # Errors
-/// The first that applies, in this order: `Refused` at the first recipient that refuses,
-/// `IncompatibleRecipients` at the first whose labels do not go together with those of recipient 0,
-/// `NoRecipients` if there is no stanza at all, `MixedPassphrase` if a `scrypt` stanza is not
-/// alone, `HeaderTooLarge`. `OutOfMemory` if an allocation was refused.
+/// `Refused`, `IncompatibleRecipients`, `NoRecipients`, `MixedPassphrase` or `HeaderTooLarge`, the
+/// first that applies, as for `encrypt`. `OutOfMemory` if an allocation was refused.
 pub fn header_for(
     alloc: Global,
     recipients: &[Box<dyn Recipient>],
@@ -33,7 +32,7 @@ pub fn header_for(
         × ((text : Bytes) × IsHeading limits.now key.now
         (gathering_by recipients.now (λ r k. wraps r k) (λ r. the_labels r) key.now)
         h.stanzas text)) }
-    // The first reason why there is none, in the order of `encrypt`, or out of memory.
+    // The fault is the first that applies, in the order of `encrypt`, or out of memory.
     ensures err { IfErr result (FailsHeading limits.now key.now
         (gathering_by recipients.now (λ r k. wraps r k) (λ r. the_labels r) key.now)) }
 {
@@ -47,9 +46,7 @@ pub fn header_for(
     if is_mixed(stanzas.as_slice()) {
         return Err(Fault::MixedPassphrase);
     }
-    let Ok(mac) = mac_of(alloc, &key.0, stanzas.as_slice()) else {
-        return Err(Fault::OutOfMemory);
-    };
+    let mac = mac_of(alloc, &key.0, stanzas.as_slice())?;
     let Some(header) = Header::new(stanzas, mac) else {
         unreachable!();
     };
@@ -57,6 +54,17 @@ pub fn header_for(
         return Err(Fault::HeaderTooLarge);
     }
     Ok(header)
+}
+
+/// The text of a header (C2SP `age.md`, "Header").
+pub fn header_text(alloc: Global, header: &Header) -> Result<Vec<u8>, AllocError>
+    ensures { IfOk result (λ text. Head header.now.stanzas header.now.mac text.items) }
+{
+    let mut text = MemSink::new(Vec::new(alloc));
+    match write_header(header, &mut text) {
+        Ok(()) => Ok(text.into_vec()),
+        Err(_) => Err(AllocError),
+    }
 }
 
 /// The stanzas of the recipients, in order, if the recipients go together.
@@ -68,13 +76,8 @@ fn gather_stanzas(
     ensures { Gathers
         (gathering_by recipients.now (λ r k. wraps r k) (λ r. the_labels r) key.now) result }
 {
-    let stanzas = match wrap_all(alloc, recipients, key) {
-        Ok(stanzas) => stanzas,
-        Err(fault) => return Err(fault),
-    };
-    let Ok(labels) = labels_of_all(alloc, recipients) else {
-        return Err(Fault::OutOfMemory);
-    };
+    let stanzas = wrap_all(alloc, recipients, key)?;
+    let labels = labels_of_all(alloc, recipients)?;
     match first_incompatible(labels.as_slice()) {
         None => Ok(stanzas),
         Some(i) => Err(Fault::IncompatibleRecipients(i)),
@@ -120,8 +123,8 @@ fn labels_of_all(
     Ok(all)
 }
 
-/// Calls one recipient's `wrap`. It is a function of its own since its contract can cite the box,
-/// which is an item of a list.
+/// Calls one recipient's `wrap`. This is a function of its own because its contract can cite the
+/// box, which is an item of a list.
 fn wrap_by(
     alloc: Global,
     recipient: &Box<dyn Recipient>,

@@ -10,7 +10,6 @@ ghost use Rattle.age_file.specs.Verdict.{answers_by};
 
 use crate::at_source::{AtSource, Origin};
 use crate::fault::Fault;
-use crate::fault_conversions::stream_fault;
 use crate::inspecting::inspect;
 use crate::limits::Limits;
 use crate::unlocking::unlock_header;
@@ -27,8 +26,9 @@ struct HeaderAt<'a, D> {
     at: u64,
 }
 
-/// Reads the header at the start of a source. `K` has the source's contents, the number of bytes
-/// that had been read from it before, and the ghost name of the reference to it.
+/// Reads the header at the start of a source. `K` has what was known of the source before: its
+/// contents, the number of bytes that had been read from it, and the ghost name of the reference to
+/// it.
 fn header_at<'a, D: ReadAt, K: Origin>(
     alloc: Global,
     dev: &'a mut D,
@@ -78,17 +78,18 @@ pub fn opened_ranges<'a, D: ReadAt>(
 ) -> Result<RangeReader<'a, D>, Refused<'a, D, Fault>>
     ensures same_reference { IfOk result
         (λ reader. (source_at_of reader).ghost_name ≡ dev.entry.ghost_name) }
-    // The payload after the file's header, under the key that the identities choose, with its
-    // length; the last chunk is kept, and at most header, nonce and last piece were read. For a
-    // file too the header was read from byte 0 on, and the last chunk was verified under its key.
+    // The reader has the payload after the file's header, under the key that the identities choose,
+    // with its length. It keeps the last chunk; at most header, nonce and last piece were read.
+    // Even of a file, the header was read from byte 0 on, and the last chunk was verified under its
+    // key.
     ensures ranges { IfOk result (λ reader. StartsFileRanges D.bytes D.given D.failed D.gave
         D.found limits.now (answers_by identities.now (λ i s. meaning i s)) dev.old
         (source_at_of reader).now (Ok (chunks_of reader))) }
     ensures handed_back { IfErr result
         (λ refused. (device_of refused).ghost_name ≡ dev.entry.ghost_name) }
-    // The first that applies: the faults of `decrypt` up to a truncated nonce, too many chunks, the
-    // last chunk's; a failed read, which is counted, or out of memory may come before. For a file
-    // too, no refusal of a recipient and no failed write.
+    // The fault is the first that applies: those of `decrypt` up to a truncated nonce, too many
+    // chunks, the last chunk's. A failed read, which is counted, or out of memory may come before.
+    // Even of a file, it is never a recipient's refusal or a failed write.
     ensures refuses { IfErr result (λ refused. StartsFileRanges D.bytes D.given D.failed D.gave
         D.found limits.now (answers_by identities.now (λ i s. meaning i s)) dev.old
         (device_of refused).now (Err (fault_of refused))) }
@@ -105,22 +106,24 @@ pub fn opened_ranges<'a, D: ReadAt>(
         Ok(reader) => Ok(reader),
         Err(refused) => {
             let (dev, fault) = refused.into_parts();
-            Err(Refused::of(dev, stream_fault(fault)))
+            Err(Refused::of(dev, Fault::from(fault)))
         }
     }
 }
 
-/// Opens a file for reading any part of its plaintext (C2SP `age.md`): reads its header from the
-/// source's first byte on, finds the file key, verifies the header's MAC under it, and opens the
-/// payload like `RangeReader::open`. It reads the header, byte by byte, the nonce and the last
+/// Opens a file for reading any part of its plaintext (C2SP `age.md`). Reads the header from the
+/// source's first byte on, byte by byte, finds the file key, and verifies the header's MAC under
+/// it. Then opens the payload as `RangeReader::open` does, which reads the nonce and the last
 /// piece. `opened_ranges` says more about the source after an error.
 ///
 /// # Errors
-/// The first that applies of `NotAge`, `BadLine`, `HeaderTruncated`, `HeaderTooLarge` as `inspect`
-/// says; `MixedPassphrase`; `NoMatch`, `WrongKey`, `Malformed` as `age_recipient::unlock` says;
-/// `BadMac`; `NonceTruncated`; `TooManyChunks`; then `ChunkShort`, `EmptyFinal` or `BadChunk` of
-/// the last piece. `Read` if the source failed, `OutOfMemory` if an allocation was refused or an
-/// identity returned it.
+/// The first that applies of:
+/// - those of `decrypt` up to `NonceTruncated`;
+/// - `TooManyChunks`;
+/// - `ChunkShort`, `EmptyFinal` or `BadChunk` of the last piece.
+///
+/// `Read` if the source failed, `OutOfMemory` if an allocation was refused or an identity returned
+/// it.
 pub fn open_ranges<'a, D: ReadAt>(
     alloc: Global,
     dev: &'a mut D,
@@ -129,11 +132,11 @@ pub fn open_ranges<'a, D: ReadAt>(
 ) -> Result<RangeReader<'a, D>, Fault>
     ensures same_reference { IfOk result
         (λ reader. (source_at_of reader).ghost_name ≡ dev.entry.ghost_name) }
-    // As `opened_ranges`.
+    // As for `opened_ranges`.
     ensures ranges { IfOk result (λ reader. StartsFileRanges D.bytes D.given D.failed D.gave
         D.found limits.now (answers_by identities.now (λ i s. meaning i s)) dev.old
         (source_at_of reader).now (Ok (chunks_of reader))) }
-    // As `opened_ranges`, of some state of the source, which is not handed back.
+    // As for `opened_ranges`, but of some state of the source, which is not handed back.
     ensures refuses { IfErr result (λ fault. (last : D) × StartsFileRanges D.bytes D.given D.failed
         D.gave D.found limits.now (answers_by identities.now (λ i s. meaning i s))
         dev.old last (Err fault)) }

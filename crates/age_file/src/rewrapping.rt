@@ -1,4 +1,4 @@
-//! Replacing the header of a file; the payload stays.
+//! Replacing the header of a file and keeping its payload.
 
 ghost use Rattle.age_header.specs.Device.{CountsIf, flow_by, move_by};
 ghost use Rattle.age_file.specs.Device.{IsQuiet, is_read, is_write};
@@ -10,9 +10,9 @@ use crate::copying::{BUFFER_SIZE, copy_all};
 use crate::fault::Fault;
 use crate::inspecting::inspect;
 use crate::limits::Limits;
-use crate::new_header::header_for;
+use crate::new_header::{header_for, header_text};
 use crate::unlocking::unlock_header;
-use age_header::{Sink, Source, write_header};
+use age_header::{Sink, Source, write_all};
 use age_recipient::{Identity, Recipient};
 use std::alloc::Global;
 
@@ -21,12 +21,14 @@ use std::alloc::Global;
 /// and its secret can still open the file.
 ///
 /// # Errors
-/// The first that applies of `NotAge`, `BadLine`, `HeaderTruncated`, `HeaderTooLarge` as `inspect`
-/// says; `MixedPassphrase`; `NoMatch`, `WrongKey`, `Malformed` as `age_recipient::unlock` says;
-/// `BadMac`; then of the new header, as `encrypt` says: `Refused`, `IncompatibleRecipients`,
-/// `NoRecipients`, `MixedPassphrase`, `HeaderTooLarge`. On these, and on `OutOfMemory`, nothing was
-/// written. `Read` and `Write` if a device failed: a prefix of the new file was written.
-/// `TooManyChunks` if the source returns 2^105 bytes or more, which no payload has.
+/// The first that applies of:
+/// - for the old header, those of `decrypt` up to `BadMac`;
+/// - for the new header, `Refused`, `IncompatibleRecipients`, `NoRecipients`, `MixedPassphrase` and
+///   `HeaderTooLarge`, as for `encrypt`.
+///
+/// On these, and on `OutOfMemory`, nothing was written. `Read` and `Write` if a device failed: a
+/// prefix of the new file was written. `TooManyChunks` if the source returns 2^105 bytes or more,
+/// which no payload has.
 pub fn rewrap<S: Source, W: Sink>(
     alloc: Global,
     input: &mut S,
@@ -35,16 +37,15 @@ pub fn rewrap<S: Source, W: Sink>(
     recipients: &[Box<dyn Recipient>],
     limits: &Limits,
 ) -> Result<(), Fault>
-    // On Ok: the text of the new stanzas with their MAC under the same file key, then every byte
-    // that followed the old header. Otherwise the first that applies: the faults of `decrypt` up to
-    // the MAC, of the old header; those of `encrypt`, of the new one; or out of memory.
-    // If a device failed, nothing or a prefix was written.
+    // On Ok the header of the new stanzas, with their MAC under the same file key, was written,
+    // then every byte that followed the old header. The fault is the first that applies: for the
+    // old header those of `decrypt` up to the MAC, for the new one those of `encrypt`; or out of
+    // memory. If a device failed, nothing or a prefix was written.
     ensures rewraps { Rewraps limits.now (answers_by identities.now (λ i s. meaning i s))
         (gathering_by recipients.now (λ r k. wraps r k) (λ r. the_labels r))
         (flow_by S.to_come S.gave input.old input.new) (move_by W.taken out.old out.new) result }
-    // On a fault of a header or its key, a truncated nonce, a refusal, recipients that do not go
-    // together, no stanza, or out of memory the sink is as it was, whether or not its contents are
-    // known.
+    // On a fault the sink is unchanged, whether or not its contents are known, unless the fault is
+    // a chunk's, `TooManyChunks`, `Read` or `Write`.
     ensures quiet { IsQuiet out.old out.new result }
     ensures reads { CountsIf is_read (S.failed input.old) (S.failed input.new) result }
     ensures writes { CountsIf is_write (W.failed out.old) (W.failed out.new) result }
@@ -61,15 +62,12 @@ pub fn rewrap<S: Source, W: Sink>(
         Ok(new) => new,
         Err(fault) => return Err(fault),
     };
-    let Ok(buf) = vec![in alloc; 0u8; BUFFER_SIZE] else {
-        return Err(Fault::OutOfMemory);
-    };
-    let Ok(()) = write_header(&new, out) else {
+    let text = header_text(alloc, &new)?;
+    let mut buf = vec![in alloc; 0u8; BUFFER_SIZE]?;
+    let Ok(()) = write_all(out, text.as_slice()) else {
         return Err(Fault::Write);
     };
-    let mut buf = buf;
-    // So that with a buffered sink of this size each write but the last begins and ends at a
-    // multiple of it.
-    let first = BUFFER_SIZE - (new.text_len() % BUFFER_SIZE as u64) as usize;
+    // So that each write after it begins at a page of the new file.
+    let first = BUFFER_SIZE - text.len() % BUFFER_SIZE;
     copy_all(input, out, buf.as_mut_slice(), first)
 }

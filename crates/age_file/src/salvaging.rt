@@ -9,7 +9,6 @@ ghost use Rattle.age_file.specs.Salvage.{SalvagesFile};
 ghost use Rattle.age_file.specs.Verdict.{answers_by};
 
 use crate::fault::Fault;
-use crate::fault_conversions::stream_fault;
 use crate::inspecting::inspect;
 use crate::limits::Limits;
 use crate::unlocking::unlock_header;
@@ -18,18 +17,19 @@ use age_recipient::Identity;
 use age_stream::{Losses, Salvaged, salvage_payload};
 use std::alloc::Global;
 
-/// Saves what it can of a damaged file (C2SP `age.md`), which is all bytes left in the source. It
-/// writes the plaintext of each chunk that opens, at its offset, and zeros in the place of each
-/// other, which it reports.
+/// Saves what it can of a damaged file (C2SP `age.md`), which is all bytes left in the source.
+/// Writes, at its offset, the plaintext of every chunk that opens, and zeros in place of every
+/// chunk that does not, which it reports to `losses`.
 ///
-/// Each chunk that was saved is genuine, and stands where it stood in the plaintext. The plaintext
-/// as a whole is genuine only if no chunk was lost and the last piece is the last chunk.
+/// Each chunk that was saved is genuine, and stands where it stood in its plaintext. The plaintext
+/// as a whole can be genuine only if no chunk was lost and the last piece is the last chunk. That
+/// is not enough: `decrypt` may still refuse the file.
 ///
 /// # Errors
 /// Those of `decrypt` up to `NonceTruncated`: nothing was written. `TooManyChunks` if there are
-/// more than the limit, which were written. `Read` and `Write` if a device failed: what was saved
-/// before was written. `OutOfMemory` if an allocation was refused or an identity returned it;
-/// nothing was written.
+/// more chunks than the limit: as many as the limit were written. `Read` and `Write` if a device
+/// failed: a prefix of the saved text was written. `OutOfMemory` if an allocation was refused or an
+/// identity returned it: nothing was written.
 pub fn salvage<S: Source, W: Sink, L: Losses>(
     alloc: Global,
     input: &mut S,
@@ -38,19 +38,21 @@ pub fn salvage<S: Source, W: Sink, L: Losses>(
     identities: &[Box<dyn Identity>],
     limits: &Limits,
 ) -> Result<Salvaged, Fault>
-    // The header, its key and its MAC are judged as by `decrypt`. Then each chunk that opens was
-    // written at its offset, zeros for each other, and each lost chunk was reported, in order. On a
-    // fault only a beginning of this.
+    // Judges the header, its key and its MAC as `decrypt` does. Then writes, at its offset, every
+    // chunk that opens and zeros in place of every chunk that does not, and reports each lost
+    // chunk, in order. On a fault only a beginning of this.
     ensures salvages { SalvagesFile limits.now (answers_by identities.now (λ i s. meaning i s))
         (flow_by S.to_come S.gave input.old input.new) (move_by W.taken out.old out.new)
         (losses_by L.lost losses.old losses.new) result }
-    // Where no chunk is lost none was reported.
+    // If no chunk is lost, none was reported.
     ensures silent { IfOk result (λ s. s.lost ≡ 0 → losses.new ≡ losses.old) }
+    // On a fault the sink is unchanged, whether or not its contents are known, unless the fault is
+    // a chunk's, `TooManyChunks`, `Read` or `Write`.
     ensures quiet { IsQuiet out.old out.new result }
     ensures reads { CountsIf is_read (S.failed input.old) (S.failed input.new) result }
     ensures writes { CountsIf is_write (W.failed out.old) (W.failed out.new) result }
-    // If it ended at piece i, or at a write after 65,536 i bytes: at most the header, the nonce,
-    // the pieces up to and including piece i and one byte were read.
+    // On a fault at piece i, or of a write after 65,536 i bytes: at most the header, the nonce, the
+    // pieces up to and including piece i, and one more byte were read.
     ensures took { IfErr result (TookUpTo limits.now (flow_by S.to_come S.gave input.old input.new)
         (move_by W.taken out.old out.new)) }
 {
@@ -64,6 +66,6 @@ pub fn salvage<S: Source, W: Sink, L: Losses>(
     };
     match salvage_payload(alloc, &key, input, out, losses, limits.max_chunks()) {
         Ok(salvaged) => Ok(salvaged),
-        Err(fault) => Err(stream_fault(fault)),
+        Err(fault) => Err(Fault::from(fault)),
     }
 }

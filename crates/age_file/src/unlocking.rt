@@ -12,23 +12,23 @@ use age_header::{Header, Stanza, mac_of};
 use age_recipient::{FileKey, Identity, SCRYPT_TYPE, UnlockFault, unlock};
 use std::alloc::Global;
 
-/// Finds the file key of a header by these identities, tried in order, and verifies the header's
+/// Finds the file key of a header with these identities, tried in order, and verifies the header's
 /// MAC under it.
 ///
 /// # Errors
-/// The first that applies of `MixedPassphrase`; `NoMatch`, `WrongKey` and `Malformed` as
-/// `age_recipient::unlock` says; `BadMac`. `OutOfMemory` if an allocation was refused or an
-/// identity returned it.
+/// The first that applies of `MixedPassphrase`; `NoMatch`, `WrongKey` and `Malformed`, as for
+/// `age_recipient::unlock`; `BadMac`. `OutOfMemory` if an allocation was refused or an identity
+/// returned it.
 pub fn unlock_header(
     alloc: Global,
     identities: &[Box<dyn Identity>],
     header: &Header,
 ) -> Result<FileKey, Fault>
-    // The file key that the identities choose, if the header's MAC is right under it; otherwise the
-    // first fault, or out of memory.
+    // Returns the file key that the identities choose, if the header's MAC is right under it;
+    // otherwise the first fault, or out of memory.
     ensures key { (result ≡ Err Fault.OutOfMemory)
         ⊎ (result ≡ header_key (answers_by identities.now (λ i s. meaning i s)) header.now) }
-    // It is no device's fault.
+    // The fault is not one of a device.
     ensures no_device { IfErr result IsNoDeviceFault }
 {
     if is_mixed(header.stanzas()) {
@@ -50,9 +50,7 @@ fn checked(
         Ok(key) => key,
         Err(fault) => return Err(unlock_fault(fault)),
     };
-    let Ok(mac) = mac_of(alloc, &key.0, header.stanzas()) else {
-        return Err(Fault::OutOfMemory);
-    };
+    let mac = mac_of(alloc, &key.0, header.stanzas())?;
     if *header.mac() == mac {
         Ok(key)
     } else {

@@ -1,35 +1,34 @@
-use Rattle.std.proofs.Common.{◌≡◌, Err, rules}
+use Rattle.std.proofs.Common.{◌≡◌, rules}
 use Rattle.std.specs.Prelude.{◌≢◌}
-use Rattle.age_commands.proofs.InspectLemmas.{missed, shown, shown_in_part}
+use Rattle.age_header.specs.Device.{Took, WritesPart, move_by}
+use Rattle.age_commands.proofs.InspectLemmas.{missed, shown_of}
 use Rattle.age_commands.specs.declared.inspect.Check.TheVariants.{Bad}
 use Rattle.age_commands.proofs.inspect.inspect.Goals as goal
-use Rattle.age_header.specs.Device.{move_by}
 
 pub returns-in-Err-clause-inspects : goal.returns-in-Err-clause-inspects
 returns-in-Err-clause-inspects g c =
     search (missed, c.limits_of.ensures, rw c.in-Err.is at c.inspect.ensures.verdict)
 
-pub returns-in_err-show-clause-inspects : goal.returns-in_err-show-clause-inspects
-returns-in_err-show-clause-inspects g c =
-    let is : c.from_residual.result ≡ Err c.in_err-show.field-0.0 = search rules in
-    let sink = move_by g.W.Sink.taken c.args.out.now c.show.new.out in
-    rw is (shown_in_part c.args.job.now.raw c.args.file_key.now sink c.limits_of.ensures
-    (rw c.in-Ok.is at c.inspect.ensures.verdict) c.in-Ok-check_of.ensures c.in_err-show.ensures.shows)
+pub returns-in_default-write_all-clause-inspects : goal.returns-in_default-write_all-clause-inspects
+returns-in_default-write_all-clause-inspects g c =
+    let sink = move_by g.W.Sink.taken c.args.out.now c.write_all.new.out in
+    let shown : c.as_slice.result.now ≡ c.in-Ok-shown_of.shown.items = search rules in
+    shown_of c.args.job.now.raw c.args.file_key.now (λ checked text. WritesPart sink text) c.in-Ok-shown_of.shown.items
+    c.limits_of.ensures (rw c.in-Ok.is at c.inspect.ensures.verdict) c.in-Ok-check_of.ensures c.in-Ok-shown_of.ensures
+    (rw shown at c.in_default-write_all.ensures.text)
 
 pub returns-in-Bad-clause-inspects : goal.returns-in-Bad-clause-inspects
 returns-in-Bad-clause-inspects g c =
-    let sink = move_by g.W.Sink.taken c.args.out.now c.show.new.out in
-    shown (λ k. k ≡ Bad) c.args.job.now.raw c.args.file_key.now sink c.limits_of.ensures
-    (rw c.in-Ok.is at c.inspect.ensures.verdict) c.in-Ok-check_of.ensures c.in_ok-show.ensures.shows c.in-Bad.is
+    let sink = move_by g.W.Sink.taken c.args.out.now c.write_all.new.out in
+    let shown : c.as_slice.result.now ≡ c.in-Ok-shown_of.shown.items = search rules in
+    shown_of c.args.job.now.raw c.args.file_key.now (λ checked text. (checked ≡ Bad) × Took sink text)
+    c.in-Ok-shown_of.shown.items c.limits_of.ensures (rw c.in-Ok.is at c.inspect.ensures.verdict)
+    c.in-Ok-check_of.ensures c.in-Ok-shown_of.ensures (c.in-Bad.is, rw shown at c.in-Ok-write_all.ensures.text)
 
-pub returns : goal.returns
-returns g c =
-    let sink = move_by g.W.Sink.taken c.args.out.now c.show.new.out in
-    record {
-      inspects = shown (λ k. k ≢ Bad) c.args.job.now.raw c.args.file_key.now sink c.limits_of.ensures
-          (rw c.in-Ok.is at c.inspect.ensures.verdict) c.in-Ok-check_of.ensures c.in_ok-show.ensures.shows
-          (search rules);
-      quiet = search rules;
-      reads = search rules;
-      writes = search rules;
-    }
+pub returns-clause-inspects : goal.returns-clause-inspects
+returns-clause-inspects g c =
+    let sink = move_by g.W.Sink.taken c.args.out.now c.write_all.new.out in
+    let shown : c.as_slice.result.now ≡ c.in-Ok-shown_of.shown.items = search rules in
+    shown_of c.args.job.now.raw c.args.file_key.now (λ checked text. (checked ≢ Bad) × Took sink text)
+    c.in-Ok-shown_of.shown.items c.limits_of.ensures (rw c.in-Ok.is at c.inspect.ensures.verdict)
+    c.in-Ok-check_of.ensures c.in-Ok-shown_of.ensures (search rules, rw shown at c.in-Ok-write_all.ensures.text)

@@ -1,14 +1,65 @@
-use Rattle.age_commands.proofs.SecretLemmas.{made_reads, secret_meant}
+use Rattle.std.proofs.Common.{◌≡◌, ◌∙◌, ◌∷◌, [], rules, subst, sym}
+use Rattle.age_header.specs.Device.{CountsIf, move_by}
+use Rattle.age_file.specs.Device.{is_read}
+use Rattle.age_commands.specs.Range.{WritesAny}
+use Rattle.age_commands.specs.Secret.{limits_of}
+use Rattle.age_commands.proofs.RangeLemmas.{ranged, unopened}
+use Rattle.age_commands.proofs.SecretLemmas.{answers_meant, made_reads}
 use Rattle.age_commands.proofs.VerifiedLemmas as verified
 use Rattle.age_commands.proofs.range.range_of.Goals as goal
 use Rattle.age_commands.proofs.range.range_of.OwnLists.{own-1, entry-1-1, at-1-1, same-1-1}
 
-pub returns-in-Ok-new-clause-known : goal.returns-in-Ok-new-clause-known
-returns-in-Ok-new-clause-known g c =
-    let same = made_reads own-1 entry-1-1 at-1-1 same-1-1 (λ j y. j.1.meaning y) c.into_dyn_box.ensures.1 in
-    rw (secret_meant same c.in-Ok-new.ensures.ok c.in-Ok.ensures) at c.range_by.ensures.known
+pub returns-in-Ok-opened_ranges-clause-known : goal.returns-in-Ok-opened_ranges-clause-known
+returns-in-Ok-opened_ranges-clause-known g c =
+    let meant = made_reads own-1 entry-1-1 at-1-1 same-1-1 (λ j y. j.1.meaning y) c.into_dyn_box.ensures.1 in
+    let one : c.as_slice.result.now ≡ c.into_dyn_box.result ∷ [] = search rules in
+    let opened = c.in-Ok-opened_ranges.ensures.ranges in
+    let given = g.D.ReadAt.given in
+    let sink = move_by g.W.Sink.taken c.args.out.now c.write_range-written.new.out in
+    ranged (limits_of c.args.job.now) c.args.job.now.at c.args.job.now.len (given c.args.input.now)
+    (given c.in-Ok-opened_ranges.reader.dev.now) sink c.write_range-written.result
+    (answers_meant meant c.in-Ok.ensures) opened.0 (rw (one, c.limits_of.ensures) at opened.1)
+    c.write_range-written.ensures.known
 
-pub returns-in-Ok-new-clause-any : goal.returns-in-Ok-new-clause-any
-returns-in-Ok-new-clause-any g c =
-    let same = made_reads own-1 entry-1-1 at-1-1 same-1-1 (λ j y. j.1.meaning y) c.into_dyn_box.ensures.1 in
-    verified.ranging_meant (secret_meant same c.in-Ok-new.ensures.ok c.in-Ok.ensures) c.range_by.ensures.any
+pub returns-in-Ok-opened_ranges-clause-any : goal.returns-in-Ok-opened_ranges-clause-any
+returns-in-Ok-opened_ranges-clause-any g c =
+    let meant = made_reads own-1 entry-1-1 at-1-1 same-1-1 (λ j y. j.1.meaning y) c.into_dyn_box.ensures.1 in
+    let same = c.into_inner-source.ensures.same_reference ∙ c.write_range-written.ensures.same_reference
+    ∙ c.in-Ok-opened_ranges.ensures.same_reference in
+    let one : c.as_slice.result.now ≡ c.into_dyn_box.result ∷ [] = search rules in
+    verified.ranged c.in-Ok-opened_ranges.reader.dev.now (answers_meant meant c.in-Ok.ensures)
+    (rw (one, c.limits_of.ensures) at c.in-Ok-opened_ranges.ensures.ranges.2)
+    (subst (λ d. WritesAny (g.D.ReadAt.gave d) c.in-Ok-opened_ranges.reader.chunks c.args.job.now.at c.args.job.now.len
+    (move_by g.W.Sink.taken c.args.out.now c.write_range-written.new.out) c.write_range-written.result)
+    (sym c.into_inner-source.ensures.unchanged ∙ (search rules))
+    (c.write_range-written.ensures.any c.in-Ok-opened_ranges.ensures.ranges.3))
+
+pub returns-clause-known : goal.returns-clause-known
+returns-clause-known g c =
+    let meant = made_reads own-1 entry-1-1 at-1-1 same-1-1 (λ j y. j.1.meaning y) c.into_dyn_box.ensures.1 in
+    let one : c.as_slice.result.now ≡ c.into_dyn_box.result ∷ [] = search rules in
+    rw c.fault.ensures.fault
+    (unopened (limits_of c.args.job.now) c.args.job.now.at c.args.job.now.len (g.D.ReadAt.bytes c.args.input.now)
+    (g.W.Sink.taken c.args.out.now)
+    (answers_meant meant c.in-Ok.ensures) (rw (one, c.limits_of.ensures) at c.in-Err.ensures.refuses.misses))
+
+pub returns-clause-any : goal.returns-clause-any
+returns-clause-any g c =
+    rw c.fault.ensures.fault (verified.unopened c.args.job.now.at c.args.job.now.len c.in-Err.ensures.refuses.named)
+
+pub returns-clause-writes : goal.returns-clause-writes
+returns-clause-writes g c =
+    rw c.fault.ensures.fault (search (verified.opens_unwritten, c.in-Err.ensures.refuses.named))
+
+pub returns-in-Ok-opened_ranges-clause-reads : goal.returns-in-Ok-opened_ranges-clause-reads
+returns-in-Ok-opened_ranges-clause-reads g c =
+    let same = c.into_inner-source.ensures.same_reference ∙ c.write_range-written.ensures.same_reference
+    ∙ c.in-Ok-opened_ranges.ensures.same_reference in
+    subst
+    (λ d. CountsIf is_read (g.D.ReadAt.failed c.args.input.now) (g.D.ReadAt.failed d) c.write_range-written.result)
+    (sym c.into_inner-source.ensures.unchanged ∙ (search rules))
+    (rw c.in-Ok-opened_ranges.ensures.ranges.6 at c.write_range-written.ensures.reads)
+
+pub returns-in-Ok-opened_ranges-clause-quiet : goal.returns-in-Ok-opened_ranges-clause-quiet
+returns-in-Ok-opened_ranges-clause-quiet g c =
+    search (verified.quiet_part, c.write_range-written.ensures.any c.in-Ok-opened_ranges.ensures.ranges.3)

@@ -1,17 +1,24 @@
+use Rattle.std.proofs.Common.{◌≡◌, ◌∷◌, [], rules}
 use Rattle.std.proofs.KnownBytes.{Appends-nil}
+use Rattle.age_header.specs.Device.{move_by}
+use Rattle.age_stream.specs.Salvage.{losses_by}
+use Rattle.age_commands.specs.Secret.{limits_of}
 use Rattle.age_header.proofs.DeviceLemmas.{of_any, some_none}
 use Rattle.age_stream.proofs.SalvageLemmas.{reports_none}
-use Rattle.age_commands.proofs.SecretLemmas.{made_reads, salvaging_meant, secret_meant}
+use Rattle.age_commands.proofs.SecretLemmas.{answers_meant, made_reads, salvaging_meant}
 use Rattle.age_commands.proofs.salvage.salvage.Goals as goal
 use Rattle.age_commands.proofs.salvage.salvage.OwnLists.{own-1, entry-1-1, at-1-1, same-1-1}
 
-pub returns-in-Ok-new-clause-salvages : goal.returns-in-Ok-new-clause-salvages
-returns-in-Ok-new-clause-salvages g c =
+pub returns-clause-salvages : goal.returns-clause-salvages
+returns-clause-salvages g c =
     let same = made_reads own-1 entry-1-1 at-1-1 same-1-1 (λ j y. j.1.meaning y) c.into_dyn_box.ensures.1 in
-    search (salvaging_meant, secret_meant same c.in-Ok-new.ensures.ok c.in-Ok.ensures, c.salvage_by.ensures.salvages)
+    let one : c.as_slice.result.now ≡ c.into_dyn_box.result ∷ [] = search rules in
+    salvaging_meant (limits_of c.args.job.now) (move_by g.W.Sink.taken c.args.out.now c.salvage.new.out)
+    (losses_by g.L.Losses.lost c.args.losses.now c.salvage.new.losses) c.salvage.result
+    (answers_meant same c.in-Ok.ensures) (rw (one, c.limits_of.ensures) at c.salvage.ensures.salvages)
 
 pub returns-in_default-clause-salvages : goal.returns-in_default-clause-salvages
 returns-in_default-clause-salvages g c = search (of_any, some_none, Appends-nil, reports_none)
 
-pub returns-clause-salvages : goal.returns-clause-salvages
-returns-clause-salvages g c = search (of_any, some_none, Appends-nil, reports_none)
+pub returns-then-is_err-clause-salvages : goal.returns-then-is_err-clause-salvages
+returns-then-is_err-clause-salvages g c = search (of_any, some_none, Appends-nil, reports_none)

@@ -37,7 +37,7 @@ pub returns-clause-refuses : goal.returns-clause-refuses
 returns-clause-refuses g c =
     let refuses = c.in-Err-started.ensures.refuses in
     let unchanged = c.of-in-Err-started.ensures.unchanged ∙ c.into_parts-dev.ensures.unchanged in
-    let fault = c.of-in-Err-started.ensures.fault ∙ c.stream_fault.ensures
+    let fault = c.of-in-Err-started.ensures.fault ∙ c.from.ensures
     ∙ ap stream_fault c.into_parts-dev.ensures.fault in
     rw (unchanged, fault)
     (search (payload_refuses, c.in-Ok.ensures, c.in-Ok-unlock_header.ensures, c.max_chunks.ensures, refuses))

@@ -1,4 +1,4 @@
-use Rattle.std.proofs.Common.{◌≡◌}
+use Rattle.std.proofs.Common.{◌≡◌, rules}
 use Rattle.age_file.proofs.DecryptLemmas.{headed}
 use Rattle.age_file.proofs.EncryptLemmas.{made}
 use Rattle.age_file.proofs.RewrapLemmas.{begun_rewraps, copied_rewraps, copies_late, heading_rewraps, inspect_rewraps, key_found, locked_rewraps}
@@ -17,21 +17,22 @@ returns-in-Err-header_for-clause-rewraps g c =
     let key = c.in-Ok-unlock_header.ensures.key in
     search (heading_rewraps, headed, key_found, read.verdict, key, c.in-Err-header_for.ensures.err)
 
-pub returns-in_default-write_header-clause-rewraps : goal.returns-in_default-write_header-clause-rewraps
-returns-in_default-write_header-clause-rewraps g c =
-    let wrote = c.in_default-write_header.ensures.text in
+pub returns-in_default-clause-rewraps : goal.returns-in_default-clause-rewraps
+returns-in_default-clause-rewraps g c =
+    let text : c.as_slice.result.now ≡ c.in_ok-text.text.items = search rules in
     let key = c.in-Ok-unlock_header.ensures.key in
-    let header = made c.in-Ok-header_for.ensures.ok wrote.1 in
-    search (begun_rewraps, headed, key_found, c.in-Ok.ensures.verdict, key, header, wrote.2)
+    let header = made c.in-Ok-header_for.ensures.ok c.in_ok-text.ensures in
+    let wrote = rw text at c.in_default.ensures.text in
+    search (begun_rewraps, headed, key_found, c.in-Ok.ensures.verdict, key, header, wrote)
 
 pub returns-clause-rewraps : goal.returns-clause-rewraps
 returns-clause-rewraps g c =
-    let wrote = c.in-Ok-write_header.ensures.text in
-    let read = c.in-Ok.ensures in
+    let text : c.as_slice.result.now ≡ c.in_ok-text.text.items = search rules in
+    let wrote = rw text at c.in-Ok-write_all.ensures.text in
     let key = c.in-Ok-unlock_header.ensures.key in
-    let header = c.in-Ok-header_for.ensures in
+    let header = made c.in-Ok-header_for.ensures.ok c.in_ok-text.ensures in
     let copies = c.copy_all.ensures.copies in
-    search (copied_rewraps, headed, key_found, made, read.verdict, key, header.ok, wrote.1, wrote.2, copies)
+    search (copied_rewraps, headed, key_found, c.in-Ok.ensures.verdict, key, header, wrote, copies)
 
 pub returns-clause-quiet : goal.returns-clause-quiet
 returns-clause-quiet g c = search (copies_late (c.copy_all.new.out ≡ c.args.out.now), c.copy_all.ensures.copies)

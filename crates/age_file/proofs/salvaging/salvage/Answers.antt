@@ -25,7 +25,7 @@ pub returns-clause-salvages : goal.returns-clause-salvages
 returns-clause-salvages g c =
     let answers = answers_by c.args.identities.now
     (λ i s. (goal.Identity-dyn g (i.vtable, i.value)).meaning i.value s) in
-    rw c.stream_fault.ensures
+    rw c.from.ensures
     (payload_salvages (Err c.in-Err-salvage_payload.fault) answers
     (move_by g.W.Sink.taken c.args.out.now c.salvage_payload.new.out)
     (losses_by g.L.Losses.lost c.args.losses.now c.salvage_payload.new.losses) c.in-Ok.ensures.verdict
@@ -33,15 +33,15 @@ returns-clause-salvages g c =
 
 pub returns-clause-took : goal.returns-clause-took
 returns-clause-took g c =
-    rw c.stream_fault.ensures
+    rw c.from.ensures
     (search (salvage_takes, c.in-Ok.ensures, c.max_chunks.ensures, c.in-Err-salvage_payload.ensures))
 
 pub returns-clause-quiet : goal.returns-clause-quiet
 returns-clause-quiet g c =
-    rw c.stream_fault.ensures
+    rw c.from.ensures
     (quiet_pieces c.in-Err-salvage_payload.fault c.in-Err-salvage_payload.ensures.quiet)
 
 pub returns-clause-reads : goal.returns-clause-reads
 returns-clause-reads g c =
-    rw (c.stream_fault.ensures, sym c.in-Ok.ensures.reads)
+    rw (c.from.ensures, sym c.in-Ok.ensures.reads)
     (search (reads_file, c.in-Err-salvage_payload.ensures.reads))

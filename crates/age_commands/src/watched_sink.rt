@@ -1,0 +1,95 @@
+//! The sink of a command's output.
+ghost use Rattle.std.specs.Prelude.{◌≡◌, ◌≢◌, ◌+◌, ◌-◌, ◌^◌, min, Err};
+ghost use Rattle.age_commands.specs.Output.{Ends};
+
+use age_file::{DeviceFault, Fault, Sink};
+use std::io;
+use std::io::Write;
+use std::marker::{Brand, PhantomData};
+
+/// The ghost name of the reference that a sink has. The clauses of `Sink` do not mention it, so
+/// after generic code only this says that the sink still has the same writer.
+pub trait Borrowed {
+    ghost use Rattle.std.specs.Prelude.{ℕ};
+
+    ghost name: { ℕ };
+}
+
+impl Borrowed for Brand {
+    ghost name = { 0 };
+}
+
+/// A sink over a writer that keeps the reason of its last failed write. No write is tried again.
+#[derive(Drop)]
+pub struct WatchedSink<'a, W, K: Borrowed> {
+    pub writer: &'a mut W,
+    failures: u64,
+    /// Why the last failed write failed, if the system said so.
+    pub reason: Option<io::Error>,
+    borrowed: PhantomData<K>,
+    ghost same: { writer.ghost_name ≡ K.name },
+}
+
+impl<'a, W: Write, K: Borrowed> WatchedSink<'a, W, K> {
+    /// Makes a sink to this writer.
+    pub fn new(writer: &'a mut W) -> WatchedSink<'a, W, K>
+        requires { K.name ≡ writer.ghost_name }
+        // What it takes is what the writer takes.
+        ensures { result.writer.now ≡ writer.old }
+    {
+        WatchedSink {
+            writer,
+            failures: 0,
+            reason: None,
+            borrowed: PhantomData,
+        }
+    }
+
+    /// Ends work with this result: flushes the writer, unless a write has failed. So verified
+    /// chunks arrive after a fault too. A failed flush replaces the fault.
+    pub fn finish(&mut self, work: Result<(), Fault>) -> Result<(), Fault>
+        ensures ends { Ends (W.contents self.old.writer.now) (W.contents self.new.writer.now) work
+            result }
+        // A failed flush is counted as a failed write, and returned as one.
+        ensures counted { self.new.failures ≢ self.old.failures → result ≡ Err Fault.Write }
+    {
+        if work == Err(Fault::Write) {
+            return work;
+        }
+        match self.writer.flush() {
+            Ok(()) => work,
+            Err(reason) => {
+                self.fail(Some(reason));
+                Err(Fault::Write)
+            }
+        }
+    }
+
+    /// Counts a failed write, and keeps its reason.
+    fn fail(&mut self, reason: Option<io::Error>) -> DeviceFault
+        ensures writer { self.new.writer.now ≡ self.old.writer.now }
+        ensures count { self.new.failures ≡ min (self.old.failures + 1) (2 ^ 64 - 1) }
+    {
+        self.failures = self.failures.saturating_add(1);
+        self.reason = reason;
+        DeviceFault
+    }
+}
+
+impl<'a, W: Write, K: Borrowed> Sink for WatchedSink<'a, W, K> {
+    ghost failed = { λ s. s.failures };
+
+    ghost taken = { λ s. W.contents s.writer.now };
+
+    fn write(&mut self, piece: &[u8]) -> Result<usize, DeviceFault> {
+        match self.writer.write(piece) {
+            Ok(n) if n > 0 || piece.is_empty() => Ok(n),
+            Ok(_) => Err(self.fail(None)),
+            Err(reason) => Err(self.fail(Some(reason))),
+        }
+    }
+
+    fn failures(&self) -> u64 {
+        self.failures
+    }
+}
