@@ -171,40 +171,53 @@ Libs: -L\${libdir} -lagefile
 END
 }
 
-# Proves the library for C, and builds it for a processor, to `archive`:
-# build_library WHO PROCESSOR.
+# The levels of processor that the library holds, and that the program is packed for. Debian and
+# most distributions have the level x86-64.
+levels="x86-64 x86-64-v3"
+
+# Proves the library for C, and builds it for each level, to out/LEVEL.a: build_library WHO.
 build_library() {
     crate=$root/crates/agefile
-    archive=$crate/out/$2.a
-    archived=$crate/out/$2.built
-    ! is_current "$archive" "$archived" "$2" || return 0
-    need_rt "$1" library
-    echo "$1: building the library; its proofs are checked first" >&2
-    began=$(mktemp)
-    libraries age_file
-    if ! said=$(cd "$crate" && rt lib --cpu "$2" 2>&1 </dev/null); then
+    for level in $levels; do
+        archived=$crate/out/$level.built
+        ! is_current "$crate/out/$level.a" "$archived" "$level" || continue
+        need_rt "$1" library
+        echo "$1: building the library for $level; its proofs are checked first" >&2
+        began=$(mktemp)
+        libraries age_file
+        if ! said=$(cd "$crate" && rt lib --cpu "$level" 2>&1 </dev/null); then
+            rm -f "$began"
+            printf '%s\n' "$said" >&2
+            echo "$1: the build failed" >&2
+            exit 1
+        fi
+        cp "$crate/out/libagefile.a" "$crate/out/$level.a"
+        mark "$archived" "$level" "$began"
         rm -f "$began"
-        printf '%s\n' "$said" >&2
-        echo "$1: the build failed" >&2
-        exit 1
-    fi
-    cp "$crate/out/libagefile.a" "$archive"
-    mark "$archived" "$2" "$began"
-    rm -f "$began"
+    done
 }
 
 # Makes the archive and the shared library of what build_library built, in a folder: link_library
-# FOLDER. Both are one object, in which no other name is global. Three functions of C that allocate
-# come from the toolchain.
+# FOLDER. Both are one object, in which no other name is global: the functions of agefile.c, and the
+# two builds that they call, where agefile_NAME is x86_64_agefile_NAME or x86_64_v3_agefile_NAME.
+# Three functions of C that allocate come from the toolchain.
 link_library() {
-    mkdir -p "$1"
-    "${CC:-cc}" -nostdlib -r -o "$1/whole.o" -Wl,--whole-archive "$archive" \
-        "$(dirname "$(rt doc)")/c/liblibc_c.a"
-    objcopy --wildcard --keep-global-symbol='agefile_*' "$1/whole.o" "$1/agefile.o"
+    parts=$1/parts
+    mkdir -p "$parts"
+    for level in $levels; do
+        nm -g --defined-only "$crate/out/$level.a" |
+            sed -n "s/.* \(agefile_.*\)/\1 $(echo "$level" | tr - _)_\1/p" >"$parts/names"
+        objcopy --redefine-syms="$parts/names" "$crate/out/$level.a" "$parts/$level.a"
+    done
+    "${CC:-cc}" -O2 -fPIC -march=x86-64 -fno-stack-protector -c -o "$parts/calls.o" \
+        "$root/bindings/c/agefile.c"
+    "${CC:-cc}" -nostdlib -r -o "$parts/whole.o" "$parts/calls.o" \
+        -Wl,--whole-archive "$parts"/x86-64*.a "$(dirname "$(rt doc)")/c/liblibc_c.a"
+    objcopy --wildcard --keep-global-symbol='agefile_*' "$parts/whole.o" "$parts/agefile.o"
     rm -f "$1/libagefile.a"
-    ar rcs "$1/libagefile.a" "$1/agefile.o"
-    echo "AGEFILE_${soname##*.} { global: agefile_*; local: *; };" >"$1/names"
-    "${CC:-cc}" -shared -o "$1/$soname" "$1/agefile.o" -Wl,-soname,$soname \
-        -Wl,--version-script="$1/names" -Wl,--gc-sections -Wl,-z,relro,-z,now,-z,defs
-    rm -f "$1/whole.o" "$1/agefile.o" "$1/names"
+    ar rcs "$1/libagefile.a" "$parts/agefile.o"
+    echo "AGEFILE_${soname##*.} { global: agefile_*; local: *; };" >"$parts/names"
+    "${CC:-cc}" -shared -o "$1/$soname" "$parts/agefile.o" -Wl,-soname,$soname \
+        -Wl,--version-script="$parts/names" -Wl,--gc-sections -Wl,-z,relro,-z,now,-z,defs
+    rm -r "$parts"
 }

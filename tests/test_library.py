@@ -26,13 +26,11 @@ TESTS = ROOT / "tests/library"
 HEADER = ROOT / "bindings/c/agefile.h"
 EXAMPLES = ROOT / "bindings/c/examples"
 SONAME = "libagefile.so.1"
-# The library that is tested is the one that the packages have.
-LEVEL = {"AGEP_CPU": "x86-64"}
 WARNINGS = ("-Wall", "-Wextra", "-Wpedantic", "-Werror")
 REFUSING = ("-Wl,--wrap=malloc,--wrap=realloc,--wrap=free",)
 SIZES = (0, 1, 65535, 65536, 65537, 131072, 131073, 200000)
 USAGE = """usage: ./install [--uninstall] [PREFIX]
-       ./install --library [--libdir=DIR] [--v3] [--uninstall] [PREFIX]
+       ./install --library [--libdir=DIR] [--uninstall] [PREFIX]
 """
 # How many random calls are made here. 100,000 take a quarter of an hour:
 # tests/library/random_calls.py DRIVER 100000
@@ -80,15 +78,33 @@ def prefix():
     folder = work() / "prefix"
     (folder / "include").mkdir(parents=True)
     (folder / "include/other.h").touch(0o644)
-    done = run(ROOT / "install", "--library", folder, umask=0o077, env=os.environ | LEVEL, status=0)
-    building = b"install: building the library; its proofs are checked first\n"
-    if done.stderr not in (b"", building):
+    done = run(ROOT / "install", "--library", folder, umask=0o077, status=0)
+    if not re.fullmatch(rb"(install: building the library for x86-64(-v3)?; its proofs are checked first\n)*", done.stderr):
         raise AssertionError(done.stderr)
     return folder
 
 
 def archive():
     return prefix() / "lib/libagefile.a"
+
+
+@functools.cache
+def older():
+    """The same on a processor without the level x86-64-v3: here cpuid tells nothing."""
+    (work() / "older.h").write_text("#include <cpuid.h>\n#define __get_cpuid(...) 0\n")
+    (work() / "older_cc").write_text(f'#!/bin/sh\nexec cc -include {work()}/older.h "$@"\n')
+    (work() / "older_cc").chmod(0o755)
+    run(ROOT / "install", "--library", work() / "older", env=os.environ | {"CC": str(work() / "older_cc")}, status=0)
+    return work() / "older/lib/libagefile.a"
+
+
+def has_v3():
+    return run("sh", "-c", f'root={ROOT}; . "$root/share/build.sh"; has_v3').returncode == 0
+
+
+def both_builds():
+    """Archives with what calls each build of the proved code that this processor can run."""
+    return {"": (archive(),), "as on an older processor": (older(),)} if has_v3() else {"": (archive(),)}
 
 
 def files_of(folder):
@@ -113,7 +129,7 @@ def sanitizers():
 def built(name, *flags, source=None, compiler="cc", library=None):
     """A program of tests/library/, built without a warning: `name` is what it is called here."""
     source = source or TESTS / f"{name}.c"
-    made = work() / "-".join([name, compiler, *re.findall(r"\w+", "".join(flags))])[:200]
+    made = work() / "-".join([name, compiler, *re.findall(r"\w+", "".join(map(str, flags + (library or ()))))])[:200]
     language = ("-x", "c++", "-std=c++11") if compiler == "c++" else ()
     words = (*flags, *WARNINGS, f"-I{prefix()}/include", *language, source, *(("-x", "none") if language else ()))
     run(compiler, "-g", "-pthread", "-o", made, *words, *(library or (archive(),)), status=0)
@@ -166,7 +182,7 @@ class Installing(unittest.TestCase):
 class Names(unittest.TestCase):
     def test_names(self):
         """Archive and shared library have just the names of the header."""
-        declared = re.findall(r"^uint(?:32|64)_t agefile_(?:export_)?(\w+)\(", HEADER.read_text(), re.M)
+        declared = re.findall(r"^uint(?:32|64)_t agefile_(\w+)\(", HEADER.read_text(), re.M)
         expected = sorted("agefile_" + name for name in declared)
         self.assertEqual(len(expected), 25)
         self.assertEqual(names_in("-g", "--defined-only", archive()), expected)
@@ -193,46 +209,61 @@ class Folders(unittest.TestCase):
     def setUp(self):
         self.staged = work() / "staged"
         self.libraries = self.staged / "usr/lib/x86_64-linux-gnu"
-        self.second = self.libraries / "glibc-hwcaps/x86-64-v3" / SONAME
-        self.environment = os.environ | LEVEL | {"DESTDIR": str(self.staged)}
+        self.environment = os.environ | {"DESTDIR": str(self.staged)}
 
     def install(self, *words):
         return run(ROOT / "install", "--library", "--libdir=lib/x86_64-linux-gnu", *words, "/usr", env=self.environment, status=0)
 
-    def loaded(self, program, *words):
-        loader = re.search(r"interpreter: (.*)\]", said("readelf", "-Wl", program))[1]
-        return re.search(rf"{SONAME} => (.*) \(", said(loader, *words, "--list", program))[1]
-
     def test_folders(self):
-        """DESTDIR, --libdir and --v3: the files, and which library the loader takes."""
-        self.install("--v3")
+        """DESTDIR and --libdir: the files, and an earlier library that the loader would take."""
         folder = "lib/x86_64-linux-gnu"
-        self.assertEqual(files_of(self.staged / "usr"), [
-            "644 include/agefile.h", f"755 {folder}/glibc-hwcaps/x86-64-v3/{SONAME}", f"644 {folder}/libagefile.a", f"{folder}/libagefile.so -> {SONAME}",
-            f"755 {folder}/{SONAME}", f"644 {folder}/pkgconfig/agefile.pc",
-        ])
-        self.assertIn("%ymm", said("objdump", "-d", self.second))
-        self.assertNotIn("%ymm", said("objdump", "-d", self.libraries / SONAME))
-        names = [names_in("-D", "--defined-only", path) for path in (self.second, self.libraries / SONAME, prefix() / "lib" / SONAME)]
-        self.assertEqual(names, [names[0]] * 3)
-        self.loads()
-        # Without --v3 no older library stays that the loader would take.
-        self.install()
-        self.assertFalse(self.second.exists())
-        self.install("--v3")
-        self.assertEqual(self.install("--uninstall").stderr, b"")
+        second = self.libraries / "glibc-hwcaps/x86-64-v3" / SONAME
+        for uninstalled in (False, True):
+            second.parent.mkdir(parents=True)
+            second.touch()
+            self.assertEqual(self.install(*["--uninstall"] * uninstalled).stderr, b"")
+            self.assertFalse(second.parent.parent.exists())
+            self.assertEqual(files_of(self.staged / "usr"), [] if uninstalled else [
+                "644 include/agefile.h", f"644 {folder}/libagefile.a", f"{folder}/libagefile.so -> {SONAME}", f"755 {folder}/{SONAME}",
+                f"644 {folder}/pkgconfig/agefile.pc",
+            ])
+            if not uninstalled:
+                stream = with_pkg_config("staged_stream", self.libraries)
+                self.assertIn("agefile_seal_next@AGEFILE_1", said("nm", "-D", stream))
+                self.assertEqual(opened_by(stream, sealed_by(stream, b"text")), b"text")
         self.assertEqual(sorted(path.name for path in (self.staged / "usr").rglob("*")), ["include", "lib"])
 
-    def loads(self):
-        stream = with_pkg_config("staged_stream", self.libraries)
-        self.assertIn("agefile_seal_next@AGEFILE_1", said("nm", "-D", stream))
-        loader = re.search(r"interpreter: (.*)\]", said("readelf", "-Wl", stream))[1]
-        if "--glibc-hwcaps-mask" not in said(loader, "--help"):
-            return
-        self.assertEqual(self.loaded(stream, "--glibc-hwcaps-mask", "x86-64-v2"), str(self.libraries / SONAME))
-        if run("sh", "-c", f'root={ROOT}; . "$root/share/build.sh"; has_v3').returncode == 0:
-            self.assertEqual(self.loaded(stream), str(self.second))
-            self.assertEqual(opened_by(stream, sealed_by(stream, b"text")), b"text")
+
+class Processors(unittest.TestCase):
+    """Which build of the proved code is called."""
+
+    def passed(self, *flags):
+        """A program that prints the build that agefile.c calls, and fails if it passes a null pointer."""
+        source = (ROOT / "bindings/c/agefile.c", "-ffunction-sections", "-Wl,--gc-sections")
+        return built("passed", *flags, "-Wno-unused-parameter", library=source)
+
+    def test_this_processor(self):
+        """The build that fits is called, with no null pointer."""
+        self.assertEqual(said(self.passed(*sanitizers())), "x86-64-v3\n" if has_v3() else "x86-64\n")
+        self.assertEqual(said(self.passed(f"-include{older().parents[2]}/older.h")), "x86-64\n")
+
+    @needs("qemu-x86_64")
+    def test_other_processors(self):
+        """The build for x86-64-v3 is called where no part of that level is missing."""
+        parts = "pni ssse3 fma cx16 sse4.1 sse4.2 movbe popcnt xsave avx f16c lahf-lm abm bmi1 avx2 bmi2"
+        for processor in ("Haswell", "qemu64", "Nehalem", *(f"Haswell,-{part}" for part in parts.split())):
+            with self.subTest(processor):
+                found = said("qemu-x86_64", "-cpu", processor, self.passed("-O2"))
+                self.assertEqual(found, "x86-64-v3\n" if processor == "Haswell" else "x86-64\n")
+
+    @needs("qemu-x86_64")
+    def test_files_of_others(self):
+        """Other processors make files, by the archive and by the shared library."""
+        for program in (with_pkg_config("stream_shared", prefix() / "lib"), built("stream", "-O2", source=EXAMPLES / "stream.c")):
+            for processor in ("qemu64", "Nehalem", "Haswell"):
+                with self.subTest(f"{program.name} {processor}"):
+                    done = run("qemu-x86_64", "-cpu", processor, program, "-e", work() / "key", input=b"text" * 30000, status=0)
+                    self.assertEqual(opened_by(program, done.stdout), b"text" * 30000)
 
 
 def with_pkg_config(name, libraries):
@@ -286,9 +317,8 @@ class Declarations(unittest.TestCase):
             ("a slice of an export", "crates/agefile/src/listing.rt", "stanzas: &mut [StanzaSummary]", "stanzas: &mut [u8]", header),
             ("a type in the header", header, "uint64_t count", "uint32_t count", header),
             ("an order in the header", header, "const agefile_ranges *ranges, uint64_t at", "uint64_t at, const agefile_ranges *ranges", header),
-            ("an export behind a call", header, '__asm__("agefile_open_next")', '__asm__("agefile_seal_next")', header),
-            ("a parameter that may be null", header, 'AGEFILE_CALL("decrypt", (3, 6))', 'AGEFILE_CALL("decrypt", (3))', header),
-            ("a convenience's parameter that may be null", header, "AGEFILE_NONNULL((3, 4, 7))", "AGEFILE_NONNULL((3, 7))", header),
+            ("a parameter that may be null", header, "AGEFILE_CALL((5, 6, 9))", "AGEFILE_CALL((5, 9))", header),
+            ("a convenience's parameter that may be null", header, "AGEFILE_CALL((3, 4, 7))", "AGEFILE_CALL((3, 7))", header),
             ("a struct's size in the header", header, "uint8_t mac[32]", "uint8_t mac[24]", header),
             ("a struct's order in the header", header, "    uint64_t first;      /* the offset of the first sealed chunk */\n", "", header),
             ("a type in Python", python, '"take_part": (_pointer(Payload), number,', '"take_part": (_pointer(Payload), byte,', python),
@@ -389,25 +419,27 @@ class Calls(unittest.TestCase):
                     done = run(program, name, env=os.environ | placing)
                     self.assertEqual((done.returncode, done.stderr), (0, b""), done.stdout.decode() + done.stderr.decode())
 
+    def by_both_builds(self, name, *flags):
+        for title, library in both_builds().items():
+            self.each_test(built(name, *sanitizers(), *flags, library=library), f"{name} {title}".strip())
+
     def test_buffers(self):
-        self.each_test(built("buffers", *sanitizers()), "buffers")
+        self.by_both_builds("buffers")
 
     def test_steps(self):
-        self.each_test(built("steps", *sanitizers()), "steps")
+        self.by_both_builds("steps")
 
     def test_headers(self):
-        self.each_test(built("headers", *sanitizers()), "headers")
+        self.by_both_builds("headers")
 
     def test_refused_allocations(self):
-        self.each_test(built("refuse", *sanitizers(), *REFUSING), "refuse")
+        self.by_both_builds("refuse", *REFUSING)
 
     def test_null_pointers(self):
         self.each_test(built("nulls", *sanitizers()), "nulls")
-        self.each_test(built("nulls", "-O2"), "nulls, inlined")
+        self.each_test(built("nulls", "-O2"), "nulls, optimized")
         if shutil.which("c++"):
             self.each_test(built("nulls", *sanitizers(), compiler="c++"), "nulls in C++")
-        done = run(built("passed", "-Wno-unused-parameter", library=("-g",)))
-        self.assertEqual((done.returncode, done.stdout), (0, b""))
 
     def test_headers_of_age(self):
         """The stanzas of files of age are listed as the lines that they were."""
@@ -418,23 +450,27 @@ class Calls(unittest.TestCase):
 
     def test_second_compiler(self):
         """The archive as Rattle's own compiler makes it: a fault of one of the two compilers shows."""
-        made, kept, second = ROOT / "crates/agefile/out/libagefile.a", work() / "kept.a", work() / "second.a"
+        made, kept, second = ROOT / "crates/agefile/out/libagefile.a", work() / "kept.a", work() / "second"
+        (second / "out").mkdir(parents=True)
         shutil.copy2(made, kept)
         try:
             run("rt", "lib", "--backend", "rattle", cwd=ROOT / "crates/agefile", status=0)
-            shutil.move(made, second)
+            for level in ("x86-64", "x86-64-v3"):
+                shutil.copy(made, second / f"out/{level}.a")
         finally:
             shutil.copy2(kept, made)
-        library = (second, Path(said("rt", "doc").strip()).parent / "c/liblibc_c.a")
+        run("sh", "-c", 'root=$0 crate=$1; . "$root/share/build.sh"; link_library "$crate"', ROOT, second, status=0)
         for name in ("buffers", "steps", "headers"):
-            self.each_test(built(name, "-O1", library=library), f"{name}, second compiler")
+            self.each_test(built(name, "-O1", library=(second / "libagefile.a",)), f"{name}, second compiler")
 
     def test_random_calls(self):
         """Random calls agree with a model of the library in Python."""
-        driver = built("driver", *sanitizers(), *REFUSING)
-        done = run(sys.executable, TESTS / "random_calls.py", driver, RANDOM_CALLS)
-        self.assertEqual((done.returncode, done.stderr), (0, b""), done.stdout.decode() + done.stderr.decode())
-        self.assertIn(f"{RANDOM_CALLS} calls; ", done.stdout.decode())
+        for title, library in both_builds().items():
+            with self.subTest(title):
+                driver = built("driver", *sanitizers(), *REFUSING, library=library)
+                done = run(sys.executable, TESTS / "random_calls.py", driver, RANDOM_CALLS)
+                self.assertEqual((done.returncode, done.stderr), (0, b""), done.stdout.decode() + done.stderr.decode())
+                self.assertIn(f"{RANDOM_CALLS} calls; ", done.stdout.decode())
 
     def test_a_wrong_library_is_found(self):
         """Random calls tell a library that takes, writes, reports or returns something else from a right one."""
@@ -456,7 +492,8 @@ class Calls(unittest.TestCase):
 
     def test_threads(self):
         """Eight threads at once and a forked child; at most 24 of 32 KiB of stack, no signal's handler changed."""
-        self.assertGreater(int(said(built("threads", "-O2"))), 0)
+        for library in both_builds().values():
+            self.assertGreater(int(said(built("threads", "-O2", library=library))), 0)
 
 
 class WithTheProgram(unittest.TestCase):

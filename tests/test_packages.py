@@ -188,7 +188,7 @@ class Packages(unittest.TestCase):
         root = self.unpacked("*.deb", "*.whl")
         files = [path for path in root.rglob("*") if path.is_file() and path.read_bytes()[:4] == b"\x7fELF"]
         libraries = {path for path in files if ".so" in path.name}
-        self.assertEqual((len(libraries), len(files)), (5, 8))
+        self.assertEqual((len(libraries), len(files)), (3, 6))
         self.assertEqual(max(glibc(path) for path in libraries), GLIBC_OF_LIBRARY)
         self.assertEqual(max(glibc(path) for path in files), GLIBC)
         (facts,) = self.unpacked("*.whl").glob("*.dist-info")

@@ -33,7 +33,7 @@ def texts(root):
     """Each generated text by its name, in the order of the header."""
     sources = "".join(file.read_text() for file in sorted((root / "crates/agefile/src").glob("*.rt")))
     exports = {name: (list(_parameters(text)), result) for name, text, result in EXPORT.findall(sources)}
-    order = re.findall(r"^(?:static inline )?uint\d+_t agefile_(\w+)\(", (root / "bindings/c/agefile.h").read_text(), re.M)
+    order = re.findall(r"^uint\d+_t agefile_(\w+)\(", (root / "bindings/c/agefile.h").read_text(), re.M)
     rust = python = ""
     for name in sorted(exports, key=order.index):
         parameters, result = exports[name]

@@ -4,7 +4,6 @@
 
 The exports and structs of the crate, those of agefile.h, of bindings/python/agefile/_library.py and of
 bindings/rust/src/ffi.rs are brought into one form, a line for each function and each field, and compared.
-The header's own functions over several exports are compared with their bodies.
 Where two differ the difference is printed, and the status is 1. ROOT is the repository.
 """
 
@@ -207,17 +206,17 @@ def c_parameter(tokens):
     return name, mark + kind
 
 
+def c_attributes(tokens):
+    attributes = []
+    while tokens.take("__attribute__"):
+        attributes += tokens.group()
+    return attributes
+
+
 def c_function(tokens):
-    """The name, parameters, result, label and attributes of a function."""
+    """The name, parameters and result of a function."""
     result, name = WORDS[tokens.next()], tokens.next()
-    parameters = [c_parameter(part) for part in split(tokens.group()) if part != ["void"]]
-    label, attributes = None, []
-    while tokens.peek() in ("__asm__", "__attribute__"):
-        if tokens.next() == "__asm__":
-            label = "".join(token.strip('"') for token in tokens.group())
-        else:
-            attributes += tokens.group()
-    return name, (parameters, result), label, attributes
+    return name, ([c_parameter(part) for part in split(tokens.group()) if part != ["void"]], result)
 
 
 def header_lines(root):
@@ -234,11 +233,10 @@ def header_lines(root):
 
 
 class Header:
-    """What agefile.h declares: its calls of exports, its own functions over several of these, the bodies
-    of both, exports, attributes, structs."""
+    """What agefile.h declares: exports, its own functions over two of these, attributes, structs."""
 
     def __init__(self, root):
-        self.calls, self.own, self.bodies, self.exports, self.structs = {}, {}, {}, {}, {}
+        self.exports, self.own, self.structs = {}, {}, {}
         self.nonnull, self.used = {}, set()
         tokens = Tokens(tokens_of(header_lines(root)))
         while tokens.peek() is not None:
@@ -255,23 +253,21 @@ class Header:
                 self.function(tokens)
 
     def function(self, tokens):
-        is_static = tokens.take("static", "inline")
-        if tokens.peek() not in ("uint32_t", "uint64_t"):
+        attributes = c_attributes(tokens)
+        is_own = tokens.take("static", "inline")
+        if is_own and not attributes:
             while tokens.peek() != "{":
                 tokens.next()
             tokens.group()
             return
-        name, function, label, attributes = c_function(tokens)
-        if tokens.peek() == "{":
+        name, function = c_function(tokens)
+        self.attribute(name, Tokens(attributes + c_attributes(tokens)))
+        if is_own:
             tokens.group()
-            self.bodies[name] = function
-            return
-        tokens.need(";")
-        if not is_static:
-            self.exports[label or name] = function
-        if is_static or label is None:
-            (self.own if is_static and label is None else self.calls)[name] = function
-            self.attribute(name, Tokens(attributes))
+            self.own[name] = function
+        else:
+            tokens.need(";")
+            self.exports[name] = function
 
     def attribute(self, name, tokens):
         while tokens.peek() is not None:
@@ -395,23 +391,14 @@ def nonnull_of(parameters):
 
 def compare_header(root, functions, layouts):
     header = Header(root)
-    expected = function_lines(functions)
-    wrapped = {name: function for name, function in functions.items() if has_length(function)} | header.own
-    bodies = {name: function for name, function in header.bodies.items() if name != "agefile_null_pointer"}
     pointers = {name: nonnull_of(function[0]) for name, function in (functions | header.own).items()}
     rows = [f"{name} {places}" for name, places in sorted(pointers.items()) if places]
     return [
-        is_same("exports", expected, "bindings/c/agefile.h", function_lines(header.exports)),
-        is_same("calls", expected, "bindings/c/agefile.h", function_lines(header.calls)),
-        is_same("calls that check pointers", function_lines(wrapped), "bindings/c/agefile.h", function_lines(bodies)),
+        is_same("exports", function_lines(functions), "bindings/c/agefile.h", function_lines(header.exports)),
         is_same("pointers not null", rows, "bindings/c/agefile.h", [f"{name} {places}" for name, places in sorted(header.nonnull.items())]),
         is_same("results that are used", sorted(functions | header.own), "bindings/c/agefile.h", sorted(header.used)),
         is_same("structs", struct_lines(layouts), "bindings/c/agefile.h", struct_lines(compiled(root, header.structs))),
     ]
-
-
-def has_length(function):
-    return any(kind == "usize" for _, kind in function[0])
 
 
 def compare_python(root, functions, layouts):

@@ -1,14 +1,15 @@
-// Stands in place of the library, and looks at what the header's calls pass to it where each pointer
-// that a length follows is null, and each of these lengths is 0: the library's own functions take no
-// null pointer. Prints the calls that pass one.
+// Stands in place of the two builds of the proved code, and looks at what agefile.c passes to them
+// where each pointer that a length follows is null, and each of these lengths is 0: the proved code
+// takes no null pointer. Prints the calls that pass one, and which build was called.
 #include <agefile.h>
 #include <stdio.h>
 
-static int seen, failed;
+static int seen, seen_by_v3, failed;
 
-static uint32_t look(const char *call, const void *first, const void *second, const void *third)
+static uint32_t look(const char *call, bool by_v3, const void *first, const void *second, const void *third)
 {
     seen++;
+    seen_by_v3 += by_v3;
     if (first == NULL || second == NULL || third == NULL) {
         failed++;
         puts(call);
@@ -16,10 +17,11 @@ static uint32_t look(const char *call, const void *first, const void *second, co
     return AGEFILE_OK;
 }
 
-// The functions of the library, each with the pointers that a length follows, and the report in the
+// The functions of both builds, each with the pointers that a length follows, and the report in the
 // places that are left.
-#define STANDS_IN(name, parameters, ...) \
-    uint32_t agefile_export_##name parameters { return look(#name, __VA_ARGS__); }
+#define STANDS_IN(name, parameters, ...)                                                   \
+    uint32_t x86_64_agefile_##name parameters { return look(#name, false, __VA_ARGS__); }  \
+    uint32_t x86_64_v3_agefile_##name parameters { return look(#name, true, __VA_ARGS__); }
 
 STANDS_IN(inspect,
           (const uint8_t *front, size_t front_len, agefile_summary *summary, agefile_report *report),
@@ -112,5 +114,6 @@ int main(void)
     codes |= agefile_decrypt_key(NULL, 0, secret, NULL, 0, &report);
     codes |= agefile_encrypt_passphrase(NULL, 0, NULL, 0, 1, secret, NULL, 0, &report);
     codes |= agefile_encrypt_key(NULL, 0, secret, secret, NULL, 0, &report);
-    return failed != 0 || codes != AGEFILE_OK || seen != 27;
+    puts(seen_by_v3 == 0 ? "x86-64" : "x86-64-v3");
+    return failed != 0 || codes != AGEFILE_OK || seen != 27 || (seen_by_v3 != 0 && seen_by_v3 != seen);
 }

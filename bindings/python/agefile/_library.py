@@ -1,4 +1,4 @@
-"""The functions of libagefile by ctypes, and the structs that they take. Nothing else calls it."""
+"""The functions of libagefile by ctypes, and their structs. Only this module calls the library."""
 
 from __future__ import annotations
 
@@ -102,22 +102,11 @@ _SIGNATURES: dict[str, tuple[Any, ...]] = {
 }
 
 
-def _has_v3() -> bool:
-    """Whether the processor has all of the level x86-64-v3."""
-    try:
-        flags = pathlib.Path("/proc/cpuinfo").read_text().partition("flags")[2].partition("\n")[0]
-    except OSError:
-        return False
-    needed = {"avx", "avx2", "bmi1", "bmi2", "f16c", "fma", "abm", "movbe", "xsave"}
-    return needed <= set(flags.split())
-
-
 def _load() -> ctypes.CDLL:
     """The library of the wheel, else the one that AGEFILE_LIBRARY names, else the loader's."""
-    inside = pathlib.Path(__file__).parent / "lib"
-    levels = ["x86-64-v3", "x86-64"] if _has_v3() else ["x86-64"]
-    found = [path for level in levels if (path := inside / level / SONAME).exists()]
-    return ctypes.CDLL(str(found[0]) if found else os.environ.get("AGEFILE_LIBRARY") or SONAME)
+    inside = pathlib.Path(__file__).parent / "lib" / SONAME
+    other = os.environ.get("AGEFILE_LIBRARY") or SONAME
+    return ctypes.CDLL(str(inside) if inside.exists() else other)
 
 
 _loaded = _load()
@@ -135,7 +124,7 @@ _loaded.agefile_version.restype = ctypes.c_uint32
 
 
 def version() -> str:
-    """The version of the library that was loaded."""
+    """Returns the version of the loaded library, such as '0.4.0'."""
     packed = _loaded.agefile_version()
     return f"{packed >> 16}.{packed >> 8 & 255}.{packed & 255}"
 
@@ -147,7 +136,7 @@ def call(name: str, *arguments: Any) -> tuple[int, Report]:
 
 
 def check(name: str, *arguments: Any) -> Report:
-    """Calls a function, and returns its report. Raises the error of another code than 0."""
+    """Calls a function, and returns its report. Raises the error of a code other than 0."""
     code, report = call(name, *arguments)
     if code != Code.OK:
         raise AgeError.of(code, report.place, report.detail)
@@ -156,7 +145,7 @@ def check(name: str, *arguments: Any) -> Report:
 
 def for_chunks(name: str, struct: ctypes.Structure) -> Callable[..., int]:
     """A function that is called for chunk after chunk of one struct, by one thread at a time. It
-    returns the length that the report has, or raises the error of another code than 0."""
+    returns the length in the report, or raises the error of a code other than 0."""
     report = Report()
     step, out = functools.partial(_functions[name], ctypes.byref(struct)), ctypes.byref(report)
 
@@ -198,8 +187,8 @@ _WRITABLE = 1
 
 
 class Bytes:
-    """The memory of a bytes-like object, for as long as the `with` statement lasts. Its length is
-    the memory's own, whatever the object's __len__ says."""
+    """The memory of a bytes-like object, during the `with` statement. `len` is the length of the
+    memory in bytes, whatever the object's __len__ returns."""
 
     def __init__(self, data: Any, writable: bool = False) -> None:
         self._view = _PyBuffer()
@@ -219,7 +208,7 @@ class Bytes:
     @property
     def pair(self) -> tuple[int, int]:
         """Address and length, as the library's functions take them."""
-        return self.address or _nothing, self.len
+        return self.address, self.len
 
 
 def view_of(memory: Bytes, owner: Any) -> memoryview:
@@ -229,23 +218,19 @@ def view_of(memory: Bytes, owner: Any) -> memoryview:
     return memoryview(array).cast("B")
 
 
-# An address of no bytes: the library's functions take no null pointer.
-_empty = ctypes.create_string_buffer(16)
-_nothing = ctypes.addressof(_empty)
-
 _new_bytes = ctypes.pythonapi.PyBytes_FromStringAndSize
 _new_bytes.argtypes = [address, ctypes.c_ssize_t]
 _new_bytes.restype = ctypes.py_object
 
 
-# Great pages, where the system has them: a fault for each page of 4 KiB takes as long as the cipher.
+# Huge pages, if the system has them: faults for pages of 4 KiB take as long as the cipher.
 _advise = getattr(ctypes.CDLL(None), "madvise", None)
 _GREAT, _PAGE = 1 << 22, mmap.PAGESIZE
 _ADVICE = getattr(mmap, "MADV_HUGEPAGE", 14)
 
 
 def fresh_bytes(length: int) -> bytes:
-    """Bytes of this length that nobody else holds yet: the library may write them once."""
+    """New bytes of this length, to which nobody else refers yet, so the library may write them."""
     made: bytes = _new_bytes(None, length)
     if length >= _GREAT and _advise is not None:
         with Bytes(made) as memory:

@@ -1,4 +1,4 @@
-//! The functions and structs of `agefile.h`, and safe calls of them.
+//! The functions and structs of `agefile.h`, and safe wrappers of the functions.
 
 use std::io;
 
@@ -99,7 +99,7 @@ extern "C" {
     fn getrandom(buf: *mut u8, len: usize, flags: u32) -> isize;
 }
 
-/// Calls a function of the library with a report behind its other arguments, and returns the report
+/// Calls a function of the library with a report after its other arguments, and returns the report
 /// if the code is 0.
 macro_rules! call {
     ($function:ident($($argument:expr),* $(,)?)) => {{
@@ -115,16 +115,16 @@ macro_rules! call {
 }
 
 pub fn version() -> u32 {
-    // SAFETY: it takes nothing.
+    // SAFETY: it has no parameters.
     unsafe { agefile_version() }
 }
 
 pub fn file_len(header_len: u64, plain_len: u64) -> u64 {
-    // SAFETY: it takes two numbers.
+    // SAFETY: its parameters are two numbers.
     unsafe { agefile_file_len(header_len, plain_len) }
 }
 
-/// So many fresh random bytes, from the system.
+/// Returns fresh random bytes from the system.
 pub fn random<const N: usize>() -> io::Result<[u8; N]> {
     let mut bytes = [0; N];
     let mut done = 0;

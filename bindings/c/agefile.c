@@ -1,0 +1,130 @@
+/* agefile.c: the functions of agefile.h, as the library exports them. The proved code is in the
+ * library twice, built for any x86-64 and for x86-64-v3. Each function looks for null pointers, as
+ * agefile.h says, and calls the build that fits the processor. This file is not proved. */
+#include "agefile.h"
+#include <cpuid.h>
+
+/* Asks the processor for all of x86-64-v3, and the system whether it keeps the registers of AVX. */
+static bool find_v3(void)
+{
+    const unsigned first = bit_SSE3 | bit_SSSE3 | bit_FMA | bit_CMPXCHG16B | bit_SSE4_1 |
+                           bit_SSE4_2 | bit_MOVBE | bit_POPCNT | bit_OSXSAVE | bit_AVX | bit_F16C;
+    const unsigned seventh = bit_BMI | bit_AVX2 | bit_BMI2, extended = bit_LAHF_LM | bit_LZCNT;
+    unsigned a, b, c, d;
+    if (!__get_cpuid(1, &a, &b, &c, &d) || (c & first) != first ||
+        !__get_cpuid_count(7, 0, &a, &b, &c, &d) || (b & seventh) != seventh ||
+        !__get_cpuid(0x80000001, &a, &b, &c, &d) || (c & extended) != extended)
+        return false;
+    __asm__ volatile("xgetbv" : "=a"(a), "=d"(d) : "c"(0));
+    return (a & 6) == 6;
+}
+
+/* Whether the build for x86-64-v3 is called. The processor is asked once; threads that do so at the
+ * same time store the same answer. */
+static bool has_v3(void)
+{
+    enum { UNKNOWN, YES, NO };
+    static int stored = UNKNOWN;
+    int answer = __atomic_load_n(&stored, __ATOMIC_RELAXED);
+    if (answer == UNKNOWN) {
+        answer = find_v3() ? YES : NO;
+        __atomic_store_n(&stored, answer, __ATOMIC_RELAXED);
+    }
+    return answer == YES;
+}
+
+/* Where a null pointer with the length 0 points instead. It is neither read nor written. */
+static const agefile_stanza_summary nothing;
+
+/* Checks a pointer that a length follows, in the body of a function. */
+#define CHECK(pointer)                        \
+    if (pointer == NULL && pointer##_len > 0) \
+        return agefile_null_pointer(report);  \
+    if (pointer == NULL)                      \
+        pointer = (void *)&nothing;
+
+/* A function: its checks, and then the call. share/build.sh gives the two builds these names. */
+#define FUNCTION(result, name, parameters, checks, arguments)                                   \
+    __typeof__(agefile_##name) x86_64_agefile_##name, x86_64_v3_agefile_##name;                 \
+    result agefile_##name parameters                                                            \
+    {                                                                                           \
+        checks                                                                                  \
+        return has_v3() ? x86_64_v3_agefile_##name arguments : x86_64_agefile_##name arguments; \
+    }
+
+#define IN(bytes) const uint8_t *bytes, size_t bytes##_len
+#define OUT(bytes) uint8_t *bytes, size_t bytes##_len
+#define REPORT agefile_report *report
+
+FUNCTION(uint64_t, sealed_len, (uint64_t plain_len), {}, (plain_len))
+FUNCTION(uint64_t, plain_len_at_most, (uint64_t file_len), {}, (file_len))
+FUNCTION(uint64_t, file_len, (uint64_t header_len, uint64_t plain_len), {}, (header_len, plain_len))
+FUNCTION(uint32_t, version, (void), {}, ())
+
+FUNCTION(uint32_t, inspect, (IN(front), agefile_summary *summary, REPORT),
+         { CHECK(front) }, (front, front_len, summary, report))
+FUNCTION(uint32_t, stanzas,
+         (IN(front), agefile_stanza_summary *stanzas, size_t stanzas_len, OUT(text), REPORT),
+         { CHECK(front) CHECK(stanzas) CHECK(text) },
+         (front, front_len, stanzas, stanzas_len, text, text_len, report))
+FUNCTION(uint32_t, unlock_passphrase,
+         (IN(front), IN(pass), uint8_t max_work, uint8_t file_key[16], REPORT),
+         { CHECK(front) CHECK(pass) },
+         (front, front_len, pass, pass_len, max_work, file_key, report))
+FUNCTION(uint32_t, unlock_key, (IN(front), const uint8_t key[32], uint8_t file_key[16], REPORT),
+         { CHECK(front) }, (front, front_len, key, file_key, report))
+
+FUNCTION(uint32_t, wrap_passphrase,
+         (const uint8_t file_key[16], IN(pass), uint8_t work, const uint8_t salt[16], OUT(out),
+          REPORT),
+         { CHECK(pass) CHECK(out) },
+         (file_key, pass, pass_len, work, salt, out, out_len, report))
+FUNCTION(uint32_t, wrap_key,
+         (const uint8_t file_key[16], const uint8_t key[32], const uint8_t salt[16], OUT(out),
+          REPORT),
+         { CHECK(out) }, (file_key, key, salt, out, out_len, report))
+FUNCTION(uint32_t, wrap, (IN(args), IN(body), OUT(out), REPORT),
+         { CHECK(args) CHECK(body) CHECK(out) },
+         (args, args_len, body, body_len, out, out_len, report))
+FUNCTION(uint32_t, header, (IN(stanzas), const uint8_t file_key[16], OUT(out), REPORT),
+         { CHECK(stanzas) CHECK(out) }, (stanzas, stanzas_len, file_key, out, out_len, report))
+
+FUNCTION(uint32_t, begin,
+         (IN(stanzas), const uint8_t file_key[16], const uint8_t nonce[16], OUT(out),
+          agefile_payload *payload, REPORT),
+         { *payload = (agefile_payload){.state = AGEFILE_CLOSED}; CHECK(stanzas) CHECK(out) },
+         (stanzas, stanzas_len, file_key, nonce, out, out_len, payload, report))
+FUNCTION(uint32_t, open,
+         (IN(front), const uint8_t file_key[16], agefile_payload *payload, REPORT),
+         { *payload = (agefile_payload){.state = AGEFILE_CLOSED}; CHECK(front) },
+         (front, front_len, file_key, payload, report))
+FUNCTION(uint32_t, open_next, (agefile_payload *payload, OUT(chunk), bool last, REPORT),
+         { CHECK(chunk) }, (payload, chunk, chunk_len, last, report))
+FUNCTION(uint32_t, seal_next, (agefile_payload *payload, OUT(chunk), bool last, REPORT),
+         { CHECK(chunk) }, (payload, chunk, chunk_len, last, report))
+FUNCTION(uint32_t, take_part,
+         (agefile_payload *payload, uint64_t count, agefile_part *part, REPORT),
+         {}, (payload, count, part, report))
+FUNCTION(uint32_t, part_open_next, (agefile_part *part, OUT(chunk), REPORT),
+         { CHECK(chunk) }, (part, chunk, chunk_len, report))
+FUNCTION(uint32_t, part_seal_next, (agefile_part *part, OUT(chunk), REPORT),
+         { CHECK(chunk) }, (part, chunk, chunk_len, report))
+
+FUNCTION(uint32_t, ranges_open,
+         (IN(front), uint64_t file_len, const uint8_t file_key[16], agefile_ranges *ranges, REPORT),
+         { *ranges = (agefile_ranges){.state = 0}; CHECK(front) },
+         (front, front_len, file_len, file_key, ranges, report))
+FUNCTION(uint32_t, ranges_last, (agefile_ranges *ranges, OUT(chunk), REPORT),
+         { CHECK(chunk) }, (ranges, chunk, chunk_len, report))
+FUNCTION(uint32_t, ranges_locate, (const agefile_ranges *ranges, uint64_t at, REPORT),
+         {}, (ranges, at, report))
+FUNCTION(uint32_t, ranges_chunk, (const agefile_ranges *ranges, uint64_t at, OUT(chunk), REPORT),
+         { CHECK(chunk) }, (ranges, at, chunk, chunk_len, report))
+
+FUNCTION(uint32_t, decrypt, (IN(file), const uint8_t file_key[16], OUT(out), REPORT),
+         { CHECK(file) CHECK(out) }, (file, file_len, file_key, out, out_len, report))
+FUNCTION(uint32_t, encrypt,
+         (IN(plain), IN(stanzas), const uint8_t file_key[16], const uint8_t nonce[16], OUT(out),
+          REPORT),
+         { CHECK(plain) CHECK(stanzas) CHECK(out) },
+         (plain, plain_len, stanzas, stanzas_len, file_key, nonce, out, out_len, report))
