@@ -1,8 +1,8 @@
 #!/usr/bin/env python3
-"""Makes the test vectors of tests/vectors/testdata, by tests/reference.py alone: tests/vectors/README.md
-says what they are.
+"""Makes the test vectors in a folder, which must not be there, by tests/reference.py alone, and prints the
+SHA-256 of all: tests/vectors/README.md says what they are.
 
-usage: tests/make_vectors.py
+usage: tests/make_vectors.py FOLDER
 
 Each is made with the fault of docs/FORMAT.md that opening it ends in, and the plaintext that may be
 released before: what is expected follows from these.
@@ -13,7 +13,6 @@ import functools
 import hashlib
 import hmac
 import os
-import shutil
 import sys
 import zlib
 from typing import NamedTuple
@@ -21,13 +20,12 @@ from typing import NamedTuple
 sys.dont_write_bytecode = True
 
 from fixture import HELLO, KEY, OTHER_KEY, PASSPHRASE, SALT, SEED, changed, with_other_mac
-from program import TESTS, write
+from program import write
 from reference import (
     VERSION, ended, hkdf, key_stanza, passphrase_stanza, sealed, sealed_chunk, signs, stanza_text, wrapped, x25519, x25519_stanza,
 )
 from testkit import EXPECT
 
-FOLDER = f"{TESTS}/vectors/testdata"
 FILE_KEY, NONCE = SEED[:16], SEED[16:32]
 CHUNK, LIMIT = 65536, 65536
 PAYLOAD_KEY = hkdf(FILE_KEY, NONCE, b"payload")
@@ -63,8 +61,8 @@ class Case(NamedTuple):
     is_armored: bool = False
 
     @property
-    def stored(self):
-        """The vector's own bytes."""
+    def head(self):
+        """The vector's own lines, before the empty one."""
         expect = EXPECT[self.fault[0]]
         fields = [("expect", expect)]
         if expect in ("success", "payload failure"):
@@ -72,8 +70,12 @@ class Case(NamedTuple):
         fields += [("file key", FILE_KEY.hex()), *self.secrets]
         fields += [("armored", "yes")] * self.is_armored
         fields += [("compressed", "zlib")] * (len(self.file) > PLAIN_SIZE)
-        head = "".join(f"{key}: {value}\n" for key, value in [*fields, ("comment", self.comment)])
-        return head.encode() + b"\n" + (zlib.compress(self.file, 9) if len(self.file) > PLAIN_SIZE else self.file)
+        return "".join(f"{key}: {value}\n" for key, value in [*fields, ("comment", self.comment)]).encode()
+
+    @property
+    def stored(self):
+        """The vector's own bytes."""
+        return self.head + b"\n" + (zlib.compress(self.file, 9) if len(self.file) > PLAIN_SIZE else self.file)
 
 
 # Lines of headers, each of a stanza or more.
@@ -556,13 +558,28 @@ def cases():
     return sorted((case for group in GROUPS for case in group()), key=lambda case: case.name)
 
 
+def sum_of_all():
+    """The SHA-256 of the names, lines and files of all vectors. No file is compressed, since another zlib
+    may compress it to other bytes."""
+    total = hashlib.sha256()
+    for case in cases():
+        total.update(b"%b\n%b\n%d\n%b" % (case.name.encode(), case.head, len(case.file), case.file))
+    return total.hexdigest()
+
+
 def make(folder):
-    """Makes the vectors in a folder, anew."""
-    shutil.rmtree(folder, ignore_errors=True)
+    """Makes the vectors in a folder, which must not be there."""
     os.makedirs(folder)
     for case in cases():
         write(f"{folder}/{case.name}", case.stored)
 
 
+def main():
+    if len(sys.argv) != 2 or os.path.lexists(sys.argv[1]):
+        sys.exit("usage: tests/make_vectors.py FOLDER     a folder that is not there")
+    make(sys.argv[1])
+    print(f"{len(cases())} vectors, {sum_of_all()}")
+
+
 if __name__ == "__main__":
-    make(FOLDER)
+    main()

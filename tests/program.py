@@ -13,10 +13,14 @@ import unittest
 sys.dont_write_bytecode = True
 
 import fixture
+from messages import filled
 
 TESTS = os.path.dirname(os.path.abspath(__file__))
 ROOT = os.path.dirname(TESTS)
 AGEP = os.path.join(ROOT, "crates", "agep", "out", "agep")
+# The commands that open IN, which is to follow, by a key and by a passphrase.
+OPENING = ("decrypt -k key", "range -k key 0 1", "rewrap -k key -K key", "salvage -k key")
+BY_PASSPHRASE = ("decrypt -p pass", "range -p pass 0 1", "rewrap -p pass -K key", "salvage -p pass")
 IO_ERROR, NO_SPACE, INTERRUPTED = "5", "28", "4"
 # How much is run at a time: other scripts run beside these.
 AT_A_TIME = max(1, (os.cpu_count() or 1) // 2)
@@ -170,13 +174,20 @@ class ProgramCase(unittest.TestCase):
         """Runs the program, which ends with this fault, and wrote just this."""
         self.assert_ended(self.run_agep(*words, **how), 1, fault(line, more), out)
 
+    def run_line(self, line, **how):
+        """Runs the program with the words and the redirections of a line of bash, and nothing on standard input."""
+        ran = self.run_agep("-c", f'exec "$0" {line}', AGEP, program="bash", stdin=subprocess.DEVNULL, **how)
+        ran.words = [line]
+        return ran
+
+    def line_says(self, name, line, more=None, out=b"", **how):
+        """Runs a line, which ends with the fault of this name and words, as transcripts have it, and wrote just this."""
+        expected = filled(f"agep: <{name}>") + "\n" + (f"agep: {more}\n" if more else "")
+        self.assert_ended(self.run_line(line, **how), 1, expected, out)
+
     def writes(self, out, *words, **how):
         """Runs the program, which ends well, and wrote just this."""
         self.assert_ended(self.run_agep(*words, **how), 0, "", out)
-
-    def refuses(self, text, usage, *words):
-        """Runs the program, which refuses these words."""
-        self.assert_ended(self.run_agep(*words), 2, usage_error(text, usage))
 
     def assert_file(self, name, expected):
         self.assert_bytes(read(name), expected, name)

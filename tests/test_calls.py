@@ -232,6 +232,7 @@ class FailingCalls(CallCase):
             ("encrypt -k key -o plain", "plain", False), ("encrypt -k key -o plain", "plain", True),
             ("encrypt -k key -s seed -o seed", "seed", True), ("decrypt -k key -o key.age", "key.age", False),
             ("decrypt -k key -o key.age", "key.age", True), ("rewrap -k key -P pass -o key.age", "key.age", True),
+            ("salvage -k key -o key.age", "key.age", False), ("salvage -k key -o key.age", "key.age", True),
             ("range -k key -o key.age 0 9", "key.age", False), ("range -k key -o key 0 9", "key", False),
         ):
             source = "key.age" if words.startswith("range") else "plain" if name == "seed" else name

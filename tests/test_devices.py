@@ -153,7 +153,7 @@ class SameInode(ProgramCase):
         write("in.age", fixture.for_keys(PLAIN, KEY))
         for words, name in (
             ("encrypt -k key -s seed -o in", "in"), ("decrypt -k key -o in.age", "in.age"),
-            ("rewrap -k key -K key -s seed -o in.age", "in.age"),
+            ("rewrap -k key -K key -s seed -o in.age", "in.age"), ("salvage -k key -o in.age", "in.age"),
         ):
             for hidden, line in (
                 ("/proc", message("Unidentified", "standard input")), ("/dev", message("OutputIsRead", "Input", name)),

@@ -128,6 +128,6 @@ class Limits(ProgramCase):
         self.writes(exact, "inspect", "-r", "-H", "1024", input=exact)
         rows = [("HeaderTooLarge", longer), ("HeaderTruncated", start + b"a" * 998), ("HeaderTooLarge", start + b"a" * 999)]
         for line, text in rows:
-            for words in (("inspect",), ("decrypt", "-k", "key")):
+            for words in (("inspect",), ("decrypt", "-k", "key"), ("salvage", "-k", "key")):
                 with self.subTest(f"{words[0]}: {line}: {len(text)} bytes"):
                     self.says(message(line), *words, "-H", "1024", input=text)

@@ -13,7 +13,7 @@ COMMANDS = [
     "rewrap -p pass -P pass -w 1 -s seed pass_1.age", "rewrap -k key -K new.key -s seed key.age",
     "rewrap -k new.key -k key -K new.key -K key -s seed key.age",
     "range -p pass 65530 12 plain_pass.age", "range -k key 65530 12 plain.age",
-    "salvage -k key two.age", "inspect data/three_recipients.age", "inspect -r data/ssh_recipients.age",
+    "salvage -p pass pass_1.age", "salvage -k key two.age", "inspect data/three_recipients.age", "inspect -r data/ssh_recipients.age",
     "inspect -f data/passphrase.key data/passphrase.age", "inspect -H 12", "help inspect",
 ]
 # How many refusals change nothing: that of the room for all words at once, without which their list

@@ -3,11 +3,12 @@ docs/DECISIONS.md."""
 
 import os
 import re
+import shlex
 
 import fixture
 from fixture import HELLO
 from messages import message
-from program import ProgramCase, read, write
+from program import OPENING, ProgramCase, read, write
 
 CONTROLS = [*range(1, 32), 127, *range(128, 160)]
 
@@ -38,17 +39,30 @@ class Names(ProgramCase):
             with self.subTest(ascii(shown)):
                 self.says(message("CannotOpen", shown), "inspect", name)
 
+    def test_among_others(self):
+        """Control characters among others, and what looks like an escape, in a name that can't be opened or created."""
+        for name, shown in (
+            ("a\nb", "a\\nb"), ("a\rb", "a\\rb"), ("a\tb", "a\\tb"), ("end\n", "end\\n"), ("\n\n", "\\n\\n"), ("a\\nb", "a\\nb"),
+            ("\x01\x02", "\\x01\\x02"), ("\x7f", "\\x7f"), ("\x9b1m", "\\x9b1m"), ("\x1b[31mred\x1b[m", "\\x1b[31mred\\x1b[m"),
+            ("café €", "café €"), ("", ""),
+        ):
+            with self.subTest(shown):
+                self.line_says(f"CannotOpen: absent {shown}", f"inspect {shlex.quote('absent ' + name)}")
+                if name:
+                    self.line_says(f"CannotCreate: absent/{shown}", f"encrypt -k key -o {shlex.quote('absent/' + name)} hello")
+
     def test_opening(self):
         """All of them in a name that can't be opened or created."""
-        for words in ("decrypt -k key", "encrypt -k key", "rewrap -k key -K key", "range -k key 0 1"):
+        for words in ("encrypt -k key", *OPENING):
             with self.subTest(words):
                 self.says(message("CannotOpen", SHOWN), *words.split(), "-v", NAME, more=f"opening {SHOWN}: {ABSENT}")
         for words in (
-            "encrypt -k", "encrypt -p", "encrypt -k key -s", "decrypt -k", "decrypt -p", "inspect -f", "rewrap -k key -K", "rewrap -k key -P",
+            "encrypt -k", "encrypt -p", "encrypt -k key -s", "decrypt -k", "decrypt -p", "salvage -k", "salvage -p", "inspect -f",
+            "rewrap -k key -K", "rewrap -k key -P",
         ):
             with self.subTest(words):
                 self.says(message("CannotOpen", SHOWN), *words.split(), NAME, "-v", "hello", more=f"opening {SHOWN}: {ABSENT}")
-        for words in ("encrypt -k key hello", "decrypt -k key key.age", "rewrap -k key -K key key.age", "range -k key 0 1 key.age"):
+        for words in ("encrypt -k key hello", *(f"{command} key.age" for command in OPENING)):
             command, *rest = words.split()
             with self.subTest(f"{words} -o"):
                 line, more = message("CannotCreate", f"nowhere/{SHOWN}"), f"creating nowhere/{SHOWN}: {ABSENT}"

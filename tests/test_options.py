@@ -9,7 +9,7 @@ import fixture
 import reference
 from fixture import HELLO, KEY, OTHER_KEY, PLAIN, SALT, SEED
 from messages import message
-from program import AGEP, ProgramCase, preload, read, write
+from program import AGEP, BY_PASSPHRASE, ProgramCase, preload, read, write
 from test_headers import ZERO_MAC, ZERO_SALT, header_in, header_of, table
 
 # Less than scrypt takes at the work factor 18: a work factor that is accepted is out of memory.
@@ -76,7 +76,7 @@ class MaxWork(ProgramCase):
             (21, None, good), (22, None, good), (23, None, high), (30, None, high), (18, 18, good), (18, 17, high), (21, 21, good),
             (22, 21, high), (22, 22, good), (23, 22, high), (23, 23, good), (24, 23, high), (30, 29, high), (30, 30, good), (31, 30, high),
         ]
-        for words in ("decrypt -p pass", "range -p pass 0 1", "rewrap -p pass -K key"):
+        for words in BY_PASSPHRASE:
             for factor, most, line in rows:
                 options = ["-m", str(most)] if most else []
                 with self.subTest(f"{words.split()[0]} {' '.join(options)}, a work factor of {factor}: {line}"):
@@ -88,7 +88,7 @@ class MaxWork(ProgramCase):
         write("five.age", fixture.for_passphrase(HELLO, work=5))
         key_age = fixture.for_keys(HELLO, KEY)
         for words, out in (
-            ("decrypt -p pass", HELLO), ("range -p pass 0 6", HELLO), ("rewrap -p pass -K key -s seed", key_age),
+            ("decrypt -p pass", HELLO), ("range -p pass 0 6", HELLO), ("salvage -p pass", HELLO), ("rewrap -p pass -K key -s seed", key_age),
         ):
             with self.subTest(words):
                 self.writes(out, *words.split(), "-m", "5", "five.age")
@@ -107,7 +107,9 @@ class MaxHeader(ProgramCase):
         ]
         for size in {size for size, _, _ in rows}:
             write(f"sized.{size}", with_header(size))
-        for words in ("decrypt -k key", "range -k key 0 6", "rewrap -k key -K key -s seed", "inspect -r", "inspect -f file.key"):
+        for words in (
+            "decrypt -k key", "range -k key 0 6", "salvage -k key", "rewrap -k key -K key -s seed", "inspect -r", "inspect -f file.key",
+        ):
             for size, most, is_large in rows:
                 options = ["-H", str(most)] if most else []
                 run = [*words.split(), *options, f"sized.{size}"]

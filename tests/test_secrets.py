@@ -198,7 +198,7 @@ class KeyFiles(ProgramCase):
         }
         commands = [
             "encrypt -k NAME hello", "encrypt -k key -k NAME hello", "decrypt -k NAME key.age", "decrypt -k key -k NAME key.age",
-            "range -k NAME 0 1 key.age", "rewrap -k NAME -K key key.age", "rewrap -k key -K NAME key.age",
+            "range -k NAME 0 1 key.age", "salvage -k NAME key.age", "rewrap -k NAME -K key key.age", "rewrap -k key -K NAME key.age",
             "rewrap -k key -K key -K NAME key.age",
         ]
         for name, text in forms.items():

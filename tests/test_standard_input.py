@@ -1,4 +1,7 @@
-"""Standard input by each of its names, from a file and from a pipe."""
+"""Standard input by each of its names, from a file and from a pipe, or closed; and in which roles it is
+refused."""
+
+import os
 
 from fixture import HELLO
 from messages import message
@@ -63,3 +66,85 @@ class StandardInput(ProgramCase):
                     self.says(message("StandardInputTwice", "Input", role), *words.split(), name, input=stdin)
         with self.subTest("another name of the device"), open("/dev/zero", "rb") as stdin:
             self.says(message("KeyLength"), "decrypt", "-k", "/dev/zero", input=stdin)
+
+
+class Refused(ProgramCase):
+    def refused(self, name, line):
+        """A line that ends with this fault, and makes no OUT."""
+        with self.subTest(line):
+            self.line_says(name, line)
+            self.assertFalse(os.path.exists("made"))
+
+    def test_in_and_another(self):
+        """Where IN is not named, no file that an option names may be standard input."""
+        rows = [
+            ("Key", ("encrypt -k NAME", "encrypt -k key -k NAME", "decrypt -k NAME", "salvage -k NAME", "rewrap -K new.key -k NAME")),
+            ("NewKey", ("rewrap -p pass -K NAME",)),
+            ("Seed", ("encrypt -k key -s NAME", "rewrap -p pass -K new.key -s NAME")),
+            ("Passphrase", ("encrypt -p NAME", "decrypt -p NAME", "salvage -p NAME", "rewrap -K new.key -p NAME")),
+            ("NewPassphrase", ("rewrap -p pass -P NAME",)),
+        ]
+        for role, words, name in ((role, words, name) for role, lines in rows for words in lines for name in NAMES):
+            for stdin in ("< <(cat seed)", "<seed", "<&-"):
+                self.refused(f"StandardInputTwice: Input, {role}", f"{words.replace('NAME', name)} -o made {stdin}")
+
+    def test_in_by_a_name(self):
+        """IN is standard input where a name of it is IN, and so is a secret by a link."""
+        os.symlink("key", "linked.key")
+        for role, line in (
+            ("Passphrase", "decrypt -p /dev/stdin <pass.age"),
+            ("Passphrase", "encrypt -p /dev/stdin -w 1 /dev/fd/0 <seed"),
+            ("Passphrase", "rewrap -p /dev/stdin -K new.key /dev/fd/0 <pass.age"),
+            ("Key", "decrypt -k /dev/fd/0 -o made <key.age"),
+            ("Key", "range -k /dev/stdin 0 1 /dev/fd/0 <key.age"),
+            ("Key", "salvage -k /dev/stdin /dev/fd/0 <key.age"),
+            ("Key", "encrypt -k linked.key <key"),
+            ("FileKey", "inspect -f /dev/stdin <key.age"),
+        ):
+            self.refused(f"StandardInputTwice: Input, {role}", line)
+
+    def test_two_options(self):
+        """Two files that options name may not be standard input either."""
+        rows = [
+            ("Key", "encrypt -k /dev/stdin -k /dev/stdin hello"),
+            ("Key", "decrypt -k key -k /dev/stdin -k /dev/fd/0 key.age"),
+            ("Key", "range -k /dev/stdin -k /dev/fd/0 0 5 key.age"),
+            ("Key", "salvage -k /dev/stdin -k /dev/fd/0 key.age"),
+            ("Key", "rewrap -k /dev/stdin -k /dev/fd/0 -K new.key key.age"),
+            ("Key, Seed", "encrypt -k key -k /dev/stdin -s /dev/stdin hello"),
+            ("Key, NewKey", "rewrap -k /dev/stdin -K /dev/stdin key.age"),
+            ("Key, NewKey", "rewrap -k key -k /dev/stdin -K new.key -K /dev/stdin key.age"),
+            ("Key, NewPassphrase", "rewrap -k /dev/fd/0 -P /dev/stdin key.age"),
+            ("Passphrase, Seed", "encrypt -p /dev/stdin -s /dev/fd/0 hello"),
+            ("Passphrase, NewPassphrase", "rewrap -p /dev/stdin -P /dev/fd/0 pass.age"),
+            ("Passphrase, NewKey", "rewrap -p /dev/stdin -K /dev/fd/0 pass.age"),
+            ("NewKey", "rewrap -k key -K /dev/stdin -K /dev/stdin key.age"),
+            ("NewKey", "rewrap -p pass -K key -K /dev/stdin -K /dev/fd/0 pass.age"),
+            ("NewKey, Seed", "rewrap -k key -K new.key -K /dev/stdin -s /dev/stdin key.age"),
+            ("NewKey, Seed", "rewrap -p pass -K /dev/stdin -s /dev/stdin pass.age"),
+            ("NewPassphrase, Seed", "rewrap -k key -P /dev/stdin -s /dev/stdin key.age"),
+        ]
+        for roles, words in rows:
+            for stdin in ("< <(cat seed)", "<seed"):
+                self.refused(f"StandardInputTwice: {roles}", f"{words} -o made {stdin}")
+
+    def test_dash(self):
+        """`-` is no name of standard input."""
+        for words in (
+            "decrypt -k key -", "salvage -k key -", "range -k key 0 1 -", "inspect -", "decrypt -k - key.age", "salvage -k - key.age",
+            "encrypt -p - hello", "encrypt -k key -s - hello", "inspect -f - key.age", "rewrap -k key -K - key.age", "rewrap -k key -P - key.age",
+        ):
+            self.refused("CannotOpen: -", f"{words} <key.age")
+
+    def test_closed(self):
+        """A standard input that is closed can't be read, by whatever name."""
+        for words in ("encrypt -k key", "decrypt -k key", "salvage -k key", "rewrap -k key -K key", "inspect"):
+            self.refused("Read", f"{words} <&-")
+        for name in NAMES:
+            for words in (
+                "encrypt -k key NAME", "decrypt -k key NAME", "salvage -k key NAME", "rewrap -k key -K key NAME", "range -k key 0 1 NAME",
+                "inspect NAME", "encrypt -k NAME hello", "encrypt -p NAME hello", "encrypt -k key -s NAME hello", "decrypt -k NAME key.age",
+                "decrypt -p NAME pass.age", "salvage -k NAME key.age", "range -k NAME 0 1 key.age", "rewrap -k NAME -K key key.age",
+                "rewrap -k key -K NAME key.age", "rewrap -k key -P NAME key.age", "inspect -f NAME key.age",
+            ):
+                self.refused(f"CannotOpen: {name}", f"{words.replace('NAME', name)} <&-")

@@ -1,4 +1,4 @@
-"""The test vectors of tests/vectors/: what is stored is what tests/make_vectors.py makes; agep ends on
+"""The test vectors of tests/make_vectors.py: their sum is the one in tests/vectors/README.md; agep ends on
 each in the fault, with its number or part, that it was made for; and Debian's Go library of age ends
 as expected, but for the differences that the README lists."""
 
@@ -14,6 +14,7 @@ from messages import TEXTS, message
 from program import TESTS, ProgramCase, fault, read, scratch, write
 from test_headers import header_in
 
+README = read(f"{TESTS}/vectors/README.md").decode()
 GO = "/usr/share/gocode"
 AGE = "src/filippo.io/age"
 HAS_GO = shutil.which("go") and all(os.path.exists(f"{GO}/{name}") for name in (f"{AGE}/testkit_test.go", "src/golang.org/x/crypto"))
@@ -87,18 +88,23 @@ def saved(payload):
     return text, lines
 
 
-class Stored(unittest.TestCase):
-    def test_made(self):
-        """tests/make_vectors.py makes what is stored. Another zlib may compress it to other bytes."""
-        stored, wrong = testkit.load(make_vectors.FOLDER)
-        self.assertEqual(wrong, [])
-        made = [testkit.parse(case.name, case.stored) for case in make_vectors.cases()]
-        self.assertEqual([vector.name for vector in stored], [vector.name for vector in made])
-        self.assertEqual([one.name for one, other in zip(stored, made) if one != other], [])
+class Made(unittest.TestCase):
+    def test_sum(self):
+        """tests/make_vectors.py makes the vectors whose sum is in the README."""
+        self.assertEqual(re.findall(r"\b[0-9a-f]{64}\b", README), [make_vectors.sum_of_all()])
 
-    def test_size(self):
-        """They have at most 300 KB."""
-        self.assertLessEqual(sum(entry.stat().st_size for entry in os.scandir(make_vectors.FOLDER)), 300_000)
+    def test_folder(self):
+        """It makes a folder that tests/testkit reads, of at most 300 KB, and refuses one that is there."""
+        folder = f"{scratch()}/vectors"
+        make_vectors.make(folder)
+        vectors, wrong = testkit.load(folder)
+        self.assertEqual(wrong, [])
+        made = [(case.name, case.file, testkit.EXPECT[case.fault[0]]) for case in make_vectors.cases()]
+        differing = [one[0] for one, other in zip(made, vectors) if one != (other.name, other.file, other.expect)]
+        self.assertEqual((len(vectors), differing), (len(made), []))
+        self.assertLessEqual(sum(entry.stat().st_size for entry in os.scandir(folder)), 300_000)
+        with self.assertRaises(FileExistsError):
+            make_vectors.make(folder)
 
     def test_faults(self):
         """Each fault that a file alone can have is among them, and each part of a malformed stanza."""
@@ -147,8 +153,7 @@ class Go(unittest.TestCase):
         names = []
         for case in make_vectors.cases():
             if not any("example.org/key" in value for _, value in case.secrets):
-                head = case.stored.partition(b"\n\n")[0].replace(b"\ncompressed: zlib", b"")
-                write(f"{folder}/{case.name}", head + b"\n\n" + case.file)
+                write(f"{folder}/{case.name}", case.head.replace(b"compressed: zlib\n", b"") + b"\n" + case.file)
                 names.append(case.name)
         return names
 
@@ -166,6 +171,6 @@ class Go(unittest.TestCase):
         done = subprocess.run(words, env=environment, cwd=folder, capture_output=True, text=True, timeout=300)
         ended = re.findall(r"^    --- (PASS|FAIL): TestFolder/(\S+) ", done.stdout, re.M)
         self.assertEqual(sorted(name for _, name in ended), sorted(names), done.stdout[-2000:] + done.stderr)
-        differing = read(f"{TESTS}/vectors/README.md").decode().partition("## What differs")[2]
+        differing = README.partition("## What differs")[2]
         listed = re.findall(r"^\| `(\w+)` \|", differing, re.M)
         self.assertEqual([name for how, name in ended if how == "FAIL"], listed)

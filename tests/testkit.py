@@ -303,8 +303,7 @@ def library_ways(prefix, convert):
 def built_library():
     """A scratch folder with the library, and convert there."""
     prefix = f"{program.scratch()}/prefix"
-    environment = os.environ | {"AGEP_CPU": "x86-64"}
-    subprocess.run([f"{program.ROOT}/install", "--library", prefix], stdout=subprocess.DEVNULL, env=environment, check=True)
+    subprocess.run([f"{program.ROOT}/install", "--library", prefix], stdout=subprocess.DEVNULL, check=True)
     source, made = f"{program.TESTS}/library/convert.c", f"{prefix}/convert"
     subprocess.run(["cc", "-O2", "-o", made, f"-I{prefix}/include", source, f"{prefix}/lib/libagefile.a"], check=True)
     return prefix, made
