@@ -1,4 +1,4 @@
-r"""Age v1 encrypted files (age-encryption.org/v1) by libagefile, whose code is proved.
+r"""Reads and writes age v1 encrypted files (age-encryption.org/v1).
 
     import agefile
     secret = agefile.Passphrase("correct horse battery staple")
@@ -8,9 +8,14 @@ r"""Age v1 encrypted files (age-encryption.org/v1) by libagefile, whose code is 
         notes.seek(1)
         print(notes.read())
 
-The library is proved; this package is ordinary code over it, which is tested. Memory is not wiped,
-and constant time is not promised. Calls may run in any number of threads; an open file may be
-shared by threads, which take turns, but for its lines: one thread reads those.
+`open` opens a file as a seekable file of its plaintext, or a new file to be written. `encrypt`,
+`decrypt`, `inspect` and `rewrap` work on bytes in memory, `copy` and `rewrap_copy` from a file or
+pipe to another. Files for a `Passphrase` are exchanged with `age`; only agep and this library open
+files for a `Key`.
+
+Calls may run in any number of threads. Threads may share an open file and then take turns, but only
+one of them may read its lines. Memory is not wiped, and constant time is not promised. The code of
+libagefile, the library underneath, is proved; this package is ordinary, tested code.
 """
 
 from __future__ import annotations

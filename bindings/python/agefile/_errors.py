@@ -1,4 +1,4 @@
-"""What goes wrong: the codes of the library and the exceptions that carry them."""
+"""Errors: the codes of the library, and the exceptions that carry them."""
 
 from __future__ import annotations
 
@@ -7,7 +7,7 @@ from typing import Any
 
 
 class Code(enum.IntEnum):
-    """The codes of the library for C; none is ever reused."""
+    """The codes of the C library. None is ever reused."""
 
     # generated: code members
     OK = 0
@@ -65,7 +65,7 @@ _MESSAGES = {
     Code.INCOMPATIBLE_RECIPIENTS: "recipient does not go with recipient 0",
     Code.TOO_SMALL: "buffer is too small",
     Code.WORK_FACTOR: "work factor must be 1 to 30",
-    Code.OUT_OF_ORDER: "no such stanza or offset, or a call out of order",
+    Code.OUT_OF_ORDER: "no such offset, a chunk of another length, or a call out of order",
     Code.NULL_POINTER: "null pointer with a length",
     Code.BAD_ARGUMENTS: "stanza arguments must be visible ASCII, one space apart",
     Code.EMPTY_PASSPHRASE: "passphrase is empty",
@@ -88,10 +88,13 @@ def _text(code: int, place: int, detail: int) -> str:
 
 
 class AgeError(ValueError):
-    """A file that is refused, or a call that is. `code` is the library's; `place` is the line of a
-    header, counted from 1, or the chunk, counted from 0; `detail` is the part of a malformed
-    stanza, from 1 to 5; `filename` is the path of the file, or what its object calls itself, or
-    None."""
+    """A file or a call was refused.
+
+    `code` is the code of the library. `place` is the line of a header, counted from 1, or the
+    chunk, counted from 0. `detail` is the part of a malformed stanza, 1 to 5. `place` and `detail`
+    are 0 if the error has none. `filename` is the path of the file, or the name of its object, or
+    None.
+    """
 
     def __init__(self, code: int, place: int = 0, detail: int = 0, filename: Any = None) -> None:
         super().__init__(_text(code, place, detail))
@@ -112,7 +115,7 @@ class AgeError(ValueError):
 
     @staticmethod
     def of(code: int, place: int = 0, detail: int = 0) -> AgeError:
-        """The exception of a code: the one for memory is a MemoryError too."""
+        """Makes the exception of a code. That of refused memory is also a MemoryError."""
         kind = AgeMemoryError if code == Code.OUT_OF_MEMORY else AgeError
         return kind(code, place, detail)
 
@@ -122,8 +125,11 @@ class AgeMemoryError(AgeError, MemoryError):
 
 
 class AgeChangedError(AgeError, OSError):
-    """The file has another length than when it was opened. It was cut, so that a chunk could not be
-    read whole; or it has grown, and is opened again from a pickle."""
+    """The length of the file has changed since it was opened.
+
+    The file was cut, so that a chunk could not be read whole; or it was opened again from a pickle
+    and has been cut or has grown.
+    """
 
     def __init__(
         self, code: int = Code.CHUNK_SHORT, place: int = 0, detail: int = 0, filename: Any = None

@@ -58,17 +58,19 @@ def open(
     """Opens an age file, as the built-in `open` opens a file.
 
     `file` is a path, a descriptor, a binary file object, or an opener: a function without
-    arguments, or an object with a method `open`, as `fsspec.open` returns. To be read it has to be
-    seekable. An object that is neither an open file of the system nor one over it is read by `seek`
-    and `read`, so only one thread at a time may use it.
+    arguments, or an object with a method `open`, such as `fsspec.open` returns.
 
-    `rb` (a Reader) and `r` (text) read the plaintext for identities; `wb` and `xb` (a Writer), `w`
-    and `x` (text) write a new file for recipients, which is whole only after it was closed. Text is
-    UTF-8 unless `encoding` names another.
+    Modes `rb` (returns a Reader) and `r` (text) read the plaintext with `identities`. The file must
+    be seekable. A file object that is not an open file of the system, nor a buffer over one, is
+    read with its `seek` and `read`, so only one thread at a time may use it.
 
-    The header is made before a file is opened to be written, and a file that was there before keeps
-    its contents until the first byte is written. With `atomic` it keeps them until the new file is
-    whole: that is written beside it, and takes its place when it is closed.
+    Modes `wb` and `xb` (return a Writer), `w` and `x` (text) write a new file for `recipients`. It
+    is complete only after it was closed without an exception. The header is made before the file is
+    opened. An existing file keeps its contents until the first byte is written. With `atomic` it
+    keeps them until the new file, which is written beside it, is complete and closed; the new file
+    then takes its place.
+
+    Text is UTF-8 unless `encoding` names another encoding.
     """
     kind = mode.replace("b", "").replace("t", "")
     if kind not in ("r", "w", "x") or len(mode) > 2 or {"b", "t"} <= set(mode):
@@ -77,7 +79,7 @@ def open(
     if "b" in mode and any(word is not None for word in words.values()):
         raise ValueError("a binary mode takes no encoding, errors or newline")
     words["encoding"] = encoding or "utf-8"
-    # Words that are wrong are refused before anything is opened.
+    # Wrong arguments are refused before anything is opened.
     used = io.TextIOWrapper(io.BytesIO(), **words).encoding
     if kind == "r":
         if identities is None or recipients is not None or atomic:
@@ -92,7 +94,7 @@ def open(
     if "b" in mode:
         return writer
     if codecs.lookup(used).name in ("utf-16", "utf-32"):
-        # A TextIOWrapper writes the mark of the byte order only to what can seek.
+        # A TextIOWrapper writes the byte-order mark only to a seekable file.
         writer.write("".encode(words["encoding"]))
     return _text(TextWriter, writer, mode, words)
 

@@ -1,4 +1,4 @@
-"""The files that a caller names: by a path, a descriptor, an opener or a file object."""
+"""A caller's files, given as paths, descriptors, openers or file objects."""
 
 from __future__ import annotations
 
@@ -16,19 +16,19 @@ from ._errors import AgeError
 
 
 def is_path(file: Any) -> bool:
-    """Whether this is a path, and no open file that has one, as those of fsspec."""
+    """Whether this is a path, and not an open file that has one, such as those of fsspec."""
     return isinstance(file, (str, bytes, os.PathLike)) and not isinstance(file, io.IOBase)
 
 
 def is_open(file: Any, method: str) -> bool:
-    """Whether this is an open binary file with this method, and not what opens one."""
+    """Whether this is an open binary file with this method, and not an opener."""
     if isinstance(file, io.TextIOBase):
         raise TypeError("a text file holds no bytes: open it in binary mode, or pass its `buffer`")
     return hasattr(file, method) and not is_path(file)
 
 
 def raw_of(file: Any) -> io.FileIO | None:
-    """The system's file that this object reads, with nothing else between but a buffer, or None."""
+    """The system's file that this object reads directly or through a buffer, or None."""
     if isinstance(file, tempfile._TemporaryFileWrapper):
         file = file.file
     raw = getattr(file, "raw", file)
@@ -37,15 +37,15 @@ def raw_of(file: Any) -> io.FileIO | None:
 
 
 def name_of(file: Any) -> Any:
-    """The path or the descriptor, else what the object calls itself, or None."""
+    """The path or the descriptor, else the name of the object, or None."""
     if is_path(file):
         return os.fspath(file)
     return file if isinstance(file, int) else getattr(file, "name", getattr(file, "path", None))
 
 
 def opened(file: Any, mode: str = "rb", closefd: bool = True) -> Any:
-    """What a path, a descriptor or an opener opens. An opener is a function without arguments, or
-    an object with a method `open`, as those of fsspec."""
+    """Opens a path, a descriptor or an opener: a function without arguments, or an object with a
+    method `open`, such as those of fsspec."""
     if is_path(file):
         return io.FileIO(os.fspath(file), mode)
     if isinstance(file, int):
@@ -62,8 +62,8 @@ def opener_of(file: Any) -> Any:
 
 
 def _descriptor(file: Any) -> int | None:
-    """The descriptor of an open file, or None. A file in memory stays there: `fileno` of a
-    SpooledTemporaryFile would write it to the disk."""
+    """The descriptor of an open file, or None. Does not call `fileno` of a SpooledTemporaryFile,
+    which would write the file to the disk."""
     with contextlib.suppress(AttributeError, NotImplementedError, TypeError, ValueError, OSError):
         if not hasattr(file, "rollover"):
             os.fstat(found := operator.index(file.fileno()))
@@ -72,8 +72,8 @@ def _descriptor(file: Any) -> int | None:
 
 
 def _refuse_source(sink: Any, source: Any) -> None:
-    """Refuses a regular file that is the source, or that a Reader takes its plaintext from: it would
-    be emptied, or grow while it is read."""
+    """Refuses a regular file that is the source, or from which a Reader reads its plaintext: it
+    would be emptied, or grow while it is read."""
     to, of = _descriptor(sink), _descriptor(getattr(source, "encrypted", source))
     if to is None or of is None or not stat.S_ISREG(os.fstat(to).st_mode):
         return
@@ -82,7 +82,7 @@ def _refuse_source(sink: Any, source: Any) -> None:
 
 
 class Output(io.FileIO):
-    """The file of a path, which keeps what it holds until the first byte is written."""
+    """The file of a path, which keeps its contents until the first byte is written."""
 
     def __init__(self, path: Any, mode: str, permissions: int) -> None:
         def without_truncation(path: Any, flags: int) -> int:
@@ -102,7 +102,7 @@ class Output(io.FileIO):
 
 
 class Replacement(io.FileIO):
-    """A new file beside the file of a path, whose place it takes by `commit`. Closed without that,
+    """A new file beside the file of a path. `commit` moves it to the path; closed without `commit`,
     it is removed."""
 
     def __init__(self, path: Any, mode: str) -> None:
@@ -123,7 +123,7 @@ class Replacement(io.FileIO):
             os.fchmod(self.fileno(), stat.S_IMODE(found.st_mode))
 
     def commit(self) -> None:
-        """Puts the file, and then its name, on the disk."""
+        """Syncs the file, moves it to the path, and syncs the directory."""
         folder = os.open(self._folder, os.O_RDONLY)
         try:
             os.fsync(self.fileno())
@@ -138,7 +138,7 @@ class Replacement(io.FileIO):
 
     def close(self) -> None:
         super().close()
-        # A forked child leaves its parent's file alone.
+        # A forked child must not remove its parent's file.
         if self._is_beside and self._process == os.getpid():
             self._is_beside = False
             os.unlink(self._beside)
@@ -147,14 +147,14 @@ class Replacement(io.FileIO):
 def created(
     file: Any, mode: str, atomic: bool = False, closefd: bool = True, permissions: int = 0o666
 ) -> Any:
-    """The file that is to be written: a path's keeps what it holds for now."""
+    """The file to write. That of a path keeps its contents for now."""
     if is_path(file):
         return Replacement(file, mode) if atomic else Output(file, mode, permissions)
     return opened(file, mode, closefd)
 
 
 def with_name(error: Exception, name: Any) -> Exception:
-    """The error, which says now which file it is about."""
+    """Adds the name of the file to the error, if it has none."""
     if isinstance(error, AgeError) and error.filename is None:
         error.filename = name
     return error
@@ -162,7 +162,7 @@ def with_name(error: Exception, name: Any) -> Exception:
 
 @contextlib.contextmanager
 def named(name: Any) -> Iterator[None]:
-    """Errors of the block say which file they are about."""
+    """Adds the name of the file to errors of the block."""
     try:
         yield
     except AgeError as error:
@@ -172,7 +172,7 @@ def named(name: Any) -> Iterator[None]:
 
 @contextlib.contextmanager
 def reading(file: Any) -> Iterator[BinaryIO]:
-    """An open file, or one that is opened here and closed at the end. A descriptor stays open."""
+    """An open file, or one opened here and closed at the end. A descriptor stays open."""
     with named(name_of(file)), contextlib.ExitStack() as stack:
         is_ours = not is_open(file, "read")
         yield stack.enter_context(opened(file, closefd=False)) if is_ours else file
@@ -180,7 +180,7 @@ def reading(file: Any) -> Iterator[BinaryIO]:
 
 @contextlib.contextmanager
 def writing(file: Any, source: BinaryIO, permissions: int = 0o666) -> Iterator[Any]:
-    """The same for a file that is written, and is not the source."""
+    """The same for a file to write, which must not be the source."""
     if is_open(file, "write"):
         _refuse_source(file, source)
         yield file

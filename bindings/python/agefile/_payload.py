@@ -20,8 +20,8 @@ PART = 16
 
 
 class Front:
-    """The beginning of a source: its header and nonce, and what was read behind them. No more is
-    read than is there, so that a wrong key is found while a pipe still waits."""
+    """The beginning of a source: its header and nonce, and the bytes read after them. Reads no more
+    than the source has ready, so that a wrong key is reported while a pipe still waits."""
 
     def __init__(self, source: Any) -> None:
         self.bytes = bytearray()
@@ -38,12 +38,12 @@ class Front:
         return bool(piece)
 
     def header(self) -> Header:
-        """Reads until the header is there, and returns it."""
+        """Reads until the header is complete, and returns it."""
         tried = 0
         while True:
             self.more()
-            # Each piece may end the header or spoil it. Where pieces are so small that to try with
-            # each would take long, the header's last line still is no byte late.
+            # Each piece may complete or spoil the header. If pieces are so small that parsing after
+            # each would take too long, the header is still parsed once its last line is there.
             if tried <= 16 * (len(self.bytes) + 4096) or self._has_last_line() or self._ended:
                 tried += len(self.bytes)
                 try:
@@ -57,7 +57,7 @@ class Front:
         return at >= 0 and self.bytes.find(b"\n", at + 1) >= 0
 
     def nonce(self, header: Header) -> None:
-        """Reads until the nonce is there too, or the source has ended."""
+        """Reads until the nonce is complete too, or the source has ended."""
         while len(self.bytes) < header.length + lib.NONCE and self.more():
             pass
 
@@ -76,7 +76,7 @@ def begin(recipients: Recipients) -> tuple[bytes, lib.Payload]:
 
 
 def open_payload(front: bytes, file_key: bytes) -> tuple[int, lib.Payload]:
-    """Where the first sealed chunk begins, and the payload for reading."""
+    """The offset of the first sealed chunk, and the payload for reading."""
     payload = lib.Payload()
     with lib.Bytes(front) as text, lib.Bytes(file_key) as key:
         report = lib.check("open", *text.pair, key.address, ctypes.byref(payload))
@@ -84,7 +84,7 @@ def open_payload(front: bytes, file_key: bytes) -> tuple[int, lib.Payload]:
 
 
 def open_source(source: BinaryIO, identities: Identities) -> tuple[bytes, lib.Payload]:
-    """The payload of a source for reading, and what was read of its chunks."""
+    """The bytes of its chunks read so far, and the payload of a source for reading."""
     front = Front(source)
     header = front.header()
     file_key = unlock(bytes(front.bytes[: header.length]), identities)
@@ -99,12 +99,12 @@ class Chunk:
     def __init__(self, chunks: int = 1) -> None:
         self.room = bytearray(chunks * lib.SEALED_CHUNK)
         self.view = memoryview(self.room)
-        # The address of the first byte. It is valid as long as this object lives.
+        # The address of the first byte, valid as long as this object lives.
         self.base = ctypes.addressof((ctypes.c_char * len(self.room)).from_buffer(self.room))
 
 
 class _Step:
-    """What is done with each chunk: its length before and after, and the library's functions."""
+    """The processing of a chunk: its length before and after, and the library's functions."""
 
     def __init__(self, take: int, give: int, one: str, of_part: str) -> None:
         self.take, self.give, self.one, self.of_part = take, give, one, of_part
@@ -140,7 +140,7 @@ class _Batch:
         lib.check("take_part", ctypes.byref(payload), PART, ctypes.byref(self.part))
 
     def run(self) -> tuple[int, AgeError | None]:
-        """How many chunks are done, and the error of the one after them."""
+        """Processes the chunks. Returns how many are done, and the error of the next one."""
         convert = lib.for_chunks(self.step.of_part, self.part)
         for index in range(PART):
             try:
@@ -155,7 +155,7 @@ class _Batch:
 
 
 def _read_batch(step: _Step, source: BinaryIO, room: Chunk) -> int:
-    """Reads the chunks of a batch, each to where it is sealed or opened. Returns the bytes."""
+    """Reads the chunks of a batch, each to its place. Returns the number of bytes."""
     if step is OPENING:
         return read_into(source, room.view)
     total = 0
@@ -168,7 +168,7 @@ def _read_batch(step: _Step, source: BinaryIO, room: Chunk) -> int:
 
 
 class _Joined:
-    """The chunks of a batch that was read last, and then what the source still gives."""
+    """The chunks of the batch read last, then the rest of the source."""
 
     def __init__(self, step: _Step, room: Chunk, length: int) -> None:
         whole = [room.view[at : at + step.take] for at in range(0, len(room.room), lib.SEALED_CHUNK)]
@@ -228,7 +228,7 @@ def on_threads(step: _Step, payload: lib.Payload, source: BinaryIO, sink: Any, t
 
 
 def thread_count(threads: int) -> int:
-    """How many of so many threads are used."""
+    """The number of threads to use, at most `threads`."""
     count = operator.index(threads)
     if count < 1:
         raise ValueError("threads is at least 1")
@@ -242,7 +242,7 @@ def run(step: _Step, payload: lib.Payload, source: BinaryIO, sink: Any, threads:
 
 
 class Behind:
-    """A source behind bytes that were read of it."""
+    """The bytes already read from a source, then the source."""
 
     def __init__(self, first: bytes | memoryview, source: BinaryIO) -> None:
         self._first, self._readinto = memoryview(first), readinto_of(source)
@@ -265,5 +265,5 @@ def rewrapped(front: Front, identities: Identities, recipients: Recipients) -> t
 
 
 def verify(header: bytes, file_key: bytes) -> None:
-    """Raises the error of a header whose MAC is not right under a file key."""
+    """Raises an error if the header's MAC is not the one under this file key."""
     open_payload(header + bytes(lib.NONCE), file_key)

@@ -1,4 +1,4 @@
-"""A file that is read by ranges: seekable, and only the chunks that are wanted are opened."""
+"""The plaintext of an age file as a seekable file, which opens only the chunks that are read."""
 
 from __future__ import annotations
 
@@ -21,8 +21,8 @@ _Result = TypeVar("_Result")
 
 
 class _Source:
-    """The file below, which is read at offsets, and how it is opened again. Its own position may be
-    anywhere: a forked process shares it, and so do other readers of one file object."""
+    """The file below, which is read at offsets, and its opener. The file's own position may be
+    anywhere, because forked processes share it, and so do other readers of one file object."""
 
     def __init__(self, file: BinaryIO, opener: Any, owned: bool) -> None:
         self.file, self.opener, self._owned = file, opener, owned
@@ -51,7 +51,7 @@ class _Source:
 
 
 class _FromStart:
-    """A source from its first byte on."""
+    """A source read from its first byte on."""
 
     def __init__(self, source: _Source) -> None:
         self._source, self._at = source, 0
@@ -64,7 +64,7 @@ class _FromStart:
 
 
 class _Chunks:
-    """The plaintext of an age file by chunks. The one that was opened last is kept."""
+    """The plaintext of an age file in chunks. The chunk opened last is kept."""
 
     def __init__(self, source: _Source, ranges: lib.Ranges, name: Any) -> None:
         self.source, self.ranges, self.name = source, ranges, name
@@ -73,13 +73,13 @@ class _Chunks:
         self._first: int = ranges.first
         self._sealed_len: int = ranges.sealed_len
         self._lock = threading.Lock()
-        # Why less was filled than there is: a bad chunk, the source, or the handler of a signal.
+        # Why a read was short: a bad chunk, the source, or the handler of a signal.
         self.error: Exception | None = None
         self._open_last()
 
     @staticmethod
     def unlocked(source: _Source, identities: Identities) -> lib.Ranges:
-        """The ranges of a source, of which nothing but header and nonce was read."""
+        """Unlocks a source. Reads only its header and nonce."""
         front = Front(_FromStart(source))
         header = front.header()
         file_key = unlock(bytes(front.bytes[: header.length]), identities)
@@ -98,7 +98,7 @@ class _Chunks:
         self._number, self._len = before, self.length - before * lib.TEXT_CHUNK
 
     def _read(self, number: int) -> int:
-        """Reads a sealed chunk, and returns its length. The one that was kept is lost."""
+        """Reads a sealed chunk over the one kept, and returns its length."""
         self._number = -1
         at, room = number * lib.SEALED_CHUNK, self._chunk.view
         if self._sealed_len - at < lib.SEALED_CHUNK:
@@ -109,7 +109,7 @@ class _Chunks:
         return length
 
     def _piece(self, at: int) -> memoryview:
-        """The text from a byte before the end of the plaintext to the end of its chunk."""
+        """The text from this byte, which is before the end, to the end of its chunk."""
         number, start = divmod(at, lib.TEXT_CHUNK)
         if number != self._number:
             length = self._read(number)
@@ -118,8 +118,8 @@ class _Chunks:
         return self._chunk.view[start : self._len]
 
     def fill(self, room: memoryview, at: int, least: int) -> int:
-        """Copies text from a byte on until the room is full or the plaintext ends. The error of a
-        bad chunk is raised, unless so many bytes come before it."""
+        """Copies text from a byte on until the room is full or the plaintext ends. Raises the error
+        of a bad chunk, unless at least `least` bytes come before it."""
         done, wanted = 0, min(len(room), self.length - at)
         with self._lock:
             try:
@@ -137,15 +137,15 @@ class _Chunks:
 
 
 class _Plaintext(io.RawIOBase):
-    """A plaintext as a raw file, whose reads may be short. Where a chunk is bad they end before it,
-    and raise its error where fewer than `least` bytes come before it: one, or none for a buffer,
-    which would lose what it has read."""
+    """A plaintext as a raw file, whose reads may be short. A read ends before a bad chunk, and
+    raises its error if fewer than `least` bytes come before it. `least` is 1, or 0 under a buffer,
+    which would lose the bytes that it has read."""
 
     def __init__(self, chunks: _Chunks, least: int) -> None:
         self.chunks, self._least, self.position = chunks, least, 0
 
     def readinto(self, room: Any) -> int:
-        """Reads what the room holds, or less, up to the end of a chunk."""
+        """Fills the room, or the part of it up to the end of a chunk."""
         self._check_open()
         most = lib.TEXT_CHUNK - self.position % lib.TEXT_CHUNK
         with flat(room) as view, view[: most if len(view) <= lib.TEXT_CHUNK else None] as part:
@@ -196,16 +196,18 @@ class _Plaintext(io.RawIOBase):
 
 
 class Reader(io.BufferedIOBase):
-    """The plaintext of an age file, as a seekable binary file. Only the chunks that are read are
-    opened, so damage in others is not noticed.
+    """The plaintext of an age file, as a seekable binary file.
 
-    A result that is shorter than what was asked for means the end of the plaintext: where a chunk
-    is needed that cannot be opened, a call raises its error, now and each time, and the position
-    stays. `read1`, `peek` and `raw.readinto`, whose results may be short anyway, return the
-    verified bytes before that chunk, and raise once there are none. `raw` has a position of its own.
+    Opens only the chunks that are read, so damage in other chunks is not noticed. A result shorter
+    than requested means the end of the plaintext. A call that needs a damaged chunk raises its
+    error, now and each time, and the position stays. `read1`, `peek` and `raw.readinto`, whose
+    results may be short anyway, return the verified bytes before the damaged chunk, and raise only
+    once there are none. `raw` has its own position.
 
-    Where it was opened by a path or an opener it can be pickled, for workers: the pickle holds the
-    payload's key, so whoever has it can read the file. Opened again, it pays no scrypt."""
+    A Reader opened from a path or an opener can be pickled, for example for worker processes. The
+    pickle contains the key of the payload: whoever has the pickle can read the file. Opening it
+    again needs no scrypt.
+    """
 
     mode = "rb"
     raw: _Plaintext
@@ -214,7 +216,7 @@ class Reader(io.BufferedIOBase):
         self._chunks, self.name, self.raw = chunks, chunks.name, _Plaintext(chunks, 1)
         self._below = _Plaintext(chunks, 0)
         self._buffer = io.BufferedReader(self._below, lib.TEXT_CHUNK)
-        # No other thread moves the position, or changes the error, within a call.
+        # Within a call no other thread may move the position or change the error.
         self._lock = threading.RLock()
 
     def __repr__(self) -> str:
@@ -222,15 +224,15 @@ class Reader(io.BufferedIOBase):
 
     @property
     def encrypted(self) -> BinaryIO:
-        """The age file."""
+        """The age file itself, encrypted."""
         return self._chunks.source.file
 
     def __reduce_ex__(self, protocol: Any) -> tuple[Any, ...]:
         return reopen, (*self.again(), self.tell())
 
     def again(self) -> tuple[Any, bytes]:
-        """What opens the same plaintext again without a secret: the opener, and the payload's key
-        with the places of its chunks."""
+        """What is needed to open the same plaintext again without a secret: the opener, and the
+        payload's key with the offsets of its chunks."""
         if self._chunks.source.opener is None:
             raise TypeError("a file that was opened over a file object cannot be pickled")
         return self._chunks.source.opener, bytes(self._chunks.ranges)
@@ -241,7 +243,7 @@ class Reader(io.BufferedIOBase):
         return self._chunks.length
 
     def _or_error(self, found: _Result, count: int) -> _Result:
-        """A result of so many bytes, unless there was an error: then the position is put back."""
+        """Returns a result of this many bytes, or restores the position and raises the error."""
         error, self._chunks.error = self._chunks.error, None
         if error is None:
             return found
@@ -255,7 +257,7 @@ class Reader(io.BufferedIOBase):
         with self._lock:
             self._chunks.error = None
             if size is None or size < 0:
-                # What is buffered and the rest would be joined: a second copy.
+                # Joining the buffered bytes and the rest would make a second copy.
                 at = self.tell()
                 size = -1 if at == self._below.position else max(self.length - at, 0)
             found = self._buffer.read(size)
@@ -316,7 +318,7 @@ class Reader(io.BufferedIOBase):
 
 
 def open_reader(file: Any, identities: Identities) -> Reader:
-    """Opens the plaintext of a path, a descriptor, an opener, or a binary file that can seek."""
+    """Opens the plaintext of a path, a descriptor, an opener, or a seekable binary file."""
     owned = not is_open(file, "read")
     below, name = opened(file) if owned else file, name_of(file)
     with named(name), contextlib.ExitStack() as stack:
@@ -329,7 +331,7 @@ def open_reader(file: Any, identities: Identities) -> Reader:
 
 
 def reopen(opener: Any, ranges: bytes, position: int) -> Reader:
-    """Opens a plaintext again by its payload's key; its last chunk is verified again."""
+    """Opens a plaintext again with its payload's key. Verifies the last chunk again."""
     below, found = opened(opener), lib.Ranges.from_buffer_copy(ranges)
     with named(name_of(opener)), contextlib.ExitStack() as stack:
         stack.callback(below.close)

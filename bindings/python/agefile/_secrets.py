@@ -1,4 +1,4 @@
-"""Recipients and identities, and how a header is made for the first and opened by the second."""
+"""Recipients and identities, and the headers that they make and open."""
 
 from __future__ import annotations
 
@@ -15,15 +15,15 @@ from ._sources import read_into
 
 
 class Stanza(NamedTuple):
-    """One entry of a header, which holds the file key for one recipient (C2SP age.md, "Recipient
-    stanza"): its type and arguments, and its body."""
+    """An entry of a header, which holds the file key for a recipient (C2SP age.md, "Recipient
+    stanza"). `args` are its type and arguments, `body` is its body."""
 
     args: tuple[str, ...]
     body: bytes
 
 
 class Header(NamedTuple):
-    """What stands in a header. Its MAC is not verified. `length` is in bytes, with the last LF."""
+    """The contents of a header. The MAC is not verified. `length` is in bytes, with the last LF."""
 
     stanzas: tuple[Stanza, ...]
     mac: bytes
@@ -32,20 +32,21 @@ class Header(NamedTuple):
 
 @runtime_checkable
 class Recipient(Protocol):
-    """Wraps the file key of a new file, 16 bytes, into stanzas."""
+    """A recipient: `wrap` wraps the file key of a new file, 16 bytes, into stanzas."""
 
     def wrap(self, file_key: bytes) -> Sequence[Stanza]: ...
 
 
 @runtime_checkable
 class Identity(Protocol):
-    """Finds the file key, 16 bytes, in the stanzas of a header. None: no stanza is for it."""
+    """An identity: `unwrap` finds the file key, 16 bytes, in the stanzas of a header, or returns None
+    if no stanza is for it."""
 
     def unwrap(self, stanzas: Sequence[Stanza]) -> bytes | None: ...
 
 
 class _Secret:
-    """What the library itself wraps and unwraps. Never printed."""
+    """A secret that the library itself wraps and unwraps. Its repr does not show it."""
 
     def __init__(self, secret: bytes) -> None:
         self._secret = secret
@@ -54,7 +55,7 @@ class _Secret:
         return f"{type(self).__name__}(..)"
 
     def wrap(self, file_key: bytes) -> list[Stanza]:
-        """The stanza that holds this file key."""
+        """Returns the stanza that holds this file key."""
         return list(read_header(_sealed_header(self._text(file_key), file_key)).stanzas)
 
     def _text(self, file_key: bytes) -> bytes:
@@ -65,10 +66,12 @@ class _Secret:
 
 
 class Passphrase(_Secret):
-    """A passphrase, for new files and for old ones: text, which is encoded as UTF-8, or any bytes.
-    `work` is the work factor of a new file: each try to open it takes 2^work KiB of memory.
-    `max_work` is the greatest that is accepted of a file. Both are 1 to 30. An empty passphrase
-    opens files, and makes none."""
+    """A passphrase, as a recipient and as an identity: text, which is encoded as UTF-8, or bytes.
+
+    `work` is the work factor of new files: each attempt to open one takes 2^work KiB of memory.
+    `max_work` is the greatest work factor that is accepted from a file. Both are 1 to 30. An empty
+    passphrase can open files but not make them.
+    """
 
     def __init__(self, passphrase: str | bytes, *, work: int = 18, max_work: int = 22) -> None:
         if isinstance(passphrase, str):
@@ -80,8 +83,8 @@ class Passphrase(_Secret):
 
     @classmethod
     def from_file(cls, file: Any, *, work: int = 18, max_work: int = 22) -> Passphrase:
-        """The passphrase in a file, at most 65,536 bytes, as the option -p of agep reads it: one LF
-        at its end is removed. `file` is a path, a descriptor or a binary file object."""
+        """Reads a passphrase file as `agep -p` does: at most 65,536 bytes, without one LF at the
+        end. `file` is a path, a descriptor or a binary file object."""
         room = bytearray(lib.TEXT_CHUNK + 1)
         with reading(file) as source:
             length = read_into(source, memoryview(room))
@@ -104,7 +107,8 @@ class Passphrase(_Secret):
 
 
 class Key(_Secret):
-    """A key of 32 bytes that both sides hold. Only agep and libagefile open files made for it."""
+    """A secret key of 32 bytes, as a recipient and as an identity. Only agep and libagefile open
+    files encrypted with it."""
 
     def __init__(self, key: bytes) -> None:
         super().__init__(bytes(memoryview(key)))
@@ -128,7 +132,7 @@ Identities = Union[_Secret, Identity, Iterable[Union[_Secret, Identity]]]
 
 
 def _text_of(function: str, *arguments: Any, room: int = lib.STANZA_ROOM) -> bytes:
-    """What a function writes to a buffer of its own, which has this room or what it needs."""
+    """The output of a function, in a buffer of this size or, if too small, of the size needed."""
     while True:
         out = bytearray(room)
         with lib.Bytes(out, True) as memory:
@@ -201,8 +205,8 @@ def read_header(front: bytes) -> Header:
 
 
 def unlock(front: bytes, identities: Identities) -> bytes:
-    """The file key that the first identity finds whose key fits. Its MAC is not verified yet if the
-    identity is a caller's own: opening the payload does that."""
+    """The file key that the first matching identity finds. For a caller's own identity the MAC is
+    not verified yet: opening the payload does that."""
     header, missed = read_header(front), Code.NO_MATCH
     if len(header.stanzas) > 1 and any(stanza.args[0] == "scrypt" for stanza in header.stanzas):
         raise AgeError(Code.MIXED_PASSPHRASE)

@@ -1,4 +1,4 @@
-"""Reading and writing the files under an age file: all of a length, or what is there."""
+"""Reading and writing whole lengths of the file below."""
 
 from __future__ import annotations
 
@@ -8,13 +8,13 @@ from typing import Any, BinaryIO
 
 
 def flat(data: Any) -> memoryview:
-    """The bytes of an object. A view with a zero in its shape has no cast."""
+    """The bytes of an object. A view with a zero in its shape cannot be cast."""
     with memoryview(data) as view:
         return view.cast("B") if view.nbytes else memoryview(bytearray())
 
 
 def _checked(count: Any, least: int, most: int, call: str) -> int:
-    """What a call of the file below returned, which is None where it would block."""
+    """Checks the result of a call of the file below, which is None if it would block."""
     if count is None:
         raise BlockingIOError(f"the {call} would block")
     if not least <= count <= most:
@@ -23,7 +23,7 @@ def _checked(count: Any, least: int, most: int, call: str) -> int:
 
 
 def readinto_of(source: BinaryIO) -> Any:
-    """The source's readinto, or what does the same by its read."""
+    """The source's readinto, or a function that does the same with its read."""
     return getattr(source, "readinto", None) or functools.partial(_read_by_copy, source)
 
 
@@ -48,8 +48,8 @@ def _read_by_copy(source: BinaryIO, room: memoryview) -> int | None:
 
 
 def write_all(sink: Any, data: Any) -> None:
-    """Writes all bytes; a sink without a buffer may take a part of them at a time. None says that
-    it took all of them, except of a raw file, which would block."""
+    """Writes all bytes. A sink without a buffer may take them in parts. A result of None means that
+    the sink took all of them, except for a raw file, where it means that the call would block."""
     rest = data
     while len(rest):
         count = sink.write(rest)

@@ -1,4 +1,4 @@
-"""Whole files: in memory, and from a source to a sink."""
+"""Whole files, in memory and from a source to a sink."""
 
 from __future__ import annotations
 
@@ -16,7 +16,7 @@ from ._sources import read_into, write_all
 
 
 class _Collector:
-    """A sink into bytes of a known length, without a second copy at the end."""
+    """A sink into bytes of a known length, which needs no second copy at the end."""
 
     def __init__(self, length: int) -> None:
         self.out, self._at = lib.fresh_bytes(length), 0
@@ -31,12 +31,12 @@ class _Collector:
 
 
 def _front_of(data: lib.Bytes) -> bytes:
-    """A copy of what holds the header and the nonce: another thread may change the caller's memory."""
+    """A copy of the header and the nonce, because another thread may change the caller's memory."""
     return ctypes.string_at(data.address, min(data.len, lib.FRONT)) if data.len else b""
 
 
 def encrypt(data: Any, *, recipients: Recipients, threads: int = 1) -> bytes:
-    """The age file of a plaintext, any bytes-like object, for one recipient or for several."""
+    """Encrypts a bytes-like object for one or several recipients. Returns the age file."""
     threads = thread_count(threads)
     with lib.Bytes(data) as plain:
         front, payload = begin(recipients)
@@ -51,18 +51,18 @@ def encrypt(data: Any, *, recipients: Recipients, threads: int = 1) -> bytes:
 
 
 def _sealed_len(length: int) -> int:
-    """The length of all sealed chunks of a plaintext."""
+    """The total length of the sealed chunks of a plaintext."""
     return length + lib.TAG * max((length + lib.TEXT_CHUNK - 1) // lib.TEXT_CHUNK, 1)
 
 
 def _opened_len(length: int) -> int:
-    """The most that sealed chunks of this length in all open to."""
+    """The greatest length of the text of sealed chunks with this total length."""
     full, rest = divmod(length, lib.SEALED_CHUNK)
     return full * lib.TEXT_CHUNK + max(rest - lib.TAG, 0)
 
 
 def _seal_all(payload: lib.Payload, plain: lib.Bytes, out: int) -> None:
-    """Seals each chunk where it belongs, from the address `out` on."""
+    """Seals each chunk at its place, from the address `out` on."""
     seal, begin, at, is_last = lib.for_chunks("seal_next", payload), plain.pair[0], 0, False
     while not is_last:
         length = min(plain.len - at, lib.TEXT_CHUNK)
@@ -72,8 +72,8 @@ def _seal_all(payload: lib.Payload, plain: lib.Bytes, out: int) -> None:
 
 
 def _open_all(payload: lib.Payload, file: lib.Bytes, at: int, out: lib.Bytes) -> None:
-    """Opens each chunk where its text belongs. The next text overwrites its tag; a chunk behind
-    which there is no room for the tag is opened elsewhere."""
+    """Opens each chunk at the place of its text. The next text overwrites its tag. A chunk whose
+    tag would not fit is opened elsewhere."""
     open_next, spare, begin = lib.for_chunks("open_next", payload), Chunk(), out.pair[0]
     done, is_last = 0, False
     while not is_last:
@@ -89,7 +89,8 @@ def _open_all(payload: lib.Payload, file: lib.Bytes, at: int, out: lib.Bytes) ->
 
 
 def decrypt(data: Any, *, identities: Identities, threads: int = 1) -> bytes:
-    """The plaintext of an age file in memory. Of a file with a fault nothing is returned."""
+    """Decrypts an age file in memory, and returns its plaintext. Raises AgeError, and returns nothing,
+    if the file has a fault."""
     threads = thread_count(threads)
     with lib.Bytes(data) as file:
         front = _front_of(file)
@@ -105,8 +106,8 @@ def decrypt(data: Any, *, identities: Identities, threads: int = 1) -> bytes:
 
 
 def inspect(data: Any) -> Header:
-    """The header of an age file: of bytes, which are at least its beginning, or of a path or a
-    descriptor."""
+    """Reads the header of an age file, given as a path, a descriptor, or bytes that contain at least
+    the header. Does not verify its MAC."""
     if isinstance(data, (str, int, os.PathLike)):
         with reading(data) as source:
             return Front(source).header()
@@ -115,15 +116,18 @@ def inspect(data: Any) -> Header:
 
 
 def rewrap(data: Any, *, identities: Identities, recipients: Recipients) -> bytes:
-    """The same file with a header for other recipients: file key and payload stay, so whoever kept
-    the old header can still open the file. The payload is not verified."""
+    """Replaces the header of an age file by one for other recipients, and returns the new file.
+
+    File key and payload stay: whoever kept the old header can still open the file. The payload is
+    not verified.
+    """
     source, sink = io.BytesIO(data), io.BytesIO()
     rewrap_copy(source, sink, identities=identities, recipients=recipients)
     return sink.getvalue()
 
 
 def rewrap_copy(source: Any, sink: Any, *, identities: Identities, recipients: Recipients) -> None:
-    """The same from a file to another, each a path, a descriptor or a binary file object."""
+    """Like `rewrap`, but from a file to another, each a path, a descriptor or a binary file object."""
     with reading(source) as below:
         front = Front(below)
         header, old = rewrapped(front, identities, recipients)
@@ -143,11 +147,15 @@ def copy(
     identities: Identities | None = None,
     threads: int = 1,
 ) -> int:
-    """Encrypts for recipients, or decrypts with identities, all of a file to another, each a path,
-    a descriptor or a binary file object, also from and to pipes, in constant memory. Returns the
-    bytes of the plaintext. After an error of the payload the sink has the plaintext of the chunks
-    before it. A file of the sink's path keeps its contents until the first byte is written. A new
-    file of a plaintext can be read by its owner only."""
+    """Encrypts a file to another for `recipients`, or decrypts it with `identities`.
+
+    Source and sink are paths, descriptors or binary file objects, also pipes. Uses constant memory,
+    and up to `threads` threads. Returns the length of the plaintext.
+
+    After an error in the payload the sink has the plaintext of the chunks before it. An existing
+    file at the sink's path keeps its contents until the first byte is written. A new file with a
+    plaintext can be read only by its owner.
+    """
     if (recipients is None) == (identities is None):
         raise TypeError("copy takes recipients to encrypt, or identities to decrypt")
     threads = thread_count(threads)

@@ -1,4 +1,4 @@
-"""A file that is written chunk by chunk, and is whole only after it was closed."""
+"""A new age file, which is written chunk by chunk and complete only after it was closed."""
 
 from __future__ import annotations
 
@@ -17,15 +17,17 @@ from ._sources import flat, write_all
 
 
 class Writer(io.BufferedIOBase):
-    """The plaintext of a new age file. Each full chunk is sealed and written; the last one when the
-    file is closed. The header is written before the first chunk, or by `flush`; only then a file
-    that was there before is emptied.
+    """The plaintext of a new age file, as a binary file to write.
 
-    A file that was not closed, whose `with` body raised, or a write of which failed, has no last
-    chunk, so each reader refuses it; `close` raises after a failed write. What calls `close` after
-    another exception makes a whole file of what was written: `contextlib.closing`, a `TextIOWrapper`
-    or `BufferedWriter` over this object, `fsspec.open`. A forked child writes nothing: it would seal
-    other bytes under the nonces of its parent."""
+    Each full chunk is sealed and written, the last chunk when the file is closed. The header is
+    written before the first chunk, or by `flush`. Until then an existing file keeps its contents.
+
+    A file that was not closed, whose `with` body raised, or to which a write failed has no last
+    chunk, so every reader refuses it. After a failed write `close` raises. Code that calls `close`
+    after another exception completes the file although data are missing: `contextlib.closing`, a
+    `TextIOWrapper` or `BufferedWriter` over this object, and `fsspec.open` do so. A forked child
+    cannot write: it would seal other bytes under the nonces of its parent.
+    """
 
     def __init__(self, file: Any, mode: str, recipients: Recipients, atomic: bool) -> None:
         self.name, self.mode, self._owned = name_of(file), mode, not is_open(file, "write")
@@ -41,7 +43,7 @@ class Writer(io.BufferedIOBase):
         return f"<agefile.Writer name={self.name!r} mode={self.mode!r}>"
 
     def _put(self, data: Any) -> None:
-        """Writes to the sink. After a failure nothing more is written, nor after an interrupt."""
+        """Writes to the sink. After a failure or an interrupt nothing more is written."""
         self._failed = True
         if self._opener is not None:
             self._sink, self._opener = self._opener(), None
@@ -50,12 +52,12 @@ class Writer(io.BufferedIOBase):
         write_all(self._sink, data)
         sink: Any = self._sink
         if self._owned and hasattr(sink, "flush"):
-            # The finalizer of a forked child would write what a buffer still holds.
+            # The finalizer of a forked child would write what is left in a buffer.
             sink.flush()
         self._failed = False
 
     def _seal(self, is_last: bool) -> None:
-        """Seals the text and writes it. An interrupt on the way is a failure too."""
+        """Seals the text and writes it. An interrupt meanwhile counts as a failure."""
         self._failed = True
         length = self._seal_next(self._chunk.base, self._filled + lib.TAG, is_last)
         self._filled = 0
@@ -67,7 +69,7 @@ class Writer(io.BufferedIOBase):
             try:
                 self._take(rest)
             except BaseException:
-                # Also an interrupt, after which a text file would drop what it had not passed on.
+                # An interrupt too: after it a text file would drop the text not yet passed on.
                 self._failed = True
                 raise
             return len(rest)
@@ -105,8 +107,8 @@ class Writer(io.BufferedIOBase):
         return True
 
     def flush(self) -> None:
-        """Writes the header, and flushes what was sealed. The bytes of a chunk that is not full
-        stay here."""
+        """Writes the header, and flushes the sealed chunks. The bytes of a chunk that is not full
+        stay in the buffer."""
         with self._lock:
             if not self.writable() or not self._is_parent():
                 return
@@ -117,7 +119,7 @@ class Writer(io.BufferedIOBase):
                 sink.flush()
 
     def close(self) -> None:
-        """Seals the last chunk: only now the file is whole. After a failed write this fails too."""
+        """Seals the last chunk, which completes the file. Raises after a failed write."""
         with self._lock:
             if self.closed:
                 return
@@ -131,18 +133,18 @@ class Writer(io.BufferedIOBase):
                 self._end()
 
     def abort(self) -> None:
-        """Closes the file without its last chunk, so that no reader takes it for whole."""
+        """Closes the file without its last chunk, so that every reader refuses it."""
         with self._lock:
             if not self.closed:
                 self._end()
 
     def _end(self) -> None:
-        # From here on a flush writes no header.
+        # A flush after this must not write the header.
         self._failed = True
         try:
             super().close()
         finally:
-            # In a forked child a file with a buffer would write what its parent's buffer holds.
+            # In a forked child a buffered file would write the contents of its parent's buffer.
             is_safe = self._is_parent() or isinstance(self._sink, io.RawIOBase)
             if self._owned and self._sink is not None and is_safe:
                 self._sink.close()
@@ -153,11 +155,11 @@ class Writer(io.BufferedIOBase):
         is_cut = not self.closed and self._is_parent()
         self.abort()
         if is_cut and issubclass(kind, (SystemExit, GeneratorExit)):
-            # Nothing else would say it.
+            # Nothing else would report it.
             warnings.warn(f"{self!r} is not whole: {kind.__name__}", RuntimeWarning, 2)
 
     def __del__(self) -> None:
-        # A file that nobody closed stays without its last chunk.
+        # A file that was never closed stays without its last chunk.
         if hasattr(self, "_sink") and not self.closed:
             self.abort()
             if self._is_parent():
@@ -166,7 +168,7 @@ class Writer(io.BufferedIOBase):
 
 
 class TextWriter(io.TextIOWrapper):
-    """A text file over a writer, which is whole under the same conditions."""
+    """A text file over a Writer, complete under the same conditions."""
 
     def write(self, text: str, /) -> int:
         try:
@@ -179,7 +181,7 @@ class TextWriter(io.TextIOWrapper):
             raise
 
     def flush(self) -> None:
-        # A TextIOWrapper drops the text that it could not write, and its close goes on.
+        # A TextIOWrapper drops text that it could not write, and its close succeeds.
         try:
             super().flush()
         except BaseException:

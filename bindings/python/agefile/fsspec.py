@@ -1,16 +1,18 @@
-"""A file system of plaintexts for fsspec, and so for Dask and all else that goes through it.
+"""A file system of plaintexts for fsspec, and so for Dask and other users of fsspec.
 
-    import agefile, agefile.fsspec, dask.dataframe
-    secret = agefile.Passphrase("..")
+    import agefile, agefile.fsspec, dask.dataframe, fsspec
+    secret = agefile.Passphrase("correct horse battery staple")
     table = dask.dataframe.read_csv("age:///data/*.csv.age", storage_options={"identities": secret})
-    with fsspec.open("age::s3://bucket/a.age", age={"identities": secret}) as file: ..
+    with fsspec.open("age::s3://bucket/a.age", age={"identities": secret}) as file:
+        data = file.read()
 
-Names are those of the file system below. A file is opened by ranges: each worker opens the chunks
-of its own blocks. Damage in one block fails the task of that block alone, with the file and the
-number of its chunk. Damage in the header or in the last chunk fails all of them. The key of each
-file's payload is kept as long as the file stays as it was, and goes with the file system into the
-pickle for a worker, so scrypt runs once for each file; whoever has that pickle can read these
-files.
+Names are those of the file system below. Each worker reads and opens only the chunks of its own
+blocks. Damage in one block fails only the task of that block; the error has the file and the number
+of the chunk. Damage in the header or in the last chunk fails every task.
+
+The file system keeps the key of each file's payload as long as the file is unchanged, so scrypt
+runs once for each file. The pickle of the file system for a worker contains these keys: whoever has
+the pickle can read these files.
 """
 
 from __future__ import annotations
@@ -30,10 +32,12 @@ from ._secrets import Identities, Recipients
 
 
 class AgeFileSystem(AbstractFileSystem):  # type: ignore[misc]
-    """The plaintexts of the age files of another file system, to be read with identities and
-    written for recipients: of `fs`, else of the protocol of a chain, else of the local files.
+    """The plaintexts of the age files in another file system, which are read with `identities` and
+    written for `recipients`.
 
-    A list of files opens none of them, so it has no sizes; `info` of one file has its size."""
+    The file system below is `fs`, else that of the protocol of a chain, else the local one. `ls`
+    opens no file, so its entries have no sizes; `info` of a single file has its size.
+    """
 
     protocol = "age"
     cachable = False
@@ -52,9 +56,9 @@ class AgeFileSystem(AbstractFileSystem):  # type: ignore[misc]
         super().__init__(**options)
         self.fs = fs or fsspec.filesystem(target_protocol, **(target_options or {}))
         self._identities, self._recipients, self._target = identities, recipients, fo
-        # What each file that was opened was, and its payload's key with the places of its chunks.
+        # For each file opened: its state, and its payload's key with the offsets of its chunks.
         self._keys: dict[str, tuple[str, bytes]] = {}
-        # A chain has its path in what comes behind.
+        # The path of a chain is in its target.
         self._strip_protocol = self._name_below
 
     def _name_below(self, path: Any) -> Any:
@@ -64,8 +68,9 @@ class AgeFileSystem(AbstractFileSystem):  # type: ignore[misc]
         return self.fs._strip_protocol(path) if path else self._target
 
     def open(self, path: Any, mode: str = "rb", **options: Any) -> Any:
-        """Text is UTF-8 unless `encoding` names another. A file is written as `agefile.open` writes
-        it, so this refuses a compression, which would leave out its end, and transactions."""
+        """Opens a file to read its plaintext, or a new file to write. Text is UTF-8 unless
+        `encoding` names another encoding. Files are written as by `agefile.open`. A compression,
+        which would lose the end of the file, and a transaction are refused."""
         if "r" not in mode:
             return self._create(self._strip_protocol(path), mode, options)
         if "b" not in mode:
@@ -94,12 +99,12 @@ class AgeFileSystem(AbstractFileSystem):  # type: ignore[misc]
         if reader is None:
             reader = open_reader(opener, self._identities or [])
             self._keys[path] = state, reader.again()[1]
-        # As fsspec's own files have it.
+        # fsspec's own files have this attribute.
         setattr(reader, "size", reader.length)
         return reader
 
     def _reopened(self, opener: _Opener, state: str) -> Reader | None:
-        """A file that is as it was, by the key that was kept of it."""
+        """An unchanged file, opened again with the key kept of it."""
         before, key = self._keys.get(opener.path, ("", b""))
         try:
             return reopen(opener, key, 0) if before == state else None
@@ -107,7 +112,7 @@ class AgeFileSystem(AbstractFileSystem):  # type: ignore[misc]
             return None
 
     def info(self, path: str, **_: Any) -> dict[str, Any]:
-        """What the file system below says, but for the size, which is the plaintext's."""
+        """Returns what the file system below returns, with the size of the plaintext."""
         path = self._strip_protocol(path)
         found = dict(self.fs.info(path))
         if found["type"] == "file":
@@ -138,7 +143,7 @@ class AgeFileSystem(AbstractFileSystem):  # type: ignore[misc]
         super().put_file(lpath, rpath, *arguments, **options)
 
     def _refuse_same(self, path: str, local: Any) -> None:
-        """Names are the same on both sides: a local file would be replaced by itself."""
+        """Refuses a local file as its own target: names are the same on both sides."""
         name, fs = self._strip_protocol(path), self.fs
         while not isinstance(fs, LocalFileSystem) and getattr(fs, "fs", None) is not None:
             name, fs = fs._join(name) if hasattr(fs, "_join") else name, fs.fs
@@ -164,7 +169,7 @@ class AgeFileSystem(AbstractFileSystem):  # type: ignore[misc]
         return bool(self.fs.isdir(self._strip_protocol(path)))
 
     def du(self, path: str, **options: Any) -> Any:
-        """The room that the files take, as they are encrypted."""
+        """Returns the size of the files, encrypted."""
         return self.fs.du(self._strip_protocol(path), **options)
 
     def ukey(self, path: str) -> Any:
@@ -176,13 +181,13 @@ class AgeFileSystem(AbstractFileSystem):  # type: ignore[misc]
 
 
 class _Opener:
-    """Opens a file of a file system; it can be pickled where the file system can."""
+    """Opens a file of a file system. It can be pickled if the file system can."""
 
     def __init__(self, fs: AbstractFileSystem, path: str, mode: str) -> None:
         self._fs, self.path, self._mode = fs, path, mode
 
     def open(self) -> Any:
-        # Without a cache below: each chunk is read once.
+        # No cache below: each chunk is read once.
         words = {"cache_type": "none"} if self._mode == "rb" else {}
         return self._fs.open(self.path, self._mode, **words)
 

@@ -1,11 +1,11 @@
-//! What goes wrong.
+//! Errors.
 
 use std::fmt;
 use std::io;
 
 use crate::ffi::Report;
 
-/// Why a file or a call is refused. Chunks are counted from 0, header lines from 1.
+/// Why a file or a call was refused. Chunks are counted from 0, header lines from 1.
 #[derive(Clone, Copy, Debug, PartialEq, Eq)]
 #[non_exhaustive]
 pub enum Error {
@@ -23,16 +23,16 @@ pub enum Error {
     MixedPassphrase,
     /// No stanza is of the type of any identity.
     NoMatch,
-    /// There are stanzas of an identity's type, and none of them opens: the passphrase or key is
+    /// There are stanzas of an identity's type, but none of them opens: the passphrase or key is
     /// wrong.
     WrongKey,
     /// A stanza of an identity's type is malformed.
     Malformed(Part),
-    /// The header's MAC is not the one of its stanzas under the file key.
+    /// The header's MAC is not that of its stanzas under the file key.
     BadMac,
-    /// Fewer bytes than the payload's nonce, 16, follow the header.
+    /// Fewer than 16 bytes, the payload's nonce, follow the header.
     NonceTruncated,
-    /// This sealed chunk, the last, has fewer bytes than a tag, 16.
+    /// This sealed chunk, the last, is shorter than a tag, 16 bytes.
     ChunkShort(u64),
     /// This chunk, the last and not the first, has an empty plaintext.
     EmptyFinal(u64),
@@ -45,17 +45,17 @@ pub enum Error {
     /// The recipients returned no stanza.
     NoRecipients,
     // end of variants of errors
-    /// A passphrase for a new file is empty, so everybody could open the file.
+    /// A passphrase for a new file is empty: anyone could open the file.
     EmptyPassphrase,
     /// A work factor is not 1 to 30.
     WorkFactor,
-    /// An argument of a stanza is empty, or is not made of the characters `!` to `~`.
+    /// An argument of a stanza is empty, or has a character other than `!` to `~`.
     BadArguments,
-    /// A caller's own recipient or identity refuses.
+    /// A caller's own recipient or identity refused.
     Refused,
-    /// An earlier write failed, so the file has no end.
+    /// An earlier write failed, so the file cannot be completed.
     Incomplete,
-    /// The library returned this code, which this crate does not know or does not expect.
+    /// The library returned this code, which this crate does not know or expect.
     Other(u32),
 }
 
@@ -69,7 +69,7 @@ pub enum Part {
     Salt,
     /// The work factor.
     WorkFactor,
-    /// The work factor, which is above the identity's maximum.
+    /// The work factor is above the identity's maximum.
     WorkFactorTooHigh,
     /// The length of the body.
     BodyLength,

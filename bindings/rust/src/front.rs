@@ -6,12 +6,12 @@ use crate::ffi::{FRONT, NONCE};
 use crate::header::{inspect, unlock};
 use crate::{Error, FileKey, Header, Identity};
 
-/// How many bytes more than were read count, where a header is looked for so many times over.
+/// The number of bytes added to those read, in the bound on how often they may be parsed.
 const MARGIN: usize = 4096;
 /// The length of a header's last line.
 const LAST_LINE: usize = 48;
 
-/// One read, again where it was interrupted.
+/// Reads once, and repeats an interrupted read.
 pub fn read_some(source: &mut impl Read, buf: &mut [u8]) -> io::Result<usize> {
     loop {
         match source.read(buf) {
@@ -21,8 +21,8 @@ pub fn read_some(source: &mut impl Read, buf: &mut [u8]) -> io::Result<usize> {
     }
 }
 
-/// Reads until the buffer is full from `have` on, or the source ends. Adds the bytes to `have`,
-/// also if a read fails.
+/// Fills the buffer from `have` on, until it is full or the source ends. Adds the bytes read to
+/// `have`, even if a read fails.
 pub fn fill(source: &mut impl Read, buf: &mut [u8], have: &mut usize) -> io::Result<()> {
     while *have < buf.len() {
         match read_some(source, &mut buf[*have..])? {
@@ -33,19 +33,19 @@ pub fn fill(source: &mut impl Read, buf: &mut [u8], have: &mut usize) -> io::Res
     Ok(())
 }
 
-/// What was read of a source up to its nonce, and its file key. A failed read loses nothing.
+/// The bytes read from a source up to its nonce, and its file key. A failed read loses nothing.
 #[derive(Default)]
 pub struct Front {
     pub bytes: Vec<u8>,
     file_key: Option<FileKey>,
     header: Option<Header>,
-    /// In how many bytes, over all tries, the header was looked for.
+    /// The number of bytes parsed, over all attempts to parse the header.
     tried: usize,
 }
 
 impl Front {
-    /// Reads no more than it needs to find the file key, so that a wrong key is found while the
-    /// source still waits.
+    /// Reads no more than is needed to find the file key, so that a wrong key is reported before
+    /// the payload has arrived.
     pub fn read(&mut self, source: &mut impl Read, identities: &[&dyn Identity]) -> io::Result<()> {
         let header = match self.header.take() {
             Some(header) => header,
@@ -75,9 +75,9 @@ impl Front {
         }
     }
 
-    /// Whether a header is looked for after a read, before which `had` bytes were there: each read may
-    /// end it or spoil it. Where reads are so short that to look after each would take long, the
-    /// header's last line still is no byte late.
+    /// Whether to parse the header after a read, before which there were `had` bytes: every read
+    /// may complete or spoil it. If reads are so short that parsing after each would take too long,
+    /// the header is still parsed as soon as its last line is there.
     fn is_due(&self, had: usize) -> bool {
         let new = &self.bytes[had.saturating_sub(LAST_LINE)..];
         self.tried <= 16 * (self.bytes.len() + MARGIN) || new.windows(4).any(|four| four == b"\n---")

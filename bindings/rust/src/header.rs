@@ -3,16 +3,16 @@
 use crate::ffi::{self, StanzaSummary};
 use crate::{Error, FileKey, Identity, Recipient};
 
-/// One entry of a header, which holds the file key for one recipient.
+/// An entry of a header, which holds the file key for a recipient.
 #[derive(Clone, Debug, PartialEq, Eq)]
 pub struct Stanza {
-    /// The type, and the arguments after it.
+    /// The type, then the arguments.
     pub args: Vec<String>,
     /// The body's bytes.
     pub body: Vec<u8>,
 }
 
-/// What stands in a header. Its MAC is not verified.
+/// The contents of a header. The MAC is not verified.
 #[derive(Clone, Debug, PartialEq, Eq)]
 pub struct Header {
     text: Vec<u8>,
@@ -21,23 +21,24 @@ pub struct Header {
 }
 
 impl Header {
-    /// The stanzas, in order.
+    /// Returns the stanzas, in order.
     pub fn stanzas(&self) -> &[Stanza] {
         &self.stanzas
     }
 
-    /// The MAC that stands in the header.
+    /// Returns the MAC of the header, which is not verified.
     pub fn mac(&self) -> &[u8; 32] {
         &self.mac
     }
 
-    /// The header's own text, up to the LF after its MAC.
+    /// Returns the header's text, up to and including the LF after its MAC.
     pub fn text(&self) -> &[u8] {
         &self.text
     }
 }
 
-/// The header of a file, of which `front` is any beginning that holds it.
+/// Reads the header of a file. `front` is any beginning of the file that contains it. Does not
+/// verify its MAC.
 pub fn inspect(front: &[u8]) -> Result<Header, Error> {
     let summary = ffi::inspect(front)?;
     let text = front[..summary.header_len as usize].to_vec();
@@ -58,7 +59,7 @@ pub fn inspect(front: &[u8]) -> Result<Header, Error> {
     Ok(Header { text, stanzas, mac: summary.mac })
 }
 
-/// What a call writes to a buffer of this size.
+/// Returns what a call writes to a buffer of this size.
 pub(crate) fn written(room: usize, call: impl FnOnce(&mut [u8]) -> Result<usize, Error>) -> Result<Vec<u8>, Error> {
     let mut out = vec![0; room];
     let len = call(&mut out)?;
@@ -77,7 +78,7 @@ fn stanza_text(stanza: &Stanza) -> Result<Vec<u8>, Error> {
     written(room, |out| Ok(ffi::wrap(args.as_bytes(), &stanza.body, out)?.len as usize))
 }
 
-/// The text of the stanzas into which recipients wrap a file key, in order.
+/// The text of the stanzas into which the recipients wrap a file key, in order.
 pub(crate) fn stanzas_text(recipients: &[&dyn Recipient], file_key: &FileKey) -> Result<Vec<u8>, Error> {
     let mut text = Vec::new();
     for recipient in recipients {
@@ -88,12 +89,12 @@ pub(crate) fn stanzas_text(recipients: &[&dyn Recipient], file_key: &FileKey) ->
     Ok(text)
 }
 
-/// The header of a text of stanzas under a file key.
+/// The header for a text of stanzas, under a file key.
 pub(crate) fn header_of(stanzas: &[u8], file_key: &FileKey) -> Result<Vec<u8>, Error> {
     written(stanzas.len() + 128, |out| Ok(ffi::header(stanzas, &file_key.0, out)?.len as usize))
 }
 
-/// The file key that the first identity finds whose key fits.
+/// The file key that the first matching identity finds.
 pub(crate) fn unlock(header: &Header, identities: &[&dyn Identity]) -> Result<FileKey, Error> {
     let is_passphrase = |stanza: &Stanza| stanza.args[0] == "scrypt";
     if header.stanzas.len() > 1 && header.stanzas.iter().any(is_passphrase) {

@@ -1,13 +1,15 @@
-//! Age v1 encrypted files (`age-encryption.org/v1`) by the library `libagefile`, whose code is
-//! proved. This crate is ordinary Rust over it, which is tested.
+//! Reads and writes age v1 encrypted files (`age-encryption.org/v1`).
 //!
 //! - [`encrypt`], [`decrypt`], [`rewrap`] and [`inspect`] work on bytes in memory.
-//! - A [`Reader`] and a [`Writer`] work on streams of any size, in constant memory.
-//! - A [`RangeReader`] reads any part of a plaintext, and opens only the chunks that it needs.
-//! - With the feature `parallel`, the module `parallel` does whole files on several threads.
+//! - [`Reader`] and [`Writer`] work on streams of any size, in constant memory.
+//! - [`RangeReader`] reads any part of a plaintext, and opens only the chunks that it needs.
+//! - The module `parallel`, with the feature of that name, encrypts and decrypts bytes in memory on
+//!   several threads.
 //!
-//! A file is for one or more recipients: a [`Passphrase`], a [`Key`] of 32 bytes, or a caller's own
-//! [`Recipient`]. To read it takes one or more identities: the same, or a caller's own [`Identity`].
+//! A file is encrypted for one or more recipients, and decrypted with one or more identities. Both
+//! may be a [`Passphrase`] or a [`Key`] of 32 bytes, or a caller's own [`Recipient`] or
+//! [`Identity`]. Files for a `Passphrase` are exchanged with `age`; only `agep` and this library
+//! open files for a `Key`.
 //!
 //! ```
 //! use std::io::{Read, Write};
@@ -25,7 +27,8 @@
 //! # }
 //! ```
 //!
-//! Memory is not wiped, and constant time is not promised.
+//! The code of `libagefile`, the library underneath, is proved; this crate is ordinary, tested Rust
+//! over it. Memory is not wiped, and constant time is not promised.
 #![warn(missing_docs, missing_debug_implementations)]
 
 mod error;

@@ -1,5 +1,5 @@
-//! Whole files in memory, on several threads. Each thread seals or opens a part of the payload, which
-//! no other one does.
+//! Whole files in memory, on several threads. Each thread seals or opens its own parts of the
+//! payload.
 //!
 //! ```
 //! # fn main() -> std::io::Result<()> {
@@ -19,11 +19,11 @@ use crate::header::{header_of, inspect, stanzas_text, unlock};
 use crate::whole::text_len;
 use crate::{Error, FileKey, Identity, Recipient};
 
-/// What a thread does with its part: with each of its chunks, and where it is in the output.
+/// The work of a thread on a chunk of its part, with the chunk's place in the output.
 type Step = fn(&mut Part, &[u8], &mut [u8]) -> Result<(), Error>;
 
-/// The same file as [`crate::encrypt`] makes, sealed on so many threads, or on fewer where the system
-/// starts no more.
+/// Encrypts a plaintext as [`crate::encrypt`] does, on up to `threads` threads. Uses fewer if the
+/// system cannot start as many.
 pub fn encrypt(plain: &[u8], recipients: &[&dyn Recipient], threads: usize) -> io::Result<Vec<u8>> {
     let (file_key, nonce) = (FileKey(ffi::random()?), ffi::random()?);
     let stanzas = stanzas_text(recipients, &file_key)?;
@@ -41,7 +41,7 @@ pub fn encrypt(plain: &[u8], recipients: &[&dyn Recipient], threads: usize) -> i
     Ok(out)
 }
 
-/// The same plaintext as [`crate::decrypt`] returns, opened on so many threads.
+/// Decrypts an age file as [`crate::decrypt`] does, on up to `threads` threads.
 pub fn decrypt(file: &[u8], identities: &[&dyn Identity], threads: usize) -> Result<Vec<u8>, Error> {
     let header = inspect(file)?;
     let file_key = unlock(&header, identities)?;
@@ -61,9 +61,9 @@ pub fn decrypt(file: &[u8], identities: &[&dyn Identity], threads: usize) -> Res
     Ok(out)
 }
 
-/// Does all chunks but the last, and returns what is left of the input and of the output. The error
-/// is that of the first chunk that has one: each thread takes the next part, until one of its own has
-/// an error.
+/// Processes all chunks except the last, and returns the rest of the input and of the output. The
+/// error is that of the first chunk with one: each thread takes the next part, until one of its
+/// parts has an error.
 fn in_parts<'a, 'b>(
     payload: &mut Payload,
     input: &'a [u8],

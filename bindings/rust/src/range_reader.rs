@@ -1,4 +1,4 @@
-//! Reading any part.
+//! Reading any part of a plaintext.
 
 use std::fmt;
 use std::io::{self, Read, Seek, SeekFrom};
@@ -8,9 +8,10 @@ use crate::ffi::{self, Ranges, SEALED_CHUNK, TEXT_CHUNK};
 use crate::front::{fill, Front};
 use crate::{Error, Identity};
 
-/// The plaintext of an age file, any part of it. Only the chunks that are read are opened, so damage
-/// in others is not noticed; the last chunk is opened at first, since it proves where the plaintext
-/// ends. Each byte that it returns was verified.
+/// Reads any part of the plaintext of an age file, by [`Read`] and [`Seek`].
+///
+/// Opens only the chunks that are read, so damage in other chunks is not noticed. Opens the last
+/// chunk first, because it proves where the plaintext ends. Every byte returned was verified.
 ///
 /// ```
 /// use std::io::{Cursor, Read, Seek, SeekFrom};
@@ -29,7 +30,7 @@ use crate::{Error, Identity};
 pub struct RangeReader<R> {
     source: R,
     ranges: Ranges,
-    /// The chunk that was opened last, its number, and its text.
+    /// The chunk opened last, its number, and its text.
     buf: Box<[u8]>,
     number: Option<u64>,
     text: Range<usize>,
@@ -38,8 +39,8 @@ pub struct RangeReader<R> {
 }
 
 impl<R: Read + Seek> RangeReader<R> {
-    /// Reads the header, finds the file key by the first identity whose key fits, and opens the last
-    /// chunk. The source is the whole file, which does not change.
+    /// Reads the header, finds the file key with the first identity that matches, and opens the
+    /// last chunk. The source must be the whole file, and the file must not change.
     pub fn new(mut source: R, identities: &[&dyn Identity]) -> io::Result<RangeReader<R>> {
         let file_len = source.seek(SeekFrom::End(0))?;
         source.rewind()?;
@@ -61,7 +62,7 @@ impl<R: Read + Seek> RangeReader<R> {
         self.text = 0..len;
     }
 
-    /// Reads a sealed chunk. Whatever was kept is lost.
+    /// Reads a sealed chunk over the one kept.
     fn read_sealed(&mut self, number: u64, place: u64, len: usize) -> io::Result<()> {
         self.number = None;
         self.source.seek(SeekFrom::Start(place))?;
@@ -73,7 +74,7 @@ impl<R: Read + Seek> RangeReader<R> {
         Ok(())
     }
 
-    /// Opens a chunk, unless it is the one that is kept.
+    /// Opens a chunk, unless it is the one kept.
     fn load(&mut self, number: u64) -> io::Result<()> {
         if self.number == Some(number) {
             return Ok(());
@@ -88,17 +89,17 @@ impl<R: Read + Seek> RangeReader<R> {
 }
 
 impl<R> RangeReader<R> {
-    /// The length of the plaintext in bytes.
+    /// Returns the length of the plaintext in bytes.
     pub fn len(&self) -> u64 {
         self.len
     }
 
-    /// Whether the plaintext is empty.
+    /// Returns whether the plaintext is empty.
     pub fn is_empty(&self) -> bool {
         self.len == 0
     }
 
-    /// Takes the source back.
+    /// Returns the source.
     pub fn into_inner(self) -> R {
         self.source
     }

@@ -8,7 +8,7 @@ use crate::ffi::{self, Payload, SEALED_CHUNK};
 use crate::front::{fill, Front};
 use crate::{Error, Identity};
 
-/// A [`Reader`] whose header has not come yet, of a source that would block.
+/// A [`Reader`] whose header has not been read yet, for sources that may block.
 ///
 /// ```
 /// # use std::io::{ErrorKind, Read};
@@ -34,18 +34,18 @@ pub struct Opening<R> {
 }
 
 impl<R: Read> Opening<R> {
-    /// Reads nothing yet.
+    /// Makes an opening over this source, without reading.
     pub fn new(source: R) -> Opening<R> {
         Opening { source, front: Front::default() }
     }
 
-    /// Reads the header and the nonce, and finds the file key. After an error, as that of a read that
-    /// would block, it can be called again: what was read is kept, and a key that was found too.
+    /// Reads the header and the nonce, and finds the file key. After an error, such as that of a
+    /// read that would block, it can be called again: the bytes read and the key found are kept.
     pub fn read(&mut self, identities: &[&dyn Identity]) -> io::Result<()> {
         self.front.read(&mut self.source, identities)
     }
 
-    /// The reader of the plaintext, or an error unless [`Opening::read`] has returned `Ok`.
+    /// Returns the reader of the plaintext, or an error unless [`Opening::read`] has returned `Ok`.
     pub fn finish(self) -> Result<Reader<R>, Error> {
         let (payload, begin) = ffi::open(&self.front.bytes, self.front.file_key()?)?;
         let mut ahead = io::Cursor::new(self.front.bytes);
@@ -62,21 +62,23 @@ impl<R> fmt::Debug for Opening<R> {
     }
 }
 
-/// The plaintext of an age file, chunk by chunk, in constant memory. Each byte that it returns was
-/// verified. The plaintext is complete only after a read into a nonempty buffer returned `Ok(0)`.
+/// Decrypts an age file, chunk by chunk, in constant memory.
 ///
-/// After an [`Error`] each such read returns it again. It never has the kind `UnexpectedEof`, which
-/// `read_exact` returns at the end of the plaintext. After a failed read of the source, as one that
-/// would block, reading can go on.
+/// Every byte returned was verified. The plaintext is complete only after a read into a nonempty
+/// buffer returned `Ok(0)`.
+///
+/// After an [`Error`] every such read returns it again. The error of a damaged or truncated chunk
+/// never has the kind `UnexpectedEof`, which `read_exact` returns at the end of the plaintext.
+/// After a failed read of the source, such as one that would block, reading can continue.
 pub struct Reader<R> {
     source: R,
     payload: Payload,
-    /// What was read behind the nonce, and not used yet.
+    /// The bytes read after the nonce that are not used yet.
     ahead: io::Cursor<Vec<u8>>,
-    /// A chunk, sealed or opened, and the byte after it, which tells whether it is the last.
+    /// A chunk, sealed or opened, and the byte after it, which shows that it is not the last.
     buf: Box<[u8]>,
     /// The number of bytes of the next sealed chunk that were read, and the first of them, which
-    /// stands behind the chunk that was opened.
+    /// comes after the chunk that was opened.
     sealed: usize,
     first: u8,
     /// The text in `buf` that was not returned yet.
@@ -86,16 +88,16 @@ pub struct Reader<R> {
 }
 
 impl<R: Read> Reader<R> {
-    /// Reads the header, and finds the file key by the first identity whose key fits. No more of the
-    /// source is read than is there, so a wrong key is told before the payload has come. A source
-    /// that would block before its header has come needs an [`Opening`].
+    /// Reads the header, and finds the file key with the first identity that matches. Reads no more
+    /// than the source has ready, so a wrong key is reported before the payload has arrived. A
+    /// source that may block before its header has arrived needs an [`Opening`].
     pub fn new(source: R, identities: &[&dyn Identity]) -> io::Result<Reader<R>> {
         let mut opening = Opening::new(source);
         opening.read(identities)?;
         Ok(opening.finish()?)
     }
 
-    /// Takes the source back. What was read ahead of it is lost.
+    /// Returns the source. Bytes read ahead are lost.
     pub fn into_inner(self) -> R {
         self.source
     }

@@ -6,14 +6,14 @@ use crate::ffi;
 use crate::header::{header_of, inspect, written, Header, Stanza};
 use crate::Error;
 
-/// The room for the stanza of a passphrase or a key.
+/// The size of a buffer for the stanza of a passphrase or a key.
 const STANZA_ROOM: usize = 128;
 
 /// The 16 bytes from which a file's keys are derived.
 #[derive(Clone, Copy, PartialEq, Eq)]
 pub struct FileKey(pub [u8; 16]);
 
-/// Wraps the file key of a new file into stanzas.
+/// A recipient of a file, which wraps the file key of a new file into stanzas.
 ///
 /// ```
 /// use agefile::{Error, FileKey, Key, Recipient, Stanza};
@@ -38,20 +38,23 @@ pub struct FileKey(pub [u8; 16]);
 /// # }
 /// ```
 pub trait Recipient {
-    /// The stanzas that hold this file key, in order.
+    /// Wraps this file key. Returns the stanzas that hold it, in order.
     fn wrap(&self, file_key: &FileKey) -> Result<Vec<Stanza>, Error>;
 }
 
-/// Finds the file key of a file.
+/// An identity, which finds the file key of a file.
 pub trait Identity {
-    /// The file key that one of the header's stanzas holds. `None`: no stanza is for this identity.
-    /// [`Error::WrongKey`]: one is, and another identity may fit. Another error ends the search.
-    /// The header's MAC is compared under this key afterwards.
+    /// Returns the file key that one of the header's stanzas holds, or `None` if no stanza is for
+    /// this identity. The caller then checks the header's MAC under the key.
+    ///
+    /// # Errors
+    /// [`Error::WrongKey`] if a stanza is for this identity but does not open: the next identity is
+    /// tried, as after [`Error::NoMatch`]. Any other error ends the search.
     fn unlock(&self, header: &Header) -> Result<Option<FileKey>, Error>;
 }
 
-/// A passphrase, for new files and for old ones: any bytes. An empty one opens old files, and is
-/// [`Error::EmptyPassphrase`] for new ones.
+/// A passphrase, as a recipient and as an identity: any bytes. An empty passphrase can open files,
+/// but not make them ([`Error::EmptyPassphrase`]).
 #[derive(Clone)]
 pub struct Passphrase {
     text: Vec<u8>,
@@ -59,23 +62,26 @@ pub struct Passphrase {
     max_work: u8,
 }
 
-/// A key of 32 bytes that both sides hold. Only `agep` and `libagefile` open files made for it.
+/// A secret key of 32 bytes, as a recipient and as an identity. Only `agep` and `libagefile` open
+/// files encrypted with it.
 #[derive(Clone)]
 pub struct Key([u8; 32]);
 
 impl Passphrase {
-    /// A passphrase with the usual work factors: 18, and at most 22.
+    /// Makes a passphrase with the usual work factors: 18 for new files, and at most 22 to open
+    /// files.
     pub fn new(text: impl Into<Vec<u8>>) -> Passphrase {
         Passphrase { text: text.into(), work: 18, max_work: 22 }
     }
 
-    /// The work factor of a new file, 1 to 30: each try to open it takes 2^work KiB of memory.
+    /// Sets the work factor of new files, 1 to 30. Each attempt to open one takes 2^work KiB of
+    /// memory.
     pub fn with_work(mut self, work: u8) -> Passphrase {
         self.work = work;
         self
     }
 
-    /// The greatest work factor that is accepted of a file, 1 to 30.
+    /// Sets the greatest work factor that is accepted from a file, 1 to 30.
     pub fn with_max_work(mut self, max_work: u8) -> Passphrase {
         self.max_work = max_work;
         self
@@ -83,13 +89,13 @@ impl Passphrase {
 }
 
 impl Key {
-    /// A key of these bytes.
+    /// Makes a key of these bytes.
     pub fn new(key: [u8; 32]) -> Key {
         Key(key)
     }
 }
 
-/// The one stanza of a text, which the library reads as it reads a header.
+/// The stanza of a text, which the library parses within a header.
 fn stanza_of(text: &[u8], file_key: &FileKey) -> Result<Vec<Stanza>, Error> {
     Ok(inspect(&header_of(text, file_key)?)?.stanzas().to_vec())
 }
@@ -98,7 +104,7 @@ fn fresh_salt() -> Result<[u8; 16], Error> {
     ffi::random().map_err(|_| Error::Refused)
 }
 
-/// What unlocking found, where no match is no error.
+/// The result of unlocking, where no match is not an error.
 fn found(result: Result<[u8; 16], Error>) -> Result<Option<FileKey>, Error> {
     match result {
         Ok(file_key) => Ok(Some(FileKey(file_key))),
@@ -137,7 +143,7 @@ impl Identity for Key {
     }
 }
 
-/// Prints the type's name alone.
+/// Implements `Debug` with the type's name alone.
 macro_rules! hide {
     ($($name:ident),*) => {$(
         impl fmt::Debug for $name {

@@ -7,8 +7,8 @@ use crate::ffi::{self, Payload, SEALED_CHUNK, TAG, TEXT_CHUNK};
 use crate::header::stanzas_text;
 use crate::{Error, FileKey, Recipient};
 
-/// Encrypts what is written to it, chunk by chunk, in constant memory. Only [`Writer::finish`] makes
-/// the file whole: without it, or after a failed write, each reader refuses the file.
+/// Encrypts the bytes written to it, chunk by chunk, in constant memory. Only [`Writer::finish`]
+/// completes the file: without it, or after a failed write, every reader refuses the file.
 #[must_use = "a file is whole only after `finish`"]
 pub struct Writer<W> {
     sink: W,
@@ -20,10 +20,11 @@ pub struct Writer<W> {
 }
 
 impl<W: Write> Writer<W> {
-    /// Writes the header and the nonce of a new file for these recipients. Both are made before the
-    /// first byte is written, so an error of a recipient leaves the sink as it was. A file that
-    /// `File::create` has opened is empty by then: write to a new name, and rename it after
-    /// [`Writer::finish`].
+    /// Writes the header and the nonce of a new file for these recipients.
+    ///
+    /// Both are made before the first byte is written, so an error of a recipient leaves the sink
+    /// unchanged. But `File::create` has emptied an existing file by then: write to a new name, and
+    /// rename the file after [`Writer::finish`].
     pub fn new(mut sink: W, recipients: &[&dyn Recipient]) -> io::Result<Writer<W>> {
         let (file_key, nonce) = (FileKey(ffi::random()?), ffi::random()?);
         let stanzas = stanzas_text(recipients, &file_key)?;
@@ -47,7 +48,8 @@ impl<W: Write> Writer<W> {
         Ok(())
     }
 
-    /// Writes the last chunk, flushes the sink, and returns it, also beside an error.
+    /// Writes the last chunk, flushes the sink, and returns it. A [`FinishError`] contains the sink
+    /// too.
     pub fn finish(mut self) -> Result<W, FinishError<W>> {
         match self.put_chunk(true).and_then(|()| self.sink.flush()) {
             Ok(()) => Ok(self.sink),
@@ -71,7 +73,7 @@ impl<W: Write> Write for Writer<W> {
         Ok(count)
     }
 
-    /// Flushes the sink. The bytes of a chunk that is not full stay here.
+    /// Flushes the sink. The bytes of a chunk that is not full stay in the buffer.
     fn flush(&mut self) -> io::Result<()> {
         self.sink.flush()
     }
@@ -83,19 +85,19 @@ impl<W> fmt::Debug for Writer<W> {
     }
 }
 
-/// A file that could not be finished: why, and its sink.
+/// The error of a file that could not be completed, with its sink.
 pub struct FinishError<W> {
     error: io::Error,
     sink: W,
 }
 
 impl<W> FinishError<W> {
-    /// Why the file is not whole.
+    /// Returns the reason why the file is not complete.
     pub fn error(&self) -> &io::Error {
         &self.error
     }
 
-    /// The error, and the sink.
+    /// Returns the error and the sink.
     pub fn into_parts(self) -> (io::Error, W) {
         (self.error, self.sink)
     }

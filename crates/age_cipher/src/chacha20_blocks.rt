@@ -8,10 +8,10 @@ ghost use Rattle.age_cipher.specs.Lanes.{lane, column, bytes, IsXoredAt};
 use crate::chacha20_lanes::{mix, start};
 use std::simd::{u8x32, u32x8};
 
-/// The bytes of eight blocks.
+/// The length of eight blocks in bytes.
 pub(crate) const EIGHT_BLOCKS: usize = 512;
 
-// Four vectors as rows, turned into columns, two in a vector: column k, and then column k + 4.
+// Transposes four vectors, and returns the columns in pairs: column k, then column k + 4.
 #[inline(always)]
 fn transposed_in_halves(a: u32x8, b: u32x8, c: u32x8, d: u32x8) -> (u32x8, u32x8, u32x8, u32x8)
     ensures first { result.0 ≡ column 0 a b c d ++ column 4 a b c d }
@@ -57,7 +57,7 @@ fn xor_eight_words(buf: &mut [u8], at: usize, words: u32x8)
     xored.copy_to_slice(&mut buf[at..]);
 }
 
-// XORs 64 bytes from `at` on with the bytes of a block's words, eight in each vector.
+// XORs 64 bytes from `at` on with the bytes of a block, whose words are in two vectors of eight.
 #[inline(always)]
 fn xor_halves(buf: &mut [u8], at: usize, first: u32x8, second: u32x8)
     requires { at + 64 ≤ length buf.old }
@@ -67,7 +67,7 @@ fn xor_halves(buf: &mut [u8], at: usize, first: u32x8, second: u32x8)
     xor_eight_words(buf, at + 32, second);
 }
 
-// XORs 512 bytes from `at` on with the eight lanes' blocks.
+// XORs 512 bytes from `at` on with the blocks of the eight lanes.
 #[inline(always)]
 fn xor_eight_lanes(buf: &mut [u8], at: usize, words: &[u32x8; 16])
     requires { at + 512 ≤ length buf.old }
@@ -92,7 +92,7 @@ fn xor_eight_lanes(buf: &mut [u8], at: usize, words: &[u32x8; 16])
     xor_halves(buf, at + 448, high_halves(d0, d1), high_halves(d2, d3));
 }
 
-/// XORs 512 bytes from `at` on with the eight blocks from a counter on.
+/// XORs 512 bytes from `at` on with eight blocks, the first of which has this counter.
 #[inline(always)]
 pub(crate) fn xor_eight_blocks(
     key: &[u8; 32],
@@ -125,7 +125,8 @@ pub(crate) fn xor_eight_blocks(
     xor_eight_lanes(buf, at, &words);
 }
 
-/// XORs the bytes from `at` on, at most 512, with the start of the eight blocks from a counter on.
+/// XORs the bytes from `at` on, at most 512, with the start of eight blocks, the first of which has
+/// this counter.
 pub(crate) fn xor_last_blocks(
     key: &[u8; 32],
     nonce: &[u8; 12],

@@ -1,5 +1,5 @@
-//! What status 0 means, over the definitions alone: a function that does nothing, with laws as its
-//! contract.
+//! The meaning of status 0, about the definitions alone: laws that are the contract of a function
+//! that does nothing.
 
 ghost use Rattle.std.specs.Prelude.{◌≡◌, ◌≤◌, ◌++◌, List, Ok, Option, Some, length};
 ghost use Rattle.age_header.specs.Device.{Bytes, Known, move_of};
@@ -20,15 +20,15 @@ use age_job::Command;
 use std::io::{Read, Write};
 use std::rt::Files;
 
-/// Where the contents of input and output are known, a `decrypt` that `run_job` has done means that
-/// the input is an age file, and that the output gained its whole plaintext, and nothing else. An
-/// `encrypt` means that the output gained an age file of the input, and nothing else. Of `rewrap`
-/// it is the input with another header, and of `inspect` what is shown of the header with which the
-/// input begins: its text with `-r`, else its table. Of `range` it is at most as many bytes as the
-/// job requests.
+/// What a job of `run_job` that ended with status 0 did, if the contents of its input and output
+/// are known. `decrypt`: the input is an age file, and the output gained its whole plaintext and
+/// nothing else. `encrypt`: the output gained an age file of the input and nothing else. `rewrap`:
+/// it gained the input with another header. `inspect`: it gained the header at the start of the
+/// input, as its text with `-r`, else as a table. `range`: it gained at most as many bytes as the
+/// job requests. Of `salvage` the law says nothing.
 ///
-/// The same stands on the words of a `run` that ended with status 0, where they name no file. A
-/// `range` names one.
+/// The same holds for the words of a `run` that ended with status 0, if they name no file. (A
+/// `range` names one.)
 pub fn done_jobs<F: Files>()
     ensures decrypt { (job : Job) (b xs : Bytes) (new : Known) → job.command ≡ Command.Decrypt
         → Finishes job (Some b) (move_of (Some xs) new)

@@ -1,4 +1,4 @@
-//! The lines on what `salvage` misses.
+//! The lines about chunks that `salvage` lost.
 
 use crate::program::say;
 use age_commands::Report;
@@ -14,11 +14,11 @@ pub(crate) struct LossLines<'a, E> {
     pub(crate) alloc: Global,
     pub(crate) err: &'a mut E,
     pub(crate) run: Option<LostRun>,
-    /// Whether the line may show how much was read, which a line printed here takes the place of.
+    /// Whether the line on progress may be shown, which a line printed here replaces.
     pub(crate) is_shown: bool,
 }
 
-/// A run of lost chunks. Its text is what follows `agep: ` on standard error.
+/// A run of lost chunks. Its text follows `agep: ` on standard error.
 #[derive(Clone, Copy, Drop)]
 struct RunLine(LostRun);
 

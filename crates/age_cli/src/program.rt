@@ -27,15 +27,15 @@ const FAILED: u8 = 1;
 /// The command line was refused.
 const REFUSED: u8 = 2;
 
-/// Runs `agep` on these arguments, the program's name first, and returns its exit status: 0 for
-/// success, 1 after a fault, 2 for a refused command line.
+/// Runs `agep` on these arguments, the first of which is the program's name, and returns its exit
+/// status: 0 for success, 1 after a fault, 2 for a refused command line.
 ///
-/// `input` is read if the arguments name no file. For the checks of which files are the same,
-/// `input` and `out` are taken to be `/proc/self/fd/0` and `/proc/self/fd/1`. `out` receives the
-/// output of the command, and the texts of help and version. `err` receives one line for a fault,
-/// with `--verbose` a second one that says more, lines on what `salvage` misses, and the text for a
-/// refused command line. Where `err` is a terminal, `--verbose` also shows how much was read, on a
-/// line of `/dev/stderr` that is gone in the end.
+/// Reads `input` if the arguments name no file. When it checks whether two files are the same, it
+/// takes `input` and `out` to be `/proc/self/fd/0` and `/proc/self/fd/1`. Writes the output of the
+/// command, and the texts of help and version, to `out`. Writes to `err` one line for a fault, with
+/// `--verbose` a second one that explains it, the lines of `salvage` on lost chunks, and the text
+/// for a refused command line. If `err` is a terminal, `--verbose` also shows on `/dev/stderr` how
+/// much was read, in a line that is erased at the end.
 pub fn run<F: Files + Clock + AllocGlobal, R: Read, W: Write + IsTerminal, E: Write + IsTerminal>(
     rt: &F,
     words: &[&str],
@@ -43,17 +43,16 @@ pub fn run<F: Files + Clock + AllocGlobal, R: Read, W: Write + IsTerminal, E: Wr
     out: &mut W,
     err: &mut E,
 ) -> u8
-    // 0, 1 or 2.
+    // The status is 0, 1 or 2.
     ensures status { result ≤ 2 }
-    // Status 2 comes only where something is wrong with the words; then neither was the input read
-    // nor the output written.
+    // Status 2: the words are wrong, the input was not read, and the output is unchanged.
     ensures refused { result ≡ 2 → (input.new ≡ input.old) × (out.new ≡ out.old)
         × AreWrong (map (λ word. word.now) words.now) }
-    // With status 0 `err` is as it was. No clause speaks of the line on how much was read.
+    // Status 0: `err` is unchanged. No clause covers the line on how much was read.
     ensures quiet { result ≡ 0 → err.new ≡ err.old }
-    // Status 0: `clap` shows a text that the words ask for, or the words make a job and a task of
-    // its command was done, from its IN to its OUT: from standard input or a file that was opened,
-    // to standard output or a file that was opened.
+    // Status 0: the words ask for a text of `clap`, or they make a job and a task of its command
+    // was performed from its IN to its OUT. Unless named, these are standard input and standard
+    // output. A named one is some value of the file type, not tied to the file opened.
     ensures finishes { result ≡ 0 → AskForText (map (λ word. word.now) words.now)
         ⊎ FinishesWords F.File ⟦<F::File as Read>⟧.remaining ⟦<F::File as Write>⟧.contents
         (map (λ word. word.now) words.now) (R.remaining input.old)
@@ -83,24 +82,23 @@ pub fn run_job<
     E: Write + IsTerminal,
 >(rt: &F, job: &Job, input: &mut R, out: &mut W, err: &mut E) -> u8
     requires { IsInRange job.now }
-    // 0 or 1.
+    // The status is 0 or 1.
     ensures status { result ≤ 1 }
-    // With status 0 `err` is as it was. No clause speaks of the line on how much was read.
+    // Status 0: `err` is unchanged. No clause covers the line on how much was read.
     ensures quiet { result ≡ 0 → err.new ≡ err.old }
-    // Status 0: a task of the job's command was done, with some secret of the kind that the options
-    // name and some seed, from its IN to its OUT. Where the contents of both are known, the output
-    // gained exactly what the library says, and nothing else. Of a range's IN nothing is known:
-    // said is how many bytes are written at most, and which faults there are.
+    // Status 0: a task of the job's command was performed from its IN to its OUT, with some secret
+    // of the kind that the options name and some seed. If the contents of both are known, the
+    // output gained exactly what the library writes. Of the IN of a range nothing is known: the
+    // clause bounds the number of bytes written.
     ensures finishes { result ≡ 0 → FinishesOn F.File ⟦<F::File as Read>⟧.remaining
         ⟦<F::File as Write>⟧.contents job.now (R.remaining input.old)
         (move_by W.contents out.old out.new) }
     // No standard input is read if the job names IN.
     ensures input { job.now.input ≢ None → input.new ≡ input.old }
-    // Nothing is written to standard output if the job names OUT.
+    // If the job names OUT, nothing is written to standard output.
     ensures output { job.now.output ≢ None → out.new ≡ out.old }
     // Status 1 without OUT: the output is as it was, or such a task ended with a fault: what the
-    // library says was written with this fault; after a failed write the output has what it had,
-    // and a prefix of what the library wrote.
+    // library says was written with this fault, or with the result after which the flush failed.
     ensures begins { result ≡ 1 → job.now.output ≡ None
         → Begins F.File ⟦<F::File as Read>⟧.remaining job.now (R.remaining input.old)
         (move_by W.contents out.old out.new) }
@@ -127,13 +125,13 @@ pub fn run_job<
     }
 }
 
-/// Whether a line shows how much was read: at a terminal that does not get the output meanwhile.
+/// Whether to show how much was read: at a terminal that does not also get the output.
 fn shows_progress<W: IsTerminal, E: IsTerminal>(job: &Job, out: &W, err: &E) -> bool {
     let is_alone = job.output.is_some() || !out.is_terminal();
     job.verbose && is_alone && err.is_terminal()
 }
 
-/// Whether lines on what is lost were printed in place of the fault.
+/// Whether lines on lost chunks were printed instead of the fault.
 fn is_told(job: &Job, failure: &Failure<'_>) -> bool {
     match failure.fault {
         Fault::AgeFile(age_file::Fault::BadChunk(_)) => job.command == Command::Salvage,
@@ -141,7 +139,7 @@ fn is_told(job: &Job, failure: &Failure<'_>) -> bool {
     }
 }
 
-/// Reads the small files, opens the input, creates the output, and does the work, in this order.
+/// Reads the small files, opens the input, creates the output, performs the task, in this order.
 #[tactic(auto, using(crate::proofs::ProgramLemmas::completes))]
 fn perform<'a, F: Files + Clock + AllocGlobal, R: Read, W: Write + IsTerminal, L: Report>(
     rt: &F,
@@ -176,7 +174,7 @@ fn perform<'a, F: Files + Clock + AllocGlobal, R: Read, W: Write + IsTerminal, L
     }
 }
 
-/// The task of a job, with the secrets that its options name.
+/// Makes the task of a job, with the secrets that its options name.
 fn task_of<'a, F: Files + AllocGlobal, W: IsTerminal>(
     rt: &F,
     job: &'a Job,
@@ -209,7 +207,7 @@ fn seed_from(bytes: &[u8; SEED_LEN]) -> Seed {
     seed
 }
 
-/// Creates the output, and does the work on this input.
+/// Creates the output, and performs the task on this input.
 fn perform_on<'a, F: Files + AllocGlobal, R: Read + Seek + Drop, W: Write, L: Report>(
     rt: &F,
     job: &'a Job,
@@ -239,8 +237,7 @@ fn perform_on<'a, F: Files + AllocGlobal, R: Read + Seek + Drop, W: Write, L: Re
     }
 }
 
-/// Prints a text on standard error, in one write if it fits into memory. A failed write changes
-/// nothing.
+/// Prints a text on standard error, in one write if it fits into memory. Ignores a failed write.
 pub(crate) fn say<D: Display, E: Write>(alloc: Global, text: &D, err: &mut E) {
     let mut whole = Vec::new(alloc);
     let _ = match write!(whole, "{text}") {
@@ -249,7 +246,7 @@ pub(crate) fn say<D: Display, E: Write>(alloc: Global, text: &D, err: &mut E) {
     };
 }
 
-/// Prints the fault, and where the files that were read are given, what more is known of it.
+/// Prints the fault and, if `more` has the files that were read, what more is known about it.
 fn report<E: Write>(
     alloc: Global,
     failure: &Failure<'_>,
@@ -279,7 +276,7 @@ fn refuse<D: Display, E: Write>(alloc: Global, why: &D, err: &mut E) -> u8
     REFUSED
 }
 
-/// Prints why the arguments make no job, or prints help or the version.
+/// Prints why the arguments are not a job, or prints the help or the version.
 fn answer_refusal<W: Write, E: Write>(
     alloc: Global,
     fault: &WordsFault,

@@ -10,12 +10,12 @@ use Rattle.age_recipient.specs.PassphraseStanza.{scrypt_type}
 use Rattle.age_stream.specs.Payload.{chunks, payload}
 use Rattle.age_stream.specs.Sizes.{nonce_size, most_chunks}
 
--- how long a header may be in bytes, and a payload in chunks
+-- the maximum length of a header in bytes, and of a payload in chunks
 pub record Bounds : Type 0 where
   pub max_header : ℕ
   pub max_chunks : ℕ
 
--- the bounds of a header's limit, 1 KiB and 16 MiB, and the limit where the caller doesn't say
+-- the bounds of a header's limit, 1 KiB and 16 MiB, and the default limit
 abbrev pub least_max_header : ℕ
 least_max_header = 1024
 
@@ -25,7 +25,7 @@ most_max_header = 16777216
 abbrev pub default_max_header : ℕ
 default_max_header = 65536
 
--- the bounds that `Limits` may hold
+-- the limits that `Limits` may hold
 pub record IsBounds (limits : Bounds) : Type 0 where
   pub header_low : least_max_header ≤ limits.max_header
   pub header_high : limits.max_header ≤ most_max_header
@@ -37,7 +37,7 @@ abbrev pub is_scrypt : List Bytes → Bool
 is_scrypt [] = false
 is_scrypt (kind ∷ _) = bytes_eq kind scrypt_type
 
--- a `scrypt` stanza is not the only stanza (C2SP age.md, "The scrypt recipient type")
+-- there is a `scrypt` stanza, and it is not alone (C2SP age.md, "The scrypt recipient type")
 abbrev pub is_mixed : List StanzaParts → Bool
 is_mixed stanzas = nat_lt 1 (length stanzas) && list_any (λ s. is_scrypt s.args) stanzas
 

@@ -1,4 +1,4 @@
--- What decrypting a file returns and writes.
+-- The result and the output of decrypting a file.
 use Rattle.std.specs.Prelude.{◌≡◌, ℕ, ◌+◌, ◌*◌, ◌/◌, List, [], ⊤, length, drop, Some, None, Result, Ok, Err}
 use Rattle.age_header.specs.declared.fault.HeaderFault.{HeaderFault}
 use Rattle.age_header.specs.Device.{Bytes, Flow, GaveAtMost, OfGiven, WritesPart, Moved, Took}
@@ -12,19 +12,18 @@ use Rattle.age_file.specs.AgeFile.{Bounds}
 use Rattle.age_file.specs.Verdict.{Answering, IsVerdict}
 use Rattle.age_stream.specs.Sizes.{nonce_size, chunk_size, sealed_chunk_size}
 
--- the pieces of what follows the header and the nonce
+-- the pieces of the bytes after the header and the nonce
 abbrev pub payload_pieces : (b : Bytes) (header : Result Found HeaderFault) → List Bytes
 payload_pieces b (Ok found) = pieces (drop nonce_size (drop (length found.text) b))
 payload_pieces b (Err fault) = []
 
--- a verdict's fault is returned, or where it has none the length of its plaintext and the number of
--- pieces
+-- returns a verdict's fault, or if it has none the length of its plaintext and the number of pieces
 abbrev pub ReturnsVerdict : (verdict : Reading Fault) (n : ℕ) (result : Result Done Fault) → Type 0
 ReturnsVerdict verdict n (Ok done) =
     (verdict.fault ≡ None) × (done.bytes ≡ length verdict.plaintext) × (done.chunks ≡ n)
 ReturnsVerdict verdict n (Err fault) = verdict.fault ≡ Some fault
 
--- the verdict on b is returned, and its plaintext was written
+-- returns the verdict on b, and writes its plaintext
 abbrev pub GivesVerdict : (limits : Bounds) (answers : Answering) (b : Bytes) (sink : Moved)
     (r : Result Done Fault) → Type 0
 GivesVerdict limits answers b sink r =
@@ -38,8 +37,8 @@ BeginsVerdict limits answers b sink =
     (verdict : Reading Fault) × IsVerdict limits answers b verdict
     × WritesPart sink verdict.plaintext
 
--- What is returned where b was to come, and what is written: the verdict, unless a device failed or
--- memory was refused.
+-- The result and the output for the bytes b: the verdict, unless a device failed or memory was
+-- refused.
 abbrev pub DecryptsText : (limits : Bounds) (answers : Answering) (b : Bytes) (sink : Moved)
     (r : Result Done Fault) → Type 0
 DecryptsText limits answers b sink (Err Read) = BeginsVerdict limits answers b sink
@@ -47,22 +46,22 @@ DecryptsText limits answers b sink (Err Write) = BeginsVerdict limits answers b 
 DecryptsText limits answers b sink (Err OutOfMemory) = ⊤
 DecryptsText limits answers b sink r = GivesVerdict limits answers b sink r
 
--- the same of the bytes that the source gave
+-- the same for the bytes read from the source
 abbrev pub Decrypts : (limits : Bounds) (answers : Answering) (source : Flow) (sink : Moved)
     (r : Result Done Fault) → Type 0
 Decrypts limits answers source sink r =
     OfGiven source (λ b. DecryptsText limits answers b sink r)
 
--- of a source that gave a header at most the header, the nonce, the pieces through number i and one
--- byte were read
+-- from a source with a header at most the header, the nonce, the pieces up to and including number
+-- i, and one more byte were read
 pub record TookThrough (limits : Bounds) (i : ℕ) (source : Flow) : Type 0 where
   pub found : Found
   pub header : OfGiven source (λ b. HeaderVerdict b limits.max_header (Ok found))
   pub gave : GaveAtMost (length found.text + (nonce_size + (sealed_chunk_size * (i + 1) + 1)))
       source
 
--- How much of the source was read where decrypting ended at a piece, or at a write after so many
--- written bytes.
+-- How much of the source was read if decrypting ended at a piece, or at a write after this many
+-- bytes of output.
 abbrev pub TookUpTo : (limits : Bounds) (source : Flow) (sink : Moved) (fault : Fault) → Type 0
 TookUpTo limits source sink (ChunkShort i) = TookThrough limits i source
 TookUpTo limits source sink (EmptyFinal i) = TookThrough limits i source

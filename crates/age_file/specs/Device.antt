@@ -1,5 +1,5 @@
--- What a fault says of the devices: which one counts it, and whether something was written. Of a
--- fault that is not named here the most is promised: both devices are as they were.
+-- The meaning of a fault for the devices: which one counts it, and whether something may have been
+-- written. A fault not named here leaves both counts of failures and the sink unchanged.
 use Rattle.std.specs.Prelude.{◌≡◌, ◌⊎◌, ⊤, Bool, true, false, IfErr, Result}
 use Rattle.age_file.specs.declared.fault.Fault.{Fault}
 use Rattle.age_file.specs.declared.fault.Fault.TheVariants.{ChunkShort, EmptyFinal, BadChunk, TooManyChunks, Read, Write}
@@ -14,11 +14,11 @@ abbrev pub is_write : Fault → Bool
 is_write Write = true
 is_write _ = false
 
--- a fault of no device
+-- a fault that no device counts
 abbrev pub IsNoDeviceFault : Fault → Type 0
 IsNoDeviceFault fault = (is_read fault ≡ false) × (is_write fault ≡ false)
 
--- a fault before which something may have been written: of a chunk, or of a device
+-- a fault before which something may have been written: that of a chunk, or of a device
 abbrev pub IsLate : Fault → Type 0
 IsLate (ChunkShort i) = ⊤
 IsLate (EmptyFinal i) = ⊤
@@ -28,6 +28,6 @@ IsLate Read = ⊤
 IsLate Write = ⊤
 IsLate _ = ⊥
 
--- a fault that is not late leaves the sink as it was, whether its contents are known or not
+-- unless a fault is late, the sink is unchanged, whether or not its contents are known
 abbrev pub IsQuiet : {W A : Type 0} (old new : W) (result : Result A Fault) → Type 0
 IsQuiet old new result = IfErr result (λ fault. IsLate fault ⊎ (new ≡ old))

@@ -1,4 +1,4 @@
--- What reading a file's header returns.
+-- The result of reading a file's header.
 use Rattle.std.specs.Prelude.{◌≡◌, Result, Ok, Err}
 use Rattle.age_header.specs.Device.{Flow}
 use Rattle.age_header.specs.declared.fault.HeaderFault.{HeaderFault}
@@ -8,12 +8,12 @@ use Rattle.age_file.specs.declared.fault.Fault.{Fault}
 use Rattle.age_file.specs.AgeFile.{Bounds}
 use Rattle.age_file.specs.Verdict.{header_fault}
 
--- what a reader of headers returned, with a file's names of the faults
+-- the result of a reader of headers, with the file's names of the faults
 abbrev pub file_result : {A : Type 0} → Result A HeaderFault → Result A Fault
 file_result (Ok header) = Ok header
 file_result (Err fault) = Err (header_fault fault)
 
--- what a reader of headers returns under these limits
+-- the result of a reader of headers under these limits
 abbrev pub Inspects : (limits : Bounds) (source : Flow) (r : Result HeaderParts Fault) → Type 0
 Inspects limits source r =
     (answer : Result HeaderParts HeaderFault) × (r ≡ file_result answer)

@@ -1,4 +1,4 @@
--- What a new file is: the stanzas of its recipients, its header, and its payload (C2SP age.md).
+-- A new file: the stanzas of its recipients, its header, and its payload (C2SP age.md).
 use Rattle.std.specs.Prelude.{◌≡◌, ℕ, ◌+◌, ◌-◌, ◌*◌, ◌<◌, ◌≤◌, ◌⊎◌, Bool, true, false, ⊤, List, [], ◌∷◌, ◌++◌, length, map, take, Result, Ok, Err, Option, Some, None, Vec}
 use Rattle.std.specs.Global.{Global}
 use Rattle.std.specs.List.{AllZip, concat}
@@ -18,13 +18,13 @@ use Rattle.age_file.specs.declared.limits.Fresh.{Fresh}
 use Rattle.age_file.specs.AgeFile.{AgeFile, Bounds, is_mixed}
 use Rattle.age_stream.specs.Sizes.{nonce_size, chunk_size, sealed_chunk_size}
 
--- these stanzas, then those that follow
+-- these stanzas, then those after them
 abbrev pub with_stanzas : (stanzas : List StanzaParts) (more : Result (List StanzaParts) Fault)
     → Result (List StanzaParts) Fault
 with_stanzas stanzas (Ok more) = Ok (stanzas ++ more)
 with_stanzas stanzas (Err fault) = Err fault
 
--- what the recipients from number i on give in order: their stanzas joined, or the first refusal
+-- the results of the recipients from number i on: their stanzas in order, or the first refusal
 abbrev pub gathering_from : (i : ℕ) (wrapped : List (Result (List StanzaParts) ℕ))
     → Result (List StanzaParts) Fault
 gathering_from i [] = Ok []
@@ -38,32 +38,32 @@ unless_incompatible (Err fault) index = Err fault
 unless_incompatible (Ok stanzas) (Some i) = Err (IncompatibleRecipients i)
 unless_incompatible (Ok stanzas) None = Ok stanzas
 
--- of labels that recipients with these meanings may return, the first recipient that does not go
--- together with recipient 0
+-- the first recipient that does not go together with recipient 0, by labels that recipients with
+-- these meanings may return
 abbrev pub IsIncompatible : (meant : List Labels) (index : Option ℕ) → Type 0
 IsIncompatible meant index =
     (labels : List Labels) × AllZip MayLabel meant labels × (index ≡ first_incompatible labels)
 
--- what recipients with these meanings may give: all their stanzas, the first refusal, or the first
--- recipient that does not go together with recipient 0
+-- a result that recipients with these meanings may have: all their stanzas, the first refusal, or
+-- the first recipient that does not go together with recipient 0
 abbrev pub Gathered : (wrapped : List (Result (List StanzaParts) ℕ)) (meant : List Labels)
     (gathered : Result (List StanzaParts) Fault) → Type 0
 Gathered wrapped meant gathered =
     (index : Option ℕ) × IsIncompatible meant index
     × (gathered ≡ unless_incompatible (gathering_from 0 wrapped) index)
 
--- which results a list of recipients may give, as `Gathered wrapped meant`
+-- the results that a list of recipients may have, like `Gathered wrapped meant`
 abbrev pub Gathering : Type 1
 Gathering = Result (List StanzaParts) Fault → Type 0
 
--- the results that all these recipients may give for a file key, by what each wraps and its labels
+-- the results that these recipients may have for a file key, by what each wraps and by its labels
 abbrev pub gathering_by : {R : Type 0} (recipients : List R)
     (wraps : R → FileKey → Result (List StanzaParts) ℕ) (labels : R → Labels) (k : FileKey)
     → Gathering
 gathering_by recipients wraps labels k =
     Gathered (map (λ r. wraps r k) recipients) (map (λ r. labels r) recipients)
 
--- the header of a new file: its stanzas, of which none is a `scrypt` stanza beside another, and its
+-- the header of a new file: its stanzas, none of them a `scrypt` stanza beside another, and its
 -- text, within the limit
 pub record IsHeading (limits : Bounds) (k : FileKey) (gathered : Gathering)
     (stanzas : List StanzaParts) (text : Bytes) : Type 0 where
@@ -81,8 +81,8 @@ pub record IsTooLarge (limits : Bounds) (k : FileKey) (gathered : Gathering) : T
   pub head : Head stanzas (header_mac k.0 stanzas) text
   pub exceeds : limits.max_header < length text
 
--- the first fault for which there is no header: a refusal, recipients that do not go together, no
--- stanza at all, a `scrypt` stanza beside another, too great a length
+-- the first fault because of which there is no header: a refusal, recipients that do not go
+-- together, no stanza at all, a `scrypt` stanza that is not alone, or a length above the limit
 abbrev pub IsRefusal : (limits : Bounds) (k : FileKey) (gathered : Gathering) (fault : Fault)
     → Type 0
 IsRefusal limits k gathered (Refused i code) = gathered (Err (Refused i code))
@@ -93,8 +93,7 @@ IsRefusal limits k gathered MixedPassphrase =
 IsRefusal limits k gathered HeaderTooLarge = IsTooLarge limits k gathered
 IsRefusal limits k gathered _ = ⊥
 
--- the file that was written: that of these stanzas, this plaintext, and the file key and nonce that
--- were passed
+-- the file written: that of these stanzas, this plaintext, and the file key and nonce passed
 pub record NewFile (limits : Bounds) (fresh : Fresh) (gathered : Gathering) (plain : Bytes)
     (gained : Bytes) : Type 0 where
   pub stanzas : List StanzaParts
@@ -125,8 +124,8 @@ pub record BegunFile (limits : Bounds) (fresh : Fresh) (gathered : Gathering) (p
   pub heading : IsHeading limits fresh.file_key gathered stanzas text
   pub part : WritesPart sink (text ++ payload fresh.file_key fresh.nonce plain)
 
--- What `encrypt` returns and writes, `gathered` being what the recipients may give, and the source
--- giving `plain`.
+-- The result and the output of `encrypt` for the plaintext `plain`. `gathered` is the results that
+-- the recipients may have.
 abbrev pub EncryptsText : (limits : Bounds) (fresh : Fresh) (gathered : Gathering) (plain : Bytes)
     (sink : Moved) (result : Result Done Fault) → Type 0
 EncryptsText limits fresh gathered plain sink (Ok done) =
@@ -140,13 +139,13 @@ EncryptsText limits fresh gathered plain sink (Err Write) =
     BegunFile limits fresh gathered plain sink
 EncryptsText limits fresh gathered plain sink (Err fault) = ⊤
 
--- the same of the plaintext that the source gave
+-- the same for the plaintext read from the source
 abbrev pub EncryptsGiven : (limits : Bounds) (fresh : Fresh) (gathered : Gathering)
     (source : Flow) (sink : Moved) (r : Result Done Fault) → Type 0
 EncryptsGiven limits fresh gathered source sink r =
     OfGiven source (λ plain. EncryptsText limits fresh gathered plain sink r)
 
--- a fault with which no header was made names the first reason; any other result says nothing of it
+-- a fault with which no header was made is the first one; about any other result this says nothing
 abbrev pub RefusesFirst : (limits : Bounds) (k : FileKey) (gathered : Gathering) (fault : Fault)
     → Type 0
 RefusesFirst limits k gathered TooManyChunks = ⊤
@@ -155,7 +154,7 @@ RefusesFirst limits k gathered Write = ⊤
 RefusesFirst limits k gathered OutOfMemory = ⊤
 RefusesFirst limits k gathered fault = IsRefusal limits k gathered fault
 
--- what is returned of the stanzas of all recipients
+-- the result of wrapping for all recipients
 abbrev pub WrapsAll : (wrapped : Result (List StanzaParts) Fault)
     (result : Result (Vec StanzaParts Global) Fault) → Type 0
 WrapsAll wrapped (Ok stanzas) = wrapped ≡ Ok stanzas.items
@@ -163,7 +162,7 @@ WrapsAll wrapped (Err fault) =
     (fault ≡ OutOfMemory)
     ⊎ ((i : ℕ) × (code : ℕ) × (fault ≡ Refused i code) × (wrapped ≡ Err (Refused i code)))
 
--- what gathering the stanzas of recipients returns
+-- the result of gathering the stanzas of recipients
 abbrev pub Gathers : (gathered : Gathering) (result : Result (Vec StanzaParts Global) Fault)
     → Type 0
 Gathers gathered (Ok stanzas) = gathered (Ok stanzas.items)
@@ -171,24 +170,24 @@ Gathers gathered (Err fault) = (fault ≡ OutOfMemory)
     ⊎ (((i : ℕ) × (code : ℕ) × (fault ≡ Refused i code) × gathered (Err (Refused i code)))
     ⊎ ((i : ℕ) × (fault ≡ IncompatibleRecipients i) × gathered (Err (IncompatibleRecipients i))))
 
--- with which faults no header is made, and why
+-- the faults with which no header is made
 abbrev pub FailsHeading : (limits : Bounds) (k : FileKey) (gathered : Gathering) (fault : Fault)
     → Type 0
 FailsHeading limits k gathered fault = (fault ≡ OutOfMemory) ⊎ IsRefusal limits k gathered fault
 
--- a sealer that keeps no fault seals what it holds: with all that an open source gives, or as the
--- last chunk where the source has ended
+-- a sealer that keeps no fault seals what it holds: with the rest of an open source, or as the last
+-- chunk if the source has ended
 abbrev pub SealsRest : (s : SealerState) (is_open : Bool) (source : Flow) (sink : Moved)
     (result : Result Done StreamFault) → Type 0
 SealsRest s true source sink result = SealsAll s source sink result
 SealsRest s false source sink result = FinishesBy s sink result × Gave source []
 
--- the source gave a whole chunk
+-- a whole chunk was read from the source
 abbrev pub FillsChunk : (source : Flow) → Type 0
 FillsChunk source = OfGiven source (λ text. chunk_size ≤ length text)
 
--- Of the source at most so much was read: with n full sealed chunks written after the header and
--- the nonce, n + 2 chunks of text.
+-- How much of the source was read at most: if n full sealed chunks were written after the header
+-- and the nonce, n + 2 chunks of text.
 pub record TookChunks (limits : Bounds) (fresh : Fresh) (gathered : Gathering)
     (source : Flow) (sink : Moved) : Type 0 where
   pub stanzas : List StanzaParts
@@ -200,7 +199,7 @@ pub record TookChunks (limits : Bounds) (fresh : Fresh) (gathered : Gathering)
   pub whole : sealed_chunk_size * n ≤ length written - (length text + nonce_size)
   pub gave : GaveAtMost (chunk_size * (n + 2)) source
 
--- how much of the source was read where encrypting ended at a write, or with too many chunks
+-- how much of the source was read if encrypting ended at a write, or with too many chunks
 abbrev pub TookWhileEncrypting : (limits : Bounds) (fresh : Fresh) (gathered : Gathering)
     (source : Flow) (sink : Moved) (fault : Fault) → Type 0
 TookWhileEncrypting limits fresh gathered source sink TooManyChunks =

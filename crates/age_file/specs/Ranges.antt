@@ -16,12 +16,12 @@ use Rattle.age_file.specs.Device.{is_read}
 use Rattle.age_file.specs.Verdict.{Answering, finding, header_fault, parts_of, stream_fault, header_key}
 use Rattle.age_stream.specs.Sizes.{nonce_size}
 
--- a source that is read at offsets, here read from its first byte on, and the next offset
+-- a source that is read at offsets, from its first byte on, and the next offset
 pub record AtState (D : Type 0) : Type 0 where
   pub dev : D
   pub at : ℕ
 
--- these bytes were given from offset 0 on, and `at` is the next offset, the largest u64 at most
+-- these bytes were read from offset 0 on, and `at` is the next offset, at most the largest u64
 abbrev pub GaveFirst : (gave : (at byte : ℕ) → Type 0) (at : ℕ) (bytes : Bytes) → Type 0
 GaveFirst gave at bytes = (at ≡ min (length bytes) (2 ^ 64 - 1)) × GaveAt gave 0 (take at bytes)
 
@@ -29,7 +29,7 @@ GaveFirst gave at bytes = (at ≡ min (length bytes) (2 ^ 64 - 1)) × GaveAt gav
 abbrev pub IsWithin : (told : Known) (at : ℕ) → Type 0
 IsWithin told at = IfSome told (λ bytes. at ≤ length bytes)
 
--- a fault with which opening a file for ranges may end: not of a write, nor of recipients
+-- a fault that opening a file for ranges may return: never that of a write or of recipients
 abbrev pub IsOpenFault : Fault → Type 0
 IsOpenFault Write = ⊥
 IsOpenFault NoRecipients = ⊥
@@ -37,7 +37,7 @@ IsOpenFault (Refused i code) = ⊥
 IsOpenFault (IncompatibleRecipients i) = ⊥
 IsOpenFault _ = ⊤
 
--- the known bytes begin with this header, which is `at` bytes long
+-- the known bytes begin with this header, whose length is `at`
 abbrev pub HasHeader : (limits : Bounds) (told : Known) (at : ℕ) (h : HeaderParts) → Type 0
 HasHeader limits told at h =
     IfSome told (λ b. (text : Bytes) × (length text ≡ at)
@@ -50,13 +50,13 @@ pub record GaveHeader (limits : Bounds) (gave : (at byte : ℕ) → Type 0) (at 
   pub gave_text : GaveFirst gave at text
   pub verdict : HeaderVerdict text limits.max_header (Ok (finding text h))
 
--- the known bytes begin with no header, and this is its fault; or a read failed, or memory was
--- refused
+-- the known bytes do not begin with a header, and this is the fault; or a read failed, or memory
+-- was refused
 abbrev pub MissesHeader : (limits : Bounds) (told : Known) (fault : Fault) → Type 0
 MissesHeader limits told fault = (fault ≡ Read) ⊎ ((fault ≡ OutOfMemory) ⊎ IfSome told (λ b.
     (e : HeaderFault) × HeaderVerdict b limits.max_header (Err e) × (fault ≡ header_fault e)))
 
--- what follows a header, opened for ranges under the file key
+-- the result of opening the bytes after a header for ranges under the file key
 abbrev pub ranges_under : (limits : Bounds) (rest : Bytes) (result : Result FileKey Fault)
     → Result Bytes Fault
 ranges_under limits rest (Err fault) = Err fault
@@ -71,7 +71,7 @@ IsRangeFault limits answers b (Ok found) fault =
     ranges_under limits (drop (length found.text) b) (header_key answers (parts_of found))
     ≡ Err fault
 
--- the fault is the first of the known bytes; or a read failed, or memory was refused
+-- the first fault of the known bytes; or a read failed, or memory was refused
 abbrev pub MissesRanges : (limits : Bounds) (answers : Answering) (told : Known) (fault : Fault)
     → Type 0
 MissesRanges limits answers told fault =
@@ -81,8 +81,8 @@ MissesRanges limits answers told fault =
     × HeaderVerdict b limits.max_header header
     × IsRangeFault limits answers b header fault))
 
--- A reader of the ranges of b: after b's header, under the key that was chosen. At most the
--- header, the nonce and the last piece were given.
+-- A reader of the ranges of b: after b's header, under the key chosen. At most the header, the
+-- nonce and the last piece were read.
 pub record IsRangesOf (limits : Bounds) (answers : Answering) (b : Bytes) (chunks : RangeState)
     (given given2 : ℕ) : Type 0 where
   pub found : Found
@@ -94,9 +94,8 @@ pub record IsRangesOf (limits : Bounds) (answers : Answering) (b : Bytes) (chunk
       ≤ given + length found.text
       + (nonce_size + length (last_piece (drop (length found.text + nonce_size) b)))
 
--- A reader was opened, whether or not the source's contents are known: under the key that was
--- chosen for the header that was read, and for the nonce that was read after it. Its pieces end
--- where the source does.
+-- A reader was opened, whether or not the source's contents are known: under the key chosen for the
+-- header read, and for the nonce read after it. Its pieces end where the source does.
 pub record BeginsFile (limits : Bounds) (answers : Answering) (gave : (at byte : ℕ) → Type 0)
     (size : Option ℕ) (chunks : RangeState) : Type 0 where
   pub header : HeaderParts
@@ -106,8 +105,8 @@ pub record BeginsFile (limits : Bounds) (answers : Answering) (gave : (at byte :
   pub chosen : header_key answers header ≡ Ok key
   pub begins : BeginsAt key at gave size chunks
 
--- Opening a file for ranges failed: with the first fault of the known bytes, a failed read or out
--- of memory. The contents stayed, and a failed read was counted.
+-- Opening a file for ranges failed with the first fault of the known bytes, a failed read or out of
+-- memory. The contents are unchanged, and a failed read was counted.
 pub record RefusesRanges (limits : Bounds) (answers : Answering) (source : Moved)
     (failed failed2 : ℕ) (fault : Fault) : Type 0 where
   pub misses : MissesRanges limits answers source.before fault
@@ -115,8 +114,8 @@ pub record RefusesRanges (limits : Bounds) (answers : Answering) (source : Moved
   pub stay : source.after ≡ source.before
   pub counted : CountsFaultIf is_read failed failed2 fault
 
--- what was made of a source, and what became of it: a reader of the file's ranges, which keeps the
--- last chunk, or the fault. Of the functions `StartsRanges` of age_stream says more.
+-- The result of opening a file for ranges, and its effect on the source: a reader, which keeps the
+-- last chunk, or the fault. `StartsRanges` of age_stream explains the functions.
 abbrev pub StartsFileRanges : {D : Type 0} (told : D → Known) (given failed : D → ℕ)
     (gave : D → (at byte : ℕ) → Type 0) (found : D → Option ℕ) (limits : Bounds)
     (answers : Answering) (old new : D) (r : Result RangeState Fault) → Type 0

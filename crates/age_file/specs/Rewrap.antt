@@ -14,9 +14,9 @@ use Rattle.age_file.specs.NewFile.{Gathering, IsRefusal}
 use Rattle.age_file.specs.Verdict.{Answering, header_fault, parts_of, header_key}
 use Rattle.age_file.specs.Copying.{most_copied}
 
--- c is b with another header for the file key that is chosen: the text of the new stanzas with
--- their MAC, followed by b without its old header. The new header is within the limit, and has no
--- `scrypt` stanza beside another.
+-- c is b with another header for the file key chosen: the text of the new stanzas with their MAC,
+-- followed by b without its old header. The new header is within the limit, and has no `scrypt`
+-- stanza beside another.
 pub record Rewrapped (limits : Bounds) (answers : Answering) (b c : Bytes) : Type 0 where
   pub found : Found
   pub header : HeaderVerdict b limits.max_header (Ok found)
@@ -29,13 +29,13 @@ pub record Rewrapped (limits : Bounds) (answers : Answering) (b c : Bytes) : Typ
   pub fits : length text ≤ limits.max_header
   pub spelled : c ≡ text ++ drop (length found.text) b
 
--- with the stanzas that the recipients give for the file key
+-- the same with stanzas that the recipients may return for the file key
 abbrev pub IsRewrapped : (limits : Bounds) (answers : Answering) (gathered : FileKey → Gathering)
     (b c : Bytes) → Type 0
 IsRewrapped limits answers gathered b c =
     (new : Rewrapped limits answers b c) × gathered new.key (Ok new.stanzas)
 
--- the first fault of b's header up to the MAC, or else of the new header
+-- the first fault of b's header up to the MAC, or else that of the new header
 abbrev pub IsRefusedBy : (limits : Bounds) (answers : Answering) (gathered : FileKey → Gathering)
     (result : Result Found HeaderFault) (fault : Fault) → Type 0
 IsRefusedBy limits answers gathered (Err e) fault = fault ≡ header_fault e
@@ -56,9 +56,9 @@ abbrev pub BeginsRewrapped : (limits : Bounds) (answers : Answering)
 BeginsRewrapped limits answers gathered b sink =
     (c : Bytes) × IsRewrapped limits answers gathered b c × WritesPart sink c
 
--- What rewrapping b returns and writes. If a write failed, a prefix of the rewrapped file was
+-- The result and the output of rewrapping b. If a write failed, a prefix of the rewrapped file was
 -- written; if a read failed, nothing or a prefix. `TooManyChunks` is returned only if the source
--- returned 2^105 bytes or more, a prefix was written, and it has as many bytes.
+-- has 2^105 bytes or more, and a prefix of at least as many bytes was written.
 abbrev pub RewrapsText : (limits : Bounds) (answers : Answering) (gathered : FileKey → Gathering)
     (b : Bytes) (sink : Moved) (result : Result (Unit {0}) Fault) → Type 0
 RewrapsText limits answers gathered b sink (Ok done) =
@@ -74,7 +74,7 @@ RewrapsText limits answers gathered b sink (Err OutOfMemory) = ⊤
 RewrapsText limits answers gathered b sink (Err fault) =
     RefusesRewrap limits answers gathered b fault
 
--- the same of the bytes that the source gave
+-- the same for the bytes read from the source
 abbrev pub Rewraps : (limits : Bounds) (answers : Answering) (gathered : FileKey → Gathering)
     (source : Flow) (sink : Moved) (r : Result (Unit {0}) Fault) → Type 0
 Rewraps limits answers gathered source sink r =

@@ -1,5 +1,5 @@
--- A file that is written, or read, in steps: what is kept between the steps, and what each does to
--- its device.
+-- A file that is written or read in steps: the state between the steps, and the effect of each step
+-- on the device.
 use Rattle.std.specs.Prelude.{◌≡◌, ◌⊎◌, ℕ, true, false, ◌++◌, Result, Ok, Err}
 use denote.Ref.{MutBor}
 use Rattle.age_header.specs.Device.{Bytes, CountsFaultIf, Known, WritesPart, Took, flow_by, move_by}
@@ -19,15 +19,15 @@ use Rattle.age_file.specs.Device.{is_read, is_write}
 use Rattle.age_file.specs.Inspect.{Inspects}
 use Rattle.age_file.specs.Verdict.{stream_fault}
 
--- a file that is ready to be written: its header, its key and nonce, and the limits
+-- a file ready to be written: its header, its key and nonce, and the limits
 pub record EncryptorState : Type 0 where
   pub header : HeaderParts
   pub fresh : Fresh
   pub limits : Bounds
 
--- what was made of a sink, and what became of it: the header and then the nonce were written, and
--- chunk 0 is the sealer's next; or memory was refused, and nothing was written; or a write failed,
--- and a prefix of both was written
+-- The result of starting a file, and its effect on the sink: the header and then the nonce were
+-- written, and the sealer is before chunk 0; or memory was refused, and nothing was written; or a
+-- write failed, and a prefix of both was written.
 abbrev pub StartsFile : {W : Type 0} (taken : W → Known) (failed : W → ℕ) (s : EncryptorState)
     (old new : W) (r : Result SealerState Fault) → Type 0
 StartsFile taken failed s old new (Ok sealer) =
@@ -42,7 +42,7 @@ StartsFile taken failed s old new (Err fault) =
     × WritesPart (move_by taken old new) (text ++ s.fresh.nonce))
     × CountsFaultIf is_write (failed old) (failed new) fault)
 
--- a file whose header was read: the source that gives the rest, the header, and the limits
+-- a file whose header was read: the source of the rest, the header, and the limits
 abbrev pub input_of : {S H : Type 0} → Decryptor S H → MutBor S
 input_of d = d.input
 
@@ -52,8 +52,8 @@ header_of d = d.header
 abbrev pub limits_of : {S H : Type 0} → Decryptor S H → Bounds
 limits_of d = d.limits
 
--- what was made of a source, and what became of it: exactly a header was read that has no `scrypt`
--- stanza beside another; or there is no such header, and a failed read was counted
+-- The result of reading a header, and its effect on the source: exactly a header was read that has
+-- no `scrypt` stanza beside another; or there is no such header, and a failed read was counted.
 abbrev pub StartsDecryptor : {S : Type 0} (to_come : S → Known) (gave : S → Bytes → Type 0)
     (failed : S → ℕ) (limits : Bounds) (old new : S) (r : Result HeaderParts Fault) → Type 0
 StartsDecryptor to_come gave failed limits old new (Ok header) =
@@ -66,9 +66,9 @@ StartsDecryptor to_come gave failed limits old new (Err fault) =
     × ((header : HeaderParts) × Inspects limits (flow_by to_come gave old new) (Ok header)
     × (is_mixed header.stanzas ≡ true))))
 
--- what was made of what follows a header, where `found` is its file key, and what became of the
--- source: a reader of the payload; or there is no key, or memory was refused, and nothing was read;
--- or the nonce was not read
+-- The result of opening the payload after a header, whose file key is `found`, and its effect on
+-- the source: a reader of the payload; or there is no key, or memory was refused, and nothing was
+-- read; or the nonce was not read.
 abbrev pub StartsUnder : {S : Type 0} (to_come : S → Known) (gave : S → Bytes → Type 0)
     (failed : S → ℕ) (limits : Bounds) (found : Result FileKey Fault) (old new : S)
     (r : Result OpenerState Fault) → Type 0

@@ -1,5 +1,5 @@
--- What bytes are to given identities and limits: a plaintext, or the first fault and the plaintext
--- before it.
+-- The verdict on bytes, for given identities and limits: a plaintext, or the first fault and the
+-- plaintext before it.
 use Rattle.std.specs.Prelude.{◌≡◌, List, length, drop, map, option_map, Result, Ok, Err, if◌then◌else◌}
 use Rattle.std.specs.Str.{bytes_eq}
 use Rattle.age_header.specs.Device.{Bytes}
@@ -20,7 +20,7 @@ use Rattle.age_file.specs.declared.fault.Fault.{Fault}
 use Rattle.age_file.specs.declared.fault.Fault.TheVariants.{NotAge, BadLine, HeaderTruncated, HeaderTooLarge, MixedPassphrase, NoMatch, WrongKey, Malformed, BadMac, NonceTruncated, ChunkShort, EmptyFinal, BadChunk, TooManyChunks, Read, Write, OutOfMemory}
 use Rattle.age_file.specs.AgeFile.{Bounds, is_mixed}
 
--- a file's name of the fault of its header
+-- the file's name of a fault of its header
 abbrev pub header_fault : HeaderFault → Fault
 header_fault header.NotAge = NotAge
 header_fault (header.BadLine n) = BadLine n
@@ -29,14 +29,14 @@ header_fault header.TooLarge = HeaderTooLarge
 header_fault header.Read = Read
 header_fault header.Memory = OutOfMemory
 
--- a file's name of why its key was not found
+-- the file's name of the reason why no key was found
 abbrev pub unlock_fault : UnlockFault → Fault
 unlock_fault unlock.NoMatch = NoMatch
 unlock_fault unlock.WrongKey = WrongKey
 unlock_fault (unlock.Malformed fault) = Malformed fault
 unlock_fault unlock.Memory = OutOfMemory
 
--- a file's name of the fault of its payload
+-- the file's name of a fault of its payload
 abbrev pub stream_fault : StreamFault → Fault
 stream_fault stream.NonceTruncated = NonceTruncated
 stream_fault (stream.ChunkShort i) = ChunkShort i
@@ -55,20 +55,20 @@ parts_of found = record { stanzas = found.stanzas; mac = found.mac }
 abbrev pub finding : (text : Bytes) (h : HeaderParts) → Found
 finding text h = record { stanzas = h.stanzas; mac = h.mac; text = text }
 
--- a payload's reading, with the file's fault for its own
+-- a payload's reading, with the file's name of its fault
 abbrev pub with_file_fault : Reading StreamFault → Reading Fault
 with_file_fault r = record { plaintext = r.plaintext; fault = option_map stream_fault r.fault }
 
--- what identities make of each list of stanzas: one answer for each identity, in order
+-- the answers of identities to each list of stanzas: one for each identity, in order
 abbrev pub Answering : Type 0
 Answering = List StanzaParts → List Unwrapped
 
--- the answers of all these identities, each by its meaning
+-- the answers of these identities, each by its meaning
 abbrev pub answers_by : {I : Type 0} (identities : List I)
     (meaning : I → List StanzaParts → Unwrapped) → Answering
 answers_by identities meaning = λ stanzas. map (λ i. meaning i stanzas) identities
 
--- the key that was chosen, where the header's MAC is the one under it
+-- the key chosen, if the header's MAC is the one under it
 abbrev pub checked_key : (h : HeaderParts) (chosen : Result FileKey UnlockFault)
     → Result FileKey Fault
 checked_key h (Err fault) = Err (unlock_fault fault)
@@ -80,13 +80,13 @@ header_key answers h =
     if is_mixed h.stanzas then Err MixedPassphrase
     else checked_key h (choice (answers h.stanzas))
 
--- what follows a header, read under the file key
+-- the reading of the bytes after a header under the file key
 abbrev pub reading_under : (limits : Bounds) (rest : Bytes) (result : Result FileKey Fault)
     → Reading Fault
 reading_under limits rest (Err fault) = stop fault
 reading_under limits rest (Ok k) = with_file_fault (payload_reading k limits.max_chunks rest)
 
--- what b comes to, given its header verdict
+-- the reading of b, given its header verdict
 abbrev pub reading_after : (limits : Bounds) (answers : Answering) (b : Bytes)
     (result : Result Found HeaderFault) → Reading Fault
 reading_after limits answers b (Err fault) = stop (header_fault fault)

@@ -1,4 +1,4 @@
--- The names of the crates below that a caller's clauses and objects cite, passed on from one place.
+-- The names of the crates below that callers' clauses and objects cite, re-exported in one place.
 pub use Rattle.age_header.specs.Device.{Bytes, Known}
 pub use Rattle.age_header.specs.Header.{StanzaParts}
 pub use Rattle.age_header.specs.declared.file_key.FileKey.{FileKey}

@@ -6,8 +6,8 @@ use age_header::{DeviceFault, Source};
 use age_stream::ReadAt;
 use std::marker::{Brand, Model, PhantomData};
 
-/// The contents of a `ReadAt`, how many bytes had been read from it, and the ghost name of the
-/// reference to it, when reading began.
+/// What was known of a `ReadAt` when reading began: its contents, how many bytes had been read from
+/// it, and the ghost name of the reference to it.
 pub(crate) trait Origin {
     ghost use Rattle.std.specs.Prelude.{List, ℕ};
     ghost use Rattle.std.specs.declared.option.Option.{Option};
@@ -30,7 +30,7 @@ impl Origin for Brand {
     ghost name = { 0 };
 }
 
-/// A `Source` that reads a `ReadAt` from its first byte on.
+/// A `Source` that reads a `ReadAt` from its first byte to its end.
 pub(crate) struct AtSource<'a, D: ReadAt, K: Origin> {
     dev: &'a mut D,
     at: u64,

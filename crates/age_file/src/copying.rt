@@ -9,12 +9,11 @@ use crate::fault::Fault;
 use age_header::{Sink, Source, fill_from, write_all};
 
 /// The size in bytes of the buffer of `rewrap`, and of each full piece that it writes but the
-/// first, which fills up the sink's buffer behind the header. So a sink has a buffer of this size:
-/// then each later piece passes it by.
+/// first, which ends at a multiple of it in the new file.
 pub const BUFFER_SIZE: usize = 65_536;
 
-/// How many full pieces are copied at most, 2^105 bytes in all: more than any payload has, so that
-/// the loop ends.
+/// The most full pieces that are copied, 2^105 bytes in all. No payload has as many; the bound is
+/// there so that the loop ends.
 const MAX_PIECES: u128 = 1 << 89;
 
 /// Copies all bytes left in the source: a piece of `first` bytes, and then pieces of the buffer's
@@ -59,8 +58,8 @@ fn copy_pieces<S: Source, W: Sink>(input: &mut S, out: &mut W, buf: &mut [u8]) -
     Err(Fault::TooManyChunks)
 }
 
-/// Copies one piece of the buffer's length, or what is left of the source. Returns whether it was a
-/// full one.
+/// Copies one piece of the buffer's length, or what is left of the source. Returns whether the
+/// piece was full.
 fn copy_piece<S: Source, W: Sink>(input: &mut S, out: &mut W, buf: &mut [u8]) -> Result<bool, Fault>
     ensures len { length buf.new ≡ length buf.old }
     ensures copies { CopiesPiece (length buf.old) (flow_by S.to_come S.gave input.old input.new)

@@ -15,7 +15,7 @@ use age_stream::{ChunkBuf, ChunkSealer, Refused, StreamWriter};
 use std::alloc::Global;
 use std::marker::Model;
 
-/// A new file whose header is made and not written yet. `start` consumes it.
+/// A new file whose header is made but not yet written. `start` consumes the `Encryptor`.
 #[derive(Drop)]
 pub struct Encryptor {
     header: Header,
@@ -38,10 +38,8 @@ impl Encryptor {
     /// Makes the header of a new file for these recipients.
     ///
     /// # Errors
-    /// The first that applies, in this order: `Refused` at the first recipient that refuses,
-    /// `IncompatibleRecipients` at the first whose labels do not go together with those of
-    /// recipient 0, `NoRecipients` if there is no stanza at all, `MixedPassphrase` if a `scrypt`
-    /// stanza is not alone, `HeaderTooLarge`. `OutOfMemory` if an allocation was refused.
+    /// `Refused`, `IncompatibleRecipients`, `NoRecipients`, `MixedPassphrase` or `HeaderTooLarge`,
+    /// the first that applies, as for `encrypt`. `OutOfMemory` if an allocation was refused.
     pub fn new(
         alloc: Global,
         recipients: &[Box<dyn Recipient>],
@@ -55,7 +53,7 @@ impl Encryptor {
             × ((text : Bytes) × IsHeading limits.now fresh.now.file_key
             (gathering_by recipients.now (λ r k. wraps r k) (λ r. the_labels r) fresh.now.file_key)
             e.header.stanzas text)) }
-        // The first reason why there is none, in the order of `encrypt`, or out of memory.
+        // The fault is the first that applies, in the order of `encrypt`, or out of memory.
         ensures err { IfErr result (FailsHeading limits.now fresh.now.file_key
             (gathering_by recipients.now (λ r k. wraps r k) (λ r. the_labels r)
             fresh.now.file_key)) }
@@ -82,13 +80,13 @@ impl Encryptor {
     ) -> Result<StreamWriter<'a, W>, Refused<'a, W, Fault>>
         ensures same_reference { IfOk result
             (λ writer. (sink_of writer).ghost_name ≡ out.entry.ghost_name) }
-        // The header and the nonce were written, and chunk 0 is the next.
+        // The header and the nonce were written, and chunk 0 is next.
         ensures starts { IfOk result (λ writer. StartsFile W.taken W.failed self out.old
             (sink_of writer).now (Ok (sealer_of writer))) }
         ensures handed_back { IfErr result
             (λ refused. (device_of refused).ghost_name ≡ out.entry.ghost_name) }
-        // On a failed write a prefix of both was written, and the failure is counted; on out of
-        // memory the sink is unchanged.
+        // If a write failed, a prefix of header and nonce was written, and the failure is counted;
+        // on out of memory the sink is unchanged.
         ensures loses { IfErr result (λ refused. StartsFile W.taken W.failed self out.old
             (device_of refused).now (Err (fault_of refused))) }
     {
@@ -103,7 +101,7 @@ impl Encryptor {
         Ok(StreamWriter::over(out, sealer))
     }
 
-    /// Writes the header and the nonce, and returns a writer of the payload. It allocates before it
+    /// Writes the header and the nonce, and returns a writer of the payload. Allocates before it
     /// writes. `started` says more about the sink after an error.
     ///
     /// # Errors
@@ -116,10 +114,10 @@ impl Encryptor {
     ) -> Result<StreamWriter<'a, W>, Fault>
         ensures same_reference { IfOk result
             (λ writer. (sink_of writer).ghost_name ≡ out.entry.ghost_name) }
-        // The header and the nonce were written, and chunk 0 is the next.
+        // The header and the nonce were written, and chunk 0 is next.
         ensures starts { IfOk result (λ writer. StartsFile W.taken W.failed self out.old
             (sink_of writer).now (Ok (sealer_of writer))) }
-        // As `started`, of some state of the sink, which is not handed back.
+        // As for `started`, but of some state of the sink, which is not handed back.
         ensures loses { IfErr result (λ fault. (last : W)
             × StartsFile W.taken W.failed self out.old last (Err fault)) }
     {

@@ -4,7 +4,7 @@ use age_recipient::StanzaFault;
 use thiserror::Error;
 
 /// Why a file was not written, or a plaintext not read. Chunks and recipients are counted from 0,
-/// header lines from 1. The text is what the program prints.
+/// header lines from 1. The program prints these texts.
 #[derive(Clone, Copy, Debug, Drop, PartialEq, Eq, Error)]
 pub enum Fault {
     /// The first bytes are not a prefix of the version line.
@@ -26,20 +26,20 @@ pub enum Fault {
     /// No stanza is of the type of any identity.
     #[error("no key fits this file")]
     NoMatch,
-    /// There are stanzas of an identity's type, and none of them opens: the passphrase or key is
+    /// There are stanzas of an identity's type, but none of them opens: the passphrase or key is
     /// wrong.
     #[error("wrong passphrase or key")]
     WrongKey,
     /// A stanza of an identity's type is malformed.
     #[error("malformed stanza: {0}")]
     Malformed(StanzaFault),
-    /// The header's MAC is not the one of its stanzas under the file key.
+    /// The header's MAC is not that of its stanzas under the file key.
     #[error("header check failed")]
     BadMac,
-    /// Fewer bytes than the payload's nonce, 16, follow the header.
+    /// Fewer than 16 bytes, the payload's nonce, follow the header.
     #[error("payload nonce is cut short")]
     NonceTruncated,
-    /// This sealed chunk, the last, has fewer bytes than a tag, 16.
+    /// This sealed chunk, the last, is shorter than a tag, 16 bytes.
     #[error("chunk {0} is cut short")]
     ChunkShort(u128),
     /// This chunk, the last and not the first, has an empty plaintext.

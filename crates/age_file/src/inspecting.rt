@@ -10,15 +10,15 @@ use crate::limits::Limits;
 use age_header::{Header, HeaderReader, Source};
 use std::alloc::Global;
 
-/// Reads the header at the start of a file (C2SP `age.md`), and from the source exactly the
-/// header's bytes. It does not verify the MAC.
+/// Reads the header at the start of a file (C2SP `age.md`), and exactly the header's bytes from the
+/// source. Does not verify the MAC.
 ///
 /// # Errors
-/// The first of `NotAge`, `BadLine`, `HeaderTruncated` and `HeaderTooLarge` that applies, as
-/// `HeaderReader` says; `Read` if the source failed, `OutOfMemory` if an allocation was refused.
+/// The first that applies of `NotAge`, `BadLine`, `HeaderTruncated` and `HeaderTooLarge`, as for
+/// `HeaderReader`. `Read` if the source failed, `OutOfMemory` if an allocation was refused.
 pub fn inspect<S: Source>(alloc: Global, input: &mut S, limits: &Limits) -> Result<Header, Fault>
-    // The header verdict is returned, unless a read failed or memory was refused; of a header
-    // exactly its bytes were read.
+    // Returns the header verdict, unless a read failed or memory was refused. On Ok exactly the
+    // header's bytes were read.
     ensures verdict { Inspects limits.now (flow_by S.to_come S.gave input.old input.new) result }
     ensures reads { CountsIf is_read (S.failed input.old) (S.failed input.new) result }
 {

@@ -1,4 +1,4 @@
-//! Laws over the definitions alone: functions that do nothing, each with a law as its contract.
+//! Laws: facts about the definitions alone, each the contract of a function that does nothing.
 
 ghost use Rattle.std.specs.Prelude.{◌≡◌, ◌↔◌, ◌⊎◌, ℕ, ◌+◌, List, [], ◌∷◌, ◌++◌, replicate, length, take, drop, Option, Some, None, Ok, Err, true};
 ghost use Rattle.age_header.specs.Device.{Bytes, Moved, Took};
@@ -23,8 +23,8 @@ ghost use Rattle.age_file.specs.Verdict.{Answering, IsVerdict};
 
 use age_recipient::{Labels, Matched};
 
-/// The verdict is without fault, with this plaintext, exactly on the age files of this plaintext
-/// for the file key that the identities choose. All bytes have one verdict, and only one.
+/// The verdict is this plaintext without fault exactly on the age files of this plaintext for the
+/// file key that the identities choose. All bytes have exactly one verdict.
 pub fn ok_is_age_file()
     ensures ok { (limits : Bounds) (answers : Answering) (b plain : Bytes)
         → IsVerdict limits answers b (whole plain) ↔ ((stanzas : List StanzaParts) × (k : FileKey)
@@ -44,9 +44,9 @@ pub fn pair_opens<M: Matched>(pair: &M)
         → IsVerdict limits (λ s. M.I.meaning (M.the_identity pair.now) s ∷ []) b (whole plain) }
 {}
 
-/// Bytes whose verdict is this plaintext, which is to say, by `ok_is_age_file`, an age file of it
-/// for the key that the identities choose, open for ranges: no fault but a failed read or out of
-/// memory is returned. Their length for ranges is the plaintext's, and so is each slice.
+/// Bytes whose verdict is this plaintext (by `ok_is_age_file`, an age file of it for the key that
+/// the identities choose) open for ranges: the only faults are a failed read and out of memory. The
+/// length for ranges is the plaintext's, and each slice is a part of the plaintext.
 pub fn file_is_sliced()
     ensures opens { (limits : Bounds) (answers : Answering) (b plain : Bytes) (fault : Fault)
         → IsVerdict limits answers b (whole plain) → MissesRanges limits answers (Some b) fault
@@ -60,27 +60,27 @@ pub fn file_is_sliced()
         → xs ≡ take (length xs) (drop at plain) }
 {}
 
-/// Which of this crate's own recipients go together. For one recipient, and for keyed ones, this
-/// holds whatever labels their boxes return. The last two clauses are about the labels that the
-/// recipients mean.
+/// Which of this crate's own recipients go together. For a single recipient, and for keyed ones,
+/// this holds whatever labels their boxes return. The last two clauses are about the labels that
+/// the recipients mean.
 pub fn own_recipients()
-    // A single recipient, whoever wrote it, is not incompatible.
+    // A single recipient, even a caller's own, is not incompatible.
     ensures one { (meant : Labels) (index : Option ℕ)
         → IsIncompatible (meant ∷ []) index → index ≡ None }
-    // Of several that mean no names, as keyed ones, none is incompatible, whatever their boxes
+    // Of several that mean no names, such as keyed ones, none is incompatible, whatever their boxes
     // return.
     ensures keyed { (n : ℕ) (index : Option ℕ)
         → IsIncompatible (replicate n (Labels.Names [])) index → index ≡ None }
-    // After a passphrase recipient recipient 1 is incompatible, whichever it is.
+    // If recipient 0 is a passphrase recipient, recipient 1 is incompatible, whatever it is.
     ensures passphrase_first { (other : Labels) (others : List Labels)
         → first_incompatible (Labels.Alone ∷ other ∷ others) ≡ Some 1 }
-    // A passphrase recipient after one or more without names is incompatible itself.
+    // A passphrase recipient after one or more recipients without names is itself incompatible.
     ensures passphrase_after { (n : ℕ) (others : List Labels)
         → first_incompatible (replicate (n + 1) (Labels.Names []) ++ Labels.Alone ∷ others)
         ≡ Some (n + 1) }
 {}
 
-/// A rewrapped file is to identities that find its file key what the old file was to those that
+/// To identities that find its file key, a rewrapped file is what the old file was to those that
 /// found the key before: the same plaintext, or the same fault after the same plaintext.
 pub fn rewrap_keeps()
     ensures { (limits : Bounds) (old new : Answering) (b c : Bytes) (is : Rewrapped limits old b c)
@@ -88,23 +88,23 @@ pub fn rewrap_keeps()
         → IsVerdict limits old b v ↔ IsVerdict limits new c v }
 {}
 
-/// Salvaging a whole file is decrypting it. Of any file it writes what decrypting writes before its
-/// fault, and then more.
+/// Salvaging a whole file is decrypting it. If salvaging any other file returns Ok, what it writes
+/// begins with what decrypting writes before its fault.
 pub fn salvage_is_verdict()
     // On Ok, if the verdict is a plaintext without fault, that plaintext was written.
     ensures whole { (limits : Bounds) (answers : Answering) (b plain : Bytes) (sink : Moved)
         (lost : LossesMoved) (s : Salvaged) → IsVerdict limits answers b (whole plain)
         → SavesFile limits answers b sink lost (Ok s) → Took sink plain }
-    // Then no chunk is reported, and what is returned says that all is saved.
+    // Then no chunk is reported, and the result says that everything is saved.
     ensures none { (limits : Bounds) (answers : Answering) (b plain : Bytes) (sink : Moved)
         (lost : LossesMoved) (s : Salvaged) → IsVerdict limits answers b (whole plain)
         → SavesFile limits answers b sink lost (Ok s) → Reports lost [] × (is_whole s ≡ true) }
-    // A fault before which nothing was written is the verdict's, or out of memory.
+    // A fault before anything was written is the verdict's, or out of memory.
     ensures fault { (limits : Bounds) (answers : Answering) (b : Bytes) (v : Reading Fault)
         (sink : Moved) (lost : LossesMoved) (fault : Fault) → IsVerdict limits answers b v
         → SavesFile limits answers b sink lost (Err fault)
         → IsLate fault ⊎ (fault ≡ OutOfMemory) ⊎ (v ≡ stop fault) }
-    // On Ok what was written begins with the verdict's plaintext.
+    // On Ok the output begins with the verdict's plaintext.
     ensures plaintext { (limits : Bounds) (answers : Answering) (b : Bytes) (v : Reading Fault)
         (sink : Moved) (lost : LossesMoved) (s : Salvaged) → IsVerdict limits answers b v
         → SavesFile limits answers b sink lost (Ok s)

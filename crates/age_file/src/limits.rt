@@ -13,10 +13,11 @@ const LEAST_MAX_HEADER: usize = 1_024;
 /// The greatest limit on the size of a header, 16 MiB.
 const MOST_MAX_HEADER: usize = 16_777_216;
 
-/// The limit on the size of a header where the caller gives none, 64 KiB.
+/// The default limit on the size of a header, 64 KiB.
 const DEFAULT_MAX_HEADER: usize = 65_536;
 
-/// The maximum number of chunks of a payload: a chunk's number has eleven bytes in its nonce.
+/// The maximum number of chunks of a payload, because a chunk's number has eleven bytes in its
+/// nonce.
 pub const MOST_CHUNKS: u128 = 1 << 88;
 
 /// The maximum size of a header in bytes, and of a payload in chunks.
@@ -42,14 +43,14 @@ impl Model for Limits {
 impl Limits {
     ghost use Rattle.age_file.specs.AgeFile.{IsBounds};
 
-    /// Makes limits of `max_header` bytes, 1,024 to 16,777,216, and `max_chunks` chunks, 1 to 2^88
-    /// = 309,485,009,821,345,068,724,781,056. Returns `None` exactly if a number is out of its
-    /// range.
+    /// Makes limits of `max_header` bytes, from 1,024 to 16,777,216, and `max_chunks` chunks, from
+    /// 1 to 2^88 = 309,485,009,821,345,068,724,781,056. Returns `None` exactly if a number is out
+    /// of its range.
     pub fn new(max_header: usize, max_chunks: u128) -> Option<Limits>
-        // They are in their ranges, and hold their numbers.
+        // The limits hold these numbers, which are in their ranges.
         ensures some { IfSome result (λ limits. IsBounds limits
             × (limits ≡ record { max_header = max_header; max_chunks = max_chunks })) }
-        // One of them is outside of its range.
+        // A number is out of its range.
         ensures none { IfNone result
             (IsBounds (record { max_header = max_header; max_chunks = max_chunks }) → ⊥) }
     {
@@ -89,7 +90,7 @@ impl Default for Limits {
     ghost is_default = { λ limits.
         limits ≡ record { max_header = default_max_header; max_chunks = most_chunks } };
 
-    /// 65,536 bytes of a header, and 2^88 chunks of a payload.
+    /// A header of 65,536 bytes, and a payload of 2^88 chunks.
     fn default() -> Limits {
         Limits {
             max_header: DEFAULT_MAX_HEADER,
@@ -98,9 +99,9 @@ impl Default for Limits {
     }
 }
 
-/// The random bytes of a new file, 32 of them; they must never be used for two files. With the
-/// salts of its recipients, of 16 bytes each, they make two files of one plaintext differ. Two
-/// files with the same values have the same payload key.
+/// The 32 random bytes of a new file. They must never be used for two files, because two files with
+/// the same values have the same payload key. Together with the salts of the recipients, 16 bytes
+/// each, they make two files of one plaintext differ.
 #[derive(Clone, Copy, PartialEq, Eq)]
 pub struct Fresh {
     /// The file key.

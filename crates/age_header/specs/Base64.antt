@@ -61,8 +61,7 @@ candidate (p ∷ q ∷ r ∷ s ∷ characters) =
     ∷ (value_of r * 64 + value_of s) % 256 ∷ candidate characters
 candidate _ = []
 
--- the bytes whose base64 these characters are, where there are such bytes: the only candidate is
--- tried
+-- the bytes whose base64 these characters are, if there are any: the only candidate is checked
 unfoldable pub decoded_bytes : Bytes → Option Bytes
 decoded_bytes characters =
     if bytes_eq (base64_of (candidate characters)) characters then Some (candidate characters)

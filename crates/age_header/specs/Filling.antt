@@ -1,11 +1,11 @@
--- What filling a buffer from a source leaves in the buffer.
+-- The contents of a buffer that is filled from a source.
 use Rattle.std.specs.Prelude.{ℕ, ◌++◌, ◌≡◌, ◌≤◌, ◌<◌, ◌+◌, length, take}
 use Rattle.std.specs.Io.KnownBytes.{IsAtEnd}
 use Rattle.age_header.specs.Device.{Flow, Gave}
 use Rattle.age_kdf.specs.Bytes.{Bytes}
 
--- the source gave n bytes, which follow the first `at` in the buffer; none only at its end or where
--- there was no room
+-- the source returned n bytes, which follow the first `at` in the buffer; none only at its end or
+-- if there is no room
 pub record Got (at n : ℕ) (buf after : Bytes) (source : Flow) : Type 0 where
   pub piece : Bytes
   pub len : length piece ≡ n
@@ -14,7 +14,7 @@ pub record Got (at n : ℕ) (buf after : Bytes) (source : Flow) : Type 0 where
   pub bytes : Gave source piece
   pub none : n ≡ 0 → at < length buf → IsAtEnd source.after.to_come
 
--- the source gave the bytes that follow the first `start` in the buffer, n bytes with these
+-- the source returned the bytes that follow the first `start` in the buffer; with these there are n
 pub record Filled (start n : ℕ) (buf after : Bytes) (source : Flow) : Type 0 where
   pub piece : Bytes
   pub len : start + length piece ≡ n

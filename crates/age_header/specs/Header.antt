@@ -14,31 +14,31 @@ pub record StanzaParts : Type 0 where
 abbrev pub line : Bytes → Bytes
 line text = text ++ 10 ∷ []
 
--- the first line
+-- the version line
 unfoldable pub version_line : Bytes
 version_line = line (codes "age-encryption.org/v1")
 
--- how many bytes it has, with its LF
+-- the length of the version line in bytes, with its LF
 abbrev pub version_size : ℕ
 version_size = 22
 
--- how many characters of base64 a full line of a stanza's body has
+-- the number of base64 characters in a full line of a stanza's body
 abbrev pub line_size : ℕ
 line_size = 64
 
--- how many bytes of a body a full line encodes
+-- the number of bytes of a body that a full line encodes
 abbrev pub bytes_of_a_line : ℕ
 bytes_of_a_line = 48
 
--- how many bytes a MAC has
+-- the length of a MAC in bytes
 abbrev pub mac_size : ℕ
 mac_size = 32
 
--- a visible character of ASCII
+-- a visible ASCII character
 abbrev pub IsVisible : ℕ → Type 0
 IsVisible c = (33 ≤ c) × (c ≤ 126)
 
--- an argument has one or more visible characters
+-- an argument: one or more visible characters
 abbrev pub IsArgument : Bytes → Type 0
 IsArgument a = (a ≢ []) × AllByRecursion IsVisible a
 
@@ -55,7 +55,7 @@ abbrev pub IsFullLine : Bytes → Type 0
 IsFullLine characters = length characters ≡ line_size
 
 -- The text of a stanza: its argument line, full lines, and a last line of fewer than 64 characters.
--- The characters of these lines, joined, are the base64 of the body.
+-- The characters of these lines, concatenated, are the base64 of the body.
 pub record IsStanza (s : StanzaParts) (text : Bytes) : Type 0 where
   pub full : List Bytes
   pub last : Bytes
@@ -64,13 +64,13 @@ pub record IsStanza (s : StanzaParts) (text : Bytes) : Type 0 where
   pub body : IsBase64 s.body (concat full ++ last)
   pub spelled : text ≡ argument_line s.args ++ flat_map line full ++ line last
 
--- the texts of stanzas, one after the other
+-- the texts of stanzas, concatenated
 abbrev pub AreStanzas : (stanzas : List StanzaParts) (text : Bytes) → Type 0
 AreStanzas [] text = text ≡ []
 AreStanzas (s ∷ ss) text =
     (x : Bytes) × (y : Bytes) × IsStanza s x × AreStanzas ss y × (text ≡ x ++ y)
 
--- The header of these stanzas, at least one, and this MAC of 32 bytes: the version line, the
+-- The header of these stanzas, one or more, and this MAC of 32 bytes: the version line, the
 -- stanzas, and the end line.
 pub record Head (stanzas : List StanzaParts) (mac : Bytes) (h : Bytes) : Type 0 where
   pub body : Bytes

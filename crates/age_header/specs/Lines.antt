@@ -1,4 +1,4 @@
--- How one line is read from a source.
+-- Reading one line from a source.
 use Rattle.std.specs.Prelude.{◌≡◌, ℕ, ◌<◌, ⊤, ◌++◌, [], ◌∷◌}
 use Rattle.std.specs.declared.option.Option.{Option}
 use Rattle.std.specs.Io.KnownBytes.{IsAtEnd}
@@ -8,19 +8,19 @@ use Rattle.age_header.specs.declared.fault.HeaderFault.TheVariants.{Read, Memory
 use Rattle.age_header.specs.declared.lines.LineEnd.{LineEnd}
 use Rattle.age_header.specs.declared.lines.LineEnd.TheVariants.{Lf, Input, Room}
 
--- the bytes that are read for a line
+-- the bytes read for a line
 abbrev pub line_bytes : (text : Bytes) (end : LineEnd) → Bytes
 line_bytes text Lf = text ++ 10 ∷ []
 line_bytes text Input = text
 line_bytes text Room = text
 
--- how a line of at most `max_len` bytes ended, and what the source still has
+-- the end of a line of at most `max_len` bytes, and the bytes still to come
 abbrev pub IsEnd : (end : LineEnd) (len max_len : ℕ) (left : Option Bytes) → Type 0
 IsEnd Lf len max_len left = len < max_len
 IsEnd Input len max_len left = (len < max_len) × IsAtEnd left
 IsEnd Room len max_len left = len ≡ max_len
 
--- only a read or memory failed
+-- a fault that is not of the bytes: a failed read, or refused memory
 abbrev pub IsOutside : HeaderFault → Type 0
 IsOutside Read = ⊤
 IsOutside Memory = ⊤

@@ -6,7 +6,7 @@ use Rattle.age_kdf.specs.Hkdf.{hkdf}
 use Rattle.age_header.specs.Header.{StanzaParts}
 use Rattle.age_header.specs.Text.{signed_text}
 
--- HMAC-SHA-256 of the header through `---`, under a key of 32 bytes that HKDF-SHA-256 makes of the
--- file key
+-- HMAC-SHA-256 of the header up to and including `---`, under a key of 32 bytes that HKDF-SHA-256
+-- derives from the file key
 unfoldable pub header_mac : (file_key : Bytes) (stanzas : List StanzaParts) → Bytes
 header_mac file_key stanzas = hmac (hkdf file_key [] (codes "header") 32) (signed_text stanzas)

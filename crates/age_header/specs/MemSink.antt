@@ -1,7 +1,7 @@
--- How much a sink over a vector takes without an allocation.
+-- The room of a sink over a vector.
 use Rattle.std.specs.Prelude.{ℕ, ◌-◌, vec_capacity, vec_len}
 use Rattle.age_header.specs.declared.device.MemSink.{MemSink}
 
--- how many bytes more fit into the memory that its vector has
+-- the number of bytes that fit the vector's memory without an allocation
 abbrev pub spare_of : MemSink → ℕ
 spare_of sink = vec_capacity sink.out - vec_len sink.out

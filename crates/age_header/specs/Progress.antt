@@ -1,4 +1,4 @@
--- The state that a reader's progress is in.
+-- The state of a reader's progress.
 use Rattle.std.specs.Prelude.{List}
 use Rattle.std.specs.declared.option.Option.{Option}
 use Rattle.std.specs.declared.option.Option.TheVariants.{None, Some}
@@ -6,7 +6,7 @@ use Rattle.age_header.specs.Header.{StanzaParts}
 use Rattle.age_header.specs.Steps.{State, between, within}
 use Rattle.age_header.specs.declared.progress.Progress.TheInside.{Inside}
 
--- with no stanza open, between two
+-- the state after these stanzas, and within the open one if there is one
 abbrev state_with : (ss : List StanzaParts) (begun : Option StanzaParts) → State
 state_with ss None = between ss
 state_with ss (Some s) = within ss s.args s.body

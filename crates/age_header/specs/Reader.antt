@@ -1,4 +1,4 @@
--- What a reader of headers returns.
+-- The result of a reader of headers.
 use Rattle.std.specs.Prelude.{ℕ, ⊤, Bool, true, false}
 use Rattle.std.specs.declared.option.Option.{Option}
 use Rattle.std.specs.declared.option.Option.TheVariants.{None, Some}
@@ -11,15 +11,14 @@ use Rattle.age_header.specs.declared.fault.HeaderFault.TheVariants.{Read, Memory
 use Rattle.age_header.specs.Header.{HeaderParts}
 use Rattle.age_header.specs.Verdict.{HeaderVerdict, IsFault}
 
--- b is refused with its fault, or because memory was refused or a read failed, which say nothing of
--- b
+-- b is refused with its fault; or memory was refused or a read failed, which says nothing about b
 abbrev pub Refuses : (b : Bytes) (max : ℕ) (fault : HeaderFault) → Type 0
 Refuses b max Read = ⊤
 Refuses b max Memory = ⊤
 Refuses b max fault = IsFault b max fault
 
--- What a reader under a limit of max bytes returns where b comes: its verdict. Where that is a
--- header, only the header's bytes are read.
+-- The result of a reader for the bytes b under a limit of max bytes: the header verdict. If that is
+-- a header, exactly the header's bytes are read.
 abbrev pub ReadsHeaderOf : (b : Bytes) (source : Flow) (max : ℕ)
     (result : Result HeaderParts HeaderFault) → Type 0
 ReadsHeaderOf b source max (Ok h) =
@@ -28,7 +27,7 @@ ReadsHeaderOf b source max (Ok h) =
     × Gave source text
 ReadsHeaderOf b source max (Err fault) = Refuses b max fault
 
--- the same of the bytes that the source gave
+-- the same for the bytes read from the source
 abbrev pub ReadsHeader : (source : Flow) (max : ℕ) (r : Result HeaderParts HeaderFault) → Type 0
 ReadsHeader source max r = OfGiven source (λ b. ReadsHeaderOf b source max r)
 
@@ -42,7 +41,7 @@ pub record ReaderState : Type 0 where
   pub max : ℕ
   pub fault : Option HeaderFault
 
--- the fault that is kept after a result
+-- the fault that a reader keeps after this result
 abbrev pub fault_of : Result HeaderParts HeaderFault → Option HeaderFault
 fault_of (Ok h) = None
 fault_of (Err fault) = Some fault

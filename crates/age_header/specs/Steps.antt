@@ -1,16 +1,16 @@
--- The lines of a header between the version line and the end line, one after the other.
+-- The lines of a header between the version line and the end line, one after another.
 use Rattle.std.specs.Prelude.{◌≡◌, ◌<◌, List, [], ◌∷◌, ◌++◌, length}
 use Rattle.age_kdf.specs.Bytes.{Bytes}
 use Rattle.age_header.specs.Base64.{IsBase64}
 use Rattle.age_header.specs.Header.{StanzaParts, AreArguments, IsFullLine, argument_line, line, line_size}
 
--- between two stanzas, or within one: the whole stanzas, and of the open one its arguments and
--- bytes so far
+-- between two stanzas, or within one: the complete stanzas, and the arguments of the open one with
+-- the bytes of its body so far
 pub data State : Type 0 where
   between : List StanzaParts → State
   within : List StanzaParts → List Bytes → Bytes → State
 
--- how a line l leads from one state to the next
+-- a line l leads from one state to the next
 abbrev pub Step : (s : State) (l : Bytes) (t : State) → Type 0
 Step (between ss) l (between ts) = ⊥
 Step (between ss) l (within ts args body) =
@@ -22,7 +22,7 @@ Step (within ss args body) l (between ts) =
     (more : Bytes) × (length l < line_size) × IsBase64 more l
     × (ts ≡ ss ++ record { args = args; body = body ++ more } ∷ [])
 
--- how lines lead from one state to another
+-- these lines lead from one state to another
 abbrev pub Leads : (s : State) (lines : List Bytes) (t : State) → Type 0
 Leads s [] t = s ≡ t
 Leads s (l ∷ ls) t = (m : State) × Step s l m × Leads m ls t

@@ -1,4 +1,4 @@
--- The text that a writer writes, part by part.
+-- The text of a header, part by part.
 use Rattle.std.specs.Prelude.{◌≡◌, ◌≢◌, ℕ, zero, suc, ◌/◌, false, List, [], ◌∷◌, ◌++◌, length, take, drop, codes, flat_map}
 use Rattle.std.specs.List.{AllByRecursion}
 use Rattle.age_kdf.specs.Bytes.{Bytes}
@@ -7,7 +7,7 @@ use Rattle.base64.specs.declared.engine.general_purpose.GeneralPurpose.{GeneralP
 use Rattle.age_header.specs.Base64.{alphabet, base64_of}
 use Rattle.age_header.specs.Header.{StanzaParts, AreArguments, argument_line, line, version_line, bytes_of_a_line, mac_size}
 
--- an engine for this alphabet, without padding, that decodes canonical text alone
+-- an engine for this alphabet, without padding, that decodes canonical text only
 pub record IsPlain (e : GeneralPurpose) : Type 0 where
   pub strict : IsStrict e
   pub unpadded : config_padding (engine_config e) ≡ false
@@ -19,7 +19,7 @@ body_lines zero body = line (base64_of body)
 body_lines (suc n) body =
     line (base64_of (take bytes_of_a_line body)) ++ body_lines n (drop bytes_of_a_line body)
 
--- a line for each 48 bytes, then the last
+-- a line for every 48 bytes, then the last line
 unfoldable pub body_text : Bytes → Bytes
 body_text body = body_lines (length body / bytes_of_a_line) body
 
@@ -27,11 +27,11 @@ body_text body = body_lines (length body / bytes_of_a_line) body
 unfoldable pub stanza_text : StanzaParts → Bytes
 stanza_text s = argument_line s.args ++ body_text s.body
 
--- the header through the three bytes `---`
+-- the header up to and including the three bytes `---`
 unfoldable pub signed_text : List StanzaParts → Bytes
 signed_text ss = version_line ++ flat_map stanza_text ss ++ codes "---"
 
--- what follows them
+-- the rest of the end line: a space, the MAC in base64, and an LF
 unfoldable pub mac_end : Bytes → Bytes
 mac_end mac = 32 ∷ (base64_of mac ++ 10 ∷ [])
 

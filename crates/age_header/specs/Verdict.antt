@@ -1,4 +1,4 @@
--- What bytes are to a reader of headers: a header at their start, or the first fault.
+-- The header verdict on bytes: a header at their start, or the first fault.
 use Rattle.std.specs.Prelude.{◌≡◌, ◌≢◌, ℕ, ◌<◌, ◌≤◌, ◌⊎◌, List, [], ◌++◌, length, take, flat_map}
 use Rattle.std.specs.Io.{StartsWith}
 use Rattle.std.specs.List.{concat, AllByRecursion}
@@ -10,7 +10,7 @@ use Rattle.age_header.specs.declared.fault.HeaderFault.TheVariants.{NotAge, BadL
 use Rattle.age_header.specs.Base64.{IsBase64}
 use Rattle.age_header.specs.Header.{StanzaParts, Head, AreStanzas, AreArguments, IsFullLine, argument_line, line, version_line, version_size}
 
--- an unfinished stanza: an argument line, and full lines of base64
+-- an incomplete stanza: an argument line, and full lines of base64
 pub record IsOpenStanza (text : Bytes) : Type 0 where
   pub args : List Bytes
   pub full : List Bytes
@@ -20,7 +20,7 @@ pub record IsOpenStanza (text : Bytes) : Type 0 where
   pub body : IsBase64 bytes (concat full)
   pub spelled : text ≡ argument_line args ++ flat_map line full
 
--- the version line, whole stanzas, then nothing or an unfinished stanza
+-- the version line, complete stanzas, then nothing or an incomplete stanza
 pub record IsHeaderPrefix (text : Bytes) : Type 0 where
   pub stanzas : List StanzaParts
   pub whole : Bytes
@@ -29,31 +29,31 @@ pub record IsHeaderPrefix (text : Bytes) : Type 0 where
   pub rest_text : (rest ≡ []) ⊎ IsOpenStanza rest
   pub spelled : text ≡ version_line ++ whole ++ rest
 
--- whole lines from which a header can still come, or nothing yet
+-- complete lines that a header may begin with, or nothing yet
 abbrev pub IsViable : Bytes → Type 0
 IsViable text = (text ≡ []) ⊎ IsHeaderPrefix text
 
--- some stanzas and MAC have this text
+-- the text of some stanzas and some MAC
 abbrev pub IsHeader : Bytes → Type 0
 IsHeader text = (stanzas : List StanzaParts) × (mac : Bytes) × Head stanzas mac text
 
--- a line's text has no LF
+-- a text without an LF
 abbrev pub IsLineText : Bytes → Type 0
 IsLineText text = AllByRecursion (λ c. c ≢ 10) text
 
--- the bytes of whole lines
+-- the bytes of complete lines
 abbrev pub lines_text : List Bytes → Bytes
 lines_text ls = flat_map line ls
 
--- These are the first whole lines of b. They are a list, and no count of LFs, so that "fewer lines"
+-- The first complete lines of b. They are a list, and not a number of LFs, so that "fewer lines"
 -- needs no arithmetic.
 pub record AreLines (ls : List Bytes) (b : Bytes) : Type 0 where
   pub rest : Bytes
   pub each : AllByRecursion IsLineText ls
   pub prefix : b ≡ lines_text ls ++ rest
 
--- The least number of first lines of b that are a header or not viable: fewer lines are viable and
--- no header.
+-- The least number of first lines of b that are a header or not viable. Fewer lines are viable and
+-- not a header.
 pub record Decides (ls : List Bytes) (b : Bytes) : Type 0 where
   pub lines : AreLines ls b
   pub decided : IsHeader (lines_text ls) ⊎ (IsViable (lines_text ls) → ⊥)
@@ -64,17 +64,17 @@ pub record Decides (ls : List Bytes) (b : Bytes) : Type 0 where
 abbrev pub IsUndecided : Bytes → Type 0
 IsUndecided b = (ls : List Bytes) → Decides ls b → ⊥
 
--- the first 22 bytes, or all where there are fewer, begin the version line
+-- the first 22 bytes, or all if there are fewer, are a prefix of the version line
 abbrev pub BeginsAsAge : Bytes → Type 0
 BeginsAsAge b = StartsWith version_line (take version_size b)
 
--- a header that a text begins with: its stanzas, its MAC, and its own bytes
+-- a header at the start of a text: its stanzas, its MAC, and its own bytes
 pub record Found : Type 0 where
   pub stanzas : List StanzaParts
   pub mac : Bytes
   pub text : Bytes
 
--- the first max bytes of b are decided by the lines of this header
+-- the lines of this header decide the first max bytes of b
 pub record Finds (b : Bytes) (max : ℕ) (found : Found) : Type 0 where
   pub lines : List Bytes
   pub begun : BeginsAsAge (take max b)
@@ -94,7 +94,7 @@ IsFault b max TooLarge = BeginsAsAge (take max b) × IsUndecided (take max b) ×
 IsFault b max Read = ⊥
 IsFault b max Memory = ⊥
 
--- the header verdict: what b is under a limit of max bytes
+-- the header verdict on b under a limit of max bytes
 abbrev pub HeaderVerdict : (b : Bytes) (max : ℕ) (result : Result Found HeaderFault) → Type 0
 HeaderVerdict b max (Ok found) = Finds b max found
 HeaderVerdict b max (Err fault) = IsFault b max fault

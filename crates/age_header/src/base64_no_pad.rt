@@ -1,5 +1,5 @@
-//! Base64 without padding (RFC 4648, section 4), canonical, by the crate `base64` with an alphabet
-//! of this project's own.
+//! Canonical base64 without padding (RFC 4648, section 4), by the crate `base64` with an alphabet
+//! spelled out here.
 
 ghost use Rattle.std.specs.Prelude.{◌≡◌, IfOk, IfSome, IfNone, option_map};
 ghost use Rattle.std.specs.String.{string_bytes};
@@ -12,13 +12,13 @@ use base64::alphabet::Alphabet;
 use base64::engine::general_purpose::{GeneralPurpose, NO_PAD};
 use std::alloc::{AllocError, Global};
 
-// spelled here, since a contract has to state it: the crate only tests its own alphabets
+// spelled out because a contract has to state it: the crate only tests its own alphabets
 const ALPHABET: &str = "ABCDEFGHIJKLMNOPQRSTUVWXYZabcdefghijklmnopqrstuvwxyz0123456789+/";
 
-/// The engine for base64 without padding, canonical. It holds a table, so make it once for many
-/// lines.
+/// Makes the engine for canonical base64 without padding. The engine holds a table: make one for
+/// many lines.
 pub fn engine() -> GeneralPurpose
-    // An engine for the standard's alphabet, without padding, that decodes canonical text alone.
+    // The engine has the standard alphabet and no padding, and decodes canonical text only.
     ensures { IsPlain result }
 {
     let Ok(alphabet) = Alphabet::new(ALPHABET) else {
@@ -27,18 +27,18 @@ pub fn engine() -> GeneralPurpose
     GeneralPurpose::new(&alphabet, NO_PAD)
 }
 
-/// Decodes: returns the bytes whose base64 these characters are; `None` if there are no such bytes.
+/// Decodes base64. Returns the bytes whose base64 the characters are, or `None` if there are none.
 pub fn decode(
     alloc: Global,
     engine: &GeneralPurpose,
     text: &[u8],
 ) -> Result<Option<Vec<u8>>, AllocError>
     requires { IsPlain engine.now }
-    // The bytes whose base64 the characters are, if there are such bytes.
+    // Returns the bytes whose base64 the characters are, if there are such bytes.
     ensures value { IfOk result (λ o. option_map (λ v. v.items) o ≡ decoded_bytes text.now) }
-    // The characters are the base64 of the bytes.
+    // The characters are the base64 of the bytes returned.
     ensures some { IfOk result (λ o. IfSome o (λ v. IsBase64 v.items text.now)) }
-    // They are the base64 of no bytes.
+    // The characters are not the base64 of any bytes.
     ensures none { IfOk result (λ o. IfNone o ((b : Bytes) → IsBase64 b text.now → ⊥)) }
 {
     match engine.decode(alloc, text) {

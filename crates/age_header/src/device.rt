@@ -1,5 +1,5 @@
-//! Devices: what bytes are read from and written to. A device counts its failures, so that a caller
-//! can tell an I/O error from a fault of the bytes. Its contents may be known to proofs.
+//! Devices: sources of bytes and sinks for bytes. A device counts its failures, so that a caller
+//! can tell an I/O error from a fault in the bytes. Proofs may know its contents.
 
 ghost use Rattle.std.specs.Prelude.{◌≡◌, ◌<◌, ◌≤◌, ◌+◌, ◌-◌, ◌^◌, ℕ, Some, length, min, ⊤, vec_capacity, vec_len, IfOk, OnErr};
 ghost use Rattle.std.specs.declared.option.Option.{Option};
@@ -9,31 +9,33 @@ ghost use Rattle.age_header.specs.MemSink.{spare_of};
 
 use std::io::{Read, Write};
 
-/// A read or a write failed. The device's count of failures has risen.
+/// A read or a write failed, and the device counted one more failure.
 #[derive(Clone, Copy, Debug, Drop, PartialEq, Eq)]
 pub struct DeviceFault;
 
-/// What bytes are read from.
+/// A source of bytes, like `std::io::Read`.
 pub trait Source {
-    // The number of failed reads, saturating at the largest u64.
+    // The number of failed reads, saturating at the largest `u64`.
     ghost failed: { Self → ℕ };
 
-    // The bytes still to come, if the contents are known to proofs.
+    // The bytes still to come, if proofs know the contents.
     ghost to_come: { Self → Known };
 
-    // Whether these may be all bytes given so far. The default says nothing.
+    // Whether the source may have returned exactly these bytes so far. The default says nothing.
     ghost gave: { Self → Bytes → Type 0 } = { λ _ _. ⊤ };
 
-    /// Reads the next bytes to the start of `buf`, and returns their number. It returns 0 with a
-    /// nonempty `buf` only at the end of the input. A short read does not mean the end. After an
-    /// error nothing is known of the bytes.
+    /// Reads the next bytes into the start of `buf`, and returns their number.
+    ///
+    /// Returns 0 for a nonempty `buf` only at the end of the input. A short read does not mean the
+    /// end. After an error nothing is known about the bytes in `buf`.
     fn read(&mut self, buf: &mut [u8]) -> Result<usize, DeviceFault>
         ensures bound { ReadsAtMost result buf.new }
-        // An error raises the count of failures, an Ok leaves it.
+        // An error raises the count of failures. On Ok the count is unchanged.
         ensures count { Counts (failed self.old) (failed self.new) result }
-        // On Ok the next bytes are at the start of the buffer; 0 with room only at the end.
+        // On Ok the next bytes are at the start of the buffer. A nonempty buffer gets none only at
+        // the end.
         ensures bytes { Gives (move_by to_come self.old self.new) result buf.new }
-        // What the source gave grew by these bytes, on an error by none.
+        // On Ok the source has returned these bytes after the earlier ones, on an error none.
         ensures gave { Grows (flow_by to_come gave self.old self.new) result buf.new };
 
     /// The number of failed reads, saturating at the largest `u64`.
@@ -41,22 +43,22 @@ pub trait Source {
         ensures { result ≡ failed self.now };
 }
 
-/// What bytes are written to.
+/// A sink for bytes, like `std::io::Write`.
 pub trait Sink {
-    // The number of failed writes, saturating at the largest u64.
+    // The number of failed writes, saturating at the largest `u64`.
     ghost failed: { Self → ℕ };
 
-    // The bytes written so far, if the contents are known to proofs.
+    // The bytes written so far, if proofs know the contents.
     ghost taken: { Self → Known };
 
-    /// Writes a prefix of `piece`, and returns the number of bytes written, at least 1 of a
-    /// nonempty piece. On an error nothing was written.
+    /// Writes a prefix of `piece`, and returns its length, at least 1 for a nonempty piece. On an
+    /// error nothing was written.
     fn write(&mut self, piece: &[u8]) -> Result<usize, DeviceFault>
         ensures bound { IfOk result (λ n. n ≤ length piece.now) }
-        // An error raises the count of failures, an Ok leaves it.
+        // An error raises the count of failures. On Ok the count is unchanged.
         ensures count { Counts (failed self.old) (failed self.new) result }
-        // On Ok the first n bytes were appended, at least one of a nonempty piece; on an error
-        // none.
+        // On Ok the first n bytes were appended, at least one of a nonempty piece. On an error
+        // nothing was.
         ensures bytes { Takes (move_by taken self.old self.new) result piece.now };
 
     /// The number of failed writes, saturating at the largest `u64`.
@@ -65,11 +67,11 @@ pub trait Sink {
 }
 
 /// Writes the whole piece, in as many writes as the sink needs. On an error a prefix of it was
-/// written; an interrupted call is not repeated.
+/// written. An interrupted write is not repeated.
 pub fn write_all<W: Sink>(out: &mut W, piece: &[u8]) -> Result<(), DeviceFault>
-    // On Ok the piece was written, on an error a prefix of it.
+    // On Ok the whole piece was written, on an error a prefix of it.
     ensures text { Writes (move_by W.taken out.old out.new) result piece.now }
-    // After a failed write the sink's count of failures rose by one; otherwise it stays.
+    // A failed write raised the sink's count of failures by one. Otherwise the count is unchanged.
     ensures count { Counts (W.failed out.old) (W.failed out.new) result }
 {
     let mut at = 0;
@@ -127,8 +129,8 @@ impl<'a> Source for MemSource<'a> {
     }
 }
 
-/// A sink that appends to its vector. It writes a piece whole, and fails only if the piece exceeds
-/// its vector's spare capacity and the allocation is refused.
+/// A sink that appends to its vector. It writes every piece whole, and fails only if a piece
+/// exceeds the vector's spare capacity and the allocation is refused.
 #[derive(Drop)]
 pub struct MemSink {
     out: Vec<u8>,
@@ -136,19 +138,19 @@ pub struct MemSink {
 }
 
 impl MemSink {
-    /// Makes a sink that appends to this vector, with no failure counted.
+    /// Makes a sink that appends to this vector. Its count of failures is 0.
     pub fn new(out: Vec<u8>) -> MemSink
-        // Its known contents are the vector's.
+        // The bytes written so far are those of the vector.
         ensures bytes { ⟦<MemSink as Sink>⟧.taken result ≡ Some out.items }
-        // No failure is counted.
+        // The count of failures is 0.
         ensures count { ⟦<MemSink as Sink>⟧.failed result ≡ 0 }
-        // The room is the vector's spare capacity.
+        // The room of the sink is the vector's spare capacity.
         ensures spare { spare_of result ≡ vec_capacity out - vec_len out }
     {
         MemSink { out, failures: 0 }
     }
 
-    /// Returns the vector, with all bytes written.
+    /// Returns the vector, which holds all bytes written.
     pub fn into_vec(self) -> Vec<u8>
         ensures { ⟦<MemSink as Sink>⟧.taken self ≡ Some result.items }
     {
@@ -164,17 +166,17 @@ impl Sink for MemSink {
 
     fn write(&mut self, piece: &[u8]) -> Result<usize, DeviceFault>
         ensures bound { IfOk result (λ n. n ≤ length piece.now) }
-        // An error raises the count of failures, an Ok leaves it.
+        // An error raises the count of failures. On Ok the count is unchanged.
         ensures count { Counts self.old.failures self.new.failures result }
-        // On Ok the first n bytes were appended, at least one of a nonempty piece; on an error
-        // none.
+        // On Ok the first n bytes were appended, at least one of a nonempty piece. On an error
+        // nothing was.
         ensures bytes { Takes (move_of (Some self.old.out.items) (Some self.new.out.items))
             result piece.now }
         // On Ok the whole piece was written.
         ensures whole { IfOk result (λ n. n ≡ length piece.now) }
-        // An error comes only of a piece that is longer than the room.
+        // A write fails only if the piece is longer than the room.
         ensures full { OnErr result (spare_of self.old < length piece.now) }
-        // The room shrinks by at most what was written.
+        // The room shrinks by at most the number of bytes written.
         ensures spare { IfOk result (λ n. spare_of self.old ≤ spare_of self.new + n) }
     {
         match self.out.extend_from_slice(piece) {
@@ -196,11 +198,11 @@ pub struct ReadSource<R> {
 }
 
 impl<R: Read> ReadSource<R> {
-    /// Makes a source of this reader's bytes, with no failure counted.
+    /// Makes a source of this reader's bytes. Its count of failures is 0.
     pub fn new(reader: R) -> ReadSource<R>
-        // Its known contents are the reader's.
+        // The bytes to come are those of the reader.
         ensures bytes { ⟦<ReadSource<R> as Source>⟧.to_come result ≡ R.remaining reader }
-        // No failure is counted.
+        // The count of failures is 0.
         ensures count { ⟦<ReadSource<R> as Source>⟧.failed result ≡ 0 }
     {
         ReadSource {
@@ -238,8 +240,8 @@ impl<R: Read> Source for ReadSource<R> {
     }
 }
 
-/// A sink over any writer. A write of 0 bytes of a nonempty piece is a failure: a loop over such
-/// writes would never end.
+/// A sink over any writer. A write that takes no byte of a nonempty piece is a failure, because a
+/// loop over such writes would never end.
 #[derive(Drop)]
 pub struct WriteSink<W> {
     writer: W,
@@ -247,11 +249,11 @@ pub struct WriteSink<W> {
 }
 
 impl<W: Write> WriteSink<W> {
-    /// Makes a sink to this writer, with no failure counted.
+    /// Makes a sink to this writer. Its count of failures is 0.
     pub fn new(writer: W) -> WriteSink<W>
-        // Its known contents are the writer's.
+        // The bytes written so far are the writer's contents.
         ensures bytes { ⟦<WriteSink<W> as Sink>⟧.taken result ≡ W.contents writer }
-        // No failure is counted.
+        // The count of failures is 0.
         ensures count { ⟦<WriteSink<W> as Sink>⟧.failed result ≡ 0 }
     {
         WriteSink {

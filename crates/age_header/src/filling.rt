@@ -7,12 +7,11 @@ ghost use Rattle.age_header.specs.Filling.{Filled, Got};
 
 use crate::device::{DeviceFault, Source};
 
-/// Reads into `buf` after its first `start` bytes, in as many reads as it takes, until it is full
-/// or the source is at its end. Returns the number of bytes of `buf` that are then filled,
-/// including the first `start`.
+/// Fills `buf` from its byte `start` on, in as many reads as needed, until it is full or the source
+/// has ended. Returns the number of bytes of `buf` that are filled, including the first `start`.
 ///
 /// # Errors
-/// A read failed. It is not repeated, and the bytes that were read before it are lost.
+/// If a read failed. It is not repeated, and the bytes read before it are lost.
 pub fn fill_from<S: Source>(
     input: &mut S,
     buf: &mut [u8],
@@ -20,12 +19,13 @@ pub fn fill_from<S: Source>(
 ) -> Result<usize, DeviceFault>
     requires { start ≤ length buf.old }
     ensures len { length buf.new ≡ length buf.old }
-    // The source gave the bytes that follow the first `start` in the buffer, n bytes with these.
+    // The bytes from `start` to n in the buffer were read from the source; those before are
+    // unchanged.
     ensures bytes { IfOk result
         (λ n. Filled start n buf.old buf.new (flow_by S.to_come S.gave input.old input.new)) }
-    // It stops below the buffer's length only at the end of known contents.
+    // n is less than the buffer's length only at the end of known contents.
     ensures end { IfOk result (λ n. n < length buf.old → IsAtEnd (S.to_come input.new)) }
-    // On an error the source gave some bytes, perhaps none.
+    // On an error the source had returned some bytes, perhaps none.
     ensures lost { OnErr result (GaveSome (flow_by S.to_come S.gave input.old input.new)) }
     ensures count { Counts (S.failed input.old) (S.failed input.new) result }
 {

@@ -31,18 +31,18 @@ impl Header {
     ghost use Rattle.age_header.specs.Text.{IsHeaderValue};
     ghost use Rattle.age_header.specs.Device.{Bytes};
 
-    /// Makes a header of these stanzas and this MAC; `None` if there is no stanza.
+    /// Makes a header of these stanzas and this MAC. Returns `None` if there is no stanza.
     pub fn new(stanzas: Vec<Stanza>, mac: [u8; 32]) -> Option<Header>
-        // A header holds its stanzas and its MAC.
+        // The header holds the stanzas, of which there are one or more, and the MAC.
         ensures some { IfSome result
             (λ h. (stanzas.items ≢ []) × (h.stanzas ≡ stanzas.items) × (h.mac ≡ mac)) }
-        // There is none without a stanza.
+        // There is no stanza.
         ensures none { IfNone result (stanzas.items ≡ []) }
     {
         if stanzas.is_empty() {
             return None;
         }
-        // here each stanza's invariant becomes known; for the items of a list it isn't
+        // each stanza's invariant becomes known here: that of an item of a list is not
         for stanza in &stanzas {
             let _ = stanza.args();
             let _ = stanza.body();
@@ -50,23 +50,23 @@ impl Header {
         Some(Header { stanzas, mac })
     }
 
-    /// The stanzas, in order.
+    /// Returns the stanzas, in order.
     pub fn stanzas(&self) -> &[Stanza]
         ensures value { result.now ≡ self.now.stanzas }
-        // With the MAC these stanzas have a text.
+        // The stanzas and the MAC have a text.
         ensures whole { IsHeaderValue self.now.stanzas self.now.mac }
     {
         self.stanzas.as_slice()
     }
 
-    /// The MAC's 32 bytes.
+    /// Returns the MAC, 32 bytes.
     pub fn mac(&self) -> &[u8; 32]
         ensures { result.now ≡ self.now.mac }
     {
         &self.mac
     }
 
-    /// The base64 of the MAC, 43 characters, as in the end line.
+    /// Returns the base64 of the MAC, the 43 characters of the end line.
     pub fn mac_signs(&self) -> [u8; MAC_TEXT_SIZE]
         ensures { IsBase64 self.now.mac result }
     {
@@ -77,7 +77,7 @@ impl Header {
         characters
     }
 
-    /// The length of the header's text in bytes, saturating at the largest `u64`.
+    /// Returns the length of the header's text in bytes, saturating at the largest `u64`.
     pub fn text_len(&self) -> u64
         ensures { (h : Bytes) × Head self.now.stanzas self.now.mac h
             × (result ≡ min (length h) (2 ^ 64 - 1)) }

@@ -1,5 +1,4 @@
-//! Laws of the format, over its definitions alone: each is the contract of a function that does
-//! nothing.
+//! Laws about the format's definitions alone. Each is the contract of a function that does nothing.
 
 ghost use Rattle.std.specs.Prelude.{◌≡◌, ◌↔◌, ◌++◌, ◌-◌, [], ℕ, List, Ok, Some, length, take};
 ghost use Rattle.std.specs.declared.result.Result.{Result};
@@ -11,16 +10,16 @@ ghost use Rattle.age_header.specs.Header.{StanzaParts, Head};
 ghost use Rattle.age_header.specs.Text.{signed_text};
 ghost use Rattle.age_header.specs.Verdict.{Found, HeaderVerdict, BeginsWith};
 
-/// Characters are decoded to exactly the bytes whose base64 they are, and bytes are encoded to
-/// their base64.
+/// Decoding returns exactly the bytes whose base64 the characters are, and encoding returns the
+/// base64 of the bytes.
 pub fn one_base64()
     ensures decoded { (characters bytes : Bytes)
         → (decoded_bytes characters ≡ Some bytes) ↔ IsBase64 bytes characters }
     ensures encoded { (bytes : Bytes) → IsBytes bytes → IsBase64 bytes (base64_of bytes) }
 {}
 
-/// A header's text has one reading, stanzas and a MAC have one text, and no header's text begins
-/// another one.
+/// A header's text has one reading, the stanzas and the MAC have one text, and the text of a header
+/// is not a prefix of another header's text.
 pub fn one_reading()
     ensures reading { (ss ts : List StanzaParts) (m n h : Bytes) → Head ss m h → Head ts n h
         → (ss ≡ ts) × (m ≡ n) }
@@ -29,8 +28,8 @@ pub fn one_reading()
         → x ≡ [] }
 {}
 
-/// Bytes have exactly one header verdict under a limit. It is a header exactly if they begin with
-/// that header and its length is within the limit.
+/// Bytes have exactly one header verdict under a limit. The verdict is a header exactly if the
+/// bytes begin with that header and its length is within the limit.
 pub fn one_verdict()
     ensures some { (b : Bytes) (max : ℕ) → (r : Result Found HeaderFault) × HeaderVerdict b max r }
     ensures one { (b : Bytes) (max : ℕ) (r q : Result Found HeaderFault) → HeaderVerdict b max r
@@ -39,8 +38,8 @@ pub fn one_verdict()
         → HeaderVerdict b max (Ok found) ↔ BeginsWith b max found }
 {}
 
-/// The text under a header's MAC is the header's text without the last 45 bytes: the space, the
-/// MAC's 43 characters and the LF.
+/// The text under a header's MAC is the header's text without its last 45 bytes: the space, the 43
+/// characters of the MAC and the LF.
 pub fn signed_prefix()
     ensures { (ss : List StanzaParts) (mac h : Bytes) → Head ss mac h
         → signed_text ss ≡ take (length h - 45) h }

@@ -21,8 +21,8 @@ pub(crate) enum LineEnd {
     Room,
 }
 
-/// Reads one line of at most `max_len` bytes, its LF included. It reads byte by byte, so that it
-/// reads no byte after the line.
+/// Reads one line of at most `max_len` bytes, including its LF. Reads byte by byte, so that no byte
+/// after the line is read.
 pub(crate) fn read_line<S: Source>(
     alloc: Global,
     input: &mut S,

@@ -1,4 +1,4 @@
-//! The stanzas that the lines after the version line have made so far.
+//! The stanzas found so far in the lines after the version line.
 
 ghost use Rattle.std.specs.Prelude.{◌≡◌, ◌≢◌, ◌↔◌, ◌<◌, ◌≤◌, [], List, length, IfOk, IfSome, IfNone, IsTrue};
 ghost use Rattle.age_header.specs.Header.{StanzaParts};
@@ -62,7 +62,7 @@ impl Progress {
         header
     }
 
-    /// The progress after one more line, without its LF; `None` if it leads nowhere.
+    /// The progress after one more line, without its LF; `None` if no header continues so.
     pub(crate) fn step(
         self,
         alloc: Global,
@@ -87,8 +87,8 @@ impl Progress {
     }
 }
 
-/// The progress after one more line of an open stanza's body: a full line leaves it open, a shorter
-/// one ends it.
+/// The progress after one more line of an open stanza's body. After a full line the stanza stays
+/// open, after a shorter one it is complete.
 fn body_line(
     alloc: Global,
     engine: &GeneralPurpose,

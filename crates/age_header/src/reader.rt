@@ -23,8 +23,8 @@ use std::marker::Model;
 
 const VERSION: &[u8; 21] = b"age-encryption.org/v1";
 
-/// Reads headers of at most `max` bytes. It keeps a fault, and returns it from then on without
-/// reading its source.
+/// Reads headers of at most `max` bytes. After a fault the reader returns that fault from every
+/// call, without reading the source.
 #[derive(Drop)]
 pub struct HeaderReader {
     max: usize,
@@ -42,37 +42,37 @@ impl Model for HeaderReader {
 impl HeaderReader {
     ghost use Rattle.age_header.specs.Reader.{fault_of};
 
-    /// Makes a reader of headers of at most `max` bytes, which keeps no fault.
+    /// Makes a reader of headers of at most `max` bytes, without a fault.
     pub fn new(max: usize) -> HeaderReader
         ensures { result ≡ record { max = max; fault = None } }
     {
         HeaderReader { max, fault: None }
     }
 
-    /// Reads the header at the start of the input (C2SP `age.md`, "Header"), and from the source
-    /// exactly the header's bytes.
+    /// Reads the header at the start of the input (C2SP `age.md`, "Header"), and exactly the
+    /// header's bytes from the source.
     ///
     /// # Errors
     /// For the input's first `max` bytes: `NotAge` if their start is not a prefix of the version
     /// line; else `BadLine(n)` for the least n for which the first n lines are neither a header nor
-    /// a prefix of one; else `Truncated` if the input is shorter than `max`, `TooLarge` if it is
+    /// a prefix of one; else `Truncated` if the input is shorter than `max`, or `TooLarge` if it is
     /// not. `Read` if the source failed, `Memory` if an allocation was refused.
     pub fn read_from<S: Source>(
         &mut self,
         alloc: Global,
         input: &mut S,
     ) -> Result<Header, HeaderFault>
-        // A fault that is kept is returned, and the source is not read.
+        // Returns an earlier fault, without reading the source.
         ensures kept_fault { IfSome self.old.fault
             (λ e. (result ≡ Err e) × (input.new ≡ input.old)) }
-        // A fault is kept, and returned from then on.
+        // The reader keeps a fault, which it then returns from every call.
         ensures keeps { self.new ≡ record { max = self.old.max; fault = fault_of result } }
-        // `Read` is returned only if the source's count of failures rose by one, or is the largest
-        // u64; with any other result it stays.
+        // Returns `Read` only if the source's count of failures rose by one or is the largest
+        // `u64`. With any other result the count is unchanged.
         ensures count { IfNone self.old.fault
             (CountsIf is_read (S.failed input.old) (S.failed input.new) result) }
-        // Without a kept fault, a failed read or out of memory the result is the header verdict on
-        // the bytes that the source gave, on a header exactly the header's bytes.
+        // Unless a read failed or memory was refused, the result is the header verdict on the bytes
+        // that the source returned. On Ok these are exactly the header's bytes.
         ensures verdict { IfNone self.old.fault
             (ReadsHeader (flow_by S.to_come S.gave input.old input.new) self.old.max result) }
     {

@@ -11,9 +11,9 @@ use crate::writer::write_signed;
 use age_kdf::{hkdf, hmac};
 use std::alloc::{AllocError, Global};
 
-/// The text of a header with these stanzas, one or more, from its first byte to the three bytes
-/// `---`, these included: the text that the header's MAC is computed over (C2SP `age.md`, "Header
-/// MAC").
+/// Returns the text of a header with these stanzas, one or more, from its first byte up to and
+/// including the three bytes `---`. The header's MAC is computed over this text (C2SP `age.md`,
+/// "Header MAC").
 pub fn signed_text(alloc: Global, stanzas: &[Stanza]) -> Result<Vec<u8>, AllocError>
     ensures { IfOk result (λ text. text.items ≡ signed_text stanzas.now) }
 {
@@ -24,9 +24,9 @@ pub fn signed_text(alloc: Global, stanzas: &[Stanza]) -> Result<Vec<u8>, AllocEr
     }
 }
 
-/// The MAC of a header with these stanzas, one or more, under the file key (C2SP `age.md`, "Header
-/// MAC"): HMAC-SHA-256 of `signed_text`, under 32 bytes of HKDF-SHA-256 of the file key with an
-/// empty salt and the info `header`.
+/// Computes the MAC of a header with these stanzas, one or more, under the file key (C2SP `age.md`,
+/// "Header MAC"): HMAC-SHA-256 of `signed_text`, whose key is 32 bytes of HKDF-SHA-256 of the file
+/// key with an empty salt and the info `header`.
 pub fn mac_of(alloc: Global, key: &[u8; 16], stanzas: &[Stanza]) -> Result<[u8; 32], AllocError>
     ensures { IfOk result (λ mac. mac ≡ header_mac key.now stanzas.now) }
 {

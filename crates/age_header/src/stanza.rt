@@ -22,8 +22,8 @@ pub enum StanzaError {
     Memory,
 }
 
-/// A stanza of a header (C2SP `age.md`, "Recipient stanza"): its arguments, one or more, of visible
-/// characters, and its body, any bytes. The first argument is its type.
+/// A stanza of a header (C2SP `age.md`, "Recipient stanza"). It has one or more arguments of
+/// visible characters, the first of which is its type, and a body of any bytes.
 #[derive(Drop)]
 pub struct Stanza {
     args: Arguments,
@@ -45,14 +45,14 @@ impl Stanza {
     ghost use Rattle.base64.specs.GeneralPurpose.{IsBytes};
     ghost use Rattle.std.specs.String.{string_bytes};
 
-    /// Makes a stanza of copies of these arguments and this body.
+    /// Makes a stanza with copies of these arguments and of this body.
     ///
     /// # Errors
     /// `NoArgs`; else for the first bad argument `EmptyArg` or `BadByte`; else `Memory`.
     pub fn new(alloc: Global, args: &[&str], body: &[u8]) -> Result<Stanza, StanzaError>
-        // A stanza holds its arguments and its body.
+        // The stanza holds the arguments and the body.
         ensures ok { IfOk result (λ s. (s.args ≡ map (λ a. a.now) args.now) × (s.body ≡ body.now)) }
-        // The first fault of the arguments, or out of memory.
+        // The fault is the first one of the arguments, or out of memory.
         ensures err { IfErr result (IsStanzaError (map (λ a. a.now) args.now)) }
     {
         check_arguments(args)?;
@@ -76,7 +76,7 @@ impl Stanza {
         }
     }
 
-    /// Adds bytes at the end of the body.
+    /// Appends bytes to the body.
     pub(crate) fn extend(&mut self, bytes: &[u8]) -> Result<(), AllocError>
         ensures ok { OnOk result
             (self.new ≡ record { args = self.old.args; body = self.old.body ++ bytes.now }) }
@@ -84,19 +84,19 @@ impl Stanza {
         self.body.extend_from_slice(bytes)
     }
 
-    /// The arguments, in order: one or more, none empty, each of bytes 33 to 126.
+    /// Returns the arguments, in order: one or more, none of them empty, each of bytes 33 to 126.
     pub fn args(&self) -> &[String]
         ensures value { map string_bytes result.now ≡ self.now.args }
-        // There are one or more, each of one or more visible characters.
+        // There are one or more arguments, each of one or more visible characters.
         ensures arguments { AreArguments self.now.args }
     {
         self.args.texts()
     }
 
-    /// The body's bytes.
+    /// Returns the body's bytes.
     pub fn body(&self) -> &[u8]
         ensures value { result.now ≡ self.now.body }
-        // Each is below 256.
+        // Each byte is below 256.
         ensures bytes { IsBytes self.now.body }
     {
         self.body.as_slice()

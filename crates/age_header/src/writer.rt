@@ -1,4 +1,4 @@
-//! Writing a header, part by part and without allocating.
+//! Writing a header, part by part, without allocating.
 
 ghost use Rattle.std.specs.Prelude.{◌≡◌, ◌≤◌, length, map};
 ghost use Rattle.std.specs.String.{string_bytes};
@@ -17,10 +17,10 @@ use base64::engine::general_purpose::GeneralPurpose;
 
 /// Writes the header's text (C2SP `age.md`, "Header"). On an error a prefix of it was written.
 pub fn write_header<W: Sink>(header: &Header, out: &mut W) -> Result<(), DeviceFault>
-    // On Ok the header's text was written; after a failed write a prefix of it.
+    // On Ok the header's text was written, after a failed write a prefix of it.
     ensures text { (h : Bytes) × Head header.now.stanzas header.now.mac h
         × Writes (move_by W.taken out.old out.new) result h }
-    // After a failed write the sink's count of failures rose by one; otherwise it stays.
+    // A failed write raised the sink's count of failures by one. Otherwise the count is unchanged.
     ensures count { Counts (W.failed out.old) (W.failed out.new) result }
 {
     let engine = base64_no_pad::engine();
@@ -28,7 +28,7 @@ pub fn write_header<W: Sink>(header: &Header, out: &mut W) -> Result<(), DeviceF
     write_mac(header.mac(), &engine, out)
 }
 
-/// Writes the header of these stanzas from its first byte to the three bytes `---`, these included.
+/// Writes the header of these stanzas up to and including the three bytes `---`.
 pub(crate) fn write_signed<W: Sink>(
     stanzas: &[Stanza],
     engine: &GeneralPurpose,

@@ -1,4 +1,4 @@
--- What holds of each job.
+-- Properties of every job.
 use Rattle.std.specs.Prelude.{◌≤◌, ℕ, IsSome, ⊤}
 use Rattle.std.specs.declared.option.Option.{Option}
 use Rattle.age_job.specs.declared.job.Command.{Command}
@@ -10,7 +10,7 @@ use Rattle.age_job.specs.declared.ranges.TheConstants.{LEAST_HEADER, LEAST_WORK,
 abbrev pub IsBetween : (least most n : ℕ) → Type 0
 IsBetween least most n = (least ≤ n) × (n ≤ most)
 
--- a range names the file to read
+-- the job of `range` names the file to read
 abbrev pub NamesInput : {A : Type 0} (command : Command) (input : Option A) → Type 0
 NamesInput Range input = IsSome input
 NamesInput _ input = ⊤

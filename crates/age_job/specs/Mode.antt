@@ -1,4 +1,4 @@
--- The modes of the files that the commands make.
+-- The modes of files that the commands create.
 use Rattle.std.specs.Prelude.{ℕ}
 use Rattle.age_job.specs.declared.job.Command.{Command}
 use Rattle.age_job.specs.declared.job.Command.TheVariants as command

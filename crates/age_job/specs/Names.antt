@@ -1,4 +1,4 @@
--- How messages write the names of files.
+-- The names of files in messages.
 use Rattle.std.specs.Prelude.{◌++◌, ◌||◌, ◌&&◌, ℕ, List, Bool, ◌==◌, false, true, chars, codes, encode_utf8, flat_map, if◌then◌else◌, length, nat_eq, nat_lt, not}
 use Rattle.std.specs.List.{ends_with, starts_with}
 use Rattle.std.specs.Char.{is_control}
@@ -11,9 +11,10 @@ directs_writing c =
     (c == 1564) || (c == 8206) || (c == 8207) || (nat_lt 8233 c && nat_lt c 8239)
     || (nat_lt 8293 c && nat_lt c 8298)
 
--- A character on a line of its own: a control character is a backslash with its letter, or with x
--- and its code in two hexadecimal digits. In an exact text, which no other gives, a backslash and a
--- quotation mark stand after a backslash, and a character that sets the direction is its code.
+-- The text of a character that keeps a message on one line: a control character is a backslash with
+-- a letter, or with x and its code in two hexadecimal digits. In an exact text, which no other name
+-- has, a backslash and a quotation mark follow a backslash, and a character that sets the direction
+-- is its code.
 abbrev pub escaped_char : (exact : Bool) → (c : ℕ) → List ℕ
 escaped_char exact c =
     if c == 10 then codes "\\n"
@@ -36,7 +37,7 @@ abbrev pub needs_quotes : (name : List ℕ) → Bool
 needs_quotes name =
     (length name == 0) || starts_with nat_eq name (codes " ") || ends_with nat_eq name (codes " ")
 
--- a name on the second line, which no other name gives
+-- a name on the second line, where no other name has the same text
 abbrev pub quoted_name : (name : List ℕ) → List ℕ
 quoted_name name =
     if needs_quotes name then codes "\"" ++ escaped_name true name ++ codes "\"" else escaped_name

@@ -1,11 +1,11 @@
--- Which secrets the options of a job name.
+-- The secrets that the options of a job name.
 use Rattle.std.specs.Prelude.{◌≡◌, ◌≤◌, ◌<◌, ◌+◌, Bool, false, List, Option, None, Some, IsSome, length, vec_len, ⊤}
 use Rattle.age_job.specs.declared.secret.Secret.{Secret}
 use Rattle.age_job.specs.declared.secret.Secret.TheVariants.{Passphrase, Keys}
 use Rattle.age_job.specs.declared.small_files.SecretFiles.{SecretFiles}
 use Rattle.age_job.specs.declared.small_files.SecretFiles.TheVariants as files
 
--- a passphrase where its file alone is named, or one key or more, and no more than files of keys
+-- a passphrase if only its file is named; if only key files are, one or more keys, and no more
 abbrev pub IsSecretOf : {A : Type 0} (pass key : Option A) (more : List A) (secret : Secret)
     → Type 0
 IsSecretOf (Some name) None more (Passphrase bytes) = ⊤
@@ -18,19 +18,19 @@ abbrev pub IsNewSecret : Secret → Type 0
 IsNewSecret (Passphrase bytes) = 0 < vec_len bytes
 IsNewSecret (Keys keys) = ⊤
 
--- a file key where its file is named and the header's bytes are not asked for, and only there
+-- a file key exactly if its file is named and the header's own text is not asked for
 abbrev pub IsFileKeyOf : {A K : Type 0} (raw : Bool) (name : Option A) (key : Option K) → Type 0
 IsFileKeyOf false (Some name) key = IsSome key
 IsFileKeyOf raw name key = key ≡ None
 
--- which files a secret is read from: those that the options name
+-- the files from which a secret is read, which are those that the options name
 abbrev pub IsChoice : {A : Type 0} (pass key : Option A) (more : List A) (files : SecretFiles)
     → Type 0
 IsChoice (Some name) None more (files.Passphrase named) = ⊤
 IsChoice None (Some name) more (files.Keys first rest) = length rest.now ≡ length more
 IsChoice pass key more files = ⊥
 
--- a secret that these files may hold
+-- a secret that these files may contain
 abbrev pub IsReadFrom : (files : SecretFiles) (secret : Secret) → Type 0
 IsReadFrom (files.Passphrase named) (Passphrase bytes) = ⊤
 IsReadFrom (files.Keys first rest) (Keys keys) =

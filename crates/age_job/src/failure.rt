@@ -7,27 +7,27 @@ use std::alloc::{AllocError, AllocFailed};
 use std::fmt::Write;
 use std::{fmt, io};
 
-/// Why a file was refused, or could not be used, and what more is known of it.
+/// Why a file was refused or could not be used, and what more is known about it.
 #[derive(Drop)]
 pub struct Failure<'a> {
     pub fault: Fault<'a>,
     pub detail: Option<Detail<'a>>,
 }
 
-/// What more is known of a fault. Its text is what follows `agep: ` on the second line.
+/// What more is known about a fault. Its text follows `agep: ` on the second line.
 #[derive(Drop)]
 pub enum Detail<'a> {
-    /// What was being done with this file, and the system's reason.
+    /// An operation of the system on this file, and the reason why it failed.
     System(Doing, Name<'a>, io::Error),
-    /// The number of bytes in a small file.
+    /// The size of a small file in bytes.
     Size(Role, Name<'a>, usize),
     /// The passphrase file is empty.
     NoPassphrase(Role, Name<'a>),
-    /// The file is no device.
+    /// The file is not a device.
     NoDevice(Role, Name<'a>),
 }
 
-/// What was being done with a file.
+/// An operation of the system on a file.
 #[derive(Clone, Copy, Debug, PartialEq, Eq)]
 pub enum Doing {
     Opening,
@@ -42,7 +42,7 @@ pub enum Doing {
 }
 
 impl<'a> Failure<'a> {
-    /// The fault, with what was being done and the system's reason.
+    /// Makes a failure of this fault, with the operation and the system's reason.
     pub fn of_system(
         fault: Fault<'a>,
         doing: Doing,
@@ -146,7 +146,7 @@ fn write_size<W: fmt::Write>(
     }
 }
 
-/// The files of the secrets that were tried on IN. Its text ends the one on IN.
+/// The files of the secrets that were tried on IN. Their text ends the line about IN.
 #[derive(Clone, Copy)]
 pub struct Tried<'r, 'a>(pub(crate) &'r [ReadFile<'a>]);
 
@@ -174,7 +174,7 @@ impl fmt::Display for Tried<'_, '_> {
     }
 }
 
-/// Writes a system's reason without the number of its error.
+/// Writes a system's reason without the number of the error.
 #[derive(Drop)]
 struct BeforeCode<'a, W> {
     f: &'a mut fmt::Formatter<W>,

@@ -1,11 +1,10 @@
-//! Why a file of a job was refused, or could not be used.
+//! Why a file of a job was refused or could not be used.
 
 use crate::file_names::{Name, Role};
 use std::alloc::{AllocError, AllocFailed};
 use std::fmt;
 
-/// Why a file of a job was refused, or could not be used. Its text is what follows `agep: ` on
-/// standard error.
+/// Why a file of a job was refused or not usable. Its text follows `agep: ` on standard error.
 #[derive(Clone, Copy, Debug, Drop, PartialEq, Eq)]
 pub enum Fault<'a> {
     /// A read failed.
@@ -14,15 +13,15 @@ pub enum Fault<'a> {
     Write,
     /// An allocation was refused.
     OutOfMemory,
-    /// The arguments name a passphrase file and a key file, or neither.
+    /// The arguments name both a passphrase file and a key file, or neither.
     KeyChoice,
-    /// The arguments name a new passphrase file and a new key file, or neither.
+    /// The arguments name both a new passphrase file and a new key file, or neither.
     NewKeyChoice,
     CannotOpen(Name<'a>),
     CannotCreate(Name<'a>),
-    /// The system does not say which file this is, so it may be one that is written or read too.
+    /// The system does not identify this file, so it may be another file that is read or written.
     Unidentified(Name<'a>),
-    /// The file to write is one that is read.
+    /// The file to write is also read.
     OutputIsRead(Role, Name<'a>),
     /// Standard input has two roles.
     StandardInputTwice(Role, Role),
@@ -30,7 +29,7 @@ pub enum Fault<'a> {
     SeedLength,
     FileKeyLength,
     PassphraseLength,
-    /// A passphrase to encrypt with is empty.
+    /// The passphrase for encrypting is empty.
     NoPassphrase,
     /// An age file would be written to a terminal.
     OutputIsTerminal,

@@ -1,4 +1,4 @@
-//! How messages name the files of a job.
+//! The names of a job's files in messages.
 
 ghost use Rattle.std.specs.Prelude.{◌≡◌, Some, false};
 ghost use Rattle.std.specs.Fmt.{WritesOnOk};
@@ -20,7 +20,7 @@ pub enum Role {
 }
 
 impl Role {
-    /// The role's name, without an article.
+    /// Returns the name of the role, without an article.
     pub fn words(self) -> &'static str {
         match self {
             Role::Input => "IN",
@@ -43,8 +43,9 @@ impl fmt::Display for Role {
     }
 }
 
-/// A file's name. Its control characters, 0 to 31 and 127 to 159, are printed as escapes, so a
-/// message stays one line, and no escape sequence reaches the terminal. A backslash stays.
+/// A file's name. Control characters, 0 to 31 and 127 to 159, are printed as escapes, so that a
+/// message stays on one line and no escape sequence reaches the terminal. Backslashes are not
+/// escaped.
 #[derive(Clone, Copy, Debug, PartialEq, Eq)]
 pub struct Name<'a>(pub &'a str);
 
@@ -56,9 +57,9 @@ impl fmt::Display for Name<'_> {
     }
 }
 
-/// A file's name, printed so that no other name has the same text. A character that sets the
-/// direction of writing is printed as an escape too, and a backslash and a quotation mark after a
-/// backslash. A name stands in quotation marks if it is empty, or begins or ends with a blank.
+/// A file's name, printed so that no other name has the same text. Also escapes characters that set
+/// the direction of writing, and puts a backslash before a backslash or a quotation mark. A name
+/// that is empty, or begins or ends with a blank, is printed in quotation marks.
 #[derive(Clone, Copy, Debug, PartialEq, Eq)]
 pub struct Quoted<'a>(pub Name<'a>);
 
@@ -133,7 +134,7 @@ fn directs_writing(code: u32) -> bool
     matches!(code, 0x61c | 0x200e | 0x200f | 0x202a..=0x202e | 0x2066..=0x2069)
 }
 
-/// A text of several lines that quotes the command line. Its control characters but LF are printed
+/// A text of several lines that quotes the command line. Control characters except LF are printed
 /// as escapes.
 #[derive(Drop)]
 pub struct Lines<'a, D>(pub &'a D);
@@ -145,7 +146,7 @@ impl<D: fmt::Display> fmt::Display for Lines<'_, D> {
     }
 }
 
-/// Writes its input with escapes.
+/// A writer that escapes what it is given.
 #[derive(Drop)]
 struct Escaping<'a, W> {
     f: &'a mut fmt::Formatter<W>,

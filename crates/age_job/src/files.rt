@@ -1,4 +1,4 @@
-//! The files that a job reads, and which of them are the same.
+//! The files that a job reads, and which of them are the same file.
 
 ghost use Rattle.std.specs.Prelude.{◌≡◌, take, IfOk, IfSome};
 
@@ -16,39 +16,39 @@ use std::{fs, io};
 /// The maximum size of a small file in bytes.
 pub(crate) const MOST_SMALL: usize = 65_536;
 
-/// A file that the arguments name, with its role in the job.
+/// A file named in the arguments, with its role in the job.
 #[derive(Clone, Copy, Drop)]
 pub(crate) struct NamedFile<'a> {
     pub(crate) role: Role,
     pub(crate) name: &'a str,
 }
 
-/// A file that a job has opened to read.
+/// A file that the job has opened for reading.
 #[derive(Drop)]
 pub(crate) struct ReadFile<'a> {
     pub(crate) named: NamedFile<'a>,
-    /// Which file it is, if the system says so.
+    /// The identity of the file, if the system tells.
     inode: Option<Inode>,
-    /// What a file of a secret held.
+    /// What is known about the contents of a file with a secret.
     pub(crate) held: Option<Held>,
 }
 
-/// What is known of a file that holds a secret.
+/// What is known about the contents of a file with a secret.
 #[derive(Clone, Copy)]
 pub(crate) struct Held {
-    /// The number of its bytes.
+    /// The length in bytes.
     pub(crate) len: u64,
     /// The last byte of a passphrase.
     pub(crate) last: Option<u8>,
 }
 
-/// The files that a job has opened to read. What is to be written is compared with them.
+/// The files that a job has opened for reading. The file to write is compared with them.
 #[derive(Drop)]
 pub struct ReadFiles<'a> {
     /// IN is the first.
     files: Vec<ReadFile<'a>>,
-    /// Which files standard input and output were at first, if the system says so: not of one that
-    /// is closed, or where /proc is missing.
+    /// The identities of standard input and output at the start, if the system tells. It does not
+    /// for a closed one, or without /proc.
     standard: Option<Inode>,
     standard_output: Option<Inode>,
     /// The role of standard input, if it has one.
@@ -69,7 +69,7 @@ pub(crate) fn unidentified<'a>(name: &'a str, reason: io::Error) -> Failure<'a> 
 }
 
 impl<'a> ReadFiles<'a> {
-    /// The files of a job of which none was opened yet.
+    /// Makes the list of a job's files, with none opened yet.
     pub fn new<F: Files + AllocGlobal>(rt: &F, job: &'a Job) -> ReadFiles<'a> {
         let mut read = ReadFiles {
             files: Vec::new(rt.alloc()),
@@ -87,8 +87,8 @@ impl<'a> ReadFiles<'a> {
         read
     }
 
-    /// Opens IN, the file of this name. A folder opens, and its read fails. A pipe or a terminal is
-    /// refused for a command that reads at offsets.
+    /// Opens IN, the file of this name. A directory opens, but reading it fails. Refuses a pipe or
+    /// a terminal for a command that reads at offsets.
     pub fn open_input<F: Files>(
         &mut self,
         rt: &F,
@@ -109,7 +109,7 @@ impl<'a> ReadFiles<'a> {
         Ok(file)
     }
 
-    /// IN is standard input.
+    /// Adds standard input as IN.
     pub fn add_standard_input(&mut self) -> Result<(), AllocError> {
         self.add_input("standard input", self.standard)
     }
@@ -128,8 +128,8 @@ impl<'a> ReadFiles<'a> {
         Ok(())
     }
 
-    /// Opens the small file that an option names. Standard input has one role at most: bytes read
-    /// as a small file would be missing in IN, or in another small file.
+    /// Opens the small file that an option names. Standard input can have only one role, because
+    /// bytes read as a small file would be missing from IN or from another small file.
     pub(crate) fn open_small<F: Files>(
         &mut self,
         rt: &F,
@@ -160,14 +160,14 @@ impl<'a> ReadFiles<'a> {
         Ok(file)
     }
 
-    /// The small file that was opened last held this.
+    /// Notes what is known about the contents of the small file opened last.
     pub(crate) fn note(&mut self, held: Held) {
         if let Some(file) = self.files.last_mut() {
             file.held = Some(held);
         }
     }
 
-    /// The number of bytes that this command reads of IN, which was added, if it is known.
+    /// Returns the number of bytes that this command reads from IN, if known. IN was added.
     pub fn input_size(&self, command: Command) -> Option<u64> {
         match self.files.first()?.inode {
             Some(inode) if inode.is_regular && command != Command::Range => Some(inode.len),
@@ -175,13 +175,13 @@ impl<'a> ReadFiles<'a> {
         }
     }
 
-    /// The files of the secrets that were tried on IN.
+    /// Returns the files of the secrets that were tried on IN.
     pub fn tried(&self) -> Tried<'_, 'a> {
         Tried(self.files.as_slice())
     }
 
-    /// Whether a read of this file consumes standard input. A character device, such as
-    /// `/dev/null`, does not count, since one reader of it takes nothing from another.
+    /// Whether reading this file consumes standard input. A character device such as `/dev/null`
+    /// does not count, because one reader of it takes nothing from another.
     fn is_standard(&self, inode: &Inode) -> bool {
         match &self.standard {
             Some(standard) => !inode.is_char_device && standard.is(inode),
@@ -189,7 +189,7 @@ impl<'a> ReadFiles<'a> {
         }
     }
 
-    /// Whether the file of this name is standard input, by its name too.
+    /// Whether the file of this name is standard input, also by its name.
     fn is_named_standard<F: Files>(&self, rt: &F, name: &str) -> bool {
         if matches!(name, "/dev/stdin" | "/dev/fd/0" | "/proc/self/fd/0") {
             return true;
@@ -200,7 +200,7 @@ impl<'a> ReadFiles<'a> {
         }
     }
 
-    /// Refuses secrets of which two are standard input, before any is opened.
+    /// Refuses secrets if two of them are standard input, before any is opened.
     pub(crate) fn refuse_shared_input<F: Files + AllocGlobal>(
         &self,
         rt: &F,
@@ -218,7 +218,7 @@ impl<'a> ReadFiles<'a> {
         Ok(())
     }
 
-    /// Refuses to write this file if it is regular and the job reads it, or may read it.
+    /// Refuses to write this file if it is regular and the job reads it or may read it.
     pub(crate) fn refuse(&self, out: &Inode, name: &'a str) -> Result<(), Fault<'a>> {
         for file in self.files.as_slice() {
             if out.is_regular && file.inode.is_none() {
@@ -240,7 +240,8 @@ impl<'a> ReadFiles<'a> {
         Ok(())
     }
 
-    /// Refuses standard output if it is a regular file that the job reads: it would grow meanwhile.
+    /// Refuses standard output if it is a regular file that the job reads, which would grow while
+    /// it is read.
     pub fn refuse_standard_output(&self) -> Result<(), Fault<'a>> {
         match &self.standard_output {
             Some(out) => self.refuse_same(out, "standard output"),
@@ -297,15 +298,15 @@ fn add_all<'a>(
     Ok(())
 }
 
-/// Reads this file, at most so many bytes of it. The standard library tries an interrupted read
-/// again here, and only here.
+/// Reads at most `most` bytes of this file. Here, and only here, the standard library repeats an
+/// interrupted read.
 pub(crate) fn read_prefix<'a, R: Read + Drop>(
     alloc: Global,
     named: NamedFile<'a>,
     file: R,
     most: usize,
 ) -> Result<Vec<u8>, Failure<'a>>
-    // Of a reader whose bytes are known it is its first bytes, at most as many as asked for.
+    // If the reader's bytes are known, returns the first of them, at most as many as asked for.
     ensures { IfOk result
         (λ bytes. IfSome (R.remaining file) (λ xs. bytes.items ≡ take most xs)) }
 {

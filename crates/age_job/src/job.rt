@@ -7,56 +7,55 @@ pub enum Command {
     Encrypt,
     /// Decrypts a file to its plaintext.
     Decrypt,
-    /// Shows a file's header.
+    /// Writes a file's header, or a table of it.
     Inspect,
     /// Decrypts a part of a file's plaintext.
     Range,
-    /// Gives a file a new header for another passphrase or key.
+    /// Replaces a file's header by one for another passphrase or key.
     Rewrap,
-    /// Saves what can be saved of a damaged file.
+    /// Writes what is left of a damaged file.
     Salvage,
 }
 
-/// A command with its options. A field whose option the command lacks has that option's default, or
-/// none.
+/// A command with its options. If the command lacks an option, its field has the default of that
+/// option, or none.
 #[derive(Debug, Drop)]
 pub struct Job {
     pub command: Command,
     /// The file that holds the passphrase.
     pub pass: Option<String>,
-    /// The file that holds the key of 32 bytes, the first of several.
+    /// The file that holds the key of 32 bytes, or the first of several keys.
     pub key: Option<String>,
     /// The files of the keys after the first.
     pub more_keys: Vec<String>,
-    /// The file that holds the passphrase for which `rewrap` makes a header.
+    /// The file that holds the new passphrase of `rewrap`.
     pub new_pass: Option<String>,
-    /// The file that holds the key of 32 bytes for which `rewrap` makes a header, the first of
-    /// several.
+    /// The file that holds the new key of `rewrap`, 32 bytes, or the first of several new keys.
     pub new_key: Option<String>,
     /// The files of the new keys after the first.
     pub more_new_keys: Vec<String>,
     /// The work factor that `encrypt` and `rewrap` write, 1 to 30.
     pub work: u8,
-    /// The file whose first 48 bytes are the file key, the nonce and the salt that `encrypt` uses;
-    /// `rewrap` uses only the salt.
+    /// The file whose first 48 bytes are the file key, the nonce and the salt for `encrypt`.
+    /// `rewrap` uses the salt alone.
     pub seed: String,
     /// The greatest work factor that `decrypt`, `range`, `rewrap` and `salvage` accept, 1 to 30.
     pub max_work: u8,
     /// The maximum size of a header in bytes, 1,024 to 16,777,216.
     pub max_header: usize,
-    /// The file to write; standard output if there is none.
+    /// The file to write, or `None` for standard output.
     pub output: Option<String>,
-    /// Whether `inspect` writes the header's bytes instead of a table.
+    /// Whether `inspect` writes the header's own text instead of a table.
     pub raw: bool,
     /// The file that holds the file key under which `inspect` checks the header's MAC.
     pub file_key: Option<String>,
-    /// The file to read; standard input if there is none. `range` always has one.
+    /// The file to read, or `None` for standard input. `range` always has one.
     pub input: Option<String>,
     /// The offset in the plaintext at which `range` begins, in bytes, at most
     /// 9,223,372,036,854,775,807.
     pub at: u64,
     /// The maximum number of bytes that `range` writes, at most 9,223,372,036,854,775,807.
     pub len: u64,
-    /// Whether a second line says more about an error.
+    /// Whether a second line explains an error.
     pub verbose: bool,
 }

@@ -1,6 +1,6 @@
-//! The job of a command line of `agep`: a command with its options, and the files that it names. It
-//! opens these files, reads the secrets in them and says what was wrong, and knows neither the
-//! format nor how a command line is read.
+//! The job of a command line of `agep`: a command with its options, and the files that it names.
+//! This crate opens the files, reads the secrets in them, and describes errors. It knows neither
+//! the format nor how a command line is parsed.
 //!
 //! ```
 //! let mut read = ReadFiles::new(rt, &job);
@@ -8,18 +8,18 @@
 //! let mut out = create(rt, &job, &read, out_name)?;
 //! ```
 //!
-//! `job` has the job, and `ranges` the ranges of its numbers. `files` opens the files that a job
-//! names for reading, `inode` tells which file each is, and `small_files` reads its secrets, each a
-//! `secret`. `output` is the file to write, `watched` keeps what a failed read told, and `progress`
-//! shows at a terminal how much was read. `fault` and `file_names` have the texts of errors,
-//! `failure` those of `--verbose`.
+//! `job` has the job, and `ranges` the ranges of its numbers. `files` opens the files to read,
+//! `inode` identifies them, and `small_files` reads the secrets, each of which is a `secret`.
+//! `output` is the file to write, `watched` keeps the reason of a failed read, and `progress` shows
+//! at a terminal how much was read. `fault` and `file_names` have the texts of errors, `failure`
+//! those of `--verbose`.
 //!
-//! *What a contract sees.* A `Job` is the record of its fields, and a secret a passphrase's bytes
-//! or a list of keys. A file is what its reader gives and its writer has taken (`remaining`,
-//! `contents`), which for the system's files is not known. An `Output` is its file, and whether the
-//! file may still have its old contents (`is_stale`).
+//! *What a contract sees.* A `Job` is the record of its fields, and a secret is a passphrase's
+//! bytes or a list of keys. A file is the bytes that its reader will return (`remaining`) and those
+//! that its writer has taken (`contents`); for the system's files they are not known. An `Output`
+//! is its file, and whether the file may still have its old contents (`is_stale`).
 //!
-//! Limits: no contract says what files hold, nor which of them are the same. The scripts under
+//! Limits: no contract says what files contain, or which of them are the same. The scripts under
 //! `tests/` show both.
 #![tactic(auto)]
 

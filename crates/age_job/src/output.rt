@@ -1,4 +1,4 @@
-//! The file that the arguments name for writing.
+//! The output file named in the arguments.
 ghost use Rattle.std.specs.Prelude.{◌≡◌, ◌<◌, false, length, IfOk, IsOk};
 ghost use Rattle.age_job.specs.Mode.{new_mode};
 
@@ -14,10 +14,10 @@ use std::io::{ErrorKind, IsTerminal, Write};
 use std::os::unix::fs::OpenOptionsExt;
 use std::rt::Files;
 
-/// The mode of a new file that holds a plaintext, less the umask: only the owner can read it.
+/// The mode of a new file with a plaintext, before the umask: only the owner can read it.
 const PLAINTEXT_MODE: u32 = 0o600;
 
-/// The mode of any other new file, less the umask.
+/// The mode of any other new file, before the umask.
 const FILE_MODE: u32 = 0o666;
 
 /// A file to write. A regular file keeps its contents until the first write to it, or until the
@@ -26,12 +26,12 @@ const FILE_MODE: u32 = 0o666;
 pub struct Output<F> {
     file: F,
     is_regular: bool,
-    /// Whether it is a regular file that may still have its old contents.
+    /// Whether this is a regular file that may still have its old contents.
     is_stale: bool,
 }
 
-/// Opens the file of this name for writing, and creates it if it does not exist. A regular file
-/// that was there is refused if the job reads it.
+/// Opens the file of this name for writing, and creates it if it does not exist. Refuses an
+/// existing regular file that the job reads.
 pub fn create<'a, F: Files>(
     rt: &F,
     job: &'a Job,
@@ -70,7 +70,7 @@ fn cannot_create<'a>(name: &'a str, reason: io::Error) -> Failure<'a> {
     )
 }
 
-/// Refuses to write an age file, which is no text, to a terminal.
+/// Refuses to write an age file, which is not text, to a terminal.
 pub(crate) fn refuse_terminal<'a, W: IsTerminal>(job: &Job, out: &W) -> Result<(), Fault<'a>> {
     if job.output.is_none() && out.is_terminal() {
         return Err(Fault::OutputIsTerminal);
@@ -78,10 +78,11 @@ pub(crate) fn refuse_terminal<'a, W: IsTerminal>(job: &Job, out: &W) -> Result<(
     Ok(())
 }
 
-/// The mode of a file that this command creates, from which the system subtracts the umask.
+/// The mode of a file that this command creates, before the system applies the umask.
 fn new_mode(command: Command) -> u32
-    // The mode of a plaintext for `decrypt` and `range`, that of any other file for the others. The
-    // modes are the code's: that they are 600 and 666 is only tested.
+    // The mode of a plaintext for `decrypt`, `range` and `salvage`, that of any other file for the
+    // other commands. The clause cites the code's constants; only tests show that they are 600 and
+    // 666.
     ensures { result ≡ new_mode command }
 {
     match command {
@@ -92,7 +93,7 @@ fn new_mode(command: Command) -> u32
 
 impl<F: OpenFile> Output<F> {
     fn over(file: F, is_regular: bool) -> Output<F>
-        // A regular OUT counts as holding what it held.
+        // A regular file counts as having its old contents.
         ensures { result.is_stale ≡ is_regular }
     {
         Output {
@@ -104,8 +105,8 @@ impl<F: OpenFile> Output<F> {
 
     /// Truncates a file that may still have its old contents.
     fn empty(&mut self) -> io::Result<()>
-        // On Ok it no longer does. That this calls `set_len(0)`, and that this cuts the file, is
-        // only tested.
+        // On Ok the file no longer counts as having its old contents. Only tests show that this
+        // calls `set_len(0)`, and that this truncates the file.
         ensures emptied { IsOk result → self.new.is_stale ≡ false }
         ensures same_file { self.new.file ≡ self.old.file }
     {
@@ -118,8 +119,7 @@ impl<F: OpenFile> Output<F> {
 
     /// Truncates the file before the first of these bytes is written to it.
     fn make_room(&mut self, bytes: &[u8]) -> io::Result<()>
-        // A write of 0 bytes changes nothing of whether a regular OUT counts as holding what it
-        // held.
+        // A write of 0 bytes does not change whether the file counts as having its old contents.
         ensures waits { length bytes.now ≡ 0 → self.new.is_stale ≡ self.old.is_stale }
         ensures emptied { IsOk result → 0 < length bytes.now → self.new.is_stale ≡ false }
         ensures same_file { self.new.file ≡ self.old.file }
@@ -130,7 +130,8 @@ impl<F: OpenFile> Output<F> {
         Ok(())
     }
 
-    /// Ends the output of this name after success: a regular file is then synced to its device.
+    /// Ends the output, the file of this name, after success: truncates a regular file to which
+    /// nothing was written, and syncs a regular file.
     pub fn finish<'a>(mut self, name: &'a str) -> Result<(), Failure<'a>>
     where
         F: Drop,
@@ -156,7 +157,7 @@ fn failed_write<'a>(doing: Doing, name: &'a str, reason: io::Error) -> Failure<'
     Failure::of_system(Fault::Write, doing, name, reason)
 }
 
-// What OUT has taken is what its file has taken, and a write returns the number of bytes that the
+// The contents of an output are those of its file, and a write returns the number of bytes that the
 // file took.
 impl<F: Write + OpenFile> Write for Output<F> {
     ghost contents = { λ output. F.contents output.file };

@@ -7,16 +7,16 @@ use std::rt::Files;
 use std::time::Clock;
 use std::{fmt, io};
 
-/// The clock is read again after so many bytes.
+/// The number of bytes after which the clock is read again.
 const STRIDE: u64 = 65_536;
 
-/// The line is drawn again after so many milliseconds at the earliest.
+/// The least number of milliseconds between two drawings of the line.
 const PAUSE: u128 = 500;
 
 /// Moves to the start of the line, and erases it.
 pub const ERASE: &str = "\r\x1b[K";
 
-/// A reader, and the line that shows how much it gave.
+/// A reader, and the line that shows how much was read from it.
 #[derive(Drop)]
 pub struct Shown<'a, R, C: Clock, T: Write + Drop> {
     pub reader: R,
@@ -28,14 +28,14 @@ struct Line<'a, C: Clock, T: Write + Drop> {
     clock: &'a C,
     terminal: T,
     portion: Portion,
-    /// When the first byte was read, and when the line was drawn, in milliseconds.
+    /// The times of the first read and of the last drawing, in milliseconds.
     started: u128,
     drawn: u128,
-    /// After how many bytes the clock is read.
+    /// The number of bytes after which the clock is read.
     next: u64,
 }
 
-/// How much was read, in bytes, of how much if that is known, in so many milliseconds.
+/// The number of bytes read, the number in all if it is known, and the time in milliseconds.
 #[derive(Clone, Copy)]
 struct Portion {
     done: u64,
@@ -44,10 +44,10 @@ struct Portion {
 }
 
 impl<'a, R, F: Files + Clock> Shown<'a, R, F, F::File> {
-    /// This reader, which gives so many bytes if that is known. If it `is_shown`, standard error is
-    /// the terminal.
+    /// Wraps this reader, which returns `size` bytes if that is known. If `is_shown`, standard
+    /// error must be the terminal.
     pub fn over(rt: &'a F, reader: R, size: Option<u64>, is_shown: bool) -> Shown<'a, R, F, F::File>
-        // What it reads is what the reader gives.
+        // Reading from the result is reading from this reader.
         ensures { result.reader ≡ reader }
     {
         let line = if is_shown {
@@ -80,7 +80,7 @@ impl<'a, F: Files + Clock> Line<'a, F, F::File> {
 }
 
 impl<C: Clock, T: Write + Drop> Line<'_, C, T> {
-    /// So many bytes more were read.
+    /// Adds this many bytes to those read.
     fn add(&mut self, len: usize) {
         self.portion.done = self.portion.done.saturating_add(len as u64);
         if self.portion.done < self.next {
@@ -97,7 +97,7 @@ impl<C: Clock, T: Write + Drop> Line<'_, C, T> {
         }
     }
 
-    /// Draws the line. A failed write changes nothing.
+    /// Draws the line. Ignores a failed write.
     fn draw(&mut self) {
         let portion = self.portion;
         let _ = self.terminal.write_all(ERASE.as_bytes());
@@ -121,7 +121,7 @@ impl<C: Clock, T: Write + Drop> Drop for Line<'_, C, T> {
     }
 }
 
-// What it reads is what the reader gives.
+// Reading returns the bytes of the reader within.
 impl<R: Read, C: Clock, T: Write + Drop> Read for Shown<'_, R, C, T> {
     ghost remaining = { λ shown. R.remaining shown.reader };
 

@@ -1,21 +1,21 @@
-//! Secrets, and how they are made of the bytes of a file.
+//! Secrets, and how they are read from the bytes of a file.
 
 ghost use Rattle.std.specs.Prelude.{◌≡◌, ◌≢◌, length, IfSome, IfNone};
 ghost use Rattle.age_job.specs.Passphrase.{passphrase_of};
 
-/// The number of bytes of a seed: the file key, the nonce and the salt, 16 each.
+/// The length of a seed in bytes: the file key, the nonce and the salt, 16 each.
 pub const SEED_LEN: usize = 48;
 
 /// The secret of a file.
 #[derive(Drop)]
 pub enum Secret {
-    /// A passphrase, any bytes.
+    /// A passphrase, which is any bytes.
     Passphrase(Vec<u8>),
-    /// One key or more, each once.
+    /// One or more keys, each once.
     Keys(Vec<[u8; 32]>),
 }
 
-/// These bytes without one LF at their end.
+/// Removes one LF at the end of these bytes.
 pub(crate) fn without_line_end(bytes: Vec<u8>) -> Vec<u8>
     ensures { result.items ≡ passphrase_of bytes.items }
 {
@@ -26,11 +26,11 @@ pub(crate) fn without_line_end(bytes: Vec<u8>) -> Vec<u8>
     passphrase
 }
 
-/// These bytes as an array, if they are N.
+/// Converts bytes to an array of N bytes. Returns `None` for any other length.
 pub fn exactly<const N: usize>(bytes: &[u8]) -> Option<[u8; N]>
-    // The array has these bytes: a key file's bytes are a key exactly if they are 32.
+    // The array has these bytes. So the bytes of a key file are a key exactly if there are 32.
     ensures some { IfSome result (λ array. array ≡ bytes.now) }
-    // They are fewer or more than the array has.
+    // There are fewer or more bytes than the array has.
     ensures none { IfNone result (length bytes.now ≢ N) }
 {
     if bytes.len() != N {

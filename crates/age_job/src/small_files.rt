@@ -16,15 +16,15 @@ use std::io::IsTerminal;
 use std::os::unix::fs::FileTypeExt;
 use std::rt::Files;
 
-/// The secret of a command that has no other.
+/// Reads the secret of a command that has only one.
 #[tactic(auto, using(crate::proofs::SecretLemmas::chosen))]
 pub fn read_secret<'a, F: Files + AllocGlobal>(
     rt: &F,
     job: &'a Job,
     read: &mut ReadFiles<'a>,
 ) -> Result<Secret, Failure<'a>>
-    // A passphrase if a passphrase file alone is named; if key files alone are, one key or more,
-    // and no more than these files.
+    // Returns a passphrase if only a passphrase file is named. If only key files are named, returns
+    // one or more keys, not more than there are key files.
     ensures { IfOk result (IsSecretOf job.now.pass job.now.key job.now.more_keys.items) }
 {
     let files = secret_files(job)?;
@@ -32,7 +32,7 @@ pub fn read_secret<'a, F: Files + AllocGlobal>(
     read_from(rt, read, files)
 }
 
-/// The secret and the seed of a new file, which `out` receives if the job names no OUT.
+/// Reads the secret and the seed for a new file, which is written to `out` if the job names no OUT.
 #[tactic(auto, using(crate::proofs::SecretLemmas::chosen))]
 pub fn read_encrypt_secrets<'a, F: Files + AllocGlobal, W: IsTerminal>(
     rt: &F,
@@ -40,8 +40,8 @@ pub fn read_encrypt_secrets<'a, F: Files + AllocGlobal, W: IsTerminal>(
     read: &mut ReadFiles<'a>,
     out: &W,
 ) -> Result<(Secret, [u8; SEED_LEN]), Failure<'a>>
-    // A passphrase if a passphrase file alone is named; if key files alone are, one key or more,
-    // and no more than these files.
+    // Returns a passphrase if only a passphrase file is named. If only key files are named, returns
+    // one or more keys, not more than there are key files.
     ensures secret { IfOk result
         (λ read. IsSecretOf job.now.pass job.now.key job.now.more_keys.items read.0) }
     // No new passphrase is empty.
@@ -54,8 +54,8 @@ pub fn read_encrypt_secrets<'a, F: Files + AllocGlobal, W: IsTerminal>(
     Ok((secret, read_seed(rt, job, read)?))
 }
 
-/// The old secret and the new one, whose files the arguments must name, and the seed, of a file
-/// that `out` receives if the job names no OUT.
+/// Reads the old secret, the new one, and the seed for a file that is written to `out` if the job
+/// names no OUT. The arguments must name the files of both secrets.
 #[tactic(auto, using(crate::proofs::SecretLemmas::chosen))]
 pub fn read_rewrap_secrets<'a, F: Files + AllocGlobal, W: IsTerminal>(
     rt: &F,
@@ -63,10 +63,10 @@ pub fn read_rewrap_secrets<'a, F: Files + AllocGlobal, W: IsTerminal>(
     read: &mut ReadFiles<'a>,
     out: &W,
 ) -> Result<(Secret, Secret, [u8; SEED_LEN]), Failure<'a>>
-    // The old secret and the new one are each in their role.
+    // The old secret is a passphrase or keys by its options, as for `read_secret`.
     ensures old { IfOk result
         (λ read. IsSecretOf job.now.pass job.now.key job.now.more_keys.items read.0) }
-    // The old secret and the new one are each in their role.
+    // The new secret is a passphrase or keys by its options, as for `read_secret`.
     ensures other { IfOk result (λ read. IsSecretOf job.now.new_pass job.now.new_key
         job.now.more_new_keys.items read.1) }
     // No new passphrase is empty.
@@ -81,13 +81,13 @@ pub fn read_rewrap_secrets<'a, F: Files + AllocGlobal, W: IsTerminal>(
     Ok((old, new, read_seed(rt, job, read)?))
 }
 
-/// The file key under which the header is to be checked.
+/// Reads the file key under which to check the header's MAC.
 pub fn read_file_key<'a, F: Files + AllocGlobal>(
     rt: &F,
     job: &'a Job,
     read: &mut ReadFiles<'a>,
 ) -> Result<Option<[u8; 16]>, Failure<'a>>
-    // There is a file key exactly if `-f` names one, without `-r`.
+    // Returns a file key exactly if `-f` names one and `-r` is absent.
     ensures { IfOk result (IsFileKeyOf job.now.raw job.now.file_key) }
 {
     match &job.file_key {
@@ -102,16 +102,16 @@ pub fn read_file_key<'a, F: Files + AllocGlobal>(
     }
 }
 
-/// The files of a secret, which options name.
+/// The files of a secret that options name.
 #[derive(Clone, Copy, Drop)]
 enum SecretFiles<'a> {
     Passphrase(NamedFile<'a>),
-    /// The first key's file, and the names of those after it.
+    /// The file of the first key, and the names of the files after it.
     Keys(NamedFile<'a>, &'a [String]),
 }
 
-/// The files of the job's passphrase or keys. It must name exactly one of the two: the format
-/// forbids another stanza beside that of a passphrase.
+/// The files of the job's passphrase or keys. The job must name exactly one of the two, because the
+/// format forbids another stanza beside that of a passphrase.
 fn secret_files<'a>(job: &'a Job) -> Result<SecretFiles<'a>, Fault<'a>>
     ensures { IfOk result (IsChoice job.now.pass job.now.key job.now.more_keys.items) }
 {
@@ -130,7 +130,7 @@ fn secret_files<'a>(job: &'a Job) -> Result<SecretFiles<'a>, Fault<'a>>
     }
 }
 
-/// The same of the job's new passphrase or keys.
+/// The same for the job's new passphrase or keys.
 fn new_secret_files<'a>(job: &'a Job) -> Result<SecretFiles<'a>, Fault<'a>>
     ensures { IfOk result
         (IsChoice job.now.new_pass job.now.new_key job.now.more_new_keys.items) }
@@ -150,7 +150,7 @@ fn new_secret_files<'a>(job: &'a Job) -> Result<SecretFiles<'a>, Fault<'a>>
     }
 }
 
-/// The passphrase or the keys of these files, to open a file.
+/// Reads the passphrase or the keys in these files, to open a file.
 fn read_from<'a, F: Files + AllocGlobal>(
     rt: &F,
     read: &mut ReadFiles<'a>,
@@ -164,8 +164,8 @@ fn read_from<'a, F: Files + AllocGlobal>(
     }
 }
 
-/// The same, to make a file. An empty passphrase is refused: it is what a command that failed
-/// wrote, and everybody could open the file.
+/// The same, to make a file. Refuses an empty passphrase, which a failed command would have
+/// written: anyone could open the file.
 fn read_new_from<'a, F: Files + AllocGlobal>(
     rt: &F,
     read: &mut ReadFiles<'a>,
@@ -184,7 +184,7 @@ fn read_new_from<'a, F: Files + AllocGlobal>(
     }
 }
 
-/// The bytes of this file, without one LF at their end.
+/// Reads the bytes of this file, without one LF at the end.
 fn read_passphrase<'a, F: Files + AllocGlobal>(
     rt: &F,
     read: &mut ReadFiles<'a>,
@@ -206,7 +206,7 @@ fn read_passphrase<'a, F: Files + AllocGlobal>(
     Ok(passphrase)
 }
 
-/// The keys of these files, in order, each once.
+/// Reads the keys in these files, in order, each once.
 fn read_keys<'a, F: Files + AllocGlobal>(
     rt: &F,
     read: &mut ReadFiles<'a>,
@@ -228,8 +228,8 @@ fn read_keys<'a, F: Files + AllocGlobal>(
     Ok(keys)
 }
 
-/// The first 48 bytes of the job's seed file. The default must be a device: an ordinary file in its
-/// place would give every file the same keys.
+/// Reads the first 48 bytes of the job's seed file. The default one must be a device, because an
+/// ordinary file in its place would give every file the same keys.
 fn read_seed<'a, F: Files + AllocGlobal>(
     rt: &F,
     job: &'a Job,
@@ -263,7 +263,7 @@ fn is_char_device<F: OpenFile>(file: &F) -> bool {
     }
 }
 
-/// Reads a small file, which must hold exactly N bytes; the fault `length` if it does not.
+/// Reads a small file, which must have exactly N bytes. Returns the fault `length` if it does not.
 fn read_just<'a, F: Files + AllocGlobal, const N: usize>(
     rt: &F,
     read: &mut ReadFiles<'a>,

@@ -1,12 +1,12 @@
-//! The input of a command, with what a message about it may need.
+//! The input of a command, with what messages about it need.
 ghost use Rattle.std.specs.Prelude.{◌≡◌};
 
 use std::alloc::Global;
 use std::io;
 use std::io::{ErrorKind, Read, Seek, SeekFrom};
 
-/// A reader that keeps the reason of its last failed read, the first bytes that it gave, and where
-/// it ended.
+/// A reader that keeps the reason of its last failed read, the first bytes read, and the offset of
+/// its end.
 #[derive(Drop)]
 pub struct Watched<R> {
     pub reader: R,
@@ -16,7 +16,7 @@ pub struct Watched<R> {
     most: usize,
     /// The offset of the next byte.
     at: u64,
-    /// The size of the file, if it was found.
+    /// The size of the file, if its end was found.
     end: Option<u64>,
 }
 
@@ -39,9 +39,9 @@ impl<R> Seek for Pipe<'_, R> {
 }
 
 impl<R> Watched<R> {
-    /// Watches this reader, which is at its first byte, and keeps at most so many bytes.
+    /// Watches this reader, which is at its first byte. Keeps at most `most` bytes.
     pub fn new(alloc: Global, reader: R, most: usize) -> Watched<R>
-        // What it reads is what the reader gives.
+        // Reading from the result is reading from this reader.
         ensures { result.reader ≡ reader }
     {
         Watched {
@@ -54,28 +54,28 @@ impl<R> Watched<R> {
         }
     }
 
-    /// Why the last failed read failed.
+    /// Returns the reason of the last failed read.
     pub fn reason(&self) -> Option<io::Error> {
         self.reason
     }
 
-    /// The first bytes.
+    /// Returns the first bytes read.
     pub fn prefix(&self) -> &[u8] {
         self.prefix.as_slice()
     }
 
-    /// The offset of the next byte.
+    /// Returns the offset of the next byte.
     pub fn at(&self) -> u64 {
         self.at
     }
 
-    /// The size of the file, if a read or a seek found its end.
+    /// Returns the size of the file, if a read or a seek found its end.
     pub fn end(&self) -> Option<u64> {
         self.end
     }
 
-    /// Takes note of these bytes, which a read gave, and whether there are no more. It keeps them
-    /// if they follow those that are kept, and keeps no more once memory is refused.
+    /// Notes the bytes that a read returned, and whether they are the last. Keeps them if they
+    /// follow those kept so far, and keeps no more once memory is refused.
     fn note(&mut self, bytes: &[u8], is_end: bool)
         ensures { self.new.reader ≡ self.old.reader }
     {
@@ -93,7 +93,7 @@ impl<R> Watched<R> {
     }
 }
 
-// What a command reads is what IN gives, and a failed read is no end.
+// Reading returns the bytes of IN. A failed read does not count as the end.
 impl<R: Read> Read for Watched<R> {
     ghost remaining = { λ watched. R.remaining watched.reader };
 

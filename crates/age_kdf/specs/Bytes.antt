@@ -1,4 +1,4 @@
--- What a list of numbers is.
+-- Lists of numbers, by their use.
 use Rattle.std.specs.Prelude.{ℕ, List}
 
 -- bytes, each a number below 256

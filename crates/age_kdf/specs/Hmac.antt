@@ -3,7 +3,7 @@ use Rattle.std.specs.Prelude.{ℕ, ◌-◌, ◌++◌, length, replicate, map, bi
 use Rattle.age_kdf.specs.Bytes.{Bytes}
 use Rattle.sha2.specs.Sha256.{sha256}
 
--- the key, hashed first where it is longer than a block of 64 bytes (RFC 2104, section 2)
+-- the key, hashed first if it is longer than a block of 64 bytes (RFC 2104, section 2)
 abbrev pub short_key : Bytes → Bytes
 short_key key = if nat_le (length key) 64 then key else sha256 key
 

@@ -1,14 +1,14 @@
 -- The parameters of scrypt (RFC 7914, sections 2 and 6).
 use Rattle.std.specs.Prelude.{ℕ, ◌+◌, ◌*◌, ◌^◌, ◌<◌, ◌≤◌}
 
--- what a caller sees of parameters: N is 2 ^ log_n, r the block size, p the parallelization
+-- parameters as a caller sees them: N is 2 ^ log_n, r the block size, p the parallelization
 pub record Costs : Type 0 where
   pub log_n : ℕ
   pub r : ℕ
   pub p : ℕ
 
--- the parameters that are accepted: N is above 1 and below 2 ^ (16 * r), as the RFC asks, and
--- log_n, r and p are at most 30, 32 and 32
+-- the parameters accepted: N is above 1 and below 2 ^ (16 * r), as the RFC requires, and log_n, r
+-- and p are at most 30, 32 and 32
 pub record InRange (log_n r p : ℕ) : Type 0 where
   pub log_low : 1 ≤ log_n
   pub log_high : log_n ≤ 30
@@ -18,7 +18,7 @@ pub record InRange (log_n r p : ℕ) : Type 0 where
   pub p_low : 1 ≤ p
   pub p_high : p ≤ 32
 
--- how many words the work space has: N rows of 32 * r words for the table, one for each of the p
+-- the number of words of work space: N rows of 32 * r words for the table, one for each of the p
 -- parts, and two more
 abbrev pub work_words : Costs → ℕ
 work_words c = 32 * c.r * (2 ^ c.log_n + c.p + 2)

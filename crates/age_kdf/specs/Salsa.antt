@@ -8,7 +8,7 @@ use Rattle.age_kdf.specs.Bytes.{Words}
 abbrev pub add32 : (x y : ℕ) → ℕ
 add32 x y = (x + y) % 2 ^ 32
 
--- x[b] ^= R(x[a] + x[d], k), R being the rotation to the left
+-- x[b] ^= R(x[a] + x[d], k), where R rotates to the left
 abbrev pub step : (x : Words) (b a d k : ℕ) → Words
 step x b a d k =
     let sum = add32 (slice_index x a) (slice_index x d) in
@@ -35,6 +35,6 @@ unfoldable pub double_rounds : (n : ℕ) (x : Words) → Words
 double_rounds zero x = x
 double_rounds (suc n) x = rows (columns (double_rounds n x))
 
--- four double rounds, and then the words that they began with are added
+-- four double rounds, and the sum with the words before them
 unfoldable pub salsa8 : Words → Words
 salsa8 x = zip2 add32 x (double_rounds 4 x)

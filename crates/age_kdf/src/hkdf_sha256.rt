@@ -7,9 +7,9 @@ use crate::hmac;
 use crate::hmac_sha256::Mac;
 use crate::output_blocks::put_block;
 
-/// HKDF-SHA-256 (RFC 5869): fills `out` with the output keying material of its length.
+/// HKDF-SHA-256 (RFC 5869). Fills `out` with output keying material.
 ///
-/// The caller asks for at most 255 blocks of 32 bytes. An empty salt is the same as 32 zero bytes.
+/// `out` must have at most 255 blocks of 32 bytes. An empty salt counts as 32 zero bytes.
 pub fn hkdf(ikm: &[u8], salt: &[u8], info: &[u8], out: &mut [u8])
     requires { length out.old ≤ longest_output }
     ensures { out.new ≡ hkdf ikm.now salt.now info.now (length out.old) }

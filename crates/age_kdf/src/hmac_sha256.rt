@@ -19,7 +19,7 @@ fn put_prefix(block: &mut [u8; 64], bytes: &[u8])
     block[..bytes.len()].copy_from_slice(bytes);
 }
 
-// The key as one block: hashed if it is longer, and filled up with zeros.
+// The key as one block: hashed if it is longer, then padded with zeros.
 fn block_key(key: &[u8]) -> [u8; 64]
     ensures { result ≡ block_key key.now }
 {
@@ -32,7 +32,7 @@ fn block_key(key: &[u8]) -> [u8; 64]
     block
 }
 
-// `block` with each byte xored with `pad`.
+// `block` with each byte XORed with `pad`.
 fn xored(block: &[u8; 64], pad: u8) -> [u8; 64]
     ensures { result ≡ map (λ k. bit_xor k pad) block.now }
 {
@@ -43,7 +43,7 @@ fn xored(block: &[u8; 64], pad: u8) -> [u8; 64]
     out
 }
 
-/// The states of the inner and the outer hash of an HMAC; the text is fed to the inner one.
+/// The states of the inner and the outer hash of an HMAC. The inner one takes the text.
 #[derive(Clone, Drop)]
 pub(crate) struct Mac {
     inner: Sha256,
@@ -65,7 +65,7 @@ impl Mac {
         }
     }
 
-    /// Copies the state; it allocates nothing.
+    /// Copies the state without allocating.
     pub(crate) fn copy(&self) -> Mac
         ensures { result ≡ self.now }
     {
@@ -83,7 +83,7 @@ impl Mac {
         self.inner.update(bytes);
     }
 
-    /// The MAC of what was fed.
+    /// The MAC of the text fed.
     fn finalize(self) -> [u8; 32]
         ensures { (key text : Bytes) → IsFed self key text → result ≡ hmac key text }
     {
@@ -92,7 +92,7 @@ impl Mac {
         outer.finalize()
     }
 
-    /// The MAC of what was fed followed by the parts. The state is unchanged.
+    /// The MAC of the text fed so far followed by the parts. The state is unchanged.
     pub(crate) fn tag_with(&self, parts: &[&[u8]]) -> [u8; 32]
         ensures { (key text : Bytes) → IsFed self.now key text
             → result ≡ hmac key (text ++ flat_map (λ p. p.now) parts.now) }

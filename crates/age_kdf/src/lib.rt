@@ -1,7 +1,7 @@
 //! The key derivations that age uses: HMAC, HKDF, PBKDF2 and scrypt, all over SHA-256.
 //!
-//! Each function computes exactly what its RFC defines. The definitions are in `specs/`, on lists
-//! of bytes and over the SHA-256 of the crate `sha2`, and the contracts cite them.
+//! Each function computes exactly what its RFC defines. The contracts cite the definitions in
+//! `specs/`, which are on lists of bytes and use the SHA-256 of the crate `sha2`.
 //!
 //! ```
 //! let mut wrap_key = [0; 32];
@@ -13,13 +13,13 @@
 //! }
 //! ```
 //!
-//! *What a contract sees.* Secrets, salts and outputs are lists of bytes; `scrypt_with`'s work
-//! space is seen by its length alone. `ScryptParams` is the record `Costs`: log_n, r and p, in
+//! *What a contract sees.* Secrets, salts and outputs are lists of bytes. Of the work space of
+//! `scrypt_with` it sees the length alone. `ScryptParams` is the record `Costs`: log_n, r and p, in
 //! their ranges. A MAC in progress is private.
 //!
-//! Limits: only `scrypt` allocates, and only it can fail, if the allocation is refused;
-//! `scrypt_with` works in the caller's memory. Parameters go up to log_n 30, r 32 and p 32, and
-//! log_n is below 16 r, as RFC 7914 demands. Constant time and wiping of memory are not claimed.
+//! Limits: only `scrypt` allocates, and it fails only if the allocation is refused; `scrypt_with`
+//! works in the caller's memory. Parameters go up to log_n 30, r 32 and p 32, and log_n is below 16
+//! r, as RFC 7914 demands. Constant time and wiping of memory are not claimed.
 #![tactic(auto)]
 
 ghost use Rattle.std.specs.Prelude.{◌≡◌};
@@ -44,10 +44,9 @@ pub use params::ScryptParams;
 pub use pbkdf2_sha256::pbkdf2;
 pub use scrypt_kdf::{scrypt, scrypt_with};
 
-/// HMAC-SHA-256 (RFC 2104, section 2): the MAC under `key` of the text that the parts make when
-/// joined.
+/// HMAC-SHA-256 (RFC 2104, section 2). Returns the MAC under `key` of the concatenated parts.
 ///
-/// A key may have any length; one of more than 64 bytes is hashed first.
+/// A key may have any length. A key of more than 64 bytes is hashed first.
 pub fn hmac(key: &[u8], parts: &[&[u8]]) -> [u8; 32]
     ensures { result ≡ hmac key.now (flat_map (λ p. p.now) parts.now) }
 {

@@ -5,8 +5,8 @@ ghost use Rattle.age_kdf.specs.Params.{Costs, InRange, work_words};
 
 use std::marker::Model;
 
-/// The parameters of scrypt (RFC 7914, section 2): N, which is 2^log_n, the block size r and the
-/// parallelization p, within the ranges of `ScryptParams::new`.
+/// The parameters of scrypt (RFC 7914, section 2): N as its logarithm log_n, the block size r and
+/// the parallelization p, in the ranges of `ScryptParams::new`.
 #[derive(Clone, Copy, Debug, PartialEq, Eq)]
 pub struct ScryptParams {
     log_n: u32,
@@ -34,12 +34,13 @@ pub(crate) fn row_count(log_n: u32) -> usize
 }
 
 impl ScryptParams {
-    /// Makes parameters; `None` if one is out of range: `log_n` is 1 to 30 and below 16 * r, and
-    /// `r` and `p` are 1 to 32. These ranges are inside the RFC's, and no product wraps in them.
+    /// Makes parameters. Returns `None` if one is out of range: `log_n` is 1 to 30 and below 16 *
+    /// r, `r` and `p` are 1 to 32. These ranges lie within those of the RFC, and no product of
+    /// parameters overflows.
     pub fn new(log_n: u32, r: u32, p: u32) -> Option<ScryptParams>
-        // Parameters are accepted exactly in the stated ranges.
+        // Returns parameters exactly if they are in range.
         ensures in_range { IsSome result ↔ InRange log_n r p }
-        // They are those that were passed.
+        // They are the parameters passed.
         ensures parts { IfSome result (λ s. s ≡ record { log_n = log_n; r = r; p = p }) }
     {
         let each_in_range = (1..=30).contains(&log_n)

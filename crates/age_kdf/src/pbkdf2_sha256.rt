@@ -17,8 +17,8 @@ fn xor_block(sum: &mut [u8; 32], block: &[u8; 32])
     }
 }
 
-/// Block `number` of PBKDF2, of `rounds` MACs: `keyed` is the HMAC state under the password, and
-/// `salted` the same after the salt.
+/// Block `number` of PBKDF2, after `rounds` MACs. `keyed` is the HMAC state under the password, and
+/// `salted` the same state after the salt.
 pub(crate) fn pbkdf2_block(keyed: &Mac, salted: &Mac, number: u32, rounds: u32) -> [u8; 32]
     requires { 1 ≤ rounds }
     ensures { (pass salt : Bytes) → IsFed keyed.now pass [] → IsFed salted.now pass salt
@@ -33,7 +33,7 @@ pub(crate) fn pbkdf2_block(keyed: &Mac, salted: &Mac, number: u32, rounds: u32) 
     sum
 }
 
-/// PBKDF2 with the password and the salt as HMAC states, as in `pbkdf2_block`.
+/// PBKDF2 of a password and a salt that are given as HMAC states, as for `pbkdf2_block`.
 pub(crate) fn fill(keyed: &Mac, salted: &Mac, rounds: u32, out: &mut [u8])
     requires rounds { 1 ≤ rounds }
     requires room { length out.old ≤ longest_output }
@@ -47,9 +47,9 @@ pub(crate) fn fill(keyed: &Mac, salted: &Mac, rounds: u32, out: &mut [u8])
     }
 }
 
-/// PBKDF2-HMAC-SHA-256 (RFC 8018, section 5.2): fills `out` with the derived key of its length.
+/// PBKDF2-HMAC-SHA-256 (RFC 8018, section 5.2). Fills `out` with the derived key.
 ///
-/// The caller requests at least one round and at most 2^32 - 1 blocks of 32 bytes.
+/// `rounds` must be at least 1, and `out` must have at most 2^32 - 1 blocks of 32 bytes.
 pub fn pbkdf2(pass: &[u8], salt: &[u8], rounds: u32, out: &mut [u8])
     requires rounds { 1 ≤ rounds }
     requires room { length out.old ≤ longest_output }

@@ -1,4 +1,4 @@
-//! ROMix (RFC 7914, section 5), with the table of the V[i], which the definition does not have.
+//! ROMix (RFC 7914, section 5), with a table of the V[i], which the definition does without.
 
 ghost use Rattle.std.specs.Prelude.{◌≡◌, ℕ, ◌+◌, ◌*◌, ◌^◌, ◌≤◌, ◌<◌, length, take, drop, bit_xor};
 ghost use Rattle.std.specs.Simd.Lanes.{zip2};
@@ -40,7 +40,7 @@ fn xor_row(x: &mut [u32], table: &[u32], i: usize)
 }
 
 /// ROMix of `x` with N = 2^log_n. The table has room for N rows of the size of `x`, and `y` for
-/// one; their contents before do not matter.
+/// one. Their previous contents do not matter.
 pub(crate) fn romix(table: &mut [u32], x: &mut [u32], y: &mut [u32], r: usize, log_n: u32)
     requires r { (1 ≤ r) × (r ≤ 32) }
     requires log_n { log_n ≤ 30 }

@@ -1,6 +1,6 @@
-//! The Salsa20/8 core (RFC 7914, section 3), four steps at a time: vector k holds four of the
-//! sixteen words, one of each column and one of each row, so that the four columns, and after
-//! rotations the four rows, are lanes.
+//! The Salsa20/8 core (RFC 7914, section 3), four steps at a time. Each vector holds four of the
+//! sixteen words, one of each column and of each row, so that the lanes are the four columns and,
+//! after rotations, the four rows.
 
 ghost use Rattle.std.specs.Prelude.{◌≡◌, ℕ, ◌<◌, slice_index, bit_xor};
 ghost use Rattle.std.specs.Int.{w32, rotate_left};
@@ -32,7 +32,7 @@ fn xor(x: u32x4, y: u32x4) -> u32x4
     x ^ y
 }
 
-// b ^ R(a + d, k) in every lane, R being the rotation to the left.
+// b ^ R(a + d, k) in every lane, where R rotates to the left.
 #[inline(always)]
 fn step(b: u32x4, a: u32x4, d: u32x4, k: u32) -> u32x4
     requires { (0 < k) × (k < 32) }

@@ -1,4 +1,4 @@
-//! scrypt (RFC 7914, section 6), in a work space that is passed, or that it allocates.
+//! scrypt (RFC 7914, section 6), in a work space of the caller's or one that it allocates.
 
 ghost use Rattle.std.specs.Prelude.{◌≡◌, ◌+◌, ◌*◌, ◌^◌, ◌≤◌, ◌++◌, [], length, OnErr, OnOk};
 ghost use Rattle.age_kdf.specs.Bytes.{Bytes};
@@ -28,7 +28,7 @@ fn load_block(words: &mut [u32], block: &[u8; 32])
     }
 }
 
-// Writes into `words` the first `count` blocks of PBKDF2 at one round, eight words each.
+// Fills `words` with the first `count` blocks of PBKDF2 at one round, eight words each.
 fn load(keyed: &Mac, salted: &Mac, words: &mut [u32], count: usize)
     requires count { count ≤ most_blocks }
     requires len { length words.old ≡ 8 * count }
@@ -41,7 +41,7 @@ fn load(keyed: &Mac, salted: &Mac, words: &mut [u32], count: usize)
     }
 }
 
-// Feeds the bytes of the words.
+// Feeds the bytes of these words.
 fn feed_words(mac: &mut Mac, words: &[u32])
     ensures { (key text : Bytes) → IsFed mac.old key text
         → IsFed mac.new key (text ++ bytes_of words.now) }
@@ -67,11 +67,11 @@ fn mix_parts(table: &mut [u32], parts: &mut [u32], y: &mut [u32], r: usize, log_
     }
 }
 
-/// scrypt (RFC 7914, section 6): fills `out` with the derived key of its length.
+/// scrypt (RFC 7914, section 6). Fills `out` with the derived key, and allocates nothing.
 ///
-/// `work` is scratch space of `params.work_len()` words. Its contents before do not matter; after
-/// the call it holds data derived from the passphrase. The caller requests at most 2^32 - 1 blocks
-/// of 32 bytes. It allocates nothing.
+/// `work` is scratch space of `params.work_len()` words. Its previous contents do not matter;
+/// afterwards it holds data derived from the passphrase. `out` must have at most 2^32 - 1 blocks of
+/// 32 bytes.
 pub fn scrypt_with(
     work: &mut [u32],
     pass: &[u8],
@@ -101,10 +101,10 @@ pub fn scrypt_with(
     fill(&keyed, &fed, 1, out);
 }
 
-/// scrypt (RFC 7914, section 6) like `scrypt_with`, with work space that it allocates: 4 *
+/// scrypt (RFC 7914, section 6) like `scrypt_with`, but allocates the work space, 4 *
 /// `params.work_len()` bytes.
 ///
-/// If that memory is refused the result is `AllocError`, and `out` is unchanged.
+/// If the allocation is refused, returns `AllocError` and leaves `out` unchanged.
 pub fn scrypt(
     alloc: Global,
     pass: &[u8],
@@ -113,10 +113,10 @@ pub fn scrypt(
     out: &mut [u8],
 ) -> Result<(), AllocError>
     requires room { length out.old ≤ longest_output }
-    // scrypt (RFC 7914).
+    // On Ok the output is scrypt (RFC 7914, section 6).
     ensures ok { OnOk result (out.new ≡ scrypt pass.now salt.now
         (2 ^ params.now.log_n) params.now.r params.now.p (length out.old)) }
-    // If the allocation is refused the output is unchanged.
+    // If the allocation is refused, the output is unchanged.
     ensures err { OnErr result (out.new ≡ out.old) }
 {
     let mut work = vec![in alloc; 0u32; params.work_len()]?;

@@ -1,4 +1,4 @@
-// Vectors of the RFCs, and values that Python's hashlib and hmac gave.
+// Vectors of the RFCs, and values computed with Python's hashlib and hmac.
 
 ghost use Rattle.std.specs.Prelude.{◌≤◌, length};
 
@@ -326,7 +326,7 @@ fn scrypt_matches_hashlib_at_the_largest_r_and_p(rt: HostRuntime) -> Result<(), 
     Ok(())
 }
 
-// RFC 7914, section 12, but for the vector that takes 1 GiB.
+// RFC 7914, section 12, without the vector that takes 1 GiB.
 #[test]
 fn scrypt_matches_rfc_7914(rt: HostRuntime) -> Result<(), AllocError> {
     let alloc = rt.alloc();
@@ -388,7 +388,7 @@ fn scrypt_params_are_checked_at_their_bounds(rt: HostRuntime) {
     }
 }
 
-// What the work space held does not matter; the value is by hashlib.
+// The previous contents of the work space do not matter. The expected value is from hashlib.
 #[test]
 fn scrypt_overwrites_its_work_space(rt: HostRuntime) -> Result<(), AllocError> {
     let params = ScryptParams::new(3, 2, 3).expect(&rt, "in range");
@@ -409,7 +409,7 @@ fn scrypt_overwrites_its_work_space(rt: HostRuntime) -> Result<(), AllocError> {
     Ok(())
 }
 
-/// The output is written, or is unchanged where the work space is refused.
+/// Either the output is written, or the work space is refused and the output is unchanged.
 /// tests/test_libraries.py refuses it.
 #[test]
 fn scrypt_whole_or_out_of_memory(rt: HostRuntime) {

@@ -1,5 +1,4 @@
--- The answer of an identity to one stanza of its own type, and the first of several answers that
--- decides.
+-- The answer of an identity to one stanza of its own type, and the first answer that decides.
 use Rattle.std.specs.Prelude.{List, [], ◌∷◌, if◌then◌else◌}
 use Rattle.std.specs.Str.{bytes_eq}
 use Rattle.std.specs.declared.option.Option.{Option}
@@ -8,8 +7,8 @@ use Rattle.age_kdf.specs.Bytes.{Bytes}
 use Rattle.age_recipient.specs.declared.unwrapped.Unwrapped.{Unwrapped}
 use Rattle.age_recipient.specs.declared.unwrapped.Unwrapped.TheVariants.{NotMine, Failed, Key, Malformed}
 
--- The first answer that is a key or a malformed stanza; where none is, `so_far`, which is `Failed`
--- once one of them was.
+-- The first answer that is a key or a malformed stanza. If there is none, `Failed` if one of them
+-- is, else `so_far`.
 abbrev pub decision_from : (so_far : Unwrapped) (answers : List Unwrapped) → Unwrapped
 decision_from so_far [] = so_far
 decision_from so_far (Key file_key ∷ more) = Key file_key
@@ -17,11 +16,11 @@ decision_from so_far (Malformed fault ∷ more) = Malformed fault
 decision_from so_far (Failed ∷ more) = decision_from Failed more
 decision_from so_far (NotMine ∷ more) = decision_from so_far more
 
--- the answer of a list of answers
+-- the decision of a list of answers
 abbrev pub decision : List Unwrapped → Unwrapped
 decision answers = decision_from NotMine answers
 
--- of the arguments of a stanza of this type those after the type
+-- the arguments after the type, if the stanza is of this type
 abbrev pub after_type : (kind : Bytes) (args : List Bytes) → Option (List Bytes)
 after_type kind [] = None
 after_type kind (first ∷ rest) = if bytes_eq first kind then Some rest else None

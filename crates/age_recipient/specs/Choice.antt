@@ -1,4 +1,4 @@
--- What a list of identities comes to.
+-- The choice of a file key by a list of identities.
 use Rattle.std.specs.Prelude.{List}
 use Rattle.std.specs.declared.result.Result.{Result}
 use Rattle.std.specs.declared.result.Result.TheVariants.{Ok, Err}
@@ -9,14 +9,14 @@ use Rattle.age_recipient.specs.declared.unwrapped.Unwrapped.{Unwrapped}
 use Rattle.age_recipient.specs.declared.unwrapped.Unwrapped.TheVariants.{NotMine, Failed, Key, Malformed}
 use Rattle.age_recipient.specs.Answer.{decision}
 
--- what the answer that decides comes to
+-- the choice, by the answer that decides
 abbrev pub verdict_of : Unwrapped → Result FileKey UnlockFault
 verdict_of NotMine = Err unlock.NoMatch
 verdict_of Failed = Err unlock.WrongKey
 verdict_of (Key file_key) = Ok file_key
 verdict_of (Malformed fault) = Err (unlock.Malformed fault)
 
--- of the identities' answers, in order: the first key or malformed stanza; else `WrongKey` where
--- one failed; else `NoMatch`
+-- the choice of the identities' answers, in order: the first key or malformed stanza; else
+-- `WrongKey` if one failed; else `NoMatch`
 abbrev pub choice : List Unwrapped → Result FileKey UnlockFault
 choice answers = verdict_of (decision answers)

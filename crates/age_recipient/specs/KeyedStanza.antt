@@ -24,26 +24,26 @@ keyed_type = codes "example.org/key"
 unfoldable pub keyed_wrap_key : (key : Key) (salt : Bytes) → Key
 keyed_wrap_key key salt = hkdf key salt keyed_type 32
 
--- The one stanza that a key's recipient returns, which is this project's.
+-- The single stanza of a key's recipient, of this project's own type.
 unfoldable pub keyed_stanza : (key : Key) (salt : Bytes) (file_key : FileKey) → StanzaParts
 keyed_stanza key salt file_key = record {
   args = keyed_type ∷ base64_of salt ∷ [];
   body = sealed_key (keyed_wrap_key key salt) file_key;
 }
 
--- the body's length is looked at, and only then is the key tried
+-- the length of the body is checked before the key is tried
 abbrev pub salted_answer : (key : Key) (body : Bytes) (salt : Option Bytes) → Unwrapped
 salted_answer key body None = Malformed Salt
 salted_answer key body (Some salt) =
     if nat_eq (length body) sealed_key_size then unsealed_key (keyed_wrap_key key salt) body
     else Malformed BodyLength
 
--- what a stanza of this type gives, whose arguments after the type are these
+-- the answer of a stanza of this type, whose arguments after the type are these
 abbrev pub arguments_answer : (key : Key) (args : List Bytes) (body : Bytes) → Unwrapped
 arguments_answer key (salt ∷ []) body = salted_answer key body (salt_of (decoded_bytes salt))
 arguments_answer key _ body = Malformed ArgCount
 
--- What one stanza gives: `NotMine` if it is of another type, else the first check that it breaks,
+-- The answer of one stanza: `NotMine` if it is of another type, else the first check that it fails,
 -- the file key, or `Failed`.
 unfoldable pub keyed_answer : (key : Key) (stanza : StanzaParts) → Unwrapped
 keyed_answer key stanza =

@@ -1,5 +1,5 @@
--- The laws of the pairs: what the recipient wraps the identity unwraps. They are here since an
--- impl names the proof of its law.
+-- The laws of the pairs: the identity unwraps what the recipient wraps. They are in specs/ because
+-- an impl names the proof of its law.
 use Rattle.std.proofs.Common.{inl, inr, ◌≡◌, ◌∙◌, ℕ, zero, suc, ◌+◌, ◌<◌, ◌≤◌, ◌&&◌, Bool, true, List, [], ◌∷◌, length, map, nat_eq, nat_le, refl, sym, ap, subst, Ok, Err, Some}
 use Rattle.std.proofs.lemmas.Bool.{and_parts, eqb-true, eq-eqb, le-leb, cases_lt}
 use Rattle.std.proofs.Math.Dec.{lit≤}
@@ -64,7 +64,7 @@ spelled (suc n) low high =
     decimal-digits_of (suc n) low (lt_of_le_of_lt high (lit≤ tt)) in
     rw text at
 
--- a sealed key is unsealed
+-- unsealing a sealed key returns the file key
 pub unsealed_key-sealed_text : (wrap_key : Bytes) (file_key : FileKey)
     → unsealed_key wrap_key (sealed_key wrap_key file_key) ≡ Key file_key
 unfolding unsealed_key
@@ -78,12 +78,12 @@ sealed_whole wrap_key file_key is =
     eq-eqb (length (sealed_key wrap_key file_key)) sealed_key_size
     (length-sealed_text wrap_key zero_nonce [] file_key.0 ∙ ap (λ n. n + tag_size) is.len)
 
--- a salt's characters spell it
+-- the base64 of a salt decodes to it
 salt_spelled : (salt : Bytes) → IsSalt salt → salt_of (decoded_bytes (base64_of salt)) ≡ Some salt
 salt_spelled salt is =
     rw (decoded_bytes-base64_of salt is.bytes, eq-eqb (length salt) salt_size is.len) refl
 
--- an identity's answer to the stanza that a recipient of the same passphrase makes
+-- the answer of an identity to the stanza of a recipient of the same passphrase
 pass_opens : (pass salt : Bytes) (work max : ℕ) (file_key : FileKey) → IsSalt salt
     → PairFits work max → IsFileKey file_key
     → pass_answer pass max (pass_stanza pass work salt file_key) ≡ Key file_key
@@ -99,7 +99,7 @@ pass_opens pass salt work max file_key is_salt fits is_key =
     rw (salt_spelled salt is_salt, parts.0, number, top, whole)
     (unsealed_key-sealed_text (pass_wrap_key pass salt work) file_key)
 
--- an identity's answer to the stanza that a recipient of the same key makes
+-- the answer of an identity to the stanza of a recipient of the same key
 keyed_opens : (key salt : Bytes) (file_key : FileKey) → IsSalt salt → IsFileKey file_key
     → keyed_answer key (keyed_stanza key salt file_key) ≡ Key file_key
 unfolding keyed_answer keyed_stanza
@@ -111,8 +111,8 @@ stanzas_of : Result (List StanzaParts) ℕ → List StanzaParts
 stanzas_of (Ok stanzas) = stanzas
 stanzas_of (Err code) = []
 
--- An identity of the same secret opens the one stanza that a recipient gives. `answer` is what an
--- identity of a secret answers to a stanza.
+-- An identity of the same secret opens the single stanza of a recipient. `answer` is the answer of
+-- an identity with this secret to a stanza.
 pair_opens : (answer : Bytes → StanzaParts → Unwrapped) (secret guess : Bytes)
     (stanza : StanzaParts) (stanzas : List StanzaParts) (file_key : FileKey)
     (wrapped : Result (List StanzaParts) ℕ) → wrapped ≡ Ok (stanza ∷ []) → secret ≡ guess

@@ -1,4 +1,4 @@
--- What a passphrase's recipient and identity hold and mean.
+-- The recipient and the identity of a passphrase: their parts and their meaning.
 use Rattle.std.specs.Prelude.{ℕ, ◌≤◌, List, [], ◌∷◌, map}
 use Rattle.std.specs.declared.result.Result.{Result}
 use Rattle.std.specs.declared.result.Result.TheVariants.{Ok}
@@ -11,18 +11,18 @@ use Rattle.age_recipient.specs.declared.passphrase.recipient.PassError.TheVarian
 use Rattle.age_recipient.specs.Answer.{decision}
 use Rattle.age_recipient.specs.PassphraseStanza.{pass_answer, pass_stanza}
 
--- what a recipient holds
+-- the parts of a recipient
 pub record PassSecret : Type 0 where
   pub pass : Bytes
   pub salt : Bytes
   pub work : ℕ
 
--- what an identity holds
+-- the parts of an identity
 pub record PassGuess : Type 0 where
   pub pass : Bytes
   pub max : ℕ
 
--- the greatest work factor, with which scrypt takes 1 TiB of memory
+-- the greatest work factor, for which scrypt needs 1 TiB of memory
 abbrev pub most_work : ℕ
 most_work = 30
 
@@ -30,22 +30,22 @@ most_work = 30
 abbrev pub WorkFits : ℕ → Type 0
 WorkFits work = (1 ≤ work) × (work ≤ most_work)
 
--- a pair's work factor is from 1 to its maximum, and that at most the greatest
+-- a pair's work factor is from 1 to its maximum, which is at most the greatest work factor
 pub record PairFits (work max : ℕ) : Type 0 where
   pub low : 1 ≤ work
   pub within : work ≤ max
   pub top : max ≤ most_work
 
--- a work factor is refused exactly where it does not fit
+-- `WorkFactor` is returned exactly if a work factor is out of range
 abbrev pub IsPassError : (fits : Type 0) (error : PassError) → Type 0
 IsPassError fits WorkFactor = fits → ⊥
 IsPassError fits Memory = fits
 
--- a recipient gives one stanza for each file key
+-- a recipient returns one stanza for each file key
 abbrev pub pass_wraps : (r : PassSecret) (file_key : FileKey) → Result (List StanzaParts) ℕ
 pass_wraps r file_key = Ok (pass_stanza r.pass r.work r.salt file_key ∷ [])
 
--- Of the `scrypt` stanzas the first that breaks a check, with the first check that it breaks, or
--- that opens decides; if none does, `Failed` if there was one, else `NotMine`.
+-- Among the `scrypt` stanzas the first decides that opens or fails a check, with the first check
+-- that it fails. If none does, `Failed` if there was one, else `NotMine`.
 abbrev pub pass_unwraps : (i : PassGuess) (stanzas : List StanzaParts) → Unwrapped
 pass_unwraps i stanzas = decision (map (pass_answer i.pass i.max) stanzas)

@@ -27,7 +27,7 @@ unfoldable pub pass_wrap_key : (pass salt : Bytes) (work : ℕ) → Key
 pass_wrap_key pass salt work =
     scrypt pass (codes "age-encryption.org/v1/scrypt" ++ salt) (2 ^ work) 8 1 32
 
--- The one stanza that a passphrase recipient returns, which is the format's.
+-- The single stanza of a passphrase's recipient, of the format's type.
 unfoldable pub pass_stanza : (pass : Bytes) (work : ℕ) (salt : Bytes) (file_key : FileKey)
     → StanzaParts
 pass_stanza pass work salt file_key = record {
@@ -49,8 +49,8 @@ abbrev pub number_from : (n : ℕ) (digits : Bytes) → ℕ
 number_from n [] = n
 number_from n (c ∷ digits) = number_from (n * 10 + (c - 48)) digits
 
--- the work factor's text is looked at, then its number, then the body's length, and only then is
--- the key tried
+-- the text of the work factor is checked, then its number, then the length of the body, and only
+-- then is the key tried
 abbrev pub salted_answer : (pass : Bytes) (max : ℕ) (work body : Bytes) (salt : Option Bytes)
     → Unwrapped
 salted_answer pass max work body None = Malformed Salt
@@ -60,14 +60,14 @@ salted_answer pass max work body (Some salt) =
     then unsealed_key (pass_wrap_key pass salt (number_from 0 work)) body else Malformed BodyLength
     else Malformed WorkFactorTooHigh else Malformed WorkFactorText
 
--- what a stanza of this type gives, whose arguments after the type are these
+-- the answer of a stanza of this type, whose arguments after the type are these
 abbrev pub arguments_answer : (pass : Bytes) (max : ℕ) (args : List Bytes) (body : Bytes)
     → Unwrapped
 arguments_answer pass max (salt ∷ work ∷ []) body =
     salted_answer pass max work body (salt_of (decoded_bytes salt))
 arguments_answer pass max _ body = Malformed ArgCount
 
--- What one stanza gives: `NotMine` if it is of another type, else the first check that it breaks,
+-- The answer of one stanza: `NotMine` if it is of another type, else the first check that it fails,
 -- the file key, or `Failed`.
 unfoldable pub pass_answer : (pass : Bytes) (max : ℕ) (stanza : StanzaParts) → Unwrapped
 pass_answer pass max stanza =

@@ -4,16 +4,16 @@ use Rattle.std.specs.declared.option.Option.{Option}
 use Rattle.std.specs.declared.option.Option.TheVariants.{None, Some}
 use Rattle.age_kdf.specs.Bytes.{Bytes}
 
--- how many bytes a salt has
+-- the length of a salt in bytes
 abbrev pub salt_size : ℕ
 salt_size = 16
 
--- 16 bytes
+-- a salt has 16 bytes
 pub record IsSalt (salt : Bytes) : Type 0 where
   pub len : length salt ≡ salt_size
   pub bytes : (i : ℕ) → slice_index salt i < 256
 
--- a salt, where it has as many bytes as one
+-- a salt, if it has the right length
 abbrev pub salt_of : Option Bytes → Option Bytes
 salt_of None = None
 salt_of (Some salt) = if nat_eq (length salt) salt_size then Some salt else None

@@ -1,6 +1,6 @@
--- How a stanza of this project's own kinds holds the file key (C2SP age.md, "The scrypt recipient
--- type"): sealed with ChaCha20-Poly1305 under a wrap key, a nonce of twelve zero bytes, and no
--- associated data.
+-- The file key in a stanza of a passphrase (C2SP age.md, "The scrypt recipient type") or of a key:
+-- sealed with ChaCha20-Poly1305 under a wrap key, a nonce of twelve zero bytes, and no additional
+-- data.
 use Rattle.std.specs.Prelude.{ℕ, ◌+◌, [], replicate}
 use Rattle.std.specs.Option.{option_map_or}
 use Rattle.age_kdf.specs.Bytes.{Bytes}
@@ -11,11 +11,11 @@ use Rattle.age_recipient.specs.declared.unwrapped.Unwrapped.TheVariants as answe
 use Rattle.age_cipher.specs.Bytes.{Key, Nonce, tag_size}
 use Rattle.age_recipient.specs.Key.{file_key_size}
 
--- a wrap key seals one file key alone
+-- a wrap key seals only one file key
 abbrev pub zero_nonce : Nonce
 zero_nonce = replicate 12 0
 
--- how many bytes the body of a stanza has
+-- the length of a stanza's body in bytes
 abbrev pub sealed_key_size : ℕ
 sealed_key_size = file_key_size + tag_size
 
@@ -23,7 +23,7 @@ sealed_key_size = file_key_size + tag_size
 abbrev pub sealed_key : (wrap_key : Key) (file_key : FileKey) → Bytes
 sealed_key wrap_key file_key = sealed_text wrap_key zero_nonce [] file_key.0
 
--- what a body gives under a wrap key: the file key that it opens to, or a failure
+-- the answer of a body under a wrap key: the file key that it opens to, or `Failed`
 unfoldable pub unsealed_key : (wrap_key : Key) (body : Bytes) → Unwrapped
 unsealed_key wrap_key body =
     option_map_or (λ bytes. answer.Key (record { 0 = bytes }))

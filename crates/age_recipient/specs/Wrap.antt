@@ -1,4 +1,4 @@
--- What a call of `wrap` says of the recipient's meaning.
+-- The result of a call of `wrap`, by the recipient's meaning.
 use Rattle.std.specs.Prelude.{◌≡◌, ℕ, List, ⊤}
 use Rattle.std.specs.Global.{Global}
 use Rattle.std.specs.Prelude.{Vec}

@@ -14,7 +14,7 @@ use std::alloc::{AllocError, Global};
 pub enum UnlockFault {
     /// No stanza is of the type of any identity.
     NoMatch,
-    /// There are stanzas of an identity's type, and none of them opens: the passphrase or key is
+    /// There are stanzas of an identity's type, but none of them opens: the passphrase or key is
     /// wrong.
     WrongKey,
     /// A stanza of an identity's type is malformed.
@@ -23,8 +23,8 @@ pub enum UnlockFault {
     Memory,
 }
 
-/// Finds the file key in a header's stanzas. The identities are called in order. The first that
-/// finds a key or a malformed stanza decides, and no later one is called.
+/// Finds the file key in a header's stanzas. Calls the identities in order. The first that finds a
+/// key or a malformed stanza decides, and no later one is called.
 ///
 /// # Errors
 /// `Malformed` if a malformed stanza decided. If nothing decided, `WrongKey` if an identity
@@ -35,7 +35,7 @@ pub fn unlock(
     identities: &[Box<dyn Identity>],
     stanzas: &[Stanza],
 ) -> Result<FileKey, UnlockFault>
-    // What the identities' answers come to, in order; or out of memory.
+    // Returns the decision of the identities' answers, in order, or out of memory.
     ensures { (result ≡ Err UnlockFault.Memory)
         ⊎ (result ≡ choice (map (λ b. meaning b stanzas.now) identities.now)) }
 {
@@ -48,7 +48,7 @@ pub fn unlock(
     }
 }
 
-/// The result that decides, of these identities' results.
+/// The first of these identities' results that decides.
 fn first_decided(
     alloc: Global,
     identities: &[Box<dyn Identity>],
@@ -67,8 +67,8 @@ fn first_decided(
     Ok(so_far)
 }
 
-/// Calls one identity's `unwrap`. It is a function of its own since its contract can cite the box,
-/// which is an item of a list.
+/// Calls one identity's `unwrap`. This is a function of its own because its contract can cite the
+/// box, which is an item of a list.
 fn ask(
     alloc: Global,
     identity: &Box<dyn Identity>,

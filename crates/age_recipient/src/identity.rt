@@ -1,10 +1,10 @@
-//! What finds the file key in a header by a secret.
+//! Secrets that find the file key in a header.
 
 use crate::unwrapped::Unwrapped;
 use age_header::Stanza;
 use std::alloc::{AllocError, Global};
 
-/// Finds the file key in a header's stanzas, by a secret (C2SP `age.md`, "File key").
+/// A secret that unwraps the file key from a header's stanzas (C2SP `age.md`, "File key").
 pub trait Identity: Drop {
     ghost use Rattle.std.specs.Prelude.{List, ◌≡◌, IfOk};
     ghost use Rattle.age_header.specs.Header.{StanzaParts};
@@ -18,6 +18,7 @@ pub trait Identity: Drop {
     /// # Errors
     /// If an allocation was refused.
     fn unwrap(&self, alloc: Global, stanzas: &[Stanza]) -> Result<Unwrapped, AllocError>
-        // An identity returns its own meaning. Each impl is proved against it.
+        // An identity returns its own meaning, if no allocation was refused. Each impl is proved to
+        // do so.
         ensures { IfOk result (λ answer. answer ≡ meaning self.now stanzas.now) };
 }

@@ -1,4 +1,4 @@
-//! Secrets of 32 bytes, with a stanza that is this project's own: the stanza, its recipient and
+//! Keys of 32 bytes, with this project's own type of stanza: the stanza, its recipient and
 //! identity, and both as a pair.
 
 mod pair;

@@ -1,4 +1,4 @@
-//! Labels: which recipients go together in one file.
+//! Labels: which recipients may share a file.
 
 ghost use Rattle.std.specs.Prelude.{◌≡◌, map, IfOk};
 ghost use Rattle.age_recipient.specs.Labels.{IsSetOf, go_together, first_incompatible};
@@ -40,7 +40,7 @@ impl LabelSet {
     }
 }
 
-// A copy equals what was copied.
+// A copy equals the original.
 impl Clone for LabelSet {
     ghost is_clone = { λ set copy. copy ≡ set };
 
@@ -50,21 +50,19 @@ impl Clone for LabelSet {
     }
 }
 
-/// A recipient's requirement on the other recipients of the same file. Recipients go together if
+/// What a recipient requires of the other recipients of the same file. Recipients go together if
 /// their labels are the same set of names.
 #[derive(Drop)]
 pub enum Labels {
-    /// The recipient must be a file's only one.
+    /// The recipient must be the only one of its file.
     Alone,
-    /// The recipient goes together with those that have exactly these names; usually there are
-    /// none.
+    /// The recipient goes together with those that have exactly these names, usually none.
     Names(LabelSet),
 }
 
 impl Labels {
-    /// Whether recipients with these labels may be recipients of one file: both have names, and the
-    /// same set of them. So two that are `Alone` don't go together, though their labels are the
-    /// same.
+    /// Returns whether recipients with these labels may share a file: both have names, and the same
+    /// ones. Two recipients that are `Alone` do not go together, although their labels are equal.
     pub fn go_together(&self, other: &Labels) -> bool
         ensures { result ≡ go_together self.now other.now }
     {
@@ -75,7 +73,7 @@ impl Labels {
     }
 }
 
-/// The least index, from 1 up, whose labels do not go together with those at index 0.
+/// Returns the least index, from 1 on, whose labels do not go together with those at index 0.
 pub fn first_incompatible(labels: &[Labels]) -> Option<usize>
     ensures { result ≡ first_incompatible labels.now }
 {
@@ -90,7 +88,7 @@ pub fn first_incompatible(labels: &[Labels]) -> Option<usize>
     None
 }
 
-// A copy equals what was copied.
+// A copy equals the original.
 impl Clone for Labels {
     ghost is_clone = { λ labels copy. copy ≡ labels };
 

@@ -10,9 +10,9 @@
 //! let key = unlock(alloc, identities.as_slice(), stanzas.as_slice())?;
 //! ```
 //!
-//! This crate has those of a passphrase and, with a stanza of this project's own, of a key of 32
-//! bytes. A caller's own kind implements `Recipient` or `Identity`, and states its meaning as a
-//! function.
+//! This crate has the recipients and identities of passphrases and, with this project's own type of
+//! stanza, of keys of 32 bytes. For another kind implement `Recipient` or `Identity`, and state its
+//! meaning as a function.
 //!
 //! *What a contract sees.* A recipient or identity is its meaning, a ghost function: `wraps` of a
 //! file key, `meaning` of a list of stanzas, `the_labels`. So a list of boxes is a list of

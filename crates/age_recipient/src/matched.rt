@@ -1,9 +1,9 @@
-//! A recipient and an identity that belong together.
+//! A recipient and an identity that match.
 
 use crate::identity::Identity;
 use crate::recipient::Recipient;
 
-/// A recipient and an identity that belong together: the identity unwraps what the recipient wraps.
+/// A recipient and an identity that match: the identity unwraps what the recipient wraps.
 pub trait Matched {
     type R: Recipient;
 
@@ -19,17 +19,17 @@ pub trait Matched {
 
     ghost the_identity: { Self → Self.I };
 
-    /// The recipient, which wraps.
+    /// Returns the recipient, which wraps.
     fn recipient(&self) -> &Self::R
         ensures { result.now ≡ the_recipient self.now };
 
-    /// The identity, which unwraps.
+    /// Returns the identity, which unwraps.
     fn identity(&self) -> &Self::I
         ensures { result.now ≡ the_identity self.now };
 
     // The law: if the recipient wraps a file key in stanzas, the identity's meaning for exactly
-    // these stanzas is that file key. An impl names its proof, which stands in specs/, since an
-    // impl may name nothing of proofs/.
+    // these stanzas is that file key. An impl names its proof, which stands in specs/, because an
+    // impl cannot name anything in proofs/.
     ghost opens: { (pair : Self) (file_key : FileKey) (stanzas : List StanzaParts)
         → IsFileKey file_key → Self.R.wraps (the_recipient pair) file_key ≡ Ok stanzas
         → Self.I.meaning (the_identity pair) stanzas ≡ Key file_key };

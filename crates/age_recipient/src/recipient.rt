@@ -1,4 +1,4 @@
-//! What wraps a file key into stanzas.
+//! Recipients, which wrap a file key into stanzas.
 
 use crate::labels::{LabelSet, Labels};
 use age_header::{FileKey, Stanza};
@@ -13,7 +13,7 @@ pub enum WrapFault {
     Memory,
 }
 
-/// Wraps a file key into stanzas (C2SP `age.md`, "File key").
+/// A recipient of a file, which wraps the file key into stanzas (C2SP `age.md`, "File key").
 pub trait Recipient: Drop {
     ghost use Rattle.std.specs.Prelude.{List, [], ℕ, Result, IfOk};
     ghost use Rattle.age_header.specs.Header.{StanzaParts};
@@ -23,31 +23,31 @@ pub trait Recipient: Drop {
     ghost use Rattle.age_recipient.specs.Labels.{MayLabel};
     ghost use Rattle.age_recipient.specs.Wrap.{WrapsAs};
 
-    // The recipient's meaning: the stanzas in which it wraps a key, or the code with which it
-    // refuses.
+    // The recipient's meaning: the stanzas for a key, or the code with which it refuses.
     ghost wraps: { Self → FileKey → Result (List StanzaParts) ℕ };
 
-    // The labels that the recipient means; by default no names.
+    // The labels in the recipient's meaning. The default is an empty set of names.
     ghost the_labels: { Self → Labels } = { λ _. Names [] };
 
-    /// Wraps the file key: returns the stanzas that hold it for this recipient.
+    /// Wraps the file key. Returns the stanzas that hold it for this recipient.
     ///
     /// # Errors
-    /// `Refused` with the code that the recipient means, `Memory` if an allocation was refused.
+    /// `Refused` with the code of the recipient's meaning, `Memory` if an allocation was refused.
     fn wrap(&self, alloc: Global, key: &FileKey) -> Result<Vec<Stanza>, WrapFault>
-        // A recipient returns its own meaning, or a refused allocation. Each impl is proved against
-        // it.
+        // A recipient returns its own meaning, or a refused allocation. Each impl is proved to do
+        // so.
         ensures { WrapsAs (wraps self.now key.now) result };
 
-    /// The labels of this recipient: with which others it may share a file. A recipient that keeps
-    /// the default body has no names, and goes together with all others that have none.
+    /// Returns the labels of this recipient, which say with which other recipients it may share a
+    /// file. The default body returns an empty set of names, which goes together with every other
+    /// empty set.
     ///
     /// # Errors
     /// If an allocation was refused.
     fn labels(&self, alloc: Global) -> Result<Labels, AllocError>
-        // The labels that the recipient means, or no names: the method's own body returns these,
-        // and is proved once for all recipients, whatever they mean. A key's recipient means no
-        // names: then both cases are one, in a box too.
+        // Returns the labels of the recipient's meaning, or an empty set of names: the default body
+        // returns the latter, and is proved once for all recipients, whatever they mean. For a
+        // key's recipient, even in a box, both are the same, since its meaning is an empty set.
         ensures { IfOk result (MayLabel (the_labels self.now)) }
     {
         Ok(Labels::Names(LabelSet::new(alloc, &[])?))

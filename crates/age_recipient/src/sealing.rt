@@ -7,12 +7,12 @@ use crate::unwrapped::Unwrapped;
 use age_cipher::{open_in_place, seal_in_place};
 use age_header::FileKey;
 
-/// The body of a stanza: a file key and its tag.
+/// The length of a stanza's body: a file key and its tag.
 pub(crate) const SEALED_KEY_SIZE: usize = FILE_KEY_SIZE + 16;
 
 const FILE_KEY_SIZE: usize = 16;
 
-/// A wrap key seals only one file key, so the nonce is always this one.
+/// The nonce is constant because a wrap key seals only one file key.
 const NONCE: [u8; 12] = [0; 12];
 
 /// The body that holds this file key: 16 bytes of ciphertext and the tag.

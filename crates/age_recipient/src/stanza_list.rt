@@ -24,7 +24,7 @@ pub(crate) trait Opener {
         ensures { IfOk result (λ answer. answer ≡ gives self.now stanza.now) };
 }
 
-/// The first answer that decides, among those of these stanzas. Stanzas after it are not examined.
+/// Returns the first of these stanzas' answers that decides. Later stanzas are not examined.
 pub(crate) fn first_opened<O: Opener>(
     alloc: Global,
     opener: &O,

@@ -1,4 +1,4 @@
-//! What an identity finds in the stanzas of a header.
+//! The answer of an identity to the stanzas of a header.
 
 ghost use Rattle.std.specs.Prelude.{◌≡◌, List, ◌∷◌, IfOk, IfErr};
 ghost use Rattle.age_recipient.specs.Answer.{decision_from};
@@ -6,7 +6,7 @@ ghost use Rattle.age_recipient.specs.Answer.{decision_from};
 use age_header::FileKey;
 use thiserror::Error;
 
-/// Why a stanza of an identity's own type is malformed. This crate's identities check these in this
+/// Why a stanza of an identity's own type is malformed. This crate's identities check in this
 /// order.
 #[derive(Clone, Copy, Debug, Drop, PartialEq, Eq, Error)]
 pub enum StanzaFault {
@@ -24,17 +24,17 @@ pub enum StanzaFault {
     /// The body does not have 32 bytes.
     #[error("body length")]
     BodyLength,
-    /// Another fault, by the code of a caller's own identity.
+    /// Another fault, with a code chosen by a caller's own identity.
     #[error("code {0}")]
     Other(u32),
 }
 
-/// The result of an identity for a header's stanzas.
+/// The answer of an identity to a header's stanzas.
 #[derive(Clone, Copy, PartialEq, Eq)]
 pub enum Unwrapped {
     /// No stanza is of the identity's type.
     NotMine,
-    /// There are stanzas of its type, and none of them opens.
+    /// There are stanzas of its type, but none of them opens.
     Failed,
     Key(FileKey),
     /// A stanza of its type is malformed.
@@ -42,15 +42,16 @@ pub enum Unwrapped {
 }
 
 impl Unwrapped {
-    /// Combines this answer with the next one, where several are asked in order.
+    /// Combines this answer with the next, where several identities are asked in order.
     ///
     /// # Errors
-    /// The next answer, if it decides: then no later answer counts.
+    /// The next answer, if it decides. No later answer counts then.
     pub fn followed_by(self, next: Unwrapped) -> Result<Unwrapped, Unwrapped>
-        // If the next one decides nothing, both are one answer for those that follow.
+        // If the next answer does not decide, the combined one stands for both before later
+        // answers.
         ensures continues { IfOk result (λ both.
             (more : List Unwrapped) → decision_from self (next ∷ more) ≡ decision_from both more) }
-        // A next one that is a key or a malformed stanza decides, whatever follows.
+        // If the next answer is a key or a malformed stanza, it decides, whatever follows.
         ensures decides { IfErr result (λ decision.
             (more : List Unwrapped) → decision_from self (next ∷ more) ≡ decision) }
     {

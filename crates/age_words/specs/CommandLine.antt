@@ -1,4 +1,4 @@
--- The command line of the program: its commands, and the options and words of each.
+-- The command line of the program: its commands, and the options and arguments of each.
 use Rattle.std.specs.Prelude.{◌≡◌, ℕ, List, [], ◌∷◌, ◌++◌, Some, true, false, codes, fold, slice_index}
 use Rattle.clap.specs.Simple.{new_shape}
 use Rattle.clap.specs.Words.{App, Rule, Shape, Text, new_rule, rule_of}
@@ -11,7 +11,7 @@ use Rattle.age_job.specs.declared.ranges.TheConstants.{LEAST_HEADER, LEAST_WORK,
 abbrev pub letter : (text : Text) → ℕ
 letter text = slice_index text 0
 
--- a word with a place of its own
+-- a positional argument
 abbrev pub word : (name : Text) → Rule
 word name = record (new_rule name) { action = Some Set; value_names = 1 }
 
@@ -84,7 +84,7 @@ input = word (codes "input")
 abbrev pub offset : (name : Text) → Rule
 offset name = number 0 MOST_OFFSET (required (word name))
 
--- a command with one more option or word, and with several
+-- a command with one more option or argument, and with several
 abbrev pub with_rule : (command : Shape) (rule : Rule) → Shape
 with_rule command rule = record command { rules = command.rules ++ rule ∷ [] }
 
@@ -94,7 +94,7 @@ with_rules command rules = fold with_rule command rules
 abbrev pub command : (name : Text) (rules : List Rule) → Shape
 command name rules = record (new_shape name) { rules = rules }
 
--- the options of the commands that find a file's key
+-- the options of the commands that unlock a file
 abbrev pub opening : List Rule
 opening = pass ∷ key ∷ max_work ∷ max_header ∷ output ∷ verbose ∷ []
 

@@ -1,4 +1,4 @@
--- The job that the options of a command make.
+-- The job of a command with its options.
 use Rattle.std.specs.Prelude.{◌≡◌, ◌≢◌, ◌⊎◌, ◌∷◌, ℕ, Bool, true, false, not, List, [], Option, Some, None, Result, Ok, Err, codes, drop, map, option_map, unwrap_or, IfSome, ⊤}
 use Rattle.std.specs.List.{list_any}
 use Rattle.std.specs.Option.{option_map_or}
@@ -32,11 +32,11 @@ name_of Salvage = codes "salvage"
 abbrev pub rest_of : (id : Text) (rows : List Row) → List Text
 rest_of id rows = drop 1 (unwrap_or (all_of id rows) [])
 
--- the number that a text writes
+-- the number that a text spells
 abbrev pub number_of : (text : Text) → ℕ
 number_of text = digits_value 10 (without_leading_plus text)
 
--- the number that an option has, or this one where the command lacks the option
+-- the number of an option, or `default` if the command lacks the option
 abbrev pub number_or : (default : ℕ) (id : Text) (rows : List Row) → ℕ
 number_or default id rows = option_map_or number_of (one_of id rows) default
 
@@ -64,12 +64,12 @@ pub record JobOf (rows : List Row) (job : Job) : Type 0 where
   pub len : job.len ≡ number_or 0 (codes "len") rows
   pub verbose : job.verbose ≡ is_set (codes "verbose") rows
 
--- the job of a command line: the command is the one that was named, with its options
+-- the job of a command line: its command is the one named, with its options
 abbrev pub IsJobOf : (named : Option (Text × List Row)) (job : Job) → Type 0
 IsJobOf None job = ⊥
 IsJobOf (Some (name, rows)) job = (name ≡ name_of job.command) × JobOf rows job
 
--- help is asked how to use it
+-- the words ask for help on `help`
 abbrev pub AsksForHelp : (words : List Text) → Type 0
 AsksForHelp words = (program option : Text) × (words ≡ program ∷ codes "help" ∷ option ∷ [])
     × ((option ≡ codes "--help") ⊎ (option ≡ codes "-h"))
@@ -79,8 +79,8 @@ abbrev pub IsRefusal : (reasons : Kinds) (fault : WordsFault) → Type 0
 IsRefusal reasons Memory = ⊤
 IsRefusal reasons (Refused error) = IsAmong (kind_of error) reasons
 
--- What reading the words gives: a job where `clap` has no reason to refuse them, and then the job
--- of the command and the options that the words give; else a refusal.
+-- The result of parsing the words: a job if `clap` has no reason to refuse them, with the command
+-- and the options that the words name; else a refusal.
 abbrev pub Reads : (words : List Text) (result : Result Job WordsFault) → Type 0
 Reads words (Ok job) = (fault_of agep words ≡ []) × IsJobOf (subcommand_of agep words) job
 Reads words (Err fault) = IsRefusal (fault_of agep words) fault
@@ -95,13 +95,13 @@ IsPiped command words =
     (rows : List Row) × (subcommand_of agep words ≡ Some (name_of command, rows))
     × (first_of (codes "input") rows ≡ None) × (first_of (codes "output") rows ≡ None)
 
--- the maximum size of a header that the words allow
+-- the maximum size of a header that the words set
 abbrev pub header_limit : (words : List Text) → ℕ
 header_limit words =
     option_map_or (λ named. number_or DEFAULT_MAX_HEADER (codes "max-header") named.1)
     (subcommand_of agep words) DEFAULT_MAX_HEADER
 
--- the reason is that help or the version is asked for
+-- the reason is that the words ask for help or the version
 abbrev pub is_display : (reason : ErrorKind) → Bool
 is_display DisplayHelp = true
 is_display DisplayVersion = true
@@ -115,21 +115,21 @@ IsShown error = is_display (kind_of error) ≡ true
 abbrev pub AskForText : (words : List Text) → Type 0
 AskForText words = list_any is_display (fault_of agep words) ≡ true
 
--- something is wrong with the words
+-- the words are wrong
 abbrev pub AreWrong : (words : List Text) → Type 0
 AreWrong words = list_any (λ reason. not (is_display reason)) (fault_of agep words) ≡ true
 
--- the fault that an error of `clap` becomes
+-- the fault for an error of `clap`
 abbrev pub Becomes : (error : Error) (fault : WordsFault) → Type 0
 Becomes error Memory = kind_of error ≡ OutOfMemory
 Becomes error (Refused refused) = (refused ≡ error) × (kind_of error ≢ OutOfMemory)
 
--- the number that an option has, if it has one, is in its range
+-- the number of an option, if there is one, is in its range
 abbrev pub HasNumber : (least most : ℕ) (id : Text) (rows : List Row) → Type 0
 HasNumber least most id rows = IfSome (one_of id rows) (IsUnsignedIn least most)
 
--- what `clap` promises of the values of a command: each number is in its range, and a range has a
--- file to read
+-- what `clap` guarantees about the values of a command: each number is in its range, and `range`
+-- has a file to read
 pub record IsTaken (command : Command) (rows : List Row) : Type 0 where
   pub work : HasNumber LEAST_WORK MOST_WORK (codes "work") rows
   pub max_work : HasNumber LEAST_WORK MOST_WORK (codes "max-work") rows

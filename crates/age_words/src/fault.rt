@@ -1,4 +1,4 @@
-//! Why arguments make no job.
+//! Why the arguments are not a job.
 
 ghost use Rattle.std.specs.Prelude.{◌≡◌};
 ghost use Rattle.age_words.specs.JobOf.{Becomes};
@@ -7,10 +7,10 @@ use clap::Error;
 use clap::error::ErrorKind;
 use std::alloc::AllocError;
 
-/// Why the arguments make no job.
+/// Why the arguments are not a job.
 #[derive(Debug, Drop)]
 pub enum WordsFault {
-    /// `clap` refused the arguments, or has help or the version to show.
+    /// `clap` refused the arguments, or has the help or the version to show.
     Refused(Error),
     /// An allocation was refused.
     Memory,

@@ -45,21 +45,20 @@ pub(crate) const LEN: &str = "len";
 
 pub(crate) const VERBOSE: &str = "verbose";
 
-/// The work factor that `encrypt` and `rewrap` write if the arguments name none, as `clap` takes
-/// it.
+/// The work factor that `encrypt` and `rewrap` write by default, as text for `clap`.
 pub(crate) const DEFAULT_WORK_TEXT: &str = "18";
 
-/// The same as a number, which the job of a command without this option holds.
+/// The same as a number, for the job of a command without this option.
 pub(crate) const DEFAULT_WORK: u8 = 18;
 
-/// The greatest work factor that `decrypt`, `range`, `rewrap` and `salvage` accept if the arguments
-/// name none, as `clap` takes it.
+/// The greatest work factor that `decrypt`, `range`, `rewrap` and `salvage` accept by default, as
+/// text for `clap`.
 pub(crate) const DEFAULT_MAX_WORK_TEXT: &str = "22";
 
-/// The same as a number, which the job of a command without this option holds.
+/// The same as a number, for the job of a command without this option.
 pub(crate) const DEFAULT_MAX_WORK: u8 = 22;
 
-/// The maximum size of a header if the arguments name none, as `clap` takes it.
+/// The default of the maximum size of a header, as text for `clap`.
 pub(crate) const DEFAULT_MAX_HEADER_TEXT: &str = "65536";
 
 /// The same as a number.
@@ -111,7 +110,7 @@ fn bare_subcommand<'a>(
         .display_name("agep")
 }
 
-/// The command with one more option or word.
+/// The command with one more option or argument.
 fn with_arg<'a>(command: Command<'a>, arg: Arg<'a>) -> Result<Command<'a>, AllocError>
     requires { arg.global ≡ false }
     ensures { IfOk result
@@ -152,7 +151,7 @@ fn decrypt_command<'a>(alloc: Global) -> Result<Command<'a>, AllocError>
     with_arg(command, input_word(alloc))
 }
 
-/// The options of the commands that find a file's key.
+/// The options of the commands that unlock a file.
 fn with_opening_options<'a>(
     alloc: Global,
     command: Command<'a>,

@@ -16,19 +16,19 @@ use age_job::{Command, DEFAULT_SEED, Job};
 use clap::ArgMatches;
 use std::alloc::{AllocError, Global};
 
-/// Parses the arguments, the program's name first, to a job.
+/// Parses the arguments, the first of which is the program's name, to a job.
 ///
-/// Each number of the job is in its range, and a range has a file to read.
+/// Each number of the job is in its range, and the job of `range` names a file to read.
 ///
 /// # Errors
-/// `Refused` with `clap`'s own text for arguments that make no job, and for help and the version;
+/// `Refused` with the text of `clap` if the arguments are not a job or ask for help or the version;
 /// `Memory` if an allocation was refused.
 pub fn read_words(alloc: Global, words: &[&str]) -> Result<Job, WordsFault>
-    // A job only where `clap` has no reason to refuse the words: its command is the one that they
-    // name, and each field the value, the values, the number or the flag of its option, or the
-    // default. A refusal has one of `clap`'s reasons.
+    // Returns a job only if `clap` has no reason to refuse the words. The job's command is the one
+    // that they name, and each field is the value, the values, the number or the flag of its
+    // option, or the default. A refusal has one of `clap`'s reasons.
     ensures reads { Reads (texts words.now) result }
-    // Each number of a job is in its range, and a range has a file to read.
+    // Each number of the job is in its range, and the job of `range` names a file to read.
     ensures ranges { IfOk result IsInRange }
 {
     if asks_for_help(words) {
@@ -48,7 +48,7 @@ fn parse(alloc: Global, words: &[&str]) -> Result<Job, WordsFault>
     Ok(job_of(alloc, command_named(name), matches)?)
 }
 
-/// Whether help is asked how to use it. `clap` takes such an option for the name of a command.
+/// Whether the words ask for help on `help`. `clap` would take such an option for a command's name.
 fn asks_for_help(words: &[&str]) -> bool
     ensures { result ≡ true → AsksForHelp (texts words.now) }
 {
@@ -70,8 +70,8 @@ fn command_named(name: &str) -> Command
     }
 }
 
-/// The job of this command. An option that the command lacks has no value here, and then its field
-/// has its default, or none.
+/// The job of this command. An option that the command lacks has no value here, so its field has
+/// the default, or none.
 fn job_of(alloc: Global, command: Command, matches: &ArgMatches<'_>) -> Result<Job, AllocError>
     requires { IsTaken command (rows_of (found_of matches.now)) }
     ensures command { IfOk result (λ job. job.command ≡ command) }

@@ -1,4 +1,4 @@
--- The codes by which C knows a fault, by the numbers of `agefile.h`.
+-- The codes of faults in C, by the numbers of `agefile.h`.
 use Rattle.std.specs.Prelude.{ℕ, ◌-◌, ◌^◌, min, Option, Some, None}
 use Rattle.age_recipient.specs.declared.unwrapped.StanzaFault.{StanzaFault}
 use Rattle.age_recipient.specs.declared.unwrapped.StanzaFault.TheVariants.{ArgCount, Salt, WorkFactorText, WorkFactorTooHigh, BodyLength, Other}
@@ -17,11 +17,11 @@ out_of_memory = 17
 abbrev pub too_small : ℕ
 too_small = 21
 
--- a work factor, or its maximum, is out of its range
+-- a work factor, or the maximum one, is out of range
 abbrev pub bad_work_factor : ℕ
 bad_work_factor = 22
 
--- there is no such stanza or offset, or the call does not fit the state
+-- there is no such offset, the chunk has another length, or the call is out of order
 abbrev pub out_of_order : ℕ
 out_of_order = 23
 
@@ -33,7 +33,7 @@ bad_arguments = 25
 abbrev pub empty_passphrase : ℕ
 empty_passphrase = 26
 
--- a fault's code
+-- the code of a fault
 abbrev pub fault_code : Fault → ℕ
 fault_code NotAge = 1
 fault_code (BadLine _) = 2
@@ -60,8 +60,7 @@ fault_code (IncompatibleRecipients _) = 20
 abbrev pub too_many_chunks : ℕ
 too_many_chunks = fault_code TooManyChunks
 
--- the line or the chunk of a fault, else 0; of a chunk's number beyond 64 bits the largest of 64
--- bits
+-- the line or the chunk of a fault, else 0; a chunk's number saturates at the largest of 64 bits
 abbrev pub fault_place : Fault → ℕ
 fault_place (BadLine line) = line
 fault_place (ChunkShort i) = min i (2 ^ 64 - 1)
@@ -69,7 +68,7 @@ fault_place (EmptyFinal i) = min i (2 ^ 64 - 1)
 fault_place (BadChunk i) = min i (2 ^ 64 - 1)
 fault_place _ = 0
 
--- which part of a stanza is malformed; this library's own identities look for no other one
+-- which part of a stanza is malformed; this library's own identities check no other part
 abbrev pub part_number : StanzaFault → ℕ
 part_number ArgCount = 1
 part_number Salt = 2
@@ -78,12 +77,12 @@ part_number WorkFactorTooHigh = 4
 part_number BodyLength = 5
 part_number (Other reason) = 0
 
--- the part of a malformed stanza, of another fault 0
+-- the part of a malformed stanza; 0 for another fault
 abbrev pub fault_detail : Fault → ℕ
 fault_detail (Malformed part) = part_number part
 fault_detail _ = 0
 
--- the code of a fault, or 0 where there is none
+-- the code of a fault, or 0 if there is none
 abbrev pub code_of : Option Fault → ℕ
 code_of None = ok
 code_of (Some fault) = fault_code fault

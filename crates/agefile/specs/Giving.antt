@@ -1,4 +1,4 @@
--- What a call over whole buffers gives.
+-- The results of calls on whole buffers.
 use Rattle.std.specs.Prelude.{◌≡◌, ◌⊎◌, ◌<◌, ◌≤◌, ◌++◌, ℕ, List, [], ◌∷◌, length, drop, Option, None}
 use Rattle.age_kdf.specs.Bytes.{Bytes}
 use Rattle.age_header.specs.Header.{StanzaParts}
@@ -9,7 +9,7 @@ use Rattle.agefile.specs.declared.report.Report.{Report}
 use Rattle.agefile.specs.Codes.{code_of, too_small}
 use Rattle.agefile.specs.Report.{report_of}
 
--- the buffer begins with the text, and its rest is as it was, and its fault is reported
+-- the buffer begins with the text, the rest of it is unchanged, and the fault is reported
 pub record Fits (text : Bytes) (fault : Option Fault) (old new : Bytes) (report : Report)
     (code : ℕ) : Type 0 where
   pub fits : length text ≤ length old
@@ -17,19 +17,19 @@ pub record Fits (text : Bytes) (fault : Option Fault) (old new : Bytes) (report 
   pub reported : report ≡ report_of (length text) fault
   pub buffer : new ≡ text ++ drop (length text) old
 
--- the buffer is too small for `len` bytes, and as it was; their number alone is reported
+-- the buffer is too small for `len` bytes and is unchanged; the report has this number alone
 pub record Exceeds (len : ℕ) (old new : Bytes) (report : Report) (code : ℕ) : Type 0 where
   pub exceeds : length old < len
   pub returned : code ≡ too_small
   pub reported : report ≡ report_of len None
   pub buffer : new ≡ old
 
--- a text is gathered, and a fault after it, if the text fits the buffer
+-- a text, and a fault after it, are returned if the text fits the buffer
 abbrev pub Gives : (text : Bytes) (fault : Option Fault) (old new : Bytes) (report : Report)
     (code : ℕ) → Type 0
 Gives text fault old new report code =
     Fits text fault old new report code ⊎ Exceeds (length text) old new report code
 
--- the answers of one identity of this meaning
+-- the answers of a single identity with this meaning
 abbrev pub one_answer : (List StanzaParts → Unwrapped) → Answering
 one_answer meaning = λ stanzas. meaning stanzas ∷ []

@@ -1,4 +1,4 @@
--- What a text of stanzas is, and what calls give that make a header of it.
+-- The text of stanzas, and the results of calls that make a header of it.
 use Rattle.std.specs.Prelude.{◌≡◌, ◌≢◌, ◌⊎◌, ◌==◌, ℕ, ◌-◌, ◌++◌, List, [], length, replicate, codes, nat_lt, None, Result, Ok, Err, if◌then◌else◌, Vec}
 use Rattle.std.specs.Global.{Global}
 use Rattle.std.specs.List.{count_by}
@@ -22,29 +22,29 @@ use Rattle.agefile.specs.Sizes.{limits}
 use Rattle.agefile.specs.Payload.{before_first, closed_payload, phase_writing}
 use Rattle.agefile.specs.Report.{Refuses, Returns}
 
--- a text between the version line and an end line with these characters
+-- a text between the version line and an end line with these base64 characters
 abbrev pub heading : (text characters : Bytes) → Bytes
 heading text characters = version_line ++ text ++ line (codes "--- " ++ characters)
 
--- how many characters of base64 a MAC has
+-- the number of base64 characters of a MAC
 abbrev pub mac_characters : ℕ
 mac_characters = 43
 
--- the same with an end line that has some MAC, whose characters are all `A`
+-- the same with an end line whose MAC consists of 43 characters `A`
 abbrev pub probe : Bytes → Bytes
 probe text = heading text (replicate mac_characters 65)
 
--- how many lines end in a text
+-- the number of lines that end in a text
 abbrev pub lines_in : Bytes → ℕ
 lines_in text = count_by (λ c. c == 10) text
 
--- a header's fault as one of its text of stanzas, which begins with the header's second line
+-- a fault of a header as one of its text of stanzas, which begins at the header's second line
 abbrev pub in_text : Fault → Fault
 in_text (BadLine n) = BadLine (n - 1)
 in_text fault = fault
 
--- The stanzas of a text, by the header verdict on its probe; or its first bad line, counted in the
--- text. A line that ends the header early is a bad one.
+-- The stanzas of a text, by the header verdict on its probe; or its fault, with the line counted in
+-- the text. A line that ends the header early is bad.
 abbrev pub stanzas_in : (text : Bytes) (verdict : Result Found HeaderFault)
     → Result (List StanzaParts) Fault
 stanzas_in text (Ok found) =
@@ -52,27 +52,27 @@ stanzas_in text (Ok found) =
     else Ok found.stanzas
 stanzas_in text (Err reason) = Err (in_text (header_fault reason))
 
--- stanzas of which none is a `scrypt` stanza beside another
+-- these stanzas, unless a `scrypt` stanza is not alone
 abbrev pub unless_mixed : Result (List StanzaParts) Fault → Result (List StanzaParts) Fault
 unless_mixed (Err fault) = Err fault
 unless_mixed (Ok stanzas) = if is_mixed stanzas then Err MixedPassphrase else Ok stanzas
 
--- the stanzas of a text that is not empty, of which none is mixed, or its first fault
+-- the stanzas of a nonempty text, if none is mixed, or the first fault
 abbrev pub ReadsAs : (text : Bytes) (stanzas : Result (List StanzaParts) Fault) → Type 0
 ReadsAs text stanzas =
     (verdict : Result Found HeaderFault) × HeaderVerdict (probe text) limits.max_header verdict
     × (stanzas ≡ unless_mixed (stanzas_in text verdict))
 
--- the stanzas that a text is, or the first fault for which no header is made of it
+-- the stanzas of a text, or the first fault because of which no header is made
 abbrev pub HasStanzas : (text : Bytes) (stanzas : Result (List StanzaParts) Fault) → Type 0
 HasStanzas text stanzas =
     ((text ≡ []) × (stanzas ≡ Err NoRecipients)) ⊎ ((text ≢ []) × ReadsAs text stanzas)
 
--- these stanzas are given
+-- the gathering that consists of these stanzas
 abbrev pub gathering_of : List StanzaParts → Gathering
 gathering_of stanzas = λ gathered. gathered ≡ Ok stanzas
 
--- the header of stanzas under a file key, with its MAC; or the fault for which there is none
+-- the header of stanzas under a file key, with its MAC; or the fault
 abbrev pub Signs : (k : FileKey) (stanzas : Result (List StanzaParts) Fault)
     (result : Result (Vec ℕ Global) Fault) → Type 0
 Signs k (Ok stanzas) (Ok text) = IsHeading limits k (gathering_of stanzas) stanzas text.items
@@ -85,13 +85,13 @@ abbrev pub IsMac : (k : FileKey) (stanzas : Result (List StanzaParts) Fault)
 IsMac k (Ok stanzas) mac = mac ≡ Ok (header_mac k.0 stanzas)
 IsMac k (Err fault) mac = mac ≡ Err fault
 
--- the MAC of the header that a text's probe is, under a file key; its fault; or out of memory
+-- the MAC under a file key of the header that is a text's probe; or its fault, or out of memory
 abbrev pub FindsMac : (text : Bytes) (k : FileKey) (mac : Result Bytes Fault) → Type 0
 FindsMac text k mac =
     (mac ≡ Err OutOfMemory)
     ⊎ ((stanzas : Result (List StanzaParts) Fault) × ReadsAs text stanzas × IsMac k stanzas mac)
 
--- the header of a text of stanzas, its fault, or out of memory
+-- the header for a text of stanzas, or its fault, or out of memory
 abbrev pub MakesHeader : (text : Bytes) (k : FileKey) (result : Result (Vec ℕ Global) Fault)
     → Type 0
 MakesHeader text k result =
@@ -99,20 +99,20 @@ MakesHeader text k result =
     ⊎ ((stanzas : Result (List StanzaParts) Fault) × HasStanzas text stanzas
     × Signs k stanzas result)
 
--- a header is given, if it fits the buffer; or its fault
+-- a header is returned if it fits the buffer; or its fault is
 abbrev pub GivesMade : (made : Result (Vec ℕ Global) Fault) (old new : Bytes) (report : Report)
     (code : ℕ) → Type 0
 GivesMade (Ok header) old new report code = Gives header.items None old new report code
 GivesMade (Err fault) old new report code = Refuses fault old new report code
 
--- what making a header of a text of stanzas gives
+-- the result of making the header for a text of stanzas
 abbrev pub GivesHeader : (stanzas file_key old new : Bytes) (report : Report) (code : ℕ) → Type 0
 GivesHeader stanzas file_key old new report code =
     (made : Result (Vec ℕ Global) Fault) × MakesHeader stanzas (record { 0 = file_key }) made
     × GivesMade made old new report code
 
--- a header and its nonce are given, if they fit the buffer, and chunk 0 is the payload's next; or
--- the header's fault, and the payload is not open
+-- a header and its nonce are returned if they fit the buffer, and the payload is before chunk 0; or
+-- the header's fault is returned, and the payload is not open
 abbrev pub BeginsMade : (made : Result (Vec ℕ Global) Fault) (k : FileKey) (nonce old new : Bytes)
     (payload : Payload) (report : Report) (code : ℕ) → Type 0
 BeginsMade (Ok header) k nonce old new payload report code =
@@ -122,7 +122,7 @@ BeginsMade (Ok header) k nonce old new payload report code =
 BeginsMade (Err fault) k nonce old new payload report code =
     Refuses fault old new report code × (payload ≡ closed_payload)
 
--- what beginning a file of a text of stanzas gives; or out of memory
+-- the result of beginning a file for a text of stanzas; or out of memory
 abbrev pub BeginsFile : (stanzas file_key nonce old new : Bytes) (payload : Payload)
     (report : Report) (code : ℕ) → Type 0
 BeginsFile stanzas file_key nonce old new payload report code =

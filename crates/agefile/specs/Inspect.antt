@@ -1,4 +1,4 @@
--- What calls over a header give: what it is summed up as, and its stanzas.
+-- The results of calls on a header: its summary, and its stanzas.
 use Rattle.std.specs.Prelude.{◌≡◌, ◌⊎◌, ℕ, List, [], ◌∷◌, length, None, Result, Ok, Err, ◌<◌, ◌≤◌, ◌++◌, drop, map, flat_map}
 use Rattle.std.specs.List.{join_by}
 use Rattle.age_kdf.specs.Bytes.{Bytes}
@@ -26,19 +26,19 @@ HeaderOf b (Err fault) =
     ⊎ ((reason : HeaderFault) × HeaderVerdict b limits.max_header (Err reason)
     × (fault ≡ header_fault reason))
 
--- what a header is summed up as
+-- the summary of a header
 abbrev pub summary_of : Found → Summary
 summary_of found =
     record { header_len = length found.text; stanzas = length found.stanzas; mac = found.mac }
 
--- the header is summed up, or its fault is returned and the summary is as it was
+-- the summary of the header is written; or its fault is returned, and the summary is unchanged
 abbrev pub SumsUp : (verdict : Result Found HeaderFault) (old new : Summary) (report : Report)
     (code : ℕ) → Type 0
 SumsUp (Ok found) old new report code =
     (code ≡ ok) × (report ≡ report_of 0 None) × (new ≡ summary_of found)
 SumsUp (Err reason) old new report code = Refuses (header_fault reason) old new report code
 
--- what inspecting b gives, by its header verdict; or out of memory, with the summary as it was
+-- the result of inspecting b, by its header verdict; or out of memory, with the summary unchanged
 abbrev pub Inspected : (b : Bytes) (old new : Summary) (report : Report) (code : ℕ) → Type 0
 Inspected b old new report code =
     Returns out_of_memory None old new report code
@@ -49,7 +49,7 @@ Inspected b old new report code =
 abbrev pub arguments_text : List Bytes → Bytes
 arguments_text args = join_by (λ arg. arg) (32 ∷ []) args
 
--- what a stanza is summed up as
+-- the summary of a stanza
 abbrev pub stanza_summary : StanzaParts → StanzaSummary
 stanza_summary s =
     record {
@@ -59,15 +59,15 @@ stanza_summary s =
       body_len = length s.body;
     }
 
--- the text of a list of stanzas: of each its arguments, joined by single spaces, and its body
+-- the text of a list of stanzas: for each its arguments, joined by single spaces, and its body
 abbrev pub list_text : List StanzaParts → Bytes
 list_text stanzas = flat_map (λ s. arguments_text s.args ++ s.body) stanzas
 
--- how many bytes this text has, and how many stanzas there are
+-- the length of this text, and the number of stanzas
 abbrev pub report_of_list : (sizes : List StanzaSummary) (text : Bytes) → Report
 report_of_list sizes text = record { len = length text; place = length sizes; detail = 0 }
 
--- the array begins with the sizes and the buffer with the text, and the rest of both is as it was
+-- the array begins with the sizes and the buffer with the text; the rest of both is unchanged
 pub record ListFits (sizes before after : List StanzaSummary) (text old new : Bytes)
     (report : Report) (code : ℕ) : Type 0 where
   pub sizes_fit : length sizes ≤ length before
@@ -77,7 +77,7 @@ pub record ListFits (sizes before after : List StanzaSummary) (text old new : By
   pub array : after ≡ sizes ++ drop (length sizes) before
   pub buffer : new ≡ text ++ drop (length text) old
 
--- the array or the buffer is too small, and both are as they were; what they need is reported
+-- the array or the buffer is too small, and both are unchanged; the report has what they need
 pub record ListExceeds (sizes before after : List StanzaSummary) (text old new : Bytes)
     (report : Report) (code : ℕ) : Type 0 where
   pub exceeds : (length before < length sizes) ⊎ (length old < length text)
@@ -86,20 +86,20 @@ pub record ListExceeds (sizes before after : List StanzaSummary) (text old new :
   pub array : after ≡ before
   pub buffer : new ≡ old
 
--- sizes and a text are given, if they fit
+-- sizes and a text are returned if they fit
 abbrev pub GivesList : (sizes before after : List StanzaSummary) (text old new : Bytes)
     (report : Report) (code : ℕ) → Type 0
 GivesList sizes before after text old new report code =
     ListFits sizes before after text old new report code
     ⊎ ListExceeds sizes before after text old new report code
 
--- these stanzas are summed up, and their text is given
+-- the summaries and the text of these stanzas are returned if they fit
 abbrev pub GivesStanzas : (stanzas : List StanzaParts) (before after : List StanzaSummary)
     (old new : Bytes) (report : Report) (code : ℕ) → Type 0
 GivesStanzas stanzas before after old new report code =
     GivesList (map stanza_summary stanzas) before after (list_text stanzas) old new report code
 
--- the stanzas of a header are given; or the header's fault is returned, and nothing is given
+-- the stanzas of a header are returned; or its fault is, and array and buffer are unchanged
 abbrev pub StanzasOf : (verdict : Result Found HeaderFault) (before after : List StanzaSummary)
     (old new : Bytes) (report : Report) (code : ℕ) → Type 0
 StanzasOf (Ok found) before after old new report code =
@@ -107,7 +107,7 @@ StanzasOf (Ok found) before after old new report code =
 StanzasOf (Err reason) before after old new report code =
     Refuses (header_fault reason) before after report code × (new ≡ old)
 
--- what asking for the stanzas of b's header gives; or out of memory
+-- the result of listing the stanzas of b's header; or out of memory
 abbrev pub InspectsStanzas : (b : Bytes) (before after : List StanzaSummary) (old new : Bytes)
     (report : Report) (code : ℕ) → Type 0
 InspectsStanzas b before after old new report code =

@@ -1,4 +1,4 @@
--- A part of a payload: some of its chunks, none of them the last.
+-- A part of a payload: some of its chunks, without the last.
 use Rattle.std.specs.Prelude.{◌≡◌, ◌⊎◌, ℕ, ◌+◌, ◌-◌, ◌<◌, ◌≤◌, ◌&&◌, ◌||◌, Bool, true, false, nat_eq, nat_lt, replicate, None, if◌then◌else◌}
 use Rattle.age_kdf.specs.Bytes.{Bytes}
 use Rattle.age_file.specs.declared.fault.Fault.TheVariants.{TooManyChunks}
@@ -11,21 +11,21 @@ use Rattle.agefile.specs.Payload as payload
 use Rattle.agefile.specs.Payload.{phase_closed, phase_reading, phase_writing, phase_ended}
 use Rattle.agefile.specs.Report.{Refuses, Returns, Steps, report_of}
 
--- nothing is open
+-- a part that is not open
 abbrev pub closed_part : Part
 closed_part = record { key = replicate 32 0; number = 0; left = 0; state = phase_closed; spare = 0 }
 
--- the next chunks of a payload, so many
+-- the next `count` chunks of a payload
 abbrev pub next_of : (p : Payload) (count : ℕ) → Part
 next_of p count =
     record { key = p.key; number = p.number; left = count; state = p.state; spare = 0 }
 
--- whether a payload gives a part of so many chunks
+-- whether a part of `count` chunks may be taken from a payload
 abbrev pub may_take : (p : Payload) (count : ℕ) → Bool
 may_take p count =
     (nat_eq p.state phase_reading || nat_eq p.state phase_writing) && nat_lt 0 count
 
--- the part has the next chunks, and the payload goes on behind them
+-- the part has the next chunks, and the payload continues after them
 pub record IsTaken (old new : Payload) (count : ℕ) (part : Part) (report : Report) (code : ℕ)
     : Type 0 where
   pub few : old.number + count ≤ limits.max_chunks
@@ -34,8 +34,8 @@ pub record IsTaken (old new : Payload) (count : ℕ) (part : Part) (report : Rep
   pub payload : new ≡ record old { number = old.number + count }
   pub given : part ≡ next_of old count
 
--- one call: the next chunks are taken out of a payload as a part; or there is no part, and the
--- payload is as it was
+-- one call: the next chunks are taken from a payload as a part; or the payload is unchanged, and
+-- the part is closed
 abbrev pub TakesPart : (old new : Payload) (count : ℕ) (part : Part) (report : Report) (code : ℕ)
     → Type 0
 TakesPart old new count part report code =
@@ -46,11 +46,12 @@ TakesPart old new count part report code =
     × (part ≡ closed_part))
     ⊎ IsTaken old new count part report code))
 
--- a part is a payload with a count
+-- a part as a payload, without its count
 abbrev pub payload_of : Part → Payload
 payload_of p = record { key = p.key; number = p.number; state = p.state; spare = replicate 2 0 }
 
--- where its payload accepted a chunk, a part has one less, and has ended with the last of them
+-- a part after a call on its payload: after an accepted chunk it has one less, and after its last
+-- chunk it has ended
 abbrev pub with_payload : (p : Part) (q : Payload) (code : ℕ) → Part
 with_payload p q code =
     record p {
@@ -59,20 +60,22 @@ with_payload p q code =
       state = if nat_eq code ok && nat_eq p.left 1 then phase_ended else q.state;
     }
 
--- one call on a part that has chunks left is this call on its payload
+-- one call on a part that has chunks left, which is this call on its payload
 abbrev pub OnPayload : (call : Payload → Type 0) (old new : Part) (chunk after : Bytes)
     (report : Report) (code : ℕ) → Type 0
 OnPayload call old new chunk after report code =
     Steps (nat_lt 0 old.left) ((q : Payload) × call q × (new ≡ with_payload old q code)) old new
     chunk after report code
 
--- one call: the chunk is opened as the part's next one, not as the last, where the part is read
+-- one call: if the part is open for reading, the chunk is opened as its next one, and not as the
+-- last of the file
 abbrev pub OpensNext : (old new : Part) (chunk after : Bytes) (report : Report) (code : ℕ) → Type 0
 OpensNext old new chunk after report code =
     OnPayload (λ q. payload.OpensNext (payload_of old) q chunk after false report code) old new
     chunk after report code
 
--- one call: the chunk is sealed as the part's next one, not as the last, where the part is written
+-- one call: if the part is open for writing, the chunk is sealed as its next one, and not as the
+-- last of the file
 abbrev pub SealsNext : (old new : Part) (chunk after : Bytes) (report : Report) (code : ℕ) → Type 0
 SealsNext old new chunk after report code =
     OnPayload (λ q. payload.SealsNext (payload_of old) q chunk after false report code) old new

@@ -1,5 +1,5 @@
--- A payload, which its caller holds between two calls: its phases and those of its parts, by the
--- numbers of `agefile.h`, what one chunk gives, by its number, and what the calls do.
+-- A payload, which the caller holds between two calls: its phases and those of its parts, by the
+-- numbers of `agefile.h`; the result of opening or sealing one chunk at its number; and the calls.
 use Rattle.std.specs.Prelude.{◌≡◌, ℕ, ◌+◌, ◌&&◌, Bool, length, nat_eq, replicate, if◌then◌else◌, ◌⊎◌, ◌-◌, ◌<◌, ◌≤◌, ◌++◌, ◌||◌, [], take, drop, nat_le, nat_lt, None, Result, Ok, Err}
 use Rattle.age_kdf.specs.Bytes.{Bytes}
 use Rattle.agefile.specs.declared.payload.Payload.{Payload}
@@ -15,19 +15,19 @@ use Rattle.age_file.specs.declared.fault.Fault.TheVariants.{TooManyChunks}
 use Rattle.age_file.specs.Verdict.{stream_fault}
 use Rattle.agefile.specs.Sizes.{limits}
 
--- nothing was opened
+-- not open
 abbrev pub phase_closed : ℕ
 phase_closed = 0
 
--- the next sealed chunk is opened
+-- open for reading: the next chunk is to be opened
 abbrev pub phase_reading : ℕ
 phase_reading = 1
 
--- the next chunk is sealed
+-- open for writing: the next chunk is to be sealed
 abbrev pub phase_writing : ℕ
 phase_writing = 2
 
--- the last chunk came
+-- the last chunk was accepted
 abbrev pub phase_ended : ℕ
 phase_ended = 3
 
@@ -35,8 +35,8 @@ phase_ended = 3
 abbrev pub phase_failed : ℕ
 phase_failed = 4
 
--- the chunk's buffer begins with the text, and its rest is as it was; or its fault is returned, and
--- all of it is as it was
+-- the chunk's buffer begins with the text, and the rest of it is unchanged; or the fault is
+-- returned, and the whole buffer is unchanged
 abbrev pub Opened : (chunk after : Bytes) (report : Report) (code : ℕ)
     (piece_outcome : Result Bytes StreamFault) → Type 0
 Opened chunk after report code (Ok text) =
@@ -51,8 +51,8 @@ abbrev pub OpensAs : (key : Bytes) (number : ℕ) (last : Bool) (chunk after : B
 OpensAs key number last chunk after report code =
     Opened chunk after report code (outcome key limits.max_chunks number last chunk)
 
--- a chunk's text, all but the last 16 bytes, is sealed under its number; or the number is beyond
--- the greatest, and the chunk is as it was
+-- a chunk's text, all but the last 16 bytes, is sealed under its number; or the number exceeds the
+-- greatest, and the chunk is unchanged
 abbrev pub SealsAs : (key : Bytes) (number : ℕ) (last : Bool) (chunk after : Bytes)
     (report : Report) (code : ℕ) → Type 0
 SealsAs key number last chunk after report code =
@@ -60,15 +60,15 @@ SealsAs key number last chunk after report code =
     × (after ≡ sealed_text key (chunk_nonce number last) [] (take (length chunk - tag_size) chunk)))
     ⊎ ((limits.max_chunks ≤ number) × Refuses TooManyChunks chunk after report code)
 
--- a full chunk, or the last and no longer
+-- whether a chunk of this length is full, or is the last and not longer
 abbrev pub is_chunk_len : (len : ℕ) (last : Bool) → Bool
 is_chunk_len len last = if last then nat_le len sealed_chunk_size else nat_eq len sealed_chunk_size
 
--- a chunk of this length has a tag and some text; chunk 0 may be a tag alone
+-- whether a chunk of this length has a tag and some text; chunk 0 may be a tag alone
 abbrev pub has_text : (number len : ℕ) → Bool
 has_text number len = nat_lt tag_size len || (nat_eq len tag_size && nat_eq number 0)
 
--- nothing is open
+-- a payload that is not open
 abbrev pub closed_payload : Payload
 closed_payload = record {
   key = replicate 32 0;
@@ -78,27 +78,27 @@ closed_payload = record {
       2 0;
 }
 
--- before chunk 0, for reading or writing
+-- a payload before chunk 0, for reading or writing
 abbrev pub before_first : (key : Bytes) (phase : ℕ) → Payload
 before_first key phase = record { key = key; number = 0; state = phase; spare = replicate 2 0 }
 
--- after a chunk that was accepted, or after a fault
+-- a payload after an accepted chunk, or after a fault
 abbrev pub after_chunk : (p : Payload) (last : Bool) (code : ℕ) → Payload
 after_chunk p last code =
     if nat_eq code ok
     then record p { number = p.number + 1; state = if last then phase_ended else p.state }
     else record p { state = phase_failed }
 
--- whether a payload opens a chunk of `len` bytes
+-- whether a payload may open a chunk of `len` bytes next
 abbrev pub may_open : (p : Payload) (len : ℕ) (last : Bool) → Bool
 may_open p len last = nat_eq p.state phase_reading && is_chunk_len len last
 
--- whether a payload seals a chunk of `len` bytes
+-- whether a payload may seal a chunk of `len` bytes next
 abbrev pub may_seal : (p : Payload) (len : ℕ) (last : Bool) → Bool
 may_seal p len last =
     nat_eq p.state phase_writing && is_chunk_len len last && has_text p.number len
 
--- one call: the chunk is opened as the next one, where the payload is read
+-- one call: if the payload is open for reading, the chunk is opened as its next one
 abbrev pub OpensNext : (old new : Payload) (chunk after : Bytes) (last : Bool) (report : Report)
     (code : ℕ) → Type 0
 OpensNext old new chunk after last report code =
@@ -106,7 +106,7 @@ OpensNext old new chunk after last report code =
     (OpensAs old.key old.number last chunk after report code × (new ≡ after_chunk old last code))
     old new chunk after report code
 
--- one call: the chunk is sealed as the next one, where the payload is written
+-- one call: if the payload is open for writing, the chunk is sealed as its next one
 abbrev pub SealsNext : (old new : Payload) (chunk after : Bytes) (last : Bool) (report : Report)
     (code : ℕ) → Type 0
 SealsNext old new chunk after last report code =

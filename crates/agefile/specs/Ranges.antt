@@ -1,5 +1,5 @@
--- Ranges of a plaintext in steps: the caller reads one sealed chunk of the file at a time (C2SP
--- age.md, "Payload").
+-- Reading parts of a plaintext in steps: the caller reads one sealed chunk of the file at a time
+-- (C2SP age.md, "Payload").
 use Rattle.std.specs.Prelude.{ℕ, ◌≡◌, ◌⊎◌, ◌<◌, ◌≤◌, ◌+◌, ◌-◌, ◌*◌, ◌/◌, ◌%◌, ◌^◌, ◌++◌, ◌&&◌, ◌||◌, Bool, length, take, drop, min, nat_eq, nat_le, nat_lt, replicate, None, Result, Ok, Err}
 use Rattle.age_kdf.specs.Bytes.{Bytes}
 use Rattle.age_stream.specs.declared.fault.StreamFault.{StreamFault}
@@ -15,15 +15,15 @@ use Rattle.agefile.specs.Report.{Refuses, Returns, report_of}
 use Rattle.agefile.specs.Unlock.{FindsStart}
 use Rattle.age_stream.specs.Sizes.{tag_size, chunk_size, sealed_chunk_size}
 
--- nothing was opened
+-- not open
 abbrev pub state_closed : ℕ
 state_closed = 0
 
--- the last piece was not verified yet
+-- open, with the last piece not verified yet
 abbrev pub state_open : ℕ
 state_open = 1
 
--- the last piece was verified
+-- open, with the last piece verified
 abbrev pub state_verified : ℕ
 state_verified = 2
 
@@ -35,11 +35,11 @@ last_index sealed = (sealed - 1) / sealed_chunk_size
 abbrev pub piece_len : (sealed i : ℕ) → ℕ
 piece_len sealed i = min sealed_chunk_size (sealed - sealed_chunk_size * i)
 
--- the plaintext's length: each piece has a tag
+-- the length of the plaintext: each piece has a tag
 abbrev pub plain_of : ℕ → ℕ
 plain_of sealed = sealed - tag_size * (last_index sealed + 1)
 
--- no payload
+-- a payload that is not open
 abbrev pub closed_ranges : Ranges
 closed_ranges = record { key = replicate 32 0; first = 0; sealed_len = 0; state = state_closed }
 
@@ -69,7 +69,7 @@ OpensAt file_len (Ok start) new report code =
 OpensAt file_len (Err fault) new report code =
     Refuses fault closed_ranges new report code
 
--- what opening a file of `file_len` bytes with this front gives
+-- the result of opening a file of `file_len` bytes with this front
 abbrev pub OpensRanges : (answers : Answering) (front : Bytes) (file_len : ℕ) (new : Ranges)
     (report : Report) (code : ℕ) → Type 0
 OpensRanges answers front file_len new report code =
@@ -80,12 +80,12 @@ OpensRanges answers front file_len new report code =
 abbrev pub piece_at : (r : Ranges) (b : Bytes) (i : ℕ) → Bytes
 piece_at r b i = take (piece_len r.sealed_len i) (drop (r.first + sealed_chunk_size * i) b)
 
--- what these bytes give as piece i
+-- the result of opening these bytes as piece i
 abbrev pub piece_outcome : (r : Ranges) (i : ℕ) (piece : Bytes) → Result Bytes StreamFault
 piece_outcome r i piece =
     outcome r.key limits.max_chunks i (nat_le r.sealed_len (sealed_chunk_size * (i + 1))) piece
 
--- what the last piece gives, verified: on its text the plaintext's length is known
+-- the result of verifying the last piece; its text proves the length of the plaintext
 abbrev pub Verified : (old new : Ranges) (chunk after : Bytes) (report : Report) (code : ℕ)
     (piece_outcome : Result Bytes StreamFault) → Type 0
 Verified old new chunk after report code (Ok text) =
@@ -97,7 +97,7 @@ Verified old new chunk after report code (Err fault) =
     Refuses (stream_fault fault) chunk after report code
     × (new ≡ record old { state = state_open })
 
--- the payload was opened, and these are as many bytes as the last piece has
+-- the payload is open, and the chunk has the length of the last piece
 abbrev pub may_verify : (r : Ranges) (chunk : Bytes) → Bool
 may_verify r chunk =
     (nat_eq r.state state_open || nat_eq r.state state_verified)
@@ -110,13 +110,13 @@ has_byte r at =
     nat_eq r.state state_verified && nat_lt (r.first + r.sealed_len) (2 ^ 64)
     && nat_lt at (plain_of r.sealed_len)
 
--- there is such a byte, and these are as many bytes as the piece that holds it
+-- there is such a byte, and the chunk has the length of the piece that holds it
 abbrev pub may_open : (r : Ranges) (at : ℕ) (chunk : Bytes) → Bool
 may_open r at chunk =
     has_byte r at && nat_eq (length chunk) (piece_len r.sealed_len (at / chunk_size))
 
--- what the piece that holds byte `at` gives: its text in front, from which the plaintext goes on at
--- `at`
+-- the result of opening the piece that holds byte `at`: its text is at the start of the buffer, and
+-- the report says where in it the plaintext from `at` on is
 abbrev pub GivesFrom : (at : ℕ) (chunk after : Bytes) (report : Report) (code : ℕ)
     (piece_outcome : Result Bytes StreamFault) → Type 0
 GivesFrom at chunk after report code (Ok text) =

@@ -1,4 +1,4 @@
--- What a call reports, and what the calls on payloads and on parts share.
+-- The report of a call, and the parts common to calls on payloads and on parts.
 use Rattle.std.specs.Prelude.{ℕ, ◌≡◌, Option, Some, None, Bool}
 use Rattle.age_file.specs.declared.fault.Fault.{Fault}
 use Rattle.agefile.specs.declared.report.Report.{Report}
@@ -6,25 +6,25 @@ use Rattle.agefile.specs.Codes.{fault_code, fault_detail, fault_place, out_of_or
 use Rattle.std.specs.Bool.{OnFalse, OnTrue}
 use Rattle.age_kdf.specs.Bytes.{Bytes}
 
--- `len` bytes, and the place and the detail of a fault, both 0 where there is none
+-- a report of `len` bytes, and the place and the detail of a fault, both 0 if there is none
 abbrev pub report_of : (len : ℕ) (fault : Option Fault) → Report
 report_of len None = record { len = len; place = 0; detail = 0 }
 report_of len (Some fault) =
     record { len = len; place = fault_place fault; detail = fault_detail fault }
 
--- the call returns this code, reports this fault or none, and what it was to change is as it was
+-- the call returns this code, reports this fault or none, and leaves its output unchanged
 pub record Returns {S : Type 0} (expected : ℕ) (fault : Option Fault) (old new : S)
     (report : Report) (code : ℕ) : Type 0 where
   pub returned : code ≡ expected
   pub reported : report ≡ report_of 0 fault
   pub same : new ≡ old
 
--- it returns this fault
+-- the call returns this fault
 abbrev pub Refuses : {S : Type 0} (fault : Fault) (old new : S) (report : Report) (code : ℕ)
     → Type 0
 Refuses fault old new report code = Returns (fault_code fault) (Some fault) old new report code
 
--- one call, which does this where it fits the state; else it changes nothing
+-- one call, which does this if it fits the state; otherwise it changes only the report
 pub record Steps {S : Type 0} (fits : Bool) (does : Type 0) (old new : S) (chunk after : Bytes)
     (report : Report) (code : ℕ) : Type 0 where
   pub out_of_order : OnFalse fits

@@ -1,5 +1,5 @@
--- What finding a file key gives: the file key and the length of the header, where the sealed chunks
--- begin and their key, and a payload that is opened by the file key.
+-- The results of unlocking: the file key and the length of the header; the offset of the sealed
+-- chunks and their key; and a payload opened under the file key.
 use Rattle.std.specs.Prelude.{◌≡◌, ◌⊎◌, ℕ, length, None, Result, Ok, Err, ◌+◌, take, drop, nat_lt, if◌then◌else◌, List}
 use Rattle.age_kdf.specs.Bytes.{Bytes}
 use Rattle.age_header.specs.declared.fault.HeaderFault.{HeaderFault}
@@ -23,29 +23,29 @@ use Rattle.agefile.specs.declared.payload.Payload.{Payload}
 use Rattle.agefile.specs.Giving.{one_answer}
 use Rattle.agefile.specs.Payload.{before_first, closed_payload, phase_reading}
 
--- a file key with the length of its header
+-- a file key, and the length of its header
 abbrev pub with_len : (len : ℕ) (key : Result FileKey Fault) → Result Unlocked Fault
 with_len len (Err fault) = Err fault
 with_len len (Ok key) = Ok (record { header_len = len; key = key })
 
--- the file key that these answers choose, its MAC verified; or the first fault up to the MAC
+-- the file key that these answers choose, with the MAC verified; or the first fault up to the MAC
 abbrev pub key_of : (answers : Answering) (result : Result Found HeaderFault)
     → Result Unlocked Fault
 key_of answers (Err fault) = Err (header_fault fault)
 key_of answers (Ok found) = with_len (length found.text) (header_key answers (parts_of found))
 
--- the same of the header in front of b
+-- the same for the header at the start of b
 abbrev pub IsKey : (answers : Answering) (b : Bytes) (key : Result Unlocked Fault) → Type 0
 IsKey answers b key =
     (header : Result Found HeaderFault) × HeaderVerdict b limits.max_header header
     × (key ≡ key_of answers header)
 
--- the file key of b is returned, or its first fault; or out of memory
+-- the file key of b, or its first fault, or out of memory
 abbrev pub FindsKey : (answers : Answering) (b : Bytes) (key : Result Unlocked Fault) → Type 0
 FindsKey answers b key = (key ≡ Err OutOfMemory) ⊎ IsKey answers b key
 
--- the file key is given, and the header's length reported; or the fault is returned, and the buffer
--- is as it was
+-- the file key is written, and the header's length reported; or the fault is returned, and the
+-- buffer is unchanged
 abbrev pub GivesKey : (key : Result Unlocked Fault) (old new : Bytes) (report : Report) (code : ℕ)
     → Type 0
 GivesKey (Ok found) old new report code =
@@ -53,13 +53,13 @@ GivesKey (Ok found) old new report code =
 GivesKey (Err fault) old new report code =
     Refuses fault old new report code
 
--- what unlocking b's header gives
+-- the result of unlocking b's header
 abbrev pub Unlocks : (answers : Answering) (b old new : Bytes) (report : Report) (code : ℕ)
     → Type 0
 Unlocks answers b old new report code =
     (key : Result Unlocked Fault) × FindsKey answers b key × GivesKey key old new report code
 
--- where the chunks begin and their key, where a header of `len` bytes is followed by `rest`, under
+-- the offset of the chunks and their key, if a header of `len` bytes is followed by `rest`, under
 -- the file key
 abbrev pub start_under : (len : ℕ) (rest : Bytes) (result : Result FileKey Fault)
     → Result Start Fault
@@ -68,7 +68,7 @@ start_under len rest (Ok k) =
     if nat_lt (length rest) nonce_size then Err NonceTruncated
     else Ok (record { first = len + nonce_size; key = payload_key k (take nonce_size rest) })
 
--- the start of b, or the first fault before its first chunk, given its header verdict
+-- the start of b's payload, or the first fault before its first chunk, given b's header verdict
 abbrev pub start_of : (answers : Answering) (b : Bytes) (result : Result Found HeaderFault)
     → Result Start Fault
 start_of answers b (Err fault) = Err (header_fault fault)
@@ -82,11 +82,11 @@ IsStart answers b start =
     (header : Result Found HeaderFault) × HeaderVerdict b limits.max_header header
     × (start ≡ start_of answers b header)
 
--- the start of b is returned, or its first fault; or out of memory
+-- the start of b's payload, or its first fault, or out of memory
 abbrev pub FindsStart : (answers : Answering) (b : Bytes) (result : Result Start Fault) → Type 0
 FindsStart answers b result = (result ≡ Err OutOfMemory) ⊎ IsStart answers b result
 
--- an identity that gives this file key for any stanzas
+-- the meaning of an identity that returns this file key for any stanzas
 abbrev pub gives_key : (file_key : Bytes) (stanzas : List StanzaParts) → Unwrapped
 gives_key file_key stanzas = Key (record { 0 = file_key })
 
@@ -94,7 +94,7 @@ gives_key file_key stanzas = Key (record { 0 = file_key })
 abbrev pub by_file_key : Bytes → Answering
 by_file_key file_key = one_answer (gives_key file_key)
 
--- chunk 0 is the payload's next, and the report has its offset; or the fault is returned
+-- the payload is before chunk 0, and the report has that chunk's offset; or the fault is returned
 abbrev pub StartsAt : (start : Result Start Fault) (new : Payload) (report : Report) (code : ℕ)
     → Type 0
 StartsAt (Ok start) new report code =
@@ -103,7 +103,7 @@ StartsAt (Ok start) new report code =
 StartsAt (Err fault) new report code =
     Refuses fault closed_payload new report code
 
--- what opening the file with this front gives
+-- the result of opening a file with this front
 abbrev pub Opens : (answers : Answering) (front : Bytes) (new : Payload) (report : Report)
     (code : ℕ) → Type 0
 Opens answers front new report code =

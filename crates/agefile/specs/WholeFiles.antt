@@ -1,4 +1,5 @@
--- What encrypting a plaintext for a text of stanzas gives, and decrypting a file by its file key.
+-- The results of encrypting a plaintext for a text of stanzas, and of decrypting a file under its
+-- file key.
 use Rattle.std.specs.Prelude.{◌≡◌, ◌⊎◌, ◌≤◌, ◌++◌, ℕ, length, None, Vec, Result, Ok, Err, ◌-◌, drop, Option}
 use Rattle.std.specs.Global.{Global}
 use Rattle.age_kdf.specs.Bytes.{Bytes}
@@ -17,15 +18,16 @@ use Rattle.age_file.specs.Verdict.{Answering, IsVerdict}
 use Rattle.agefile.specs.declared.start.Start.{Start}
 use Rattle.agefile.specs.Unlock.{IsStart}
 
--- The file of a plaintext that has a header of this text of stanzas, and the payload under this
--- file key and nonce.
+-- The file of a plaintext: the header of this text of stanzas, and the payload under this file key
+-- and nonce.
 abbrev pub IsNewFile : (stanzas file_key nonce plain file : Bytes) → Type 0
 IsNewFile stanzas file_key nonce plain file =
     let k : FileKey = record { 0 = file_key } in
     (header : Vec ℕ Global) × MakesHeader stanzas k (Ok header)
     × (file ≡ header.items ++ payload k nonce plain) × (length (chunks plain) ≤ limits.max_chunks)
 
--- a header and the payload of a plaintext are given, if they fit the buffer; or the header's fault
+-- a header and the payload of a plaintext are returned if they fit the buffer; or the header's
+-- fault is
 abbrev pub EncryptsUnder : (made : Result (Vec ℕ Global) Fault) (k : FileKey)
     (nonce plain old new : Bytes) (report : Report) (code : ℕ) → Type 0
 EncryptsUnder (Ok header) k nonce plain old new report code =
@@ -33,7 +35,7 @@ EncryptsUnder (Ok header) k nonce plain old new report code =
     × Gives (header.items ++ payload k nonce plain) None old new report code
 EncryptsUnder (Err fault) k nonce plain old new report code = Refuses fault old new report code
 
--- what encrypting for a text of stanzas gives; or out of memory
+-- the result of encrypting for a text of stanzas; or out of memory
 abbrev pub Encrypts : (stanzas file_key nonce plain old new : Bytes) (report : Report) (code : ℕ)
     → Type 0
 Encrypts stanzas file_key nonce plain old new report code =
@@ -42,8 +44,8 @@ Encrypts stanzas file_key nonce plain old new report code =
     ⊎ ((made : Result (Vec ℕ Global) Fault) × MakesHeader stanzas k made
     × EncryptsUnder made k nonce plain old new report code)
 
--- The fault before the first chunk is returned. Otherwise the buffer has no room for the plaintext
--- of sealed chunks of this length; or it has the plaintext of the verdict, and its fault is
+-- A fault before the first chunk is returned. Otherwise the buffer is too small for the plaintext
+-- of sealed chunks of this length; or it begins with the verdict's plaintext, whose fault is
 -- returned.
 abbrev pub DecryptsFrom : (answers : Answering) (b : Bytes) (start : Result Start Fault)
     (old new : Bytes) (report : Report) (code : ℕ) → Type 0
@@ -54,7 +56,7 @@ DecryptsFrom answers b (Ok start) old new report code =
     ⊎ ((room ≤ length old) × ((verdict : Reading Fault) × IsVerdict limits answers b verdict
     × Fits verdict.plaintext verdict.fault old new report code))
 
--- what decrypting b gives; or out of memory
+-- the result of decrypting b; or out of memory
 abbrev pub Decrypts : (answers : Answering) (b old new : Bytes) (report : Report) (code : ℕ)
     → Type 0
 Decrypts answers b old new report code =
@@ -62,16 +64,16 @@ Decrypts answers b old new report code =
     ⊎ ((start : Result Start Fault) × IsStart answers b start
     × DecryptsFrom answers b start old new report code)
 
--- the buffer begins with a chunk's text, and its rest is as it was; or it has a fault, and all of
--- the buffer is as it was
+-- the buffer begins with a chunk's text, and the rest of it is unchanged; or the chunk has a fault,
+-- and the whole buffer is unchanged
 abbrev pub GivesFirst : (piece_outcome : Result Bytes StreamFault) (old new : Bytes)
     (result : Result ℕ StreamFault) → Type 0
 GivesFirst (Ok text) old new result =
     (result ≡ Ok (length text)) × (new ≡ text ++ drop (length text) old)
 GivesFirst (Err fault) old new result = (result ≡ Err fault) × (new ≡ old)
 
--- the buffer begins with the plaintext of a reading, and its rest is as it was; its length and its
--- fault are returned
+-- the buffer begins with the plaintext of a reading, and the rest of it is unchanged; the length of
+-- the plaintext and the fault are returned
 pub record GivesReading (reading : Reading StreamFault) (old new : Bytes) (len : ℕ)
     (fault : Option StreamFault) : Type 0 where
   pub length_so : len ≡ length reading.plaintext

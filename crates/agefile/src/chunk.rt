@@ -38,7 +38,7 @@ pub(crate) fn open_as(
     }
 }
 
-/// Seals a chunk's text, all but the last 16 bytes, under its number.
+/// Seals a chunk's text, all but its last 16 bytes, under its number.
 pub(crate) fn seal_as(
     key: &[u8; 32],
     number: u64,
@@ -60,7 +60,7 @@ pub(crate) fn seal_as(
     OK
 }
 
-/// Whether a chunk of this many bytes is full, or the last and no longer.
+/// Whether a chunk of this length is full, or is the last and not longer.
 pub(crate) fn is_chunk_len(len: usize, last: bool) -> bool
     ensures { result ≡ is_chunk_len len last }
 {
@@ -71,7 +71,7 @@ pub(crate) fn is_chunk_len(len: usize, last: bool) -> bool
     }
 }
 
-/// Whether a chunk of this many bytes has a tag and some text; chunk 0 may be a tag alone.
+/// Whether a chunk of this length has a tag and some text. Chunk 0 may be a tag alone.
 pub(crate) fn has_text(number: u64, len: usize) -> bool
     ensures { result ≡ has_text number len }
 {

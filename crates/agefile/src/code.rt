@@ -1,4 +1,4 @@
-//! The codes of `agefile.h`. The comment of a code that is no fault of a file begins with its text.
+//! The codes of `agefile.h`. The comment of a code that is not a file's fault begins with its text.
 
 ghost use Rattle.std.specs.Prelude.{◌≡◌, ◌-◌, ◌^◌, min};
 ghost use Rattle.agefile.specs.Codes.{fault_code, fault_detail, fault_place};
@@ -14,16 +14,16 @@ pub(crate) const OUT_OF_MEMORY: u32 = 17;
 /// `buffer is too small` for the output.
 pub(crate) const TOO_SMALL: u32 = 21;
 
-/// `work factor must be 1 to 30`, and its maximum too.
+/// `work factor must be 1 to 30`, or the maximum work factor.
 pub(crate) const WORK_FACTOR: u32 = 22;
 
-/// `no such stanza or offset, or a call out of order`, which does not fit the state.
+/// `no such offset, a chunk of another length, or a call out of order`.
 pub(crate) const OUT_OF_ORDER: u32 = 23;
 
 /// `stanza arguments must be visible ASCII, one space apart`.
 pub(crate) const BAD_ARGUMENTS: u32 = 25;
 
-/// `passphrase is empty`: a file for it could be opened by everybody.
+/// `passphrase is empty`: anyone could open a file encrypted with it.
 pub(crate) const EMPTY_PASSPHRASE: u32 = 26;
 
 /// The code of a fault.
@@ -54,8 +54,7 @@ pub(crate) fn fault_code(fault: Fault) -> u32
     }
 }
 
-/// The line or the chunk of a fault, else 0. A chunk's number beyond `u64` saturates at the largest
-/// `u64`.
+/// The line or the chunk of a fault, else 0. A chunk's number saturates at the largest `u64`.
 pub(crate) fn fault_place(fault: Fault) -> u64
     ensures { result ≡ fault_place fault }
 {
@@ -66,7 +65,7 @@ pub(crate) fn fault_place(fault: Fault) -> u64
     }
 }
 
-/// The smaller of a number and the largest `u64`.
+/// A number, saturating at the largest `u64`.
 fn capped(n: u128) -> u64
     ensures { result ≡ min n (2 ^ 64 - 1) }
 {
@@ -77,7 +76,7 @@ fn capped(n: u128) -> u64
     }
 }
 
-/// The part of a stanza that is malformed, 1 to 5 or 0 for other parts; 0 for other faults.
+/// The part of a stanza that is malformed: 1 to 5, or 0 for other parts. 0 for other faults.
 pub(crate) fn fault_detail(fault: Fault) -> u64
     ensures { result ≡ fault_detail fault }
 {

@@ -1,4 +1,4 @@
-//! Decrypting a whole file by its file key.
+//! Decrypting a whole file under its file key.
 
 ghost use Rattle.std.specs.Prelude.{◌≡◌, ◌≤◌, ◌-◌, length, min, IfOk};
 ghost use Rattle.age_stream.specs.Reading.{first_outcome, reading_from};
@@ -18,14 +18,17 @@ use age_file::Fault;
 use age_stream::{SEALED_CHUNK_SIZE, StreamFault, open_chunk};
 use std::alloc::Global;
 
-/// Decrypts a whole file by its file key. On a chunk's fault `out` has the plaintext of the chunks
-/// before it, and is unchanged behind it.
+/// Decrypts a whole file under its file key. On a chunk's fault `out` begins with the plaintext of
+/// the chunks before it, and its other bytes are unchanged.
 ///
 /// # Errors
-/// The first that applies of those of `agefile_open`; 21 if `out` is too small for the plaintext of
-/// a whole file of this length, which is then the report's; those of the chunks, as
-/// `age_file::decrypt` says. 17 if an allocation was refused. `out` is unchanged before the first
-/// chunk.
+/// The first that applies of:
+/// - those of `agefile_open`;
+/// - 21 if `out` is too small for the plaintext of a whole file of this length; the report has the
+///   length needed;
+/// - those of the chunks, as for `age_file::decrypt`.
+///
+/// 17 if an allocation was refused. Before the first chunk `out` is unchanged.
 #[unsafe(no_mangle)]
 pub extern "C" fn agefile_decrypt(
     alloc: Global,
@@ -34,9 +37,10 @@ pub extern "C" fn agefile_decrypt(
     out: &mut [u8],
     report: &mut Report,
 ) -> u32
-    // The first fault before the chunks, for an identity that gives this key; else 21 if `out` has
-    // no room, whose size is reported; or 17: `out` is unchanged. Else the verdict's plaintext is
-    // in `out`, the bytes after it are unchanged, and the verdict's fault is returned.
+    // Returns the first fault before the chunks, for an identity that returns this key; else 21 if
+    // `out` is too small, with the length needed in the report; or 17. In these cases `out` is
+    // unchanged. Otherwise `out` begins with the verdict's plaintext, its other bytes are
+    // unchanged, and the verdict's fault is returned.
     ensures { Decrypts (by_file_key file_key.now) file.now out.old out.new report.new result }
 {
     let start = match start_under(alloc, file, file_key) {
@@ -67,9 +71,9 @@ pub extern "C" fn agefile_decrypt(
     }
 }
 
-/// Opens sealed chunks in order to the start of a buffer, each in the memory of `chunk` first, so
-/// that no byte of a chunk with a fault is written. Returns the length of their text, and the first
-/// fault.
+/// Opens sealed chunks in order into the start of a buffer. Each is first opened in the memory of
+/// `chunk`, so that no byte of a chunk with a fault reaches the buffer. Returns the length of their
+/// text, and the first fault.
 fn open_pieces(
     key: &[u8; 32],
     sealed: &[u8],
@@ -99,7 +103,7 @@ fn open_pieces(
     }
 }
 
-/// Opens the first of the sealed chunks that are left to the start of a buffer.
+/// Opens the first of the remaining sealed chunks into the start of a buffer.
 fn open_first(
     key: &[u8; 32],
     number: u64,

@@ -7,17 +7,17 @@ ghost use Rattle.agefile.specs.Report.{Returns};
 use crate::code::{OK, TOO_SMALL};
 use crate::report::Report;
 
-/// Returns a code, and sets all else of the report to 0.
+/// Returns a code, and sets the whole report to 0.
 pub(crate) fn give_up(code: u32, out: &mut [u8], report: &mut Report) -> u32
     ensures { Returns code None out.old out.new report.new result }
 {
-    // The proof reads from this that the buffer is unchanged.
+    // The proof sees here that the buffer is unchanged.
     let _ = out;
     *report = Report::default();
     code
 }
 
-/// Copies a text to the buffer, if the text fits; otherwise only the length is reported.
+/// Copies a text to the buffer if it fits. Otherwise reports the length alone.
 pub(crate) fn give_whole(text: &[u8], out: &mut [u8], report: &mut Report) -> u32
     ensures { Gives text.now None out.old out.new report.new result }
 {

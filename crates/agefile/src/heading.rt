@@ -1,4 +1,4 @@
-//! The header of a text of stanzas.
+//! The header for a text of stanzas.
 
 ghost use Rattle.std.specs.Prelude.{◌≡◌, length, IfOk};
 ghost use Rattle.std.specs.String.{string_bytes};
@@ -19,14 +19,14 @@ use age_header::base64_no_pad;
 use age_stream::payload_key;
 use std::alloc::{AllocError, Global};
 
-/// Writes the header of a text of stanzas, with its MAC under a file key: version line, stanzas,
-/// end line. The text is that of one or more stanzas, as the wrapping calls write them, one behind
-/// the other. On 0 the report's length is the header's.
+/// Writes the header for a text of stanzas, with its MAC under a file key: version line, stanzas,
+/// end line. The text is the concatenated output of one or more wrapping calls. On 0 the report has
+/// the length of the header.
 ///
 /// # Errors
-/// The first that applies of 18 if the text is empty; 2 with a line of the text, 3 and 4 as
-/// `age_file::inspect` says of a header with these lines; 5 if a `scrypt` stanza is not alone; 21
-/// if `out` is too small. 17 if an allocation was refused. Then `out` is unchanged.
+/// The first that applies of 18 if the text is empty; 2 with a line of the text, 3 and 4, as for
+/// `age_file::inspect` and a header with these lines; 5 if a `scrypt` stanza is not alone; 21 if
+/// `out` is too small. 17 if an allocation was refused. In all cases `out` is unchanged.
 #[unsafe(no_mangle)]
 pub extern "C" fn agefile_header(
     alloc: Global,
@@ -43,12 +43,12 @@ pub extern "C" fn agefile_header(
     }
 }
 
-/// Begins a file: writes its header, as `agefile_header`, and after it the nonce of its payload,
-/// and starts the payload for writing. File key and nonce are 16 random bytes each, never used
-/// twice. On 0 the report's length is that of header and nonce.
+/// Begins a file. Writes its header, as `agefile_header` does, then the nonce of its payload, and
+/// starts the payload for writing. File key and nonce are 16 random bytes each and must never be
+/// used twice. On 0 the report has the length of header and nonce.
 ///
 /// # Errors
-/// Those of `agefile_header`. Then `out` is unchanged, and the payload is not open.
+/// Those of `agefile_header`. `out` is then unchanged, and the payload is not open.
 #[unsafe(no_mangle)]
 pub extern "C" fn agefile_begin(
     alloc: Global,
@@ -79,21 +79,21 @@ pub extern "C" fn agefile_begin(
     code
 }
 
-/// A fault's code; the buffer is unchanged.
+/// Returns the code of a fault, and leaves the buffer unchanged.
 pub(crate) fn refuse(fault: Fault, out: &mut [u8], report: &mut Report) -> u32
     ensures { Refuses fault out.old out.new report.new result }
 {
-    // The proof reads from this that the buffer is unchanged.
+    // The proof sees here that the buffer is unchanged.
     let _ = out;
     *report = Report::of_fault(0, fault);
     fault_code(fault)
 }
 
-/// The header of a text of stanzas, with its MAC under a file key.
+/// The header for a text of stanzas, with its MAC under a file key.
 ///
 /// # Errors
 /// The first that applies of `NoRecipients` if the text is empty; `BadLine` with a line of the
-/// text, `HeaderTruncated` and `HeaderTooLarge` as `age_file::inspect` says of a header of these
+/// text, `HeaderTruncated` and `HeaderTooLarge`, as for `age_file::inspect` and a header with these
 /// lines; `MixedPassphrase` if a `scrypt` stanza is not alone. `OutOfMemory` if an allocation was
 /// refused.
 pub(crate) fn make_header(alloc: Global, stanzas: &[u8], key: &FileKey) -> Result<Vec<u8>, Fault>
@@ -126,7 +126,7 @@ fn characters_of(alloc: Global, mac: &[u8; 32]) -> Result<String, AllocError>
     base64_no_pad::encode(alloc, &base64_no_pad::engine(), mac)
 }
 
-/// A text between the version line and an end line with these characters.
+/// A text between the version line and an end line with these base64 characters.
 fn framed(alloc: Global, text: &[u8], characters: &[u8]) -> Result<Vec<u8>, AllocError>
     ensures { IfOk result (λ all. all.items ≡ heading text.now characters.now) }
 {
@@ -138,7 +138,7 @@ fn framed(alloc: Global, text: &[u8], characters: &[u8]) -> Result<Vec<u8>, Allo
     Ok(all)
 }
 
-/// The MAC under a file key of the header that this whole text is, apart from the MAC in it.
+/// Computes the MAC under a file key for this header, whatever MAC it has.
 fn mac_under(alloc: Global, text: &[u8], key: &FileKey) -> Result<[u8; 32], Fault>
     ensures { (stanzas : Bytes) → text.now ≡ probe stanzas → FindsMac stanzas key.now result }
 {
@@ -161,7 +161,7 @@ fn mac_under(alloc: Global, text: &[u8], key: &FileKey) -> Result<[u8; 32], Faul
     }
 }
 
-/// A header's fault as one of its text of stanzas, which begins with the header's second line.
+/// Converts a header's fault to one of its text of stanzas, which begins at the second line.
 fn in_text(fault: Fault) -> Fault
     ensures { result ≡ in_text fault }
 {
@@ -171,7 +171,7 @@ fn in_text(fault: Fault) -> Fault
     }
 }
 
-/// How many lines end in a text.
+/// The number of lines that end in a text.
 fn lines_in(text: &[u8]) -> u64
     ensures { result ≡ lines_in text.now }
 {

@@ -36,12 +36,12 @@ pub struct StanzaSummary {
     pub body_len: u64,
 }
 
-/// Reads the header at the start of a file, and writes its sizes and MAC to `summary`. It does not
+/// Reads the header at the start of a file, and writes its sizes and MAC to `summary`. Does not
 /// verify the MAC, since that needs the file key. The first 65,552 bytes of a longer file suffice:
-/// they have its header, if there is one.
+/// if it has a header, they contain it.
 ///
 /// # Errors
-/// Those of `age_file::inspect`, or 17 if an allocation was refused; then `summary` is unchanged.
+/// Those of `age_file::inspect`, or 17 if an allocation was refused. `summary` is then unchanged.
 #[unsafe(no_mangle)]
 pub extern "C" fn agefile_inspect(
     alloc: Global,
@@ -49,9 +49,10 @@ pub extern "C" fn agefile_inspect(
     summary: &mut Summary,
     report: &mut Report,
 ) -> u32
-    // The length of the header, the number of its stanzas and its MAC, by the header verdict.
+    // Writes the length of the header, the number of its stanzas and its MAC, by the header
+    // verdict; or returns its fault, or 17, and leaves `summary` unchanged.
     ensures front { Inspected front.now summary.old summary.new report.new result }
-    // The front of 65,552 bytes is enough: the same holds of the file.
+    // The first 65,552 bytes suffice: the same holds for the whole file.
     ensures file { (b : Bytes) → front.now ≡ take front_size b
         → Inspected b summary.old summary.new report.new result }
 {
@@ -72,7 +73,7 @@ pub extern "C" fn agefile_inspect(
     }
 }
 
-/// The sizes of a stanza whose arguments are joined to this text.
+/// The sizes of a stanza, whose arguments are joined to this text.
 pub(crate) fn stanza_summary(stanza: &Stanza, text: &[u8]) -> StanzaSummary
     requires { text.now ≡ arguments_text stanza.now.args }
     ensures { result ≡ stanza_summary stanza.now }

@@ -1,4 +1,4 @@
-//! Laws over the definitions alone: functions that do nothing, each with a law as its contract.
+//! Laws about the definitions alone. Each is the contract of a function that does nothing.
 
 ghost use Rattle.std.specs.Prelude.{Ok, List, [], ◌∷◌, drop, length, take, true, ℕ, ◌≤◌, ◌%◌, ◌++◌, ◌+◌, ◌/◌, ◌<◌, ◌≡◌, ◌≢◌, ◌⊎◌};
 ghost use Rattle.std.specs.List.{concat};
@@ -25,10 +25,11 @@ ghost use Rattle.agefile.specs.Payload.{OpensNext, SealsNext};
 ghost use Rattle.agefile.specs.Ranges.{OpensRanges, piece_outcome, last_index, piece_at, plain_of};
 ghost use Rattle.agefile.specs.Report.{report_of};
 
-/// Reading a file in steps returns what decrypting it returns. The front of 65,552 bytes of a file
-/// b is enough to open it. A fault of the opening, except out of memory, is the verdict's, before
-/// any plaintext. Otherwise the texts of the sealed chunks after the nonce, joined up to the first
-/// fault, are the verdict's plaintext, and that fault, with its line or chunk, is the verdict's.
+/// Reading a file in steps returns what decrypting it returns. The first 65,552 bytes of a file
+/// suffice to open it. A fault of opening, other than out of memory, is that of the verdict, before
+/// any plaintext. Otherwise the texts of the sealed chunks after the nonce, concatenated up to the
+/// first fault, are the verdict's plaintext, and that fault, with its line or chunk, is the
+/// verdict's.
 pub fn steps_read()
     ensures refused { (answers : Answering) (b : Bytes) (p : Payload) (report : Report) (code : ℕ)
         (v : Reading Fault)
@@ -43,9 +44,9 @@ pub fn steps_read()
         ≡ place)) }
 {}
 
-/// Writing a file in steps writes what encrypting writes: the header and the nonce that begin it
-/// and the sealed chunks of a plaintext, joined, are the plaintext's file. Otherwise the plaintext
-/// has more chunks than the limit, and a step returns 14.
+/// Writing a file in steps writes what encrypting writes: the header and nonce that begin it,
+/// followed by the sealed chunks of a plaintext, are the file of that plaintext. Otherwise the
+/// plaintext has more chunks than the limit, and a step returns 14.
 pub fn steps_write()
     ensures { (stanzas file_key nonce plain old new : Bytes) (p : Payload) (report : Report)
         (out : Bytes) (code : ℕ) → BeginsFile stanzas file_key nonce old new p report ok
@@ -54,12 +55,12 @@ pub fn steps_write()
         ⊎ ((code ≡ too_many_chunks) × (limits.max_chunks < length (chunks plain))) }
 {}
 
-/// Reading ranges in steps returns parts of the plaintext. The front of 65,552 bytes of a file b
-/// and its length are enough to open it. A fault of the opening, except out of memory, is the
-/// verdict's, before any plaintext. Otherwise what was opened is b's own payload: the piece that is
-/// verified first is its last one, and with it the plaintext's length is known. The text of a
-/// located piece, from the requested byte on, is a slice of the plaintext, which by
-/// `age_stream::laws::whole_is_sliced` is a part of the verdict's, if this has no fault.
+/// Reading ranges in steps returns parts of the plaintext. The first 65,552 bytes of a file and its
+/// length suffice to open it. A fault of opening, other than out of memory, is that of the verdict,
+/// before any plaintext. Otherwise the file's own payload was opened: the piece that is verified
+/// first is its last one, which proves the length of the plaintext. The text of a located piece,
+/// from the requested byte on, is a slice of the plaintext, by `age_stream::laws::whole_is_sliced`
+/// a part of the verdict's plaintext if the verdict has no fault.
 pub fn ranges_in_steps()
     ensures refused { (answers : Answering) (b : Bytes) (r : Ranges) (report : Report) (code : ℕ)
         (v : Reading Fault)
@@ -84,10 +85,10 @@ pub fn ranges_in_steps()
         × IsSlice r.key (drop r.first b) at (drop (at % chunk_size) text) }
 {}
 
-/// Chunks that a payload and its parts sealed are the payload's, in any order of the calls on
-/// different parts. Whatever is still to come, the groups of chunks that were sealed so far, joined
-/// in order, are sealed under the payload's next numbers, none twice and none as the last, and the
-/// payload goes on behind them. With a last chunk they are all of the payload.
+/// The chunks that a payload and its parts sealed are the payload's, in any order of the calls on
+/// different parts. Whatever follows, the groups of chunks sealed so far, concatenated in order,
+/// are sealed under the payload's next numbers, none twice and none as the last, and the payload
+/// continues after them. With a last chunk they are the whole payload.
 pub fn parts_seal()
     ensures so_far { (old new : Payload) (groups : List (List Bytes)) (out : Bytes)
         → SealsGroups old new groups out
@@ -101,10 +102,10 @@ pub fn parts_seal()
         ++ text ∷ [])) }
 {}
 
-/// A file that encrypting writes is an age file of this plaintext for its file key, whatever the
-/// stanzas; of one stanza that is given it is one with this stanza. So it has the verdict "this
-/// plaintext, no fault" for the file key, by `age_file::laws::ok_is_age_file`, and by `pair_opens`
-/// for the key or passphrase that the stanza was made with.
+/// A file that encrypting writes is an age file of the plaintext for its file key, whatever the
+/// stanzas. With the text of one given stanza it is an age file with that stanza. So its verdict is
+/// "this plaintext, no fault" for the file key, by `age_file::laws::ok_is_age_file`, and by
+/// `pair_opens` for the key or passphrase that made the stanza.
 pub fn written_is_age_file()
     ensures any { (stanzas file_key nonce plain file : Bytes) → length nonce ≡ nonce_size
         → IsNewFile stanzas file_key nonce plain file
@@ -115,9 +116,9 @@ pub fn written_is_age_file()
         → AgeFile limits (record { 0 = file_key }) (stanza ∷ []) plain file }
 {}
 
-/// What unlocking a header finds is what decrypting the file finds. A fault, except out of memory,
-/// is the verdict's, before any plaintext. Otherwise the file has for the file key that was
-/// unlocked the verdict that it has for the secret.
+/// Unlocking a header agrees with decrypting the file. A fault, other than out of memory, is that
+/// of the verdict, before any plaintext. Otherwise the file's verdict for the unlocked file key is
+/// its verdict for the secret.
 pub fn unlocked_opens()
     ensures refused { (answers : Answering) (b old new : Bytes) (report : Report) (code : ℕ)
         (v : Reading Fault)
@@ -129,10 +130,10 @@ pub fn unlocked_opens()
         → IsVerdict limits (by_file_key new) b v }
 {}
 
-/// Chunks that a payload and its parts opened are the verdict's, in any order of the calls on
-/// different parts. The texts of the groups of chunks that were opened so far, joined in order, are
-/// the beginning of the verdict's plaintext. With a last chunk they are all of it, and the verdict
-/// has no fault.
+/// The chunks that a payload and its parts opened are the verdict's, in any order of the calls on
+/// different parts. The texts of the groups of chunks opened so far, concatenated in order, are the
+/// beginning of the verdict's plaintext. With a last chunk they are the whole plaintext, and the
+/// verdict has no fault.
 pub fn parts_open()
     ensures so_far { (answers : Answering) (b : Bytes) (p new : Payload) (report : Report)
         (groups : List (List Bytes)) (text next : Bytes) (more : List Bytes) (v : Reading Fault)
@@ -147,9 +148,10 @@ pub fn parts_open()
         → v ≡ whole (text ++ take last_report.len after) }
 {}
 
-/// Each beginning of a file that holds its header and its nonce opens as the file does: where
-/// either opens, so does the other, with the same payload and the same report. A shorter beginning
-/// of a file that opens gives 3 or 10. All this holds unless an allocation is refused.
+/// Every beginning of a file that contains its header and its nonce opens as the file does: if
+/// either opens, so does the other, with the same payload and the same report. For a shorter
+/// beginning of a file that opens, the call returns 3 or 10. All this holds unless an allocation is
+/// refused.
 pub fn any_front()
     ensures front { (answers : Answering) (n : ℕ) (b : Bytes) (p q : Payload) (report r : Report)
         (code : ℕ) → Opens answers (take n b) p report ok → Opens answers b q r code

@@ -1,5 +1,5 @@
 //! Age v1 files (C2SP `age.md`) for callers in C: the exports of `agefile.h`. Each repeats the
-//! contract of the call below it, over the bytes that its pointers refer to, and none has a
+//! contract of the call below it, over the bytes to which its pointers refer, and none has a
 //! `requires`. The library keeps no state between two calls; the caller holds it.
 //!
 //! ```c
@@ -13,18 +13,24 @@
 //!     fwrite(out, 1, report.len, stdout);
 //! ```
 //!
-//! The exports are in `inspecting` and `listing` (what is in a header), `unlocking` (from a secret
-//! to a file key), `wrapping` (from a file key to a stanza), `heading` (from stanzas to a header),
-//! `decrypting` and `sealing` (whole buffers by a file key), `opening` (the start of a payload by
-//! one), `payload` and `part` (chunks in order, and on many threads), `ranges`, `sizes` and
-//! `version`. The other modules have none.
+//! The exports are in these modules:
+//! - `inspecting`, `listing`: the contents of a header;
+//! - `unlocking`: from a secret to a file key;
+//! - `wrapping`: from a file key to a stanza;
+//! - `heading`: from stanzas to a header;
+//! - `decrypting`, `sealing`: whole buffers under a file key;
+//! - `opening`: the start of a payload under a file key;
+//! - `payload`, `part`: chunks in order, and in several threads;
+//! - `ranges`: parts of a plaintext;
+//! - `sizes`: the sizes of buffers;
+//! - `version`.
 //!
-//! *What a contract sees.* A buffer of C is a slice, so a list of bytes, before the call and after
-//! it; a pointer to a struct is the record of its fields. The bytes of a struct may be any: no
-//! invariant is assumed. A code is a number, and a report its three numbers.
+//! *What a contract sees.* A buffer in C is a slice, hence a list of bytes, before the call and
+//! after it. A pointer to a struct is the record of its fields; its bytes may be any, since no
+//! invariant is assumed. A code is a number, and a report is its three numbers.
 //!
-//! Limits: a header of 65,536 bytes, 2^64 - 1 chunks. The duties of a caller, and what is proved,
-//! are in docs/C.md.
+//! Limits: a header of 65,536 bytes, 2^64 - 1 chunks. `agefile.h` has the duties of a caller, and
+//! docs/C.md says what is proved.
 #![tactic(auto)]
 
 mod chunk;

@@ -1,4 +1,4 @@
-//! Listing all stanzas of a file's header in one reading.
+//! Listing all stanzas of a file's header in one call.
 
 ghost use Rattle.std.specs.Prelude.{◌≡◌, ◌⊎◌, ◌++◌, map, take, IfOk, OnOk};
 ghost use Rattle.age_kdf.specs.Bytes.{Bytes};
@@ -13,14 +13,14 @@ use crate::report::Report;
 use age_file::Stanza;
 use std::alloc::{AllocError, Global};
 
-/// Writes the sizes of the header's stanzas, in order, to the start of `stanzas`, and to the start
-/// of `text` for each stanza its arguments, joined by single spaces, and then its body. The
-/// report's length is the length of this text, and its place is the number of stanzas. The first
-/// 65,552 bytes of a longer file suffice.
+/// Writes the sizes of the header's stanzas, in order, to the start of `stanzas`. Writes to the
+/// start of `text`, for each stanza, its arguments joined by single spaces, then its body. The
+/// report has the length of this text, and as its place the number of stanzas. The first 65,552
+/// bytes of a longer file suffice.
 ///
 /// # Errors
-/// 21 if `stanzas` or `text` is too small: the report has what they need, as on 0. 17 if an
-/// allocation was refused, else those of `age_file::inspect`. Then `stanzas` and `text` are
+/// 21 if `stanzas` or `text` is too small: as on 0, the report has what they need. 17 if an
+/// allocation was refused, else those of `age_file::inspect`. In all cases `stanzas` and `text` are
 /// unchanged.
 #[unsafe(no_mangle)]
 pub extern "C" fn agefile_stanzas(
@@ -30,12 +30,13 @@ pub extern "C" fn agefile_stanzas(
     text: &mut [u8],
     report: &mut Report,
 ) -> u32
-    // The sizes of all stanzas of the header verdict, and in one text of each its arguments, joined
-    // by single spaces, and its body. If the array or the buffer is too small it returns 21 with
-    // both unchanged; on 0 and 21 the report has the length of the text and the number of stanzas.
+    // Writes the sizes of all stanzas of the header verdict, and in one text for each its
+    // arguments, joined by single spaces, and its body. If the array or the buffer is too small,
+    // returns 21 and leaves both unchanged. On 0 and 21 the report has the length of the text and
+    // the number of stanzas.
     ensures front { InspectsStanzas front.now stanzas.old stanzas.new text.old text.new
         report.new result }
-    // The front of 65,552 bytes is enough: the same holds of the file.
+    // The first 65,552 bytes suffice: the same holds for the whole file.
     ensures file { (b : Bytes) → front.now ≡ take front_size b
         → InspectsStanzas b stanzas.old stanzas.new text.old text.new report.new result }
 {

@@ -1,4 +1,4 @@
-//! Opening a file by its file key.
+//! Opening a file under its file key.
 
 ghost use Rattle.std.specs.Prelude.{◌≡◌};
 ghost use Rattle.agefile.specs.Unlock.{FindsStart, Opens, StartsAt, by_file_key};
@@ -45,13 +45,14 @@ impl Identity for GivenKey {
 }
 
 /// Verifies the MAC of the header at the start of a file under a file key, and starts the payload
-/// for reading. On 0 the report's length is the offset of the first sealed chunk. Any beginning of
-/// the file suffices that has its header and the 16 bytes after it; a shorter one gives 3 or 10.
+/// for reading. On 0 the report has, as its length, the offset of the first sealed chunk. Any
+/// beginning of the file suffices that contains its header and the 16 bytes after it; for a shorter
+/// one the call returns 3 or 10.
 ///
 /// # Errors
-/// 17 if an allocation was refused. Otherwise the first that applies of those of
-/// `age_file::inspect`, 5 if a `scrypt` stanza is not alone, 9 if the MAC is not the one under this
-/// key, 10 if fewer than 16 bytes follow the header. The payload is not open then.
+/// The first that applies of those of `age_file::inspect`, 5 if a `scrypt` stanza is not alone, 9
+/// if the MAC is not the one under this key, 10 if fewer than 16 bytes follow the header. 17 if an
+/// allocation was refused. The payload is then not open.
 #[unsafe(no_mangle)]
 pub extern "C" fn agefile_open(
     alloc: Global,
@@ -60,15 +61,15 @@ pub extern "C" fn agefile_open(
     payload: &mut Payload,
     report: &mut Report,
 ) -> u32
-    // The first fault up to the nonce that the verdict has for an identity that gives this key for
-    // any stanzas, the MAC verified under it; else the payload is before chunk 0 for reading, and
-    // the report has its offset; or 17. On a fault the payload is closed.
+    // Returns the verdict's first fault up to the nonce, for an identity that returns this key for
+    // any stanzas, with the MAC verified under it; or 17. The payload is then closed. Otherwise the
+    // payload is before chunk 0, for reading, and the report has that chunk's offset.
     ensures { Opens (by_file_key file_key.now) front.now payload.new report.new result }
 {
     start_at(start_under(alloc, front, file_key), payload, report)
 }
 
-/// The payload before its first chunk, or not open.
+/// Makes the payload before its first chunk, or a closed one.
 fn start_at(start: Result<Start, Fault>, payload: &mut Payload, report: &mut Report) -> u32
     ensures { StartsAt start payload.new report.new result }
 {
@@ -86,7 +87,7 @@ fn start_at(start: Result<Start, Fault>, payload: &mut Payload, report: &mut Rep
     }
 }
 
-/// Finds the start of a file with this front by its file key.
+/// Finds the start of the payload of a file with this front, under its file key.
 pub(crate) fn start_under(alloc: Global, front: &[u8], file_key: &[u8; 16]) -> Result<Start, Fault>
     ensures { FindsStart (by_file_key file_key.now) front.now result }
 {

@@ -1,5 +1,4 @@
-//! A part of a payload: some of its chunks, none of them the last, which another thread may open or
-//! seal.
+//! A part of a payload: some of its chunks, without the last, for another thread to open or seal.
 
 ghost use Rattle.std.specs.Prelude.{◌≡◌, ◌<◌};
 ghost use Rattle.agefile.specs.Part.{OpensNext, SealsNext, TakesPart, closed_part, may_take, payload_of, with_payload};
@@ -10,7 +9,7 @@ use crate::phase::{CLOSED, ENDED, READING, WRITING};
 use crate::report::Report;
 use age_file::Fault;
 
-/// Some chunks of a payload, from the next one on, in their caller's memory. It may hold any bytes.
+/// Some chunks of a payload, from the next one on, in the caller's memory. Its bytes may be any.
 #[repr(C)]
 #[derive(Clone, Copy)]
 pub struct Part {
@@ -18,16 +17,16 @@ pub struct Part {
     pub key: [u8; 32],
     /// The number of the next chunk in the file.
     pub number: u64,
-    /// How many chunks are left.
+    /// The number of chunks left.
     pub left: u64,
     /// 0 not open, 1 reading, 2 writing, 3 after the last chunk of the part, 4 after a fault.
     pub state: u64,
-    /// 0, for later versions.
+    /// 0, reserved for later versions.
     pub spare: u64,
 }
 
 impl Part {
-    /// Nothing is open.
+    /// A part that is not open.
     fn closed() -> Part
         ensures { result ≡ closed_part }
     {
@@ -40,7 +39,7 @@ impl Part {
         }
     }
 
-    /// The payload that it is, but for its count.
+    /// The part as a payload, without its count.
     fn payload(&self) -> Payload
         ensures { result ≡ payload_of self.now }
     {
@@ -52,7 +51,7 @@ impl Part {
         }
     }
 
-    /// Takes over what a call on its payload did, and counts a chunk that was accepted.
+    /// Takes over the result of a call on its payload, and counts down after an accepted chunk.
     fn follow(&mut self, payload: &Payload, code: u32)
         requires { 0 < self.old.left }
         ensures { self.new ≡ with_payload self.old payload.now code }
@@ -69,19 +68,20 @@ impl Part {
     }
 }
 
-/// Whether a payload gives a part of so many chunks.
+/// Whether a part of this many chunks may be taken from a payload.
 fn may_take(payload: &Payload, count: u64) -> bool
     ensures { result ≡ may_take payload.now count }
 {
     (payload.state == READING || payload.state == WRITING) && count > 0
 }
 
-/// Takes the next chunks, one or more and none of them the last, out of a payload that is being
-/// read or written: the part opens or seals just these, and the payload goes on behind them.
+/// Takes the next chunks, one or more and none of them the last, from a payload that is open for
+/// reading or writing. The part opens or seals exactly these chunks, and the payload continues
+/// after them.
 ///
 /// # Errors
-/// 23 if the payload is neither being read nor written, or the count is 0; 14 if the number of a
-/// chunk would exceed the greatest. The payload is unchanged, and the part is not open.
+/// 23 if the payload is not open for reading or writing, or the count is 0; 14 if the number of a
+/// chunk would exceed the greatest. The payload is then unchanged, and the part is not open.
 #[unsafe(no_mangle)]
 pub extern "C" fn agefile_take_part(
     payload: &mut Payload,
@@ -112,12 +112,12 @@ pub extern "C" fn agefile_take_part(
     OK
 }
 
-/// Opens the part's next sealed chunk in place, 65,552 bytes. On 0 its text is at the start of the
-/// buffer, and the report has its length. It allocates nothing.
+/// Opens the part's next sealed chunk, 65,552 bytes, in place. On 0 its text is at the start of the
+/// buffer, and the report has its length. Allocates nothing.
 ///
 /// # Errors
-/// 23 if the part is not being read, or the chunk has another length: only the report changes.
-/// Otherwise 14 or 13: the chunk is unchanged, and the part accepts no other.
+/// 23 if the part is not open for reading, or the chunk has another length: only the report
+/// changes. Otherwise 14 or 13: the chunk is unchanged, and the part accepts no further chunk.
 #[unsafe(no_mangle)]
 pub extern "C" fn agefile_part_open_next(
     part: &mut Part,
@@ -136,12 +136,12 @@ pub extern "C" fn agefile_part_open_next(
     code
 }
 
-/// Seals the part's next chunk in place: 65,536 bytes of text, and then 16 bytes for the tag. On 0
-/// all of it is the sealed chunk. It allocates nothing.
+/// Seals the part's next chunk in place: 65,536 bytes of text, then 16 bytes of room for the tag.
+/// On 0 the whole buffer is the sealed chunk. Allocates nothing.
 ///
 /// # Errors
-/// 23 if the part is not being written, or the chunk has another length: only the report changes.
-/// Otherwise 14: the chunk is unchanged, and the part accepts no other.
+/// 23 if the part is not open for writing, or the chunk has another length: only the report
+/// changes. Otherwise 14: the chunk is unchanged, and the part accepts no further chunk.
 #[unsafe(no_mangle)]
 pub extern "C" fn agefile_part_seal_next(
     part: &mut Part,

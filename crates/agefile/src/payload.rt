@@ -9,7 +9,7 @@ use crate::code::{OK, OUT_OF_ORDER};
 use crate::phase::{CLOSED, ENDED, FAILED, READING, WRITING};
 use crate::report::Report;
 
-/// The chunks of a file from the next one on, in their caller's memory. It may hold any bytes.
+/// The chunks of a file from the next one on, in the caller's memory. Its bytes may be any.
 #[repr(C)]
 #[derive(Clone, Copy)]
 pub struct Payload {
@@ -19,12 +19,12 @@ pub struct Payload {
     pub number: u64,
     /// 0 not open, 1 reading, 2 writing, 3 after the last chunk, 4 after a fault.
     pub state: u64,
-    /// 0, for later versions.
+    /// 0, reserved for later versions.
     pub spare: [u64; 2],
 }
 
 impl Payload {
-    /// Nothing is open.
+    /// A payload that is not open.
     pub(crate) fn closed() -> Payload
         ensures { result ≡ closed_payload }
     {
@@ -36,7 +36,7 @@ impl Payload {
         }
     }
 
-    /// Before chunk 0, for reading or writing.
+    /// A payload before chunk 0, for reading or writing.
     pub(crate) fn before_first(key: [u8; 32], phase: u64) -> Payload
         ensures { result ≡ before_first key phase }
     {
@@ -48,14 +48,14 @@ impl Payload {
         }
     }
 
-    /// Whether it opens a chunk of this many bytes.
+    /// Whether the payload may open a chunk of this length next.
     fn may_open(&self, len: usize, last: bool) -> bool
         ensures { result ≡ may_open self.now len last }
     {
         self.state == READING && is_chunk_len(len, last)
     }
 
-    /// Whether it seals a chunk of this many bytes.
+    /// Whether the payload may seal a chunk of this length next.
     fn may_seal(&self, len: usize, last: bool) -> bool
         ensures { result ≡ may_seal self.now len last }
     {
@@ -64,12 +64,12 @@ impl Payload {
 }
 
 /// Opens the next sealed chunk in place: 65,552 bytes, or what is left if it is the last. On 0 its
-/// text is at the start of the buffer, and the report has its length. It allocates nothing.
+/// text is at the start of the buffer, and the report has its length. Allocates nothing.
 ///
 /// # Errors
-/// 23 if the payload is not being read, or the chunk has another length: only the report changes.
-/// Otherwise the first that applies of 14, 11, 12 and 13, as `age_stream::open_chunk` says: the
-/// chunk is unchanged, and the payload accepts no other.
+/// 23 if the payload is not open for reading, or the chunk has another length: only the report
+/// changes. Otherwise the first that applies of 14, 11, 12 and 13, as for `age_stream::open_chunk`:
+/// the chunk is unchanged, and the payload accepts no further chunk.
 #[unsafe(no_mangle)]
 pub extern "C" fn agefile_open_next(
     payload: &mut Payload,
@@ -88,13 +88,13 @@ pub extern "C" fn agefile_open_next(
     code
 }
 
-/// Seals the next chunk in place: its text, 65,536 bytes or what is left if it is the last, and
-/// then 16 bytes for the tag. Only the last chunk of an empty plaintext has no text. On 0 all of it
-/// is the sealed chunk. It allocates nothing.
+/// Seals the next chunk in place: its text, 65,536 bytes or what is left if it is the last, then 16
+/// bytes of room for the tag. Only the last chunk of an empty plaintext has no text. On 0 the whole
+/// buffer is the sealed chunk. Allocates nothing.
 ///
 /// # Errors
-/// 23 if the payload is not being written, or the chunk has another length; 14 if there are
-/// 2^64 - 1 chunks already, after which the payload accepts no other. The chunk is unchanged.
+/// 23 if the payload is not open for writing, or the chunk has another length; 14 if there are 2^64
+/// - 1 chunks already, after which the payload accepts no further chunk. The chunk is unchanged.
 #[unsafe(no_mangle)]
 pub extern "C" fn agefile_seal_next(
     payload: &mut Payload,
@@ -113,7 +113,7 @@ pub extern "C" fn agefile_seal_next(
     code
 }
 
-/// Counts a chunk that was accepted, or keeps a fault.
+/// Counts an accepted chunk, or keeps a fault.
 fn go_on(payload: &mut Payload, last: bool, code: u32)
     requires { code ≡ ok → payload.old.number + 1 < 2 ^ 64 }
     ensures { payload.new ≡ after_chunk payload.old last code }

@@ -1,12 +1,12 @@
 //! The phases of a payload and of its parts between two calls.
 
-/// Nothing was opened.
+/// Not open.
 pub(crate) const CLOSED: u64 = 0;
 
-/// The next sealed chunk is opened.
+/// Open for reading: the next chunk is to be opened.
 pub(crate) const READING: u64 = 1;
 
-/// The next chunk is sealed.
+/// Open for writing: the next chunk is to be sealed.
 pub(crate) const WRITING: u64 = 2;
 
 /// The last chunk was accepted.

@@ -1,4 +1,4 @@
-//! Ranges of a plaintext in steps: the caller reads the file, one sealed chunk at a time.
+//! Reading parts of a plaintext in steps. The caller reads the file, one sealed chunk at a time.
 
 ghost use Rattle.std.specs.Prelude.{◌≡◌, ◌≤◌, ◌/◌, None, true};
 ghost use Rattle.std.specs.Bool.{OnFalse, OnTrue};
@@ -19,13 +19,13 @@ use age_file::Fault;
 use age_stream::{CHUNK_SIZE, SEALED_CHUNK_SIZE, TAG_SIZE, open_chunk};
 use std::alloc::Global;
 
-/// Nothing was opened.
+/// Not open.
 const CLOSED: u64 = 0;
 
-/// The last sealed chunk was not verified yet.
+/// Open, with the last sealed chunk not verified yet.
 const OPEN: u64 = 1;
 
-/// The last sealed chunk was verified.
+/// Open, with the last sealed chunk verified.
 const VERIFIED: u64 = 2;
 
 /// A payload between two calls, in the caller's memory.
@@ -43,7 +43,7 @@ pub struct Ranges {
 }
 
 impl Ranges {
-    /// No payload.
+    /// A payload that is not open.
     fn closed() -> Ranges
         ensures { result ≡ closed_ranges }
     {
@@ -56,7 +56,7 @@ impl Ranges {
     }
 }
 
-/// No payload.
+/// Refuses, and leaves no payload open.
 fn stay_closed(ranges: &mut Ranges, report: &mut Report) -> u32
     ensures { Returns out_of_order None closed_ranges ranges.new report.new result }
 {
@@ -65,13 +65,13 @@ fn stay_closed(ranges: &mut Ranges, report: &mut Report) -> u32
     OUT_OF_ORDER
 }
 
-/// Opens a file of `file_len` bytes for ranges by its file key. `front` is any beginning of it that
-/// has its header and the 16 bytes after it. On 0 the report has the last sealed chunk's offset in
-/// the file and its length.
+/// Opens a file of `file_len` bytes for ranges under its file key. `front` is any beginning of it
+/// that contains its header and the 16 bytes after it. On 0 the report has the offset of the last
+/// sealed chunk in the file and its length.
 ///
 /// # Errors
-/// Those of `agefile_open`; then 23 if the file ends before its first sealed chunk. No payload is
-/// open then.
+/// Those of `agefile_open`, then 23 if the file ends before its first sealed chunk. No payload is
+/// then open.
 #[unsafe(no_mangle)]
 pub extern "C" fn agefile_ranges_open(
     alloc: Global,
@@ -92,7 +92,7 @@ pub extern "C" fn agefile_ranges_open(
     )
 }
 
-/// The payload from this start to the end of a file of this many bytes, or none.
+/// Opens the payload from this start to the end of a file of this length, or none.
 fn open_at(
     start: Result<Start, Fault>,
     file_len: u64,
@@ -130,12 +130,12 @@ fn open_at(
 }
 
 /// Verifies the last sealed chunk, whose length and tag prove where the file ends, and opens it in
-/// place. It must come before the other calls. On 0 its text is at the start of the buffer, and the
-/// report's length is the plaintext's.
+/// place. Must come before the calls below. On 0 its text is at the start of the buffer, and the
+/// report has the length of the plaintext.
 ///
 /// # Errors
 /// 23 if no payload is open, or the chunk has another length: only the report changes. Otherwise
-/// the first that applies of 11, 12 and 13, as `age_stream::open_chunk` says: the chunk is
+/// the first that applies of 11, 12 and 13, as for `age_stream::open_chunk`: the chunk is
 /// unchanged, and the payload counts as not verified.
 #[unsafe(no_mangle)]
 pub extern "C" fn agefile_ranges_last(
@@ -143,12 +143,13 @@ pub extern "C" fn agefile_ranges_last(
     chunk: &mut [u8],
     report: &mut Report,
 ) -> u32
-    // A call that does not fit the state returns 23 and changes nothing but the report.
+    // Returns 23, and changes only the report, if no payload is open or the chunk has another
+    // length.
     ensures out_of_order { OnFalse (may_verify ranges.old chunk.old)
         ((result ≡ out_of_order) × (ranges.new ≡ ranges.old) × (chunk.new ≡ chunk.old)
         × (report.new ≡ report_of 0 None)) }
-    // The last piece is opened at its number, and only then an offset is located or another piece
-    // opened; on a fault the chunk is unchanged, and the payload counts as not verified.
+    // The last piece is opened under its number; only then can an offset be located or another
+    // piece be opened. On a fault the chunk is unchanged, and the payload counts as not verified.
     ensures verified { OnTrue (may_verify ranges.old chunk.old)
         (Verified ranges.old ranges.new chunk.old chunk.new report.new result
         (outcome ranges.old.key limits.max_chunks (last_index ranges.old.sealed_len) true
@@ -176,19 +177,19 @@ pub extern "C" fn agefile_ranges_last(
     }
 }
 
-/// Finds the sealed chunk that holds byte `at` of the plaintext: its offset in the file, and its
-/// length.
+/// Finds the sealed chunk that holds byte `at` of the plaintext. The report has its offset in the
+/// file, and its length.
 ///
 /// # Errors
 /// 23 if the last sealed chunk was not verified, the plaintext has no byte `at`, or offsets in the
 /// file do not fit 64 bits.
 #[unsafe(no_mangle)]
 pub extern "C" fn agefile_ranges_locate(ranges: &Ranges, at: u64, report: &mut Report) -> u32
-    // A call that does not fit the state returns 23 and changes nothing but the report.
+    // Returns 23, and changes only the report, if the last sealed chunk was not verified, the
+    // plaintext has no byte `at`, or offsets in the file do not fit 64 bits.
     ensures out_of_order { OnFalse (has_byte ranges.now at)
         ((result ≡ out_of_order) × (report.new ≡ report_of 0 None)) }
-    // The byte lies in the piece at the offset that is returned; 23 past the plaintext's end, and
-    // if the file's offsets do not fit 64 bits.
+    // Reports the piece that holds the byte: its offset in the file, and its length.
     ensures located { OnTrue (has_byte ranges.now at)
         ((result ≡ ok) × (report.new ≡ piece_report ranges.now (at / chunk_size))) }
 {
@@ -202,12 +203,12 @@ pub extern "C" fn agefile_ranges_locate(ranges: &Ranges, at: u64, report: &mut R
     OK
 }
 
-/// Opens the sealed chunk that holds byte `at` of the plaintext in place. The plaintext from `at`
-/// on is then in the chunk, from the reported offset on and of the reported length.
+/// Opens the sealed chunk that holds byte `at` of the plaintext in place. The buffer then contains
+/// the plaintext from `at` on, at the offset and of the length in the report.
 ///
 /// # Errors
 /// 23 as for `agefile_ranges_locate`, or if the chunk has another length; 13 if no plaintext seals
-/// to these bytes at this number. The chunk is unchanged.
+/// to these bytes under this number. The chunk is unchanged.
 #[unsafe(no_mangle)]
 pub extern "C" fn agefile_ranges_chunk(
     ranges: &Ranges,
@@ -215,11 +216,12 @@ pub extern "C" fn agefile_ranges_chunk(
     chunk: &mut [u8],
     report: &mut Report,
 ) -> u32
-    // A call that does not fit the state returns 23 and changes nothing but the report.
+    // Returns 23, and changes only the report, as `agefile_ranges_locate` does, or if the chunk has
+    // another length.
     ensures out_of_order { OnFalse (may_open ranges.now at chunk.old)
         ((result ≡ out_of_order) × (chunk.new ≡ chunk.old) × (report.new ≡ report_of 0 None)) }
-    // That piece is opened at its number, and the plaintext continues from the byte on in its text;
-    // or its fault is returned and the chunk is unchanged.
+    // The piece is opened under its number, and its text contains the plaintext from the byte on;
+    // or its fault is returned, and the chunk is unchanged.
     ensures gives { OnTrue (may_open ranges.now at chunk.old)
         (GivesFrom at chunk.old chunk.new report.new result
         (piece_outcome ranges.now (at / chunk_size) chunk.old)) }
@@ -255,14 +257,14 @@ fn has_byte(ranges: &Ranges, at: u64) -> bool
         && at < plain_of(ranges.sealed_len)
 }
 
-/// The index of the last piece, if all pieces together have this many bytes.
+/// The index of the last piece, if all pieces together have this length.
 fn last_index(sealed_len: u64) -> u64
     ensures { result ≡ last_index sealed_len }
 {
     sealed_len.saturating_sub(1) / SEALED_CHUNK_SIZE as u64
 }
 
-/// The length of piece i, if all pieces together have this many bytes.
+/// The length of piece i, if all pieces together have this length.
 fn piece_len(sealed_len: u64, i: u64) -> usize
     requires { i ≤ last_index sealed_len }
     ensures { result ≡ piece_len sealed_len i }
@@ -270,7 +272,7 @@ fn piece_len(sealed_len: u64, i: u64) -> usize
     (sealed_len - SEALED_CHUNK_SIZE as u64 * i).min(SEALED_CHUNK_SIZE as u64) as usize
 }
 
-/// The length of the plaintext, if the sealed chunks have this many bytes.
+/// The length of the plaintext, if the sealed chunks together have this length.
 fn plain_of(sealed_len: u64) -> u64
     ensures { result ≡ plain_of sealed_len }
 {

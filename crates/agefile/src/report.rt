@@ -1,4 +1,4 @@
-//! What a call returns beside its code.
+//! What a call reports beside its code.
 
 ghost use Rattle.std.specs.Prelude.{◌≡◌, Some, None};
 ghost use Rattle.agefile.specs.Report.{report_of};
@@ -6,22 +6,22 @@ ghost use Rattle.agefile.specs.Report.{report_of};
 use crate::code::{fault_detail, fault_place};
 use age_file::Fault;
 
-/// What a call returns beside its code. Each call sets all of it.
+/// What a call reports beside its code. Each call sets all fields.
 #[repr(C)]
 #[derive(Clone, Copy, Default)]
 pub struct Report {
-    /// The number of bytes written to the start of the buffer; if it is too small for them, the
-    /// number that would have been written. The calls of readers and ranges say what it is there.
+    /// The number of bytes written to the start of the buffer, or needed if it is too small. The
+    /// calls that open payloads and ranges use it as they say.
     pub len: u64,
-    /// The line, from 1, or the chunk, from 0, of a fault, else 0. The calls of ranges return an
+    /// The line, from 1, or the chunk, from 0, of a fault, else 0. The calls on ranges return an
     /// offset here, and the listing of stanzas their number.
     pub place: u64,
-    /// The part of a malformed stanza that is malformed, else 0.
+    /// Which part of a malformed stanza is malformed, else 0.
     pub detail: u64,
 }
 
 impl Report {
-    /// No fault, and this many bytes.
+    /// The report of a call without a fault, of this many bytes.
     pub(crate) fn of_len(len: u64) -> Report
         ensures { result ≡ report_of len None }
     {
@@ -32,7 +32,7 @@ impl Report {
         }
     }
 
-    /// A fault, after this many bytes.
+    /// The report of a call with a fault, after this many bytes.
     pub(crate) fn of_fault(len: u64, fault: Fault) -> Report
         ensures { result ≡ report_of len (Some fault) }
     {

@@ -17,10 +17,10 @@ use age_stream::{CHUNK_SIZE, NONCE_SIZE, SEALED_CHUNK_SIZE, TAG_SIZE, payload_ke
 use std::alloc::Global;
 
 /// Encrypts a plaintext for a text of stanzas, as `agefile_begin` and the calls on its payload do.
-/// File key and nonce are 16 random bytes each, never used twice.
+/// File key and nonce are 16 random bytes each and must never be used twice.
 ///
 /// # Errors
-/// Those of `agefile_header`. Then `out` is unchanged.
+/// Those of `agefile_header`. `out` is then unchanged.
 #[unsafe(no_mangle)]
 pub extern "C" fn agefile_encrypt(
     alloc: Global,
@@ -31,8 +31,9 @@ pub extern "C" fn agefile_encrypt(
     out: &mut [u8],
     report: &mut Report,
 ) -> u32
-    // That header and the payload of the plaintext are in `out`; or 21 with the file's length, the
-    // fault of the header, or 17, with `out` unchanged.
+    // On 0 `out` begins with the header of the stanzas and the payload of the plaintext. Otherwise
+    // returns 21 with the file's length in the report, the header's fault, or 17; `out` is
+    // unchanged.
     ensures { Encrypts stanzas.now file_key.now nonce.now plain.now out.old out.new report.new
         result }
 {
@@ -51,7 +52,7 @@ pub extern "C" fn agefile_encrypt(
     OK
 }
 
-/// Writes a header and the payload of a plaintext to a buffer of their length.
+/// Writes a header and the payload of a plaintext to a buffer of exactly their length.
 fn write_file(header: &[u8], plain: &[u8], key: &FileKey, nonce: &[u8; 16], file: &mut [u8])
     requires { length file.old ≡ file_len (length header.now) (length plain.now) }
     ensures { file.new ≡ header.now ++ payload key.now nonce.now plain.now }
@@ -63,7 +64,7 @@ fn write_file(header: &[u8], plain: &[u8], key: &FileKey, nonce: &[u8; 16], file
     seal_chunks(&payload_key(key, nonce), plain, sealed);
 }
 
-/// Seals the chunks of a plaintext into a buffer of their length.
+/// Seals the chunks of a plaintext into a buffer of exactly their length.
 fn seal_chunks(key: &[u8; 32], plain: &[u8], out: &mut [u8])
     requires { length out.old ≡ length plain.now + tag_size * chunk_count (length plain.now) }
     ensures { out.new ≡ concat (sealed_chunks_from key.now 0 (chunks plain.now)) }
@@ -84,7 +85,7 @@ fn seal_chunks(key: &[u8; 32], plain: &[u8], out: &mut [u8])
     }
 }
 
-/// Seals the first chunk of what is left of a plaintext into the start of a buffer.
+/// Seals the first chunk of the rest of a plaintext into the start of a buffer.
 fn seal_first(key: &[u8; 32], number: u64, left: &[u8], room: &mut [u8])
     requires { min (length left.now) chunk_size + tag_size ≤ length room.old }
     ensures { room.new

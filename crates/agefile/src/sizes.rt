@@ -1,4 +1,4 @@
-//! The sizes of buffers that suffice.
+//! Sufficient sizes of buffers.
 
 ghost use Rattle.std.specs.Prelude.{◌≡◌, ◌-◌, ◌^◌, ◌<◌, ◌≤◌, ◌++◌, ℕ, length, min};
 ghost use Rattle.age_kdf.specs.Bytes.{Bytes};
@@ -19,26 +19,26 @@ ghost use Rattle.agefile.specs.Sizes.{file_len, limits, opened_len, plain_len_at
 
 use age_stream::{CHUNK_SIZE, NONCE_SIZE, SEALED_CHUNK_SIZE, TAG_SIZE};
 
-/// The header of a file under a key, 156 bytes, and its payload's nonce. Under a passphrase the
-/// header is six or seven bytes shorter.
+/// The header of a file encrypted with a key, 156 bytes, and its payload's nonce. With a passphrase
+/// the header is six or seven bytes shorter.
 const KEYED_START: u64 = 172;
 
 /// The shortest header, 70 bytes without its stanzas, and its payload's nonce.
 const SHORTEST_START: u64 = 86;
 
-/// A buffer size that suffices for the file of a plaintext of this many bytes with one stanza of
-/// `agefile_wrap_key` or `agefile_wrap_passphrase`. It is the length under a key, saturating at the
+/// Returns a sufficient buffer size for the file of a plaintext of this length, with one stanza of
+/// `agefile_wrap_key` or `agefile_wrap_passphrase`. It is the length with a key, saturating at the
 /// largest `u64`.
 #[unsafe(no_mangle)]
 pub extern "C" fn agefile_sealed_len(plain_len: u64) -> u64
-    // Capped at the largest u64.
+    // The result saturates at the largest u64.
     ensures value { result ≡ min (sealed_len plain_len) (2 ^ 64 - 1) }
-    // The file of one stanza of a key is exactly so long.
+    // A file with one stanza of a key has exactly this length.
     ensures key { (key salt stanza file_key nonce plain file : Bytes) → length salt ≡ salt_size
         → length file_key ≡ file_key_size → length nonce ≡ nonce_size → length plain ≡ plain_len
         → IsStanza (keyed_stanza key salt (record { 0 = file_key })) stanza
         → IsNewFile stanza file_key nonce plain file → length file ≡ sealed_len plain_len }
-    // The file of one stanza of a passphrase is shorter.
+    // A file with one stanza of a passphrase is shorter.
     ensures pass { (pass salt stanza file_key nonce plain file : Bytes) (work : ℕ)
         → length salt ≡ salt_size → length file_key ≡ file_key_size → length nonce ≡ nonce_size
         → WorkFits work → length plain ≡ plain_len
@@ -51,13 +51,13 @@ pub extern "C" fn agefile_sealed_len(plain_len: u64) -> u64
         .saturating_add(TAG_SIZE as u64 * chunks)
 }
 
-/// A buffer size that suffices for the plaintext of any file of this many bytes, and for the
+/// Returns a sufficient buffer size for the plaintext of any file of this length, also for the
 /// plaintext before a fault.
 #[unsafe(no_mangle)]
 pub extern "C" fn agefile_plain_len_at_most(file_len: u64) -> u64
-    // What pieces open to that fill the file after the shortest header and the nonce.
+    // The length of the texts of pieces that fill the file after the shortest header and the nonce.
     ensures value { result ≡ plain_len_at_most file_len }
-    // No verdict's plaintext is longer.
+    // No verdict on a file of this length has a longer plaintext.
     ensures suffices { (answers : Answering) (b : Bytes) (verdict : Reading Fault)
         → length b ≡ file_len → IsVerdict limits answers b verdict → length verdict.plaintext
         ≤ result }
@@ -65,7 +65,7 @@ pub extern "C" fn agefile_plain_len_at_most(file_len: u64) -> u64
     opened_len(file_len.saturating_sub(SHORTEST_START))
 }
 
-/// The most that sealed chunks of this many bytes in all open to.
+/// The greatest length of the texts of sealed chunks that together have this length.
 pub(crate) fn opened_len(sealed: u64) -> u64
     ensures { result ≡ opened_len sealed }
 {
@@ -73,13 +73,13 @@ pub(crate) fn opened_len(sealed: u64) -> u64
         + (sealed % SEALED_CHUNK_SIZE as u64).saturating_sub(TAG_SIZE as u64)
 }
 
-/// The length of the file of a plaintext of this many bytes with a header of this many bytes,
+/// Returns the length of the file of a plaintext of this length with a header of this length,
 /// saturating at the largest `u64`.
 #[unsafe(no_mangle)]
 pub extern "C" fn agefile_file_len(header_len: u64, plain_len: u64) -> u64
-    // Capped at the largest u64.
+    // The result saturates at the largest u64.
     ensures value { result ≡ min (file_len header_len plain_len) (2 ^ 64 - 1) }
-    // The length of a file is that of its header, a nonce, the plaintext, and a tag for each chunk.
+    // A file consists of its header, a nonce, the plaintext, and a tag for each chunk.
     ensures file { (k : FileKey) (header nonce plain : Bytes) → length header ≡ header_len
         → length nonce ≡ nonce_size → length plain ≡ plain_len
         → length (header ++ payload k nonce plain) ≡ file_len header_len plain_len }

@@ -15,7 +15,7 @@ pub(crate) struct Start {
     pub(crate) key: [u8; 32],
 }
 
-/// Finds the start of a file with this front for one identity.
+/// Finds the start of the payload of a file with this front, for one identity.
 pub(crate) fn start_for(
     alloc: Global,
     front: &[u8],

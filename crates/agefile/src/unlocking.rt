@@ -27,15 +27,15 @@ pub(crate) struct Unlocked {
     pub(crate) key: FileKey,
 }
 
-/// Writes the file key of the header at the start of a file to `file_key`, by a passphrase, which
-/// is any bytes, once the header's MAC under it was verified. It accepts work factors of at most
-/// `max_work`, 1 to 30. On 0 the report's length is the header's. The first 65,552 bytes of a
+/// Finds the file key of the header at the start of a file with a passphrase, which is any bytes,
+/// and verifies the header's MAC under it. Writes it to `file_key`. Accepts work factors of at most
+/// `max_work`, 1 to 30. On 0 the report has the length of the header. The first 65,552 bytes of a
 /// longer file suffice.
 ///
 /// # Errors
-/// 22 if `max_work` is not 1 to 30, 17 if an allocation was refused. Otherwise the first that
-/// applies of those of `age_file::inspect` and `age_file::unlock_header`. Then `file_key` is
-/// unchanged.
+/// 22 if `max_work` is not 1 to 30. Otherwise the first that applies of those of
+/// `age_file::inspect` and `age_file::unlock_header`. 17 if an allocation was refused. In all cases
+/// `file_key` is unchanged.
 #[unsafe(no_mangle)]
 pub extern "C" fn agefile_unlock_passphrase(
     alloc: Global,
@@ -45,16 +45,17 @@ pub extern "C" fn agefile_unlock_passphrase(
     file_key: &mut [u8; 16],
     report: &mut Report,
 ) -> u32
-    // The file key that the secret chooses, once the header's MAC under it was verified, and the
-    // header's length; otherwise the first fault up to the MAC, or 17, with `file_key` unchanged.
+    // On 0 `file_key` is the file key that the secret chooses, the header's MAC was verified under
+    // it, and the report has the header's length. Otherwise returns the first fault up to the MAC,
+    // or 17, and leaves `file_key` unchanged.
     ensures fit { WorkFits max_work
         → Unlocks (one_answer (pass_unwraps (record { pass = pass.now; max = max_work }))) front.now
         file_key.old file_key.new report.new result }
-    // The front of 65,552 bytes is enough: the same holds of the file.
+    // The first 65,552 bytes suffice: the same holds for the whole file.
     ensures file { (b : Bytes) → front.now ≡ take front_size b → WorkFits max_work
         → Unlocks (one_answer (pass_unwraps (record { pass = pass.now; max = max_work }))) b
         file_key.old file_key.new report.new result }
-    // A maximum that is not 1 to 30 returns 22, and no other one does.
+    // If the maximum is not 1 to 30, returns 22 and leaves `file_key` unchanged.
     ensures unfit { (WorkFits max_work → ⊥)
         → Returns bad_work_factor None file_key.old file_key.new report.new result }
 {
@@ -64,13 +65,13 @@ pub extern "C" fn agefile_unlock_passphrase(
     }
 }
 
-/// Writes the file key of the header at the start of a file to `file_key`, by a key of 32 bytes,
-/// this project's own kind, once the header's MAC under it was verified. On 0 the report's length
-/// is the header's. The first 65,552 bytes of a longer file suffice.
+/// Finds the file key of the header at the start of a file with a key of 32 bytes, whose stanza is
+/// this project's own, and verifies the header's MAC under it. Writes it to `file_key`. On 0 the
+/// report has the length of the header. The first 65,552 bytes of a longer file suffice.
 ///
 /// # Errors
-/// 17 if an allocation was refused. Otherwise the first that applies of those of
-/// `age_file::inspect` and `age_file::unlock_header`. Then `file_key` is unchanged.
+/// The first that applies of those of `age_file::inspect` and `age_file::unlock_header`. 17 if an
+/// allocation was refused. In all cases `file_key` is unchanged.
 #[unsafe(no_mangle)]
 pub extern "C" fn agefile_unlock_key(
     alloc: Global,
@@ -79,11 +80,12 @@ pub extern "C" fn agefile_unlock_key(
     file_key: &mut [u8; 16],
     report: &mut Report,
 ) -> u32
-    // The file key that the secret chooses, once the header's MAC under it was verified, and the
-    // header's length; otherwise the first fault up to the MAC, or 17, with `file_key` unchanged.
+    // On 0 `file_key` is the file key that the secret chooses, the header's MAC was verified under
+    // it, and the report has the header's length. Otherwise returns the first fault up to the MAC,
+    // or 17, and leaves `file_key` unchanged.
     ensures front { Unlocks (one_answer (key_unwraps key.now)) front.now file_key.old file_key.new
         report.new result }
-    // The front of 65,552 bytes is enough: the same holds of the file.
+    // The first 65,552 bytes suffice: the same holds for the whole file.
     ensures file { (b : Bytes) → front.now ≡ take front_size b
         → Unlocks (one_answer (key_unwraps key.now)) b file_key.old file_key.new report.new result }
 {
@@ -108,7 +110,7 @@ fn give_key(key: Result<Unlocked, Fault>, file_key: &mut [u8; 16], report: &mut 
     }
 }
 
-/// Finds the file key for a passphrase; `None` exactly if `max_work` is not 1 to 30.
+/// Finds the file key with a passphrase. Returns `None` exactly if `max_work` is not 1 to 30.
 fn key_for_passphrase(
     alloc: Global,
     front: &[u8],
@@ -132,7 +134,7 @@ fn key_for_passphrase(
     }
 }
 
-/// Finds the file key for a key of 32 bytes.
+/// Finds the file key with a key of 32 bytes.
 fn key_for_key(alloc: Global, front: &[u8], key: &[u8; 32]) -> Result<Unlocked, Fault>
     ensures { FindsKey (one_answer (key_unwraps key.now)) front.now result }
 {

@@ -18,12 +18,13 @@ use age_file::{
 };
 use std::alloc::Global;
 
-/// Writes the text of the stanza that wraps a file key under a passphrase, which is any bytes but
-/// not empty, with a work factor of 1 to 30. The salt is 16 random bytes, fresh for each stanza.
+/// Writes the text of the stanza that wraps a file key under a passphrase with a work factor of 1
+/// to 30. The passphrase is any bytes, at least one. The salt is 16 random bytes, fresh for each
+/// stanza.
 ///
 /// # Errors
-/// 26 if `pass` is empty, before any other code; 22 if `work` is not 1 to 30, 21 if `out` is too
-/// small, 17 if an allocation was refused. Then `out` is unchanged. There are no other codes.
+/// The first that applies of 26 if `pass` is empty; 22 if `work` is not 1 to 30; 21 if `out` is too
+/// small, or 17 if an allocation was refused. `out` is then unchanged. There are no other codes.
 #[unsafe(no_mangle)]
 pub extern "C" fn agefile_wrap_passphrase(
     alloc: Global,
@@ -34,15 +35,15 @@ pub extern "C" fn agefile_wrap_passphrase(
     out: &mut [u8],
     report: &mut Report,
 ) -> u32
-    // An empty passphrase returns 26 before any other code, and no other one does; `out` is
-    // unchanged.
+    // If the passphrase is empty, returns 26 before any other code. `out` is unchanged.
     ensures empty { pass.now ≡ []
         → Returns empty_passphrase None out.old out.new report.new result }
-    // The text of the stanza of this passphrase, under the salt; 21 or 17 with `out` unchanged.
+    // Writes the text of the stanza of this passphrase, under the salt; or returns 21 or 17, with
+    // `out` unchanged.
     ensures fit { (pass.now ≡ [] → ⊥) → WorkFits work
         → GivesText (pass_stanza pass.now work salt.now (record { 0 = file_key.now })) out.old
         out.new report.new result }
-    // Otherwise a work factor that is not 1 to 30 returns 22, and no other one does.
+    // Otherwise, if the work factor is not 1 to 30, returns 22 and leaves `out` unchanged.
     ensures unfit { (pass.now ≡ [] → ⊥) → (WorkFits work → ⊥)
         → Returns bad_work_factor None out.old out.new report.new result }
 {
@@ -60,11 +61,11 @@ pub extern "C" fn agefile_wrap_passphrase(
     }
 }
 
-/// Writes the text of the stanza that wraps a file key under a key of 32 bytes, this project's own
-/// kind. The salt is 16 random bytes, fresh for each stanza.
+/// Writes the text of the stanza that wraps a file key under a key of 32 bytes; this type of stanza
+/// is this project's own. The salt is 16 random bytes, fresh for each stanza.
 ///
 /// # Errors
-/// 21 if `out` is too small, 17 if an allocation was refused; then `out` is unchanged. There are no
+/// 21 if `out` is too small, 17 if an allocation was refused. `out` is then unchanged. There are no
 /// other codes.
 #[unsafe(no_mangle)]
 pub extern "C" fn agefile_wrap_key(
@@ -84,13 +85,13 @@ pub extern "C" fn agefile_wrap_key(
     }
 }
 
-/// Writes the text of a stanza of the caller's own: of its arguments, joined by single spaces, of
-/// which the first is the type, and of its body's bytes.
+/// Writes the text of a caller's own stanza: its arguments, joined by single spaces, the first of
+/// which is its type, and its body.
 ///
 /// # Errors
 /// 25 if the arguments are not one or more words of visible characters (`!` to `~`), joined by
-/// single spaces; 21 if `out` is too small, 17 if an allocation that it needs was refused. Then
-/// `out` is unchanged. There are no other codes.
+/// single spaces; 21 if `out` is too small, 17 if an allocation was refused. `out` is then
+/// unchanged. There are no other codes.
 #[unsafe(no_mangle)]
 pub extern "C" fn agefile_wrap(
     alloc: Global,
@@ -114,7 +115,7 @@ pub extern "C" fn agefile_wrap(
     }
 }
 
-/// The code of arguments that were refused.
+/// The code of refused arguments.
 fn refusal_code(error: StanzaError) -> u32
     ensures { result ≡ refusal_code error }
 {
@@ -134,7 +135,7 @@ fn give_one(alloc: Global, stanza: Stanza, out: &mut [u8], report: &mut Report) 
     }
 }
 
-/// Writes the text of the stanza that is alone in this list.
+/// Writes the text of the only stanza of this list.
 fn give_text(alloc: Global, stanzas: Vec<Stanza>, out: &mut [u8], report: &mut Report) -> u32
     requires { (stanza : StanzaParts) × (stanzas.items ≡ stanza ∷ []) }
     ensures { (stanza : StanzaParts) → stanzas.items ≡ stanza ∷ []
@@ -143,7 +144,7 @@ fn give_text(alloc: Global, stanzas: Vec<Stanza>, out: &mut [u8], report: &mut R
     let Some(header) = Header::new(stanzas, [0; 32]) else {
         unreachable!();
     };
-    // between the version line and the `---` of a header's text are its stanzas
+    // the stanzas are between the version line and the `---` of a header's text
     match signed_text(alloc, header.stanzas()) {
         Ok(text) => {
             let (front, _) = text.as_slice().split_at(text.len() - 3);

@@ -1,4 +1,4 @@
--- What may keep a plaintext from coming back.
+-- The reasons why a plaintext may not come back.
 use Rattle.std.specs.Prelude.{◌≡◌, ◌<◌, ◌⊎◌, ⊤, length}
 use Rattle.age_stream.specs.Payload.{chunks}
 use Rattle.age_file.specs.declared.fault.Fault.{Fault}
@@ -8,23 +8,23 @@ use Rattle.age_file.specs.Words.{Bytes, IsPassError}
 use Rattle.round_trip.specs.declared.pairs.Lost.{Lost}
 use Rattle.round_trip.specs.declared.pairs.Lost.TheVariants.{Unpaired, Memory, Encrypting, Rewrapping, Decrypting}
 
--- an allocation was refused; where it was one of the sink, the result is `Write`
+-- an allocation was refused; if it was one of the sink, the fault is `Write`
 abbrev pub IsMemoryFault : Fault → Type 0
 IsMemoryFault fault = (fault ≡ OutOfMemory) ⊎ (fault ≡ Write)
 
--- the plaintext has more chunks than are allowed
+-- the plaintext has more chunks than the limit
 abbrev pub IsTooLong : (limits : Bounds) (plain : Bytes) (fault : Fault) → Type 0
 IsTooLong limits plain fault =
     (fault ≡ TooManyChunks) × (limits.max_chunks < length (chunks plain))
 
 -- why no file was written: an allocation was refused, the plaintext is too long, or no header was
--- made, with the faults that `refuses` allows
+-- made, with a fault that `refuses` allows
 abbrev pub IsUnwritten : (refuses : Fault → Type 0) (limits : Bounds) (plain : Bytes)
     (fault : Fault) → Type 0
 IsUnwritten refuses limits plain fault =
     IsMemoryFault fault ⊎ (IsTooLong limits plain fault ⊎ refuses fault)
 
--- no file was written, or an allocation was refused
+-- no file was written, or an allocation was refused; of `Unpaired` this says nothing
 abbrev pub IsLoss : (refuses : Fault → Type 0) (limits : Bounds) (plain : Bytes) (lost : Lost)
     → Type 0
 IsLoss refuses limits plain (Unpaired error) = ⊤
@@ -33,16 +33,16 @@ IsLoss refuses limits plain (Encrypting fault) = IsUnwritten refuses limits plai
 IsLoss refuses limits plain (Rewrapping fault) = IsUnwritten refuses limits plain fault
 IsLoss refuses limits plain (Decrypting fault) = IsMemoryFault fault
 
--- no header is refused
+-- no fault: no header is refused
 abbrev pub none : Fault → Type 0
 none fault = ⊥
 
--- the pair could be made
+-- the pair was made
 abbrev pub IsPaired : Lost → Type 0
 IsPaired (Unpaired error) = ⊥
 IsPaired _ = ⊤
 
--- a pair's work factors don't fit where it was refused for them, and fit on each other loss
+-- if the pair was refused for its work factors, they are out of range; on every other loss they fit
 abbrev pub IsPairedIf : (fits : Type 0) (lost : Lost) → Type 0
 IsPairedIf fits (Unpaired error) = IsPassError fits error
 IsPairedIf fits _ = fits

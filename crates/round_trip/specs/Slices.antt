@@ -12,11 +12,11 @@ use Rattle.round_trip.specs.declared.slicing.Range.{Range}
 abbrev pub part : (plain : Bytes) (range : Range) → Bytes
 part plain range = take range.len (drop range.at plain)
 
--- several ranges, joined
+-- several ranges, concatenated
 abbrev pub parts : (plain : Bytes) (ranges : List Range) → Bytes
 parts plain ranges = flat_map (part plain) ranges
 
--- the chunks of an opened file are those of a plaintext: each of them opens
+-- the chunks of an opened file are those of a plaintext, and each of them opens
 pub record IsSliced (told : Known) (layout : Layout) (plain : Bytes) : Type 0 where
   pub len : layout.plain ≡ length plain
   pub slice : (at : ℕ) (xs : Bytes) → HasPlain told layout at xs
@@ -24,7 +24,7 @@ pub record IsSliced (told : Known) (layout : Layout) (plain : Bytes) : Type 0 wh
   pub opens : (i : ℕ) → chunk_size * i < length plain → source_opening told layout i ≡ None → ⊥
 
 -- a range of an opened file was appended; or an allocation was refused, a read failed, or a chunk
--- of it does not open
+-- of the range does not open
 abbrev pub AddsPart : (told : Known) (s : RangeState) (at len : ℕ) (old new : Bytes)
     (result : Result ⊤ Fault) → Type 0
 AddsPart told s at len old new (Ok _) =

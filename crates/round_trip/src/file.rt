@@ -15,8 +15,8 @@ use std::alloc::Global;
 /// Encrypts a plaintext for one recipient.
 ///
 /// # Errors
-/// Those of `encrypt`: a refusal of the header, `TooManyChunks`, `OutOfMemory`, or `Write` if the
-/// allocation was the sink's.
+/// Those of `encrypt`: a refusal of the header, `TooManyChunks`, `OutOfMemory`, or `Write` if an
+/// allocation of the sink was refused.
 pub fn encrypted(
     alloc: Global,
     recipient: Box<dyn Recipient>,
@@ -24,12 +24,12 @@ pub fn encrypted(
     fresh: &Fresh,
     limits: &Limits,
 ) -> Result<Vec<u8>, Fault>
-    // An age file of the plaintext for the pair's recipient.
+    // Returns an age file of the plaintext, with the stanzas of the recipient.
     ensures file { IfOk result (λ file. (stanzas : List StanzaParts)
         × (wraps recipient fresh.now.file_key ≡ Ok stanzas)
         × AgeFile limits.now fresh.now.file_key stanzas plain.now file.items) }
-    // No file is written only if an allocation was refused, which may be the sink's, if the
-    // plaintext has more chunks than the limit, or if the recipient's stanzas make no header.
+    // Fails only if an allocation was refused, perhaps one of the sink, if the plaintext has more
+    // chunks than the limit, or if the recipient's stanzas make no header.
     ensures lost { let refuses = IsRefusal limits.now fresh.now.file_key
         (Gathered (wraps recipient fresh.now.file_key ∷ []) (the_labels recipient ∷ [])) in
         IfErr result (IsUnwritten refuses limits.now plain.now) }
@@ -56,19 +56,19 @@ pub fn encrypted(
 /// Decrypts a file with one identity.
 ///
 /// # Errors
-/// Those of `decrypt`; of a file that this identity reads whole, `OutOfMemory`, or `Write` if the
-/// allocation was the sink's.
+/// Those of `decrypt`. For a file whose verdict for this identity is a plaintext without a fault,
+/// only `OutOfMemory`, or `Write` if an allocation of the sink was refused.
 pub fn decrypted(
     alloc: Global,
     identity: Box<dyn Identity>,
     file: &[u8],
     limits: &Limits,
 ) -> Result<Vec<u8>, Fault>
-    // If the file's verdict for this identity is a plaintext without a fault, this plaintext.
+    // If the file's verdict for this identity is a plaintext without a fault, returns it.
     ensures text { IfOk result (λ text. (plain : Bytes)
         → IsVerdict limits.now (λ s. meaning identity s ∷ []) file.now (whole plain)
         → text.items ≡ plain) }
-    // Then only a refused allocation is returned, which may be the sink's.
+    // With such a verdict fails only if an allocation was refused, perhaps one of the sink.
     ensures lost { IfErr result (λ fault. (plain : Bytes)
         → IsVerdict limits.now (λ s. meaning identity s ∷ []) file.now (whole plain)
         → IsMemoryFault fault) }

@@ -1,16 +1,16 @@
-//! What is encrypted for the recipient of a pair is decrypted by its identity to the same
-//! plaintext, before it was rewrapped to another pair and after.
+//! The identity of a pair decrypts what was encrypted for the pair's recipient to the same
+//! plaintext, also after the file was rewrapped to another pair.
 //!
 //! ```
 //! let text = key_there_and_back(alloc, key, salt, plain, &fresh, &limits)?; // equals `plain`
 //! ```
 //!
-//! *What a contract sees.* All is in memory: a plaintext and a file are lists of bytes, a pair the
-//! recipient's and the identity's meaning, and a range an offset and a length. A loss is the reason
-//! for which no plaintext came back.
+//! *What a contract sees.* Everything is in memory. A plaintext and a file are lists of bytes, a
+//! pair is the meanings of its recipient and its identity, and a range is an offset and a length. A
+//! loss is the reason why no plaintext came back.
 //!
-//! Limits: one recipient, and all in memory. The only errors of a passphrase's or a key's round
-//! trip are work factors that don't fit, too many chunks, and a refused allocation.
+//! Limits: one recipient, and everything in memory. The only errors of a passphrase's or a key's
+//! round trip are work factors out of range, too many chunks, and a refused allocation.
 #![tactic(auto)]
 
 mod file;

@@ -1,4 +1,4 @@
-//! Encrypting and decrypting, for the pairs.
+//! Encrypting and decrypting, for pairs.
 
 ghost use Rattle.std.specs.Prelude.{◌≡◌, [], ◌∷◌, IfOk, IfErr, MatchResult};
 ghost use Rattle.age_file.specs.AgeFile.{IsBounds};
@@ -16,7 +16,7 @@ use std::alloc::Global;
 /// Why a plaintext did not come back.
 #[derive(Debug, Drop)]
 pub enum Lost {
-    /// The pair could not be made, or one of its parts.
+    /// The pair or one of its parts could not be made.
     Unpaired(PassError),
     /// A box for the recipient or the identity was refused.
     Memory,
@@ -28,13 +28,13 @@ pub enum Lost {
     Decrypting(Fault),
 }
 
-/// Encrypts a plaintext for a pair's recipient and decrypts the file with its identity: the result
-/// is that plaintext. A pair lends its two parts and a box owns what it holds, so the boxes are
-/// passed in addition to the pair.
+/// Encrypts a plaintext for a pair's recipient, and decrypts the file with its identity. The result
+/// is that plaintext. The recipient and the identity are passed as boxes beside the pair, because a
+/// pair lends its two parts and a box owns its contents.
 ///
 /// # Errors
-/// `Encrypting` with a fault of `encrypt`; `Decrypting` with `OutOfMemory`, or with `Write` if the
-/// allocation was the sink's.
+/// `Encrypting` with a fault of `encrypt`; `Decrypting` with `OutOfMemory`, or with `Write` if an
+/// allocation of the sink was refused.
 pub fn there_and_back<M: Matched>(
     alloc: Global,
     pair: &M,
@@ -48,16 +48,16 @@ pub fn there_and_back<M: Matched>(
         ≡ M.R.wraps (M.the_recipient pair.now) }
     requires identity { (⟦<dyn Identity as Identity>⟧ identity.vtable).meaning identity.value
         ≡ M.I.meaning (M.the_identity pair.now) }
-    // What was encrypted for a pair's recipient is decrypted to the same plaintext by its identity.
+    // The pair's identity decrypts what was encrypted for its recipient to the same plaintext.
     ensures back { IfOk result (λ text. text.items ≡ plain.now) }
-    // No file was written, or an allocation was refused. No file is written only if an allocation
-    // was refused, which may be the sink's, if the plaintext has more chunks than the limit, or if
-    // the recipient's stanzas make no header.
+    // Encrypting fails only if an allocation was refused, perhaps one of the sink, if the plaintext
+    // has more chunks than the limit, or if the recipient's stanzas make no header. After that, the
+    // call fails only if an allocation was refused.
     ensures lost { let refuses = IsRefusal limits.now fresh.now.file_key
         (Gathered (M.R.wraps (M.the_recipient pair.now) fresh.now.file_key ∷ [])
         ((⟦<dyn Recipient as Recipient>⟧ recipient.vtable).the_labels recipient.value ∷ [])) in
         IfErr result (IsLoss refuses limits.now plain.now) }
-    // `Unpaired` is never returned.
+    // Never returns `Unpaired`.
     ensures paired { IfErr result IsPaired }
 {
     laws::pair_opens(pair);
@@ -72,26 +72,26 @@ pub fn there_and_back<M: Matched>(
     }
 }
 
-/// A file key has 16 bytes: its type says so, and here a contract.
+/// A file key has 16 bytes. Its type says so, and here a contract does.
 pub(crate) fn has_sixteen_bytes(key: FileKey)
     ensures { IsFileKey key }
 {
     let FileKey(_bytes) = key;
 }
 
-/// Limits are in their ranges: their type says so, and here a contract.
+/// Limits are in their ranges. Their type says so, and here a contract does.
 pub(crate) fn are_bounds(limits: &Limits)
     ensures { IsBounds limits.now }
 {
-    // A call makes the invariant known.
+    // The call makes the invariant known.
     let _ = limits.max_chunks();
 }
 
 /// The same for the pair of a passphrase, as `PassPair::new` makes it.
 ///
 /// # Errors
-/// `Unpaired` as `PassPair::new` says, else those of `there_and_back`; of `Encrypting` only
-/// `TooManyChunks`, `OutOfMemory`, or `Write` if the allocation was the sink's.
+/// `Unpaired` as for `PassPair::new`, else those of `there_and_back`. `Encrypting` comes only with
+/// `TooManyChunks`, `OutOfMemory`, or `Write` if an allocation of the sink was refused.
 pub fn pass_there_and_back(
     alloc: Global,
     pass: &[u8],
@@ -102,12 +102,14 @@ pub fn pass_there_and_back(
     fresh: &Fresh,
     limits: &Limits,
 ) -> Result<Vec<u8>, Lost>
-    // What was encrypted for a pair's recipient is decrypted to the same plaintext by its identity.
+    // The pair's identity decrypts what was encrypted for its recipient to the same plaintext.
     ensures back { IfOk result (λ text. text.items ≡ plain.now) }
-    // No file was written, or an allocation was refused. No file is written only if an allocation
-    // was refused, which may be the sink's, or if the plaintext has more chunks than the limit.
+    // Encrypting fails only if an allocation was refused, perhaps one of the sink, or if the
+    // plaintext has more chunks than the limit. After that, the call fails only if an allocation
+    // was refused.
     ensures lost { IfErr result (IsLoss none limits.now plain.now) }
-    // `Unpaired(WorkFactor)` is returned exactly if the work factor or its maximum does not fit.
+    // Returns `Unpaired(WorkFactor)` exactly if the work factor or its maximum is out of range, or
+    // the work factor exceeds the maximum.
     ensures paired { MatchResult result (λ _. PairFits work max)
         (IsPairedIf (PairFits work max)) }
 {
@@ -135,8 +137,8 @@ pub fn pass_there_and_back(
 /// The same for the pair of a key.
 ///
 /// # Errors
-/// Those of `there_and_back`; of `Encrypting` only `TooManyChunks`, `OutOfMemory`, or `Write` if
-/// the allocation was the sink's.
+/// Those of `there_and_back`. `Encrypting` comes only with `TooManyChunks`, `OutOfMemory`, or
+/// `Write` if an allocation of the sink was refused.
 pub fn key_there_and_back(
     alloc: Global,
     key: [u8; 32],
@@ -145,12 +147,13 @@ pub fn key_there_and_back(
     fresh: &Fresh,
     limits: &Limits,
 ) -> Result<Vec<u8>, Lost>
-    // What was encrypted for a pair's recipient is decrypted to the same plaintext by its identity.
+    // The pair's identity decrypts what was encrypted for its recipient to the same plaintext.
     ensures back { IfOk result (λ text. text.items ≡ plain.now) }
-    // No file was written, or an allocation was refused. No file is written only if an allocation
-    // was refused, which may be the sink's, or if the plaintext has more chunks than the limit.
+    // Encrypting fails only if an allocation was refused, perhaps one of the sink, or if the
+    // plaintext has more chunks than the limit. After that, the call fails only if an allocation
+    // was refused.
     ensures lost { IfErr result (IsLoss none limits.now plain.now) }
-    // `Unpaired` is never returned.
+    // Never returns `Unpaired`.
     ensures paired { IfErr result IsPaired }
 {
     let pair = KeyPair::new(key, salt);

@@ -18,8 +18,8 @@ use std::alloc::Global;
 /// Rewraps a file from one identity to one recipient.
 ///
 /// # Errors
-/// Those of `rewrap`; of a file for the key that the identity finds, those of the new header alone,
-/// `OutOfMemory`, or `Write` if the allocation was the sink's.
+/// Those of `rewrap`. For an age file under the key that the identity finds, only those of the new
+/// header, `OutOfMemory`, or `Write` if an allocation of the sink was refused.
 pub fn rewrapped(
     alloc: Global,
     identity: Box<dyn Identity>,
@@ -27,13 +27,14 @@ pub fn rewrapped(
     file: &[u8],
     limits: &Limits,
 ) -> Result<Vec<u8>, Fault>
-    // The rewrapped file: the recipient's stanzas under the file key that the identity chose.
+    // Returns the file rewrapped, with the recipient's stanzas under the file key that the identity
+    // chose.
     ensures file { IfOk result (λ new.
         (is : Rewrapped limits.now (λ s. meaning identity s ∷ []) file.now new.items)
         × (wraps recipient is.key ≡ Ok is.stanzas)) }
-    // Of an age file under a key that the identity chooses: why no file was written, which is a
-    // refused allocation, a plaintext of more chunks than the limit, or stanzas that make no
-    // header.
+    // For an age file under a key that the identity chooses, fails only if an allocation was
+    // refused, if the plaintext has more chunks than the limit, or if the recipient's stanzas make
+    // no header.
     ensures lost { IfErr result (λ fault. (stanzas : List StanzaParts) (k : FileKey)
         (plain : Bytes) → AgeFile limits.now k stanzas plain file.now
         → meaning identity stanzas ≡ Key k → IsUnwritten (IsRefusal limits.now k
@@ -59,7 +60,7 @@ pub fn rewrapped(
     }
 }
 
-/// What a pair's recipient wraps its identity unwraps: the law of the trait, here a contract.
+/// A pair's identity unwraps what its recipient wraps: the law of the trait, here as a contract.
 fn opens<M: Matched>(pair: &M)
     ensures { (k : FileKey) (stanzas : List StanzaParts) → IsFileKey k
         → M.R.wraps (M.the_recipient pair.now) k ≡ Ok stanzas
@@ -94,11 +95,11 @@ fn encrypted_for<M: Matched>(
 }
 
 /// Rewraps a file from the identity of one pair to the recipient of another, and decrypts the new
-/// file with its identity: the result is the old file's plaintext.
+/// file with the other pair's identity. The result is the old file's plaintext.
 ///
 /// # Errors
-/// `Rewrapping` with a fault of `rewrapped`; `Decrypting` with `OutOfMemory`, or with `Write` if
-/// the allocation was the sink's.
+/// `Rewrapping` with a fault of `rewrapped`; `Decrypting` with `OutOfMemory`, or with `Write` if an
+/// allocation of the sink was refused.
 pub fn rewrapped_and_back<M: Matched, N: Matched>(
     alloc: Global,
     from: &M,
@@ -115,19 +116,21 @@ pub fn rewrapped_and_back<M: Matched, N: Matched>(
         ≡ N.R.wraps (N.the_recipient to.now) }
     requires identity { (⟦<dyn Identity as Identity>⟧ identity.vtable).meaning identity.value
         ≡ N.I.meaning (N.the_identity to.now) }
-    // An age file of the first pair, rewrapped to the second and decrypted under that one, gives
-    // the plaintext.
+    // An age file of the first pair, rewrapped to the second pair and decrypted with the latter's
+    // identity, has the same plaintext.
     ensures back { IfOk result (λ text. (stanzas : List StanzaParts) (k : FileKey) (plain : Bytes)
         → IsFileKey k → AgeFile limits.now k stanzas plain file.now
         → M.I.meaning (M.the_identity from.now) stanzas ≡ Key k → text.items ≡ plain) }
-    // No file was written, or an allocation was refused.
+    // For such a file rewrapping fails only if an allocation was refused, if the plaintext has more
+    // chunks than the limit, or if the new recipient's stanzas make no header. After that, the call
+    // fails only if an allocation was refused.
     ensures lost { IfErr result (λ lost. (stanzas : List StanzaParts) (k : FileKey) (plain : Bytes)
         → IsFileKey k → AgeFile limits.now k stanzas plain file.now
         → M.I.meaning (M.the_identity from.now) stanzas ≡ Key k
         → IsLoss (IsRefusal limits.now k (Gathered (N.R.wraps (N.the_recipient to.now) k ∷ [])
         ((⟦<dyn Recipient as Recipient>⟧ recipient.vtable).the_labels recipient.value ∷ [])))
         limits.now plain lost) }
-    // `Unpaired` is never returned.
+    // Never returns `Unpaired`.
     ensures paired { IfErr result IsPaired }
 {
     laws::rewrap_keeps();
@@ -142,12 +145,12 @@ pub fn rewrapped_and_back<M: Matched, N: Matched>(
     }
 }
 
-/// Encrypts a plaintext under one key, rewraps the file to another, and decrypts it: the result is
-/// that plaintext.
+/// Encrypts a plaintext under one key, rewraps the file to another key, and decrypts it. The result
+/// is that plaintext.
 ///
 /// # Errors
-/// `Memory`; `Encrypting` with `TooManyChunks`; and each variant but `Unpaired` with `OutOfMemory`,
-/// or with `Write` if the allocation was the sink's.
+/// `Memory`; `Encrypting` with `TooManyChunks`; and each variant except `Unpaired` with
+/// `OutOfMemory`, or with `Write` if an allocation of the sink was refused.
 pub fn key_rewrapped_and_back(
     alloc: Global,
     key: [u8; 32],
@@ -157,13 +160,14 @@ pub fn key_rewrapped_and_back(
     fresh: &Fresh,
     limits: &Limits,
 ) -> Result<Vec<u8>, Lost>
-    // A file that was encrypted under a key, rewrapped to another and decrypted under that one
-    // gives the plaintext.
+    // A file encrypted under one key, rewrapped to another and decrypted under the latter has the
+    // same plaintext.
     ensures back { IfOk result (λ text. text.items ≡ plain.now) }
-    // No file was written, or an allocation was refused. No file is written only if an allocation
-    // was refused, which may be the sink's, or if the plaintext has more chunks than the limit.
+    // Encrypting or rewrapping fails only if an allocation was refused, perhaps one of the sink, or
+    // if the plaintext has more chunks than the limit. After that, the call fails only if an
+    // allocation was refused.
     ensures lost { IfErr result (IsLoss none limits.now plain.now) }
-    // `Unpaired` is never returned.
+    // Never returns `Unpaired`.
     ensures paired { IfErr result IsPaired }
 {
     let from = KeyPair::new(key, salt);

@@ -21,11 +21,11 @@ use std::alloc::Global;
 pub struct Range {
     /// The offset of the first byte.
     pub at: u64,
-    /// The number of bytes, less if the plaintext ends before.
+    /// The number of bytes, or fewer if the plaintext ends before.
     pub len: usize,
 }
 
-/// Appends the plaintext from offset `at` on, as much of it as the buffer has room for.
+/// Appends the plaintext from offset `at` on, as much as the buffer has room for.
 fn read_into<D: ReadAt>(
     reader: &mut RangeReader<'_, D>,
     at: u64,
@@ -79,7 +79,7 @@ fn read_part<D: ReadAt>(
     read_into(reader, range.at, buf.as_mut_slice(), out)
 }
 
-/// The ranges of an opened file's plaintext, joined.
+/// Returns the ranges of an opened file's plaintext, concatenated.
 fn read_parts<D: ReadAt>(
     alloc: Global,
     reader: &mut RangeReader<'_, D>,
@@ -103,11 +103,11 @@ fn read_parts<D: ReadAt>(
     Ok(text)
 }
 
-/// The ranges of a file's plaintext, joined, as one identity opens it.
+/// Returns the ranges of a file's plaintext, concatenated, with one identity.
 ///
 /// # Errors
-/// Those of `open_ranges` and `read_range`; of a file that this identity reads whole,
-/// `OutOfMemory`.
+/// Those of `open_ranges` and `read_range`. For a file whose verdict for this identity is a
+/// plaintext without a fault, only `OutOfMemory`.
 pub fn sliced(
     alloc: Global,
     identity: Box<dyn Identity>,
@@ -115,12 +115,12 @@ pub fn sliced(
     ranges: &[Range],
     limits: &Limits,
 ) -> Result<Vec<u8>, Fault>
-    // If the file's verdict for this identity is a plaintext without a fault: its ranges, each cut
-    // at its end, for every list of ranges.
+    // If the file's verdict for this identity is a plaintext without a fault, returns its ranges,
+    // each cut at its end, for every list of ranges.
     ensures parts { IfOk result (λ text. (plain : Bytes)
         → IsVerdict limits.now (λ s. meaning identity s ∷ []) file.now (whole plain)
         → text.items ≡ parts plain ranges.now) }
-    // Then only out of memory is returned.
+    // With such a verdict fails only with `OutOfMemory`.
     ensures lost { IfErr result (λ fault. (plain : Bytes)
         → IsVerdict limits.now (λ s. meaning identity s ∷ []) file.now (whole plain)
         → fault ≡ Fault.OutOfMemory) }
@@ -137,8 +137,8 @@ pub fn sliced(
     }
 }
 
-/// Encrypts a plaintext for a pair's recipient and reads ranges of the file with its identity: the
-/// result is the plaintext's ranges, joined.
+/// Encrypts a plaintext for a pair's recipient, and reads ranges of the file with its identity. The
+/// result is the ranges of the plaintext, concatenated.
 ///
 /// # Errors
 /// `Encrypting` with a fault of `encrypt`; `Decrypting` with `OutOfMemory`.
@@ -156,17 +156,17 @@ pub fn there_and_slices<M: Matched>(
         ≡ M.R.wraps (M.the_recipient pair.now) }
     requires identity { (⟦<dyn Identity as Identity>⟧ identity.vtable).meaning identity.value
         ≡ M.I.meaning (M.the_identity pair.now) }
-    // Ranges of a file that was encrypted for a pair are the plaintext's, each cut at its end, for
-    // every list of ranges.
+    // The ranges of a file encrypted for a pair are those of the plaintext, each cut at its end,
+    // for every list of ranges.
     ensures back { IfOk result (λ text. text.items ≡ parts plain.now ranges.now) }
-    // No file was written, or an allocation was refused. No file is written only if an allocation
-    // was refused, which may be the sink's, if the plaintext has more chunks than the limit, or if
-    // the recipient's stanzas make no header.
+    // Encrypting fails only if an allocation was refused, perhaps one of the sink, if the plaintext
+    // has more chunks than the limit, or if the recipient's stanzas make no header. After that, the
+    // call fails only if an allocation was refused.
     ensures lost { let refuses = IsRefusal limits.now fresh.now.file_key
         (Gathered (M.R.wraps (M.the_recipient pair.now) fresh.now.file_key ∷ [])
         ((⟦<dyn Recipient as Recipient>⟧ recipient.vtable).the_labels recipient.value ∷ [])) in
         IfErr result (IsLoss refuses limits.now plain.now) }
-    // `Unpaired` is never returned.
+    // Never returns `Unpaired`.
     ensures paired { IfErr result IsPaired }
 {
     laws::pair_opens(pair);
@@ -181,12 +181,12 @@ pub fn there_and_slices<M: Matched>(
     }
 }
 
-/// Encrypts a plaintext under a key and reads ranges of the file with it: the result is the
-/// plaintext's ranges, joined.
+/// Encrypts a plaintext under a key, and reads ranges of the file with it. The result is the ranges
+/// of the plaintext, concatenated.
 ///
 /// # Errors
-/// `Memory`; `Encrypting` with `TooManyChunks`, `OutOfMemory`, or `Write` if the allocation was the
-/// sink's; `Decrypting` with `OutOfMemory`.
+/// `Memory`; `Encrypting` with `TooManyChunks`, `OutOfMemory`, or `Write` if an allocation of the
+/// sink was refused; `Decrypting` with `OutOfMemory`.
 pub fn key_there_and_slices(
     alloc: Global,
     key: [u8; 32],
@@ -196,13 +196,14 @@ pub fn key_there_and_slices(
     fresh: &Fresh,
     limits: &Limits,
 ) -> Result<Vec<u8>, Lost>
-    // Ranges of a file that was encrypted for a pair are the plaintext's, each cut at its end, for
-    // every list of ranges.
+    // The ranges of a file encrypted for a pair are those of the plaintext, each cut at its end,
+    // for every list of ranges.
     ensures back { IfOk result (λ text. text.items ≡ parts plain.now ranges.now) }
-    // No file was written, or an allocation was refused. No file is written only if an allocation
-    // was refused, which may be the sink's, or if the plaintext has more chunks than the limit.
+    // Encrypting fails only if an allocation was refused, perhaps one of the sink, or if the
+    // plaintext has more chunks than the limit. After that, the call fails only if an allocation
+    // was refused.
     ensures lost { IfErr result (IsLoss none limits.now plain.now) }
-    // `Unpaired` is never returned.
+    // Never returns `Unpaired`.
     ensures paired { IfErr result IsPaired }
 {
     let pair = KeyPair::new(key, salt);

@@ -6,7 +6,7 @@ ghost use Rattle.age_recipient.specs.Salt.{IsSalt};
 use super::recipient::{KeyIdentity, KeyRecipient};
 use crate::matched::Matched;
 
-/// A recipient and an identity of one key: the identity unwraps what the recipient wraps.
+/// A recipient and an identity of one key. The identity unwraps what the recipient wraps.
 #[derive(Drop)]
 pub struct KeyPair {
     recipient: KeyRecipient,
@@ -18,10 +18,10 @@ pub struct KeyPair {
 impl KeyPair {
     /// Makes the pair of this key: a recipient with a salt of 16 bytes, and an identity.
     pub fn new(key: [u8; 32], salt: [u8; 16]) -> KeyPair
-        // The recipient that these arguments make.
+        // The recipient has this key and this salt.
         ensures recipient { ⟦<KeyPair as Matched>⟧.the_recipient result
             ≡ record { key = key; salt = salt } }
-        // The identity that these arguments make.
+        // The identity has this key.
         ensures identity { ⟦<KeyPair as Matched>⟧.the_identity result ≡ key }
     {
         KeyPair {

@@ -11,8 +11,8 @@ use age_header::{FileKey, Stanza};
 use std::alloc::{AllocError, Global};
 use std::marker::Model;
 
-/// Wraps a file key under a key of 32 bytes, in a stanza of this project's own. The salt must be
-/// 16 random bytes, fresh for each file.
+/// Wraps a file key under a key of 32 bytes, in a stanza of this project's own type. The salt must
+/// be 16 random bytes, fresh for each file.
 #[derive(Drop)]
 pub struct KeyRecipient {
     key: [u8; 32],
@@ -28,7 +28,7 @@ impl Model for KeyRecipient {
 }
 
 impl KeyRecipient {
-    /// Makes a recipient of this key, with a salt.
+    /// Makes a recipient of this key, with this salt.
     pub fn new(key: [u8; 32], salt: [u8; 16]) -> KeyRecipient
         ensures { result ≡ record { key = key; salt = salt } }
     {

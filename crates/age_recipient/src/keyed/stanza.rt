@@ -1,4 +1,4 @@
-//! Keyed stanzas, this project's own: they wrap a file key under a key of 32 bytes.
+//! Keyed stanzas, this project's own type: they wrap a file key under a key of 32 bytes.
 
 ghost use Rattle.std.specs.Prelude.{◌≡◌, Some, map, IfOk};
 ghost use Rattle.std.specs.String.{string_bytes};
@@ -41,7 +41,7 @@ pub(crate) fn keyed_stanza(
     Ok(stanza)
 }
 
-/// The answer of one stanza, for a key.
+/// The answer of one stanza to a key.
 pub(crate) fn keyed_answer(
     alloc: Global,
     key: &[u8; 32],

@@ -11,7 +11,7 @@ use crate::matched::Matched;
 use crate::recipient::Recipient;
 use std::alloc::Global;
 
-/// A recipient and an identity of one passphrase: the identity unwraps what the recipient wraps.
+/// A recipient and an identity of one passphrase. The identity unwraps what the recipient wraps.
 #[derive(Drop)]
 pub struct PassPair {
     recipient: PassRecipient,
@@ -34,16 +34,15 @@ impl PassPair {
         work: u8,
         max: u8,
     ) -> Result<PassPair, PassError>
-        // A pair's work factor is from 1 to its maximum, and that at most 30.
+        // The work factor is from 1 to the maximum, which is at most 30.
         ensures fits { IfOk result (λ _. PairFits work max) }
-        // The recipient that these arguments make.
+        // The recipient has this passphrase, salt and work factor.
         ensures recipient { IfOk result (λ pair. ⟦<PassPair as Matched>⟧.the_recipient pair
             ≡ record { pass = pass.now; salt = salt; work = work }) }
-        // The identity that these arguments make.
+        // The identity has this passphrase and maximum work factor.
         ensures identity { IfOk result (λ pair. ⟦<PassPair as Matched>⟧.the_identity pair
             ≡ record { pass = pass.now; max = max }) }
-        // `WorkFactor` is returned exactly if a work factor is not 1 to 30, or the pair's is above
-        // its maximum.
+        // Returns `WorkFactor` exactly if a work factor is not 1 to 30, or `work` is above `max`.
         ensures err { IfErr result (IsPassError (PairFits work max)) }
     {
         if work < 1 || max > MOST_WORK || work > max {

@@ -14,19 +14,20 @@ use age_header::{FileKey, Stanza};
 use std::alloc::{AllocError, Global};
 use std::marker::Model;
 
-/// Why a passphrase's recipient or identity could not be made.
+/// Why a recipient or identity of a passphrase could not be made.
 #[derive(Clone, Copy, Debug, Drop, PartialEq, Eq)]
 pub enum PassError {
-    /// A work factor is not 1 to 30, or a pair's is above its maximum.
+    /// A work factor is not 1 to 30, or that of a pair is above its maximum.
     WorkFactor,
     /// An allocation was refused.
     Memory,
 }
 
-/// Wraps a file key under a passphrase (C2SP `age.md`, "The scrypt recipient type"). The salt must
-/// be 16 random bytes, fresh for each file. The work factor is the base-2 logarithm of the KiB of
-/// memory that wrapping and unwrapping take; 18 is usual, and takes about a second. A
-/// passphrase recipient must be a file's only one: if there is another, `encrypt` returns
+/// Wraps a file key under a passphrase (C2SP `age.md`, "The scrypt recipient type").
+///
+/// The salt must be 16 random bytes, fresh for each file. The work factor is the base-2 logarithm
+/// of the memory in KiB that wrapping and unwrapping take; 18 is usual, and takes about a second. A
+/// passphrase recipient must be the only recipient of its file: otherwise `encrypt` returns
 /// `IncompatibleRecipients`.
 #[derive(Drop)]
 pub struct PassRecipient {
@@ -57,10 +58,10 @@ impl PassRecipient {
         salt: [u8; 16],
         work: u8,
     ) -> Result<PassRecipient, PassError>
-        // It holds its arguments; the work factor is 1 to 30.
+        // The recipient has these arguments, and the work factor is 1 to 30.
         ensures ok { IfOk result
             (λ r. WorkFits work × (r ≡ record { pass = pass.now; salt = salt; work = work })) }
-        // `WorkFactor` is returned exactly if a work factor is not 1 to 30.
+        // Returns `WorkFactor` exactly if the work factor is not 1 to 30.
         ensures err { IfErr result (IsPassError (WorkFits work)) }
     {
         if work < 1 || work > MOST_WORK {
@@ -92,7 +93,7 @@ impl Recipient for PassRecipient {
     }
 
     fn labels(&self, _alloc: Global) -> Result<Labels, AllocError>
-        // `Alone`, always.
+        // Always returns `Alone`.
         ensures { result ≡ Ok Labels.Alone }
     {
         Ok(Labels::Alone)
@@ -124,9 +125,9 @@ impl PassIdentity {
     /// # Errors
     /// `WorkFactor` if `max` is not 1 to 30, else `Memory`.
     pub fn new(alloc: Global, pass: &[u8], max: u8) -> Result<PassIdentity, PassError>
-        // It holds its arguments; the work factor is 1 to 30.
+        // The identity has these arguments, and the maximum is 1 to 30.
         ensures ok { IfOk result (λ i. WorkFits max × (i ≡ record { pass = pass.now; max = max })) }
-        // `WorkFactor` is returned exactly if a work factor is not 1 to 30.
+        // Returns `WorkFactor` exactly if the maximum is not 1 to 30.
         ensures err { IfErr result (IsPassError (WorkFits max)) }
     {
         if max < 1 || max > MOST_WORK {

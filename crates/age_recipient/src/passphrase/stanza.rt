@@ -76,7 +76,7 @@ pub(crate) fn pass_stanza(
     Ok(stanza)
 }
 
-/// The answer of one stanza, for a passphrase. Its form is checked before scrypt is run.
+/// The answer of one stanza to a passphrase. Its form is checked before scrypt runs.
 pub(crate) fn pass_answer(
     alloc: Global,
     pass: &[u8],
@@ -113,8 +113,8 @@ fn arguments_answer(
     }
 }
 
-/// The answer of a stanza with this salt. It allocates, and runs scrypt, only if the work factor
-/// and the body are well formed.
+/// The answer of a stanza with this salt. Allocates, and runs scrypt, only if the work factor and
+/// the body are well formed.
 fn salted_answer(
     alloc: Global,
     pass: &[u8],
@@ -126,7 +126,7 @@ fn salted_answer(
     requires { max ≤ most_work }
     ensures answer { IfOk result
         (λ answer. answer ≡ salted_answer pass.now max work.now body.now (Some salt.now)) }
-    // If a passphrase stanza is not well formed, out of memory is not returned for scrypt.
+    // Returns out of memory only if the work factor and the body are well formed.
     ensures memory { IfErr result (λ _. (is_work_factor work.now ≡ true)
         × (number_from 0 work.now ≤ max) × (length body.now ≡ sealed_key_size)) }
 {

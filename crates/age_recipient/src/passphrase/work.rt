@@ -24,8 +24,8 @@ fn are_digits(text: &[u8]) -> bool
     text.iter().all(|c| *c >= b'0' && *c <= b'9')
 }
 
-/// The value of these digits, if it is at most `max`. There may be any number of digits, but three
-/// or more are above each maximum, so at most two are computed.
+/// The value of these digits, if it is at most `max`. There may be any number of digits; since
+/// three or more exceed every maximum, at most two are evaluated.
 pub(crate) fn work_at_most(text: &[u8], max: u8) -> Option<u8>
     requires digits { is_work_factor text.now ≡ true }
     requires small { max ≤ most_work }
