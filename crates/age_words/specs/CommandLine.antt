@@ -5,7 +5,6 @@ use Rattle.clap.specs.Words.{App, Rule, Shape, Text, new_rule, rule_of}
 use Rattle.clap.specs.declared.builder.action.ArgAction.TheVariants.{Set, Append, SetTrue}
 use Rattle.clap.specs.declared.builder.value_parser.ValueParser.TheVariants.{Unsigned}
 use Rattle.clap.specs.declared.builder.arg.Arg.{Arg}
-use Rattle.age_job.specs.declared.ranges.TheConstants.{LEAST_HEADER, LEAST_WORK, MOST_HEADER, MOST_OFFSET, MOST_WORK}
 
 -- the code of a letter
 abbrev pub letter : (text : Text) → ℕ
@@ -53,15 +52,15 @@ new_key = several (option (letter (codes "K")) (codes "new-key"))
 
 abbrev pub work : Rule
 work = default (codes "18")
-    (number LEAST_WORK MOST_WORK (option (letter (codes "w")) (codes "work")))
+    (number 1 30 (option (letter (codes "w")) (codes "work")))
 
 abbrev pub max_work : Rule
 max_work = default (codes "22")
-    (number LEAST_WORK MOST_WORK (option (letter (codes "m")) (codes "max-work")))
+    (number 1 30 (option (letter (codes "m")) (codes "max-work")))
 
 abbrev pub max_header : Rule
 max_header = default (codes "65536")
-    (number LEAST_HEADER MOST_HEADER (option (letter (codes "H")) (codes "max-header")))
+    (number 1024 16777216 (option (letter (codes "H")) (codes "max-header")))
 
 abbrev pub seed : Rule
 seed = default (codes "/dev/urandom") (option (letter (codes "s")) (codes "seed"))
@@ -82,7 +81,7 @@ abbrev pub input : Rule
 input = word (codes "input")
 
 abbrev pub offset : (name : Text) → Rule
-offset name = number 0 MOST_OFFSET (required (word name))
+offset name = number 0 9223372036854775807 (required (word name))
 
 -- a command with one more option or argument, and with several
 abbrev pub with_rule : (command : Shape) (rule : Rule) → Shape
