@@ -97,6 +97,28 @@ class Progress(ProgramCase):
             said = before + after
         self.assert_drawn(said, f"agep: {AMOUNT} of 439 KiB, {AMOUNT}/s, \\d+ s left", took)
 
+    def test_closed_output(self):
+        """The terminal does not get the output if standard output is closed."""
+        last = fault(message("Write"), "writing standard output: Bad file descriptor").replace("\n", "\r\n")
+        for words, name in (
+            ("decrypt -v -k key", "key.age"), ("decrypt -v -k key key.age", "/dev/null"), ("encrypt -v -k key", "hello"),
+            ("salvage -v -k key", "key.age"), ("decrypt -v -k key key.age <&-", "/dev/null"),
+        ):
+            with self.subTest(words):
+                controller, terminal = pty.openpty()
+                with open(name, "rb") as file:
+                    line = ["bash", "-c", f'"$0" {words} >&-', AGEP]
+                    status = subprocess.run(line, stdin=file, stderr=terminal, timeout=60).returncode
+                os.close(terminal)
+                said = b""
+                try:
+                    while more := os.read(controller, 65536):
+                        said += more
+                except OSError:
+                    pass
+                os.close(controller)
+                self.assertEqual((status, said.decode()), (1, last))
+
     def test_none(self):
         """Nothing is shown without -v, or of a small file."""
         for words, plain in (("decrypt -k key many.age", MANY), ("decrypt -v -k key key.age", HELLO)):

@@ -42,14 +42,20 @@ fn run(rt: &HostRuntime, owned: &[String]) -> u8
     )
 }
 
-/// Where standard error is closed, folders take the numbers of the closed streams: otherwise OUT
-/// could have that of standard error, and lines that are printed while it is written would go into
-/// it. A folder is neither read nor written.
+/// If standard output or standard error is closed, opens folders on the numbers of the closed
+/// streams. Otherwise a file opened later could get such a number, and what is written to the
+/// stream would go into that file. A folder can be neither read nor written. Standard input needs
+/// none: a file that gets its number before it is read is open for writing only.
 fn hold_streams(rt: &HostRuntime) -> [Option<File>; 3] {
-    if fs::metadata(rt, "/proc/self/fd/2").is_ok() {
+    if is_open(rt, "/proc/self/fd/1") && is_open(rt, "/proc/self/fd/2") {
         return [None, None, None];
     }
     [open_folder(rt), open_folder(rt), open_folder(rt)]
+}
+
+/// Whether this stream is open, named by its path in `/proc`.
+fn is_open(rt: &HostRuntime, stream: &str) -> bool {
+    fs::metadata(rt, stream).is_ok()
 }
 
 fn open_folder(rt: &HostRuntime) -> Option<File> {
