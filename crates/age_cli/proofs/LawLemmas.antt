@@ -9,6 +9,7 @@ use Rattle.age_header.specs.declared.file_key.FileKey.{FileKey}
 use Rattle.age_recipient.specs.Choice.{choice}
 use Rattle.age_stream.specs.declared.done.Done.{Done}
 use Rattle.age_stream.specs.Reading.{whole}
+use Rattle.age_stream.specs.Salvage.{LossesMoved}
 use Rattle.age_file.specs.declared.fault.Fault.{Fault}
 use Rattle.age_file.specs.declared.limits.Fresh.{Fresh}
 use Rattle.age_file.specs.AgeFile.{AgeFile, Bounds}
@@ -69,7 +70,7 @@ decrypted law limits answers b xs taken new (Ok counts) work is d ends =
 
 pub done_decrypt : OkIsAgeFile → (job : Job) (b xs : Bytes) (new : Known) → job.command ≡ command.Decrypt
     → Finishes job (Some b) (move_of (Some xs) new) → Gained (limits_of job) b xs new
-done_decrypt law job b xs new one (task.Decrypt secret, is, (taken, work, (done, same, d), quiet, ends)) =
+done_decrypt law job b xs new one (task.Decrypt secret, is, (taken, work, (lost, (done, same, d)), quiet, ends)) =
     decrypted law (limits_of job) (answers_of secret job.max_work) b xs taken new done work same d ends
 done_decrypt law job b xs new one (task, is, w) = absurd (cc (one, is.0))
 
@@ -97,7 +98,8 @@ encrypted limits fresh gathered plain xs taken new (Ok counts) work is e ends =
 
 pub done_encrypt : (job : Job) (plain xs : Bytes) (new : Known) → job.command ≡ command.Encrypt
     → Finishes job (Some plain) (move_of (Some xs) new) → Made (limits_of job) plain xs new
-done_encrypt job plain xs new one (task.Encrypt secret seed, is, (taken, work, (done, same, e, refused), quiet, ends)) =
+done_encrypt job plain xs new one (task.Encrypt secret seed, is, (taken, work, (lost, performs), quiet, ends)) =
+    let (done, same, e, refused) = performs in
     let gathered = gathering_of secret job.work seed.salt seed.fresh.file_key in
     encrypted (limits_of job) seed.fresh gathered plain xs taken new done work same e ends
 done_encrypt job plain xs new one (task, is, w) = absurd (cc (one, is.0))
@@ -116,7 +118,7 @@ rewrote limits answers gathered b xs taken new (Ok u) (given, one, (c, is, took)
 
 pub done_rewrap : (job : Job) (b xs : Bytes) (new : Known) → job.command ≡ command.Rewrap
     → Finishes job (Some b) (move_of (Some xs) new) → Rewrote (limits_of job) b xs new
-done_rewrap job b xs new one (task.Rewrap old other salt, is, (taken, work, r, quiet, ends)) =
+done_rewrap job b xs new one (task.Rewrap old other salt, is, (taken, work, (lost, r), quiet, ends)) =
     rewrote (limits_of job) (answers_of old job.max_work) (gathering_of other job.work salt) b xs taken new work r ends
 done_rewrap job b xs new one (task, is, w) = absurd (cc (one, is.0))
 
@@ -137,7 +139,7 @@ showed limits raw key b xs taken new (Ok u) (given, one, t) ends =
 
 pub done_inspect : (job : Job) (b xs : Bytes) (new : Known) → job.command ≡ command.Inspect
     → Finishes job (Some b) (move_of (Some xs) new) → Showed (limits_of job) job.raw b xs new
-done_inspect job b xs new one (task.Inspect key, is, (taken, work, i, quiet, ends)) =
+done_inspect job b xs new one (task.Inspect key, is, (taken, work, (lost, i), quiet, ends)) =
     showed (limits_of job) job.raw key b xs taken new work i ends
 done_inspect job b xs new one (task, is, w) = absurd (cc (one, is.0))
 
@@ -145,20 +147,20 @@ done_inspect job b xs new one (task, is, w) = absurd (cc (one, is.0))
 abbrev pub GainedAtMost : (len : ℕ) (xs : Bytes) (new : Known) → Type 0
 GainedAtMost len xs new = (part : Bytes) × (length part ≤ len) × (new ≡ Some (xs ++ part))
 
-ranged : (job : Job) (secret : Secret) (from : Known) (xs : Bytes) (taken new : Known) (work : Result ⊤ Fault)
-    → Performs job (task.Range secret) from (move_of (Some xs) taken) work
+ranged : (job : Job) (secret : Secret) (from : Known) (xs : Bytes) (taken new : Known) (lost : LossesMoved)
+    (work : Result ⊤ Fault) → Performs job (task.Range secret) from (move_of (Some xs) taken) lost work
     → Ends taken new work (Ok tt) → GainedAtMost job.len xs new
-ranged job secret from xs taken new (Err fault) r ends = absurd (cc (ended taken new ends).0)
-ranged job secret from xs taken new (Ok u) (size, inl none) ends = absurd none
-ranged job secret from xs taken new (Ok u) (size, inr o) ends =
+ranged job secret from xs taken new lost (Err fault) r ends = absurd (cc (ended taken new ends).0)
+ranged job secret from xs taken new lost (Ok u) (size, inl none) ends = absurd none
+ranged job secret from xs taken new lost (Ok u) (size, inr o) ends =
     let one = o.writes in
     let n : length one.part ≡ range_len o.state job.at job.len = one.size in
     (one.part, omega arith, grown xs one.part taken new one.appends (ended taken new ends).1)
 
 pub done_range : (job : Job) (from : Known) (xs : Bytes) (new : Known) → job.command ≡ command.Range
     → Finishes job from (move_of (Some xs) new) → GainedAtMost job.len xs new
-done_range job from xs new one (task.Range secret, is, (taken, work, r, quiet, ends)) =
-    ranged job secret from xs taken new work r ends
+done_range job from xs new one (task.Range secret, is, (taken, work, (lost, r), quiet, ends)) =
+    ranged job secret from xs taken new lost work r ends
 done_range job from xs new one (task, is, w) = absurd (cc (one, is.0))
 
 -- the same from the words

@@ -1,6 +1,6 @@
 -- What a job comes to, from what its task comes to.
 use Rattle.std.proofs.Common.{◌≡◌, ◌⊎◌, ℕ, List, arith, inl, inr, refl, subst, sym, Option, None, Some, Result, Ok, Err}
-use Rattle.std.specs.Prelude.{⊤}
+use Rattle.std.specs.Prelude.{◌≢◌, ⊤}
 use Rattle.age_header.specs.Device.{Bytes, Known, Moved, Stays, move_of}
 use Rattle.age_file.specs.declared.fault.Fault.{Fault as FileFault}
 use Rattle.age_job.specs.declared.job.Job.{Job}
@@ -36,14 +36,41 @@ pub completes : {F : Type 0} (remaining contents : F → Known) (job : Job) (tas
 completes remaining contents job task from source sink (Ok u) is i (target, o, w) =
     (source, i, (target, o, (task, is, w)))
 completes {F} remaining contents job task from source sink (Err failure) is i h = λ silent.
-    begins F remaining job task from source sink is i (h silent)
+    begins F remaining job task from source sink is i (h.0 silent)
+
+pub stays_known : {old new : Known} → new ≡ old → Stays (move_of old new)
+stays_known {old} {new} e = subst (λ (k : Known). Stays (move_of old k)) (sym e) (same old)
+  where
+    same : (k : Known) → Stays (move_of k k)
+    same None = tt
+    same (Some xs) = refl
+
+named_output : {A F : Type 0} (contents : F → Known) (o : Option A) (k : Known) (old new : F) → o ≢ None
+    → IsOutput F contents o (move_of k k) (move_of (contents old) (contents new))
+named_output contents None k old new named = absurd (named refl)
+named_output contents (Some name) k old new named = (old, new, refl)
 
 -- what work comes to that writes to standard output
 pub performs_alone : {F : Type 0} (contents : F → Known) (job : Job) (task : Task) (from : Known) (sink : Moved)
     (r : Result ⊤ Failure) → job.output ≡ None → PerformsTo job task from sink r
     → PerformsOn F contents job task from sink r
 performs_alone contents job task from sink (Ok u) none works = (sink, rw none refl, works)
-performs_alone contents job task from sink (Err failure) none (fault, is, works) = λ silent. inr (fault, works)
+performs_alone contents job task from sink (Err failure) none (fault, is, works) = (
+  λ silent. inr (fault, works),
+  λ other e. let same : fault ≡ other = cc in (sink, rw none refl, rw same at works),
+)
+
+-- what work comes to that writes to a named file
+pub fails_in : {F : Type 0} (contents : F → Known) (job : Job) (task : Task) (from k : Known) (old new : F)
+    (failure : Failure) → job.output ≢ None
+    → PerformsTo job task from (move_of (contents old) (contents new)) (Err failure)
+    → PerformsOn F contents job task from (move_of k k) (Err failure)
+fails_in contents job task from k old new failure named (fault, is, works) = (
+  λ silent. absurd (named silent),
+  λ other e.
+      let same : fault ≡ other = cc in
+      (move_of (contents old) (contents new), named_output contents job.output k old new named, rw same at works),
+)
 
 -- what is done from standard input to standard output
 pub alone : (F : Type 0) (remaining contents : F → Known) (job : Job) {from : Known} {sink : Moved} → job.input ≡ None
@@ -76,10 +103,3 @@ pub unused : (words : List Bytes) {unread unwritten : Type 0} (fault : WordsFaul
 unused words Memory status h a kept = inr (inl (kept, a.1))
 unused words (Refused error) status h (inl (low, is)) kept = inl (shown words error h is, kept)
 unused words (Refused error) status h (inr (two, stays, hidden)) kept = inr (inl (kept, stays))
-
-pub stays_known : {old new : Known} → new ≡ old → Stays (move_of old new)
-stays_known {old} {new} e = subst (λ (k : Known). Stays (move_of old k)) (sym e) (same old)
-  where
-    same : (k : Known) → Stays (move_of k k)
-    same None = tt
-    same (Some xs) = refl

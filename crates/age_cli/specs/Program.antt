@@ -1,6 +1,7 @@
 -- The results of a job, from its input to its output.
 use Rattle.std.specs.Prelude.{◌≡◌, ◌≢◌, ◌≤◌, ◌⊎◌, ◌^◌, ℕ, ⊤, List, Option, None, Some, Result, Ok, Err}
 use Rattle.age_header.specs.Device.{Bytes, Known, Moved, move_of, Stays}
+use Rattle.age_stream.specs.Salvage.{LossesMoved}
 use Rattle.age_file.specs.AgeFile.{Bounds}
 use Rattle.age_file.specs.declared.fault.Fault.{Fault as FileFault}
 use Rattle.age_job.specs.declared.job.Command.TheVariants as command
@@ -38,12 +39,12 @@ IsTaskOf job (Range secret) = (job.command ≡ command.Range) × IsSecretFor job
 IsTaskOf job (Salvage secret) = (job.command ≡ command.Salvage) × IsSecretFor job secret
 
 -- The work of a task, where the input gives `from`: the output has `taken` after it, and is flushed
--- then.
+-- then. Nothing is known of the receiver of the reports: they are those of some receiver.
 abbrev pub Works : (job : Job) (task : Task) (from : Known) (sink : Moved)
     (result : Result ⊤ FileFault) → Type 0
 Works job task from sink result =
     (taken : Known) × (work : Result ⊤ FileFault)
-    × Performs job task from (move_of sink.before taken) work
+    × ((lost : LossesMoved) × Performs job task from (move_of sink.before taken) lost work)
     × PerformsQuietly task sink.before taken work × Ends taken sink.after work result
 
 -- the same, with the fault of a failure
@@ -68,16 +69,18 @@ IsOutput F contents None standard sink = sink ≡ standard
 IsOutput F contents (Some name) standard sink =
     (old new : F) × (sink ≡ move_of (contents old) (contents new))
 
--- The result of work that writes to OUT. On Ok it was performed. On a fault standard output is
--- unchanged or has what the work wrote; if OUT is named, this says nothing.
+-- The result of work that writes to OUT. On Ok it was performed. On any fault, if OUT is not named,
+-- standard output is unchanged or has what the work wrote. On a fault of the age file or of the
+-- work, OUT has what the work wrote, also if it is named.
 abbrev pub PerformsOn : (F : Type 0) (contents : F → Known) (job : Job) (task : Task)
     (from : Known) (sink : Moved) (result : Result ⊤ Failure) → Type 0
 PerformsOn F contents job task from sink (Ok _) =
     (target : Moved) × IsOutput F contents job.output sink target
     × Works job task from target (Ok tt)
 PerformsOn F contents job task from sink (Err failure) =
-    job.output ≡ None
-    → Stays sink ⊎ ((fault : FileFault) × Works job task from sink (Err fault))
+    (job.output ≡ None → Stays sink ⊎ ((fault : FileFault) × Works job task from sink (Err fault)))
+    × ((fault : FileFault) → failure.fault ≡ AgeFile fault → (target : Moved)
+    × IsOutput F contents job.output sink target × Works job task from target (Err fault))
 
 -- a task of the job was performed
 abbrev pub Finishes : (job : Job) (from : Known) (sink : Moved) → Type 0

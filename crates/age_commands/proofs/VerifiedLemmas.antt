@@ -20,6 +20,7 @@ use Rattle.age_file.specs.Verdict.{Answering, stream_fault}
 use Rattle.age_commands.specs.Range.{IsPartFault, RangingAny, WritesAny, WritesVerified}
 use Rattle.age_commands.specs.Secret.{answers_of, limits_of}
 use Rattle.age_commands.specs.declared.task.Task.TheVariants.{Range}
+use Rattle.age_stream.specs.Salvage.{LossesMoved}
 use Rattle.age_commands.specs.Task.{Performs}
 use Rattle.age_file.specs.Device.{IsLate, IsQuiet, is_write}
 use Rattle.age_job.specs.declared.job.Job.{Job}
@@ -179,11 +180,11 @@ unopened at len {old} named = inl (named, Keeps-refl old)
 
 -- a range of a source, of which proofs see the size alone
 pub ranges_unseen : {D : Type 0} {found : D → Option ℕ} (job : Job) (secret : Secret) (from : Known) {new : D}
-    {sink : Moved} {r : Result ⊤ Fault}
+    {sink : Moved} (lost : LossesMoved) {r : Result ⊤ Fault}
     → RangingAny (λ source at byte. ⊤) found (limits_of job) (answers_of secret job.max_work) job.at job.len new sink r
-    → Performs job (Range secret) from sink r
-ranges_unseen job secret from (inl none) = (None, inl none)
-ranges_unseen {found} job secret from (inr o) = (
+    → Performs job (Range secret) from sink lost r
+ranges_unseen job secret from lost (inl none) = (None, inl none)
+ranges_unseen {found} job secret from lost (inr o) = (
   found o.source,
   inr (record { source = found o.source; state = o.state; begins = o.begins; writes = o.writes }),
 )

@@ -38,42 +38,42 @@ abbrev pub if_whole : Result Salvaged Fault → Result ⊤ Fault
 if_whole (Ok s) = if is_whole s then Ok tt else Err (BadChunk s.chunks)
 if_whole (Err fault) = Err fault
 
--- the result and the output of `salvage`, with some reports, of whatever receiver
+-- the result, the output and the reports of `salvage`
 abbrev pub SalvagesAll : (limits : Bounds) (answers : Answering) (source : Flow) (sink : Moved)
-    (result : Result ⊤ Fault) → Type 0
-SalvagesAll limits answers source sink result =
+    (lost : LossesMoved) (result : Result ⊤ Fault) → Type 0
+SalvagesAll limits answers source sink lost result =
     (done : Result Salvaged Fault) × (result ≡ if_whole done)
-    × ((lost : LossesMoved) × SalvagesFile limits answers source sink lost done)
+    × SalvagesFile limits answers source sink lost done
 
 -- P holds of some bytes, and of those to come, if they are known
 abbrev pub OfKnown : (from : Known) (P : Bytes → Type 0) → Type 0
 OfKnown from P = (given : Bytes) × P given × IfSome from P
 
--- The result, and the output, for an input with the bytes `from`. Of the input of a range nothing
--- is known: only the number of bytes written and the kind of fault are bounded.
-abbrev pub Performs : (job : Job) (task : Task) (from : Known) (sink : Moved)
+-- The result, the output, and for `salvage` the reports, for an input with the bytes `from`. Of the
+-- input of a range nothing is known: only the number of bytes written and the kind of fault are
+-- bounded.
+abbrev pub Performs : (job : Job) (task : Task) (from : Known) (sink : Moved) (lost : LossesMoved)
     (result : Result ⊤ Fault) → Type 0
-Performs job (Encrypt secret seed) from sink result =
+Performs job (Encrypt secret seed) from sink lost result =
     let gathered = gathering_of secret job.work seed.salt seed.fresh.file_key in
     (done : Result Done Fault) × (result ≡ without_counts done)
     × OfKnown from (λ b. EncryptsText (limits_of job) seed.fresh gathered b sink done)
     × IfErr done (RefusesFirst (limits_of job) seed.fresh.file_key gathered)
-Performs job (Decrypt secret) from sink result =
+Performs job (Decrypt secret) from sink lost result =
     let answers = answers_of secret job.max_work in
     (done : Result Done Fault) × (result ≡ without_counts done)
     × OfKnown from (λ b. DecryptsText (limits_of job) answers b sink done)
-Performs job (Rewrap one other salt) from sink result =
+Performs job (Rewrap one other salt) from sink lost result =
     let gathered = gathering_of other job.work salt in
     let answers = answers_of one job.max_work in
     OfKnown from (λ b. RewrapsText (limits_of job) answers gathered b sink result)
-Performs job (Inspect key) from sink result =
+Performs job (Inspect key) from sink lost result =
     OfKnown from (λ b. InspectsText (limits_of job) job.raw key b sink result)
-Performs job (Salvage secret) from sink result =
+Performs job (Salvage secret) from sink lost result =
     let answers = answers_of secret job.max_work in
     (done : Result Salvaged Fault) × (result ≡ if_whole done)
-    × ((lost : LossesMoved)
-    × OfKnown from (λ b. SalvagesText (limits_of job) answers b sink lost done))
-Performs job (Range secret) from sink result =
+    × OfKnown from (λ b. SalvagesText (limits_of job) answers b sink lost done)
+Performs job (Range secret) from sink lost result =
     (size : Option ℕ) × RangingAny (λ _ _ _. ⊤) (λ found. found) (limits_of job)
     (answers_of secret job.max_work) job.at job.len size sink result
 

@@ -18,7 +18,9 @@ use std::alloc::Global;
 pub trait Report: Losses {
     /// Receives that the file counts as cut short (`Salvaged::is_cut`), after this many bytes of
     /// the plaintext.
-    fn cut(&mut self, bytes: u128);
+    fn cut(&mut self, bytes: u128)
+        // The lost chunks reported so far are unchanged.
+        ensures { Self.lost self.new ≡ Self.lost self.old };
 }
 
 /// Saves what is left of the source to the sink with the identity of this secret. Reports each lost
@@ -34,7 +36,8 @@ pub(crate) fn salvage_all<S: Source, W: Sink, L: Report>(
 ) -> Result<(), Fault>
     requires { IsInRange job.now }
     ensures salvages { SalvagesAll (limits_of job.now) (answers_of secret job.now.max_work)
-        (flow_by S.to_come S.gave input.old input.new) (move_by W.taken out.old out.new) result }
+        (flow_by S.to_come S.gave input.old input.new) (move_by W.taken out.old out.new)
+        (losses_by L.lost report.old report.new) result }
     // If everything is saved, nothing was reported.
     ensures silent { OnOk result (report.new ≡ report.old) }
     ensures quiet { IsQuiet out.old out.new result }

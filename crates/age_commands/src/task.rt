@@ -4,6 +4,7 @@ ghost use Rattle.age_job.specs.Job.{IsInRange};
 ghost use Rattle.age_commands.specs.Task.{Performs, PerformsQuietly, without_counts};
 ghost use Rattle.age_file.specs.Device.{is_write};
 ghost use Rattle.age_header.specs.Device.{CountsIf, move_by};
+ghost use Rattle.age_stream.specs.Salvage.{losses_by};
 
 use crate::buffering::{file_source, header_source, source_at_offsets};
 use crate::decrypt::decrypt;
@@ -31,9 +32,8 @@ pub enum Task {
     Salvage(Secret),
 }
 
-/// Performs this task from this input to this sink. `salvage` reports lost chunks to `report`; no
-/// clause says which ones. A range reads its input at offsets, the other tasks read it from start
-/// to end.
+/// Performs this task from this input to this sink. `salvage` reports the lost chunks to `report`.
+/// A range reads its input at offsets, the other tasks read it from start to end.
 pub fn perform_between<R: Read + Seek, W: Sink, L: Report>(
     alloc: Global,
     job: &Job,
@@ -43,11 +43,11 @@ pub fn perform_between<R: Read + Seek, W: Sink, L: Report>(
     report: &mut L,
 ) -> Result<(), Fault>
     requires { IsInRange job.now }
-    // Returns and writes what the library does for the recipient, the identity and the limits of
-    // the job and its secrets. `encrypt` uses the seed's file key, nonce and salt, `rewrap` its
-    // salt.
+    // Returns, writes and reports what the library does for the recipient, the identity and the
+    // limits of the job and its secrets. `encrypt` uses the seed's file key, nonce and salt,
+    // `rewrap` its salt.
     ensures performs { Performs job.now task (R.remaining input.old)
-        (move_by W.taken out.old out.new) result }
+        (move_by W.taken out.old out.new) (losses_by L.lost report.old report.new) result }
     // On a fault other than a chunk's, `TooManyChunks`, `Read` and `Write` the sink is unchanged,
     // whether or not its contents are known. But `inspect` writes a header whose MAC is wrong.
     ensures quiet { PerformsQuietly task out.old out.new result }

@@ -4,6 +4,7 @@ mod CopiesLemmas
 pub mod DecryptLemmas
 mod EncryptLemmas
 pub mod FileLemmas
+mod FrontLemmas
 mod GatheredLemmas
 pub mod OwnLabels
 mod PayloadLemmas

@@ -1,8 +1,9 @@
 //! Reading a file's header.
 
+ghost use Rattle.std.specs.Prelude.{IfErr};
 ghost use Rattle.age_header.specs.Device.{CountsIf, flow_by};
 ghost use Rattle.age_file.specs.Device.{is_read};
-ghost use Rattle.age_file.specs.Inspect.{Inspects};
+ghost use Rattle.age_file.specs.Inspect.{Inspects, ReadsFront};
 
 use crate::fault::Fault;
 use crate::fault_conversions::header_fault;
@@ -21,6 +22,9 @@ pub fn inspect<S: Source>(alloc: Global, input: &mut S, limits: &Limits) -> Resu
     // header's bytes were read.
     ensures verdict { Inspects limits.now (flow_by S.to_come S.gave input.old input.new) result }
     ensures reads { CountsIf is_read (S.failed input.old) (S.failed input.new) result }
+    // On a fault other than `Read`, at most as many bytes were read as a header may have.
+    ensures most { IfErr result
+        (ReadsFront limits.now (flow_by S.to_come S.gave input.old input.new)) }
 {
     match HeaderReader::new(limits.max_header()).read_from(alloc, input) {
         Ok(header) => Ok(header),

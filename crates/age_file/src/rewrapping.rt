@@ -1,7 +1,8 @@
 //! Replacing the header of a file and keeping its payload.
 
-ghost use Rattle.age_header.specs.Device.{CountsIf, flow_by, move_by};
-ghost use Rattle.age_file.specs.Device.{IsQuiet, is_read, is_write};
+ghost use Rattle.std.specs.Prelude.{◌⊎◌, IfErr};
+ghost use Rattle.age_header.specs.Device.{CountsIf, GaveAtMost, flow_by, move_by};
+ghost use Rattle.age_file.specs.Device.{IsLate, IsQuiet, is_read, is_write};
 ghost use Rattle.age_file.specs.NewFile.{gathering_by};
 ghost use Rattle.age_file.specs.Rewrap.{Rewraps};
 ghost use Rattle.age_file.specs.Verdict.{answers_by};
@@ -49,6 +50,10 @@ pub fn rewrap<S: Source, W: Sink>(
     ensures quiet { IsQuiet out.old out.new result }
     ensures reads { CountsIf is_read (S.failed input.old) (S.failed input.new) result }
     ensures writes { CountsIf is_write (W.failed out.old) (W.failed out.new) result }
+    // On a fault other than a chunk's, `TooManyChunks`, `Read` and `Write`, at most as many bytes
+    // were read as a header may have.
+    ensures front { IfErr result (λ fault. IsLate fault
+        ⊎ GaveAtMost limits.now.max_header (flow_by S.to_come S.gave input.old input.new)) }
 {
     let header = match inspect(alloc, input, limits) {
         Ok(header) => header,

@@ -1,6 +1,6 @@
 //! Finding the file key of a header.
 
-ghost use Rattle.std.specs.Prelude.{◌≡◌, ◌⊎◌, Err, IfErr};
+ghost use Rattle.std.specs.Prelude.{◌≡◌, ◌⊎◌, true, Err, IfErr};
 ghost use Rattle.std.specs.List.{list_any};
 ghost use Rattle.age_file.specs.AgeFile.{is_mixed, is_scrypt};
 ghost use Rattle.age_file.specs.Device.{IsNoDeviceFault};
@@ -30,6 +30,8 @@ pub fn unlock_header(
         ⊎ (result ≡ header_key (answers_by identities.now (λ i s. meaning i s)) header.now) }
     // The fault is not one of a device.
     ensures no_device { IfErr result IsNoDeviceFault }
+    // If a scrypt stanza is not alone, the fault is `MixedPassphrase`, and never `OutOfMemory`.
+    ensures mixed { is_mixed header.now.stanzas ≡ true → result ≡ Err Fault.MixedPassphrase }
 {
     if is_mixed(header.stanzas()) {
         return Err(Fault::MixedPassphrase);

@@ -6,10 +6,12 @@ mod FillingLemmas
 pub mod HeaderLemmas
 pub mod LengthLemmas
 pub mod LinesLemmas
+mod MostLemmas
 pub mod ReaderLemmas
 mod StanzaLemmas
 mod StepsLemmas
 pub mod TextLemmas
+mod Vectors
 pub mod VerdictFirstLineLemmas
 mod VerdictLaterLinesLemmas
 pub mod VerdictPathLemmas

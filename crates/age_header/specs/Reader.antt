@@ -4,7 +4,7 @@ use Rattle.std.specs.declared.option.Option.{Option}
 use Rattle.std.specs.declared.option.Option.TheVariants.{None, Some}
 use Rattle.std.specs.declared.result.Result.{Result}
 use Rattle.std.specs.declared.result.Result.TheVariants.{Ok, Err}
-use Rattle.age_header.specs.Device.{Flow, Gave, OfGiven}
+use Rattle.age_header.specs.Device.{Flow, Gave, GaveAtMost, OfGiven}
 use Rattle.age_kdf.specs.Bytes.{Bytes}
 use Rattle.age_header.specs.declared.fault.HeaderFault.{HeaderFault}
 use Rattle.age_header.specs.declared.fault.HeaderFault.TheVariants.{Read, Memory}
@@ -16,6 +16,11 @@ abbrev pub Refuses : (b : Bytes) (max : ℕ) (fault : HeaderFault) → Type 0
 Refuses b max Read = ⊤
 Refuses b max Memory = ⊤
 Refuses b max fault = IsFault b max fault
+
+-- at most n bytes were read, unless a read failed
+abbrev pub ReadAtMost : (n : ℕ) (source : Flow) (fault : HeaderFault) → Type 0
+ReadAtMost n source Read = ⊤
+ReadAtMost n source fault = GaveAtMost n source
 
 -- The result of a reader for the bytes b under a limit of max bytes: the header verdict. If that is
 -- a header, exactly the header's bytes are read.

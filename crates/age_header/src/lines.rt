@@ -3,7 +3,7 @@
 ghost use Rattle.std.specs.Prelude.{◌≡◌, length, IfOk, IfErr, OnErr};
 ghost use Rattle.age_header.specs.Device.{CountsIf, Gave, GaveSome, flow_by};
 ghost use Rattle.age_header.specs.Verdict.{IsLineText};
-ghost use Rattle.age_header.specs.Reader.{is_read};
+ghost use Rattle.age_header.specs.Reader.{ReadAtMost, is_read};
 ghost use Rattle.age_header.specs.Lines.{line_bytes, IsEnd, IsOutside};
 
 use crate::device::Source;
@@ -35,6 +35,8 @@ pub(crate) fn read_line<S: Source>(
     ensures end { IfOk result (λ l. IsEnd l.1 (length l.0.items) max_len (S.to_come input.new)) }
     ensures err { IfErr result IsOutside }
     ensures lost { OnErr result (GaveSome (flow_by S.to_come S.gave input.old input.new)) }
+    ensures most { IfErr result
+        (ReadAtMost max_len (flow_by S.to_come S.gave input.old input.new)) }
 {
     let mut line = Vec::new(alloc);
     for _ in 0..max_len {

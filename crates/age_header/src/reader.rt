@@ -5,7 +5,7 @@ ghost use Rattle.age_header.specs.Device.{CountsIf, Gave, flow_by};
 ghost use Rattle.age_kdf.specs.Bytes.{Bytes};
 ghost use Rattle.age_header.specs.Base64.{IsBase64};
 ghost use Rattle.age_header.specs.Header.{mac_size, version_line, version_size};
-ghost use Rattle.age_header.specs.Reader.{ReadsHeader, is_read};
+ghost use Rattle.age_header.specs.Reader.{ReadAtMost, ReadsHeader, is_read};
 ghost use Rattle.age_header.specs.Text.{IsPlain};
 
 use crate::arguments::strip_prefix;
@@ -75,6 +75,9 @@ impl HeaderReader {
         // that the source returned. On Ok these are exactly the header's bytes.
         ensures verdict { IfNone self.old.fault
             (ReadsHeader (flow_by S.to_come S.gave input.old input.new) self.old.max result) }
+        // On a fault other than `Read`, at most the limit's number of bytes was read.
+        ensures most { IfNone self.old.fault (IfErr result
+            (ReadAtMost self.old.max (flow_by S.to_come S.gave input.old input.new))) }
     {
         if let Some(fault) = self.fault {
             return Err(fault);
@@ -91,6 +94,7 @@ impl HeaderReader {
 fn read_header<S: Source>(alloc: Global, input: &mut S, max: usize) -> Result<Header, HeaderFault>
     ensures count { CountsIf is_read (S.failed input.old) (S.failed input.new) result }
     ensures verdict { ReadsHeader (flow_by S.to_come S.gave input.old input.new) max result }
+    ensures most { IfErr result (ReadAtMost max (flow_by S.to_come S.gave input.old input.new)) }
 {
     read_version(alloc, input, max)?;
     let engine = base64_no_pad::engine();
@@ -128,6 +132,7 @@ fn read_version<S: Source>(alloc: Global, input: &mut S, max: usize) -> Result<(
         ((version_size ≤ max) × Gave (flow_by S.to_come S.gave input.old input.new) version_line) }
     ensures err { IfErr result
         (λ e. ReadsHeader (flow_by S.to_come S.gave input.old input.new) max (Err e)) }
+    ensures most { IfErr result (ReadAtMost max (flow_by S.to_come S.gave input.old input.new)) }
 {
     let (first, end) = read_line(alloc, input, max.min(VERSION_SIZE))?;
     let Some(rest) = strip_prefix(VERSION, first.as_slice()) else {

@@ -15,6 +15,7 @@ mod SalvageSlices
 pub mod SealingLemmas
 pub mod SliceLemmas
 pub mod TailLemmas
+mod Vectors
 pub mod VerifiedLemmas
 pub mod WholeSlices
 pub mod WritesAllLemmas

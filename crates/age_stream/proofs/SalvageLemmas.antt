@@ -329,11 +329,14 @@ module _ {key : Bytes} {s : Salvaged} {held : Bytes} {n : ℕ} {buf : Bytes} {fr
     saves_write max new wrote = of_more (gave_then o.gave r.gave) (λ d end.
         let (more, first) = parts_first key s.chunks (held ++ r.given) d (whole_piece d end) in
         let all : parts key 0 (pieces ((o.given ++ r.given) ++ d)) ≡ o.done ++ y ∷ more =
-        reads_piece d ∙ ap (λ ps. o.done ++ ps) (first ∙ ap (λ p. p ∷ more) found) in (
+        reads_piece d ∙ ap (λ ps. o.done ++ ps) (first ∙ ap (λ p. p ∷ more) found) in
+        let done_parts = take_at o.done (y ∷ more) s.chunks (omega (arith, o.chunks)) in
+        let next_parts = drop_at o.done (y ∷ more) s.chunks (omega (arith, o.chunks)) in (
           s.chunks,
-          rw (all, salvaged_append o.done (y ∷ more)) (done_part new y.text (salvaged_text more)
-              (record { prefix = salvaged_text o.done; took = o.written; is = refl }) refl wrote),
-          rw (all, take_at o.done (y ∷ more) s.chunks (omega (arith, o.chunks))) o.reported,
+          wrote.0,
+          rw (all, done_parts, next_parts, append-nil y.text)
+              (Appends-trans old mid new (salvaged_text o.done) (take wrote.0 y.text) o.written wrote.1),
+          rw (all, done_parts) o.reported,
         ))
 
     -- it was saved, and reported if it is lost

@@ -2,7 +2,7 @@
 use Rattle.std.specs.Prelude.{ℕ, ◌+◌, ◌-◌, ◌≡◌, ◌≤◌, ◌<◌, ⊤, List, [], ◌∷◌, ◌++◌, Bool, true, false, not, length, map, take, drop, replicate, nat_eq, nat_le, IfSome, Option, Some, None, Result, Ok, Err, if◌then◌else◌}
 use Rattle.std.specs.Io.KnownBytes.{IsAtEnd}
 use Rattle.std.specs.List.{concat}
-use Rattle.age_stream.specs.Words.{Bytes, Key, Flow, Gave, Moved, OfGiven, Took, WritesPart, FileKey, StreamFault, NonceTruncated, TooManyChunks, Read, Write, Memory, chunk_buf_size, nonce_size, sealed_chunk_size, tag_size}
+use Rattle.age_stream.specs.Words.{Bytes, Key, Flow, Gave, Moved, OfGiven, Took, FileKey, StreamFault, NonceTruncated, TooManyChunks, Read, Write, Memory, chunk_buf_size, nonce_size, sealed_chunk_size, tag_size}
 use Rattle.age_stream.specs.declared.salvaged.Lost.{Lost}
 use Rattle.age_stream.specs.declared.salvaged.Salvaged.{Salvaged}
 use Rattle.age_stream.specs.declared.salvaged.Saved.{Saved}
@@ -118,8 +118,8 @@ Saves n parts sink lost =
     Took sink (salvaged_text (take n parts)) × Reports lost (losses 0 0 (take n parts))
 
 -- The result for these parts. On Ok all were written; with too many chunks as many as the limit;
--- after a failed read the first ones. After a failed write a prefix of the whole text was written,
--- and the lost chunks among the first parts were reported, of however many parts.
+-- after a failed read the first ones. After a failed write the first ones and a prefix of the next
+-- one were written. The lost chunks among the parts written whole were reported, and no others.
 abbrev pub SavesParts : (max : ℕ) (parts : List Part) (sink : Moved) (lost : LossesMoved)
     (r : Result Salvaged StreamFault) → Type 0
 SavesParts max parts sink lost (Ok s) =
@@ -128,7 +128,9 @@ SavesParts max parts sink lost (Err TooManyChunks) =
     (max < length parts) × Saves max parts sink lost
 SavesParts max parts sink lost (Err Read) = (n : ℕ) × Saves n parts sink lost
 SavesParts max parts sink lost (Err Write) =
-    (n : ℕ) × WritesPart sink (salvaged_text parts) × Reports lost (losses 0 0 (take n parts))
+    (n : ℕ) × (k : ℕ)
+    × Took sink (salvaged_text (take n parts) ++ take k (salvaged_text (take 1 (drop n parts))))
+    × Reports lost (losses 0 0 (take n parts))
 SavesParts max parts sink lost (Err _) = ⊥
 
 -- the same for a payload; nothing was written if the nonce is incomplete or memory was refused

@@ -1,6 +1,6 @@
-use Rattle.std.proofs.Common.{refl}
+use Rattle.std.proofs.Common.{◌≡◌, Err, refl, rules}
 use Rattle.age_header.specs.Device.{move_by, move_of}
-use Rattle.age_cli.proofs.ProgramLemmas.{performs_alone}
+use Rattle.age_cli.proofs.ProgramLemmas.{fails_in, performs_alone}
 use Rattle.age_cli.proofs.program.perform_on.Goals as goal
 
 pub returns-in-Some-clause-performs : goal.returns-in-Some-clause-performs
@@ -10,6 +10,15 @@ returns-in-Some-clause-performs g c =
     let works = rw c.new-input.ensures at c.in_ok-perform_to-in-Some.ensures.performs in
     let has = g.F.File.Write.contents in
     (move_of (has old) (has new), rw c.in-Some.is (old, new, refl), works)
+
+pub returns-in_err-perform_to-in-Some-clause-performs : goal.returns-in_err-perform_to-in-Some-clause-performs
+returns-in_err-perform_to-in-Some-clause-performs g c =
+    let failure = c.in_err-perform_to-in-Some.field-0.0 in
+    let is : c.from_residual-in_err-perform_to-in-Some.result ≡ Err failure = search rules in
+    rw is (fails_in g.F.File.Write.contents c.args.job.now c.args.task (g.R.Read.remaining c.args.input)
+    (g.W.Write.contents c.args.out.now) c.in_ok-output-in-Some.output.file c.perform_to.new.out.file failure
+    (λ silent. absurd (cc (c.in-Some.is, silent)))
+    (rw c.new-input.ensures at c.in_err-perform_to-in-Some.ensures.performs))
 
 pub returns-clause-performs : goal.returns-clause-performs
 returns-clause-performs g c =

@@ -1,5 +1,6 @@
 use Rattle.age_commands.proofs.TaskLemmas.{no_memory}
 use Rattle.age_commands.proofs.VerifiedLemmas.{ranges_unseen}
+use Rattle.age_stream.specs.Salvage.{losses_by}
 use Rattle.age_commands.proofs.task.perform_between.Goals as goal
 
 pub returns-in_default-clause-performs : goal.returns-in_default-clause-performs
@@ -17,7 +18,7 @@ returns-in_default-source_at_offsets-clause-performs g c = search no_memory
 pub returns-in-Ok-source_at_offsets-clause-performs : goal.returns-in-Ok-source_at_offsets-clause-performs
 returns-in-Ok-source_at_offsets-clause-performs g c =
     rw c.in-Range.is (ranges_unseen c.args.job.now c.in-Range.secret (g.R.Read.remaining c.args.input.now)
-    c.range_of.ensures.any)
+    (losses_by g.L.Losses.lost c.args.report.now c.args.report.now) c.range_of.ensures.any)
 
 pub returns-in_default-file_source-2-clause-performs : goal.returns-in_default-file_source-2-clause-performs
 returns-in_default-file_source-2-clause-performs g c = search no_memory

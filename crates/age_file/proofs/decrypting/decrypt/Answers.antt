@@ -1,8 +1,9 @@
 use Rattle.std.proofs.Common.{◌≡◌, rules, Ok, Err}
-use Rattle.age_header.specs.Device.{seen_by}
+use Rattle.age_header.specs.Device.{flow, seen_by}
 use Rattle.age_file.specs.Verdict.{answers_by}
 use Rattle.age_file.proofs.DecryptLemmas.{inspect_decrypts, locked_decrypts, missed_decrypts, payload_takes, written_decrypts}
 use Rattle.age_file.proofs.PayloadLemmas.{payload_ends}
+use Rattle.age_file.proofs.FrontLemmas.{front_gave}
 use Rattle.age_file.proofs.decrypting.decrypt.Goals as goal
 
 pub returns-in_err-header-clause-decrypts : goal.returns-in_err-header-clause-decrypts
@@ -51,3 +52,9 @@ returns-in-Err-clause-decrypts g c =
     (g.S.Source.failed c.inspect.new.input)
     (g.S.Source.failed c.in-Err.refused.device.now) c.in_ok-header.ensures.verdict
     c.in_ok-key.ensures.key c.max_chunks.ensures.value (search rules))
+
+pub returns-in_err-key-clause-front : goal.returns-in_err-key-clause-front
+returns-in_err-key-clause-front g c =
+    let is : c.from_residual-in_err-key.result ≡ Err c.in_err-key.field-0.0 = search rules in
+    rw is (λ of. front_gave c.args.limits.now (flow (seen_by g.S.Source.to_come g.S.Source.gave c.args.input.now)
+    (seen_by g.S.Source.to_come g.S.Source.gave c.inspect.new.input)) _ c.in_ok-header.ensures.verdict)

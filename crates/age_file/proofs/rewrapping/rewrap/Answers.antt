@@ -1,7 +1,9 @@
-use Rattle.std.proofs.Common.{◌≡◌, rules}
+use Rattle.std.proofs.Common.{◌≡◌, Err, rules}
 use Rattle.age_file.proofs.DecryptLemmas.{headed}
 use Rattle.age_file.proofs.EncryptLemmas.{made}
 use Rattle.age_file.proofs.RewrapLemmas.{begun_rewraps, copied_rewraps, copies_late, heading_rewraps, inspect_rewraps, key_found, locked_rewraps}
+use Rattle.age_header.specs.Device.{GaveAtMost, flow, seen_by}
+use Rattle.age_file.proofs.FrontLemmas.{late_or_front}
 use Rattle.age_file.proofs.rewrapping.rewrap.Goals as goal
 
 pub returns-in-Err-clause-rewraps : goal.returns-in-Err-clause-rewraps
@@ -36,3 +38,33 @@ returns-clause-rewraps g c =
 
 pub returns-clause-quiet : goal.returns-clause-quiet
 returns-clause-quiet g c = search (copies_late (c.copy_all.new.out ≡ c.args.out.now), c.copy_all.ensures.copies)
+
+pub returns-in-Err-unlock_header-clause-front : goal.returns-in-Err-unlock_header-clause-front
+returns-in-Err-unlock_header-clause-front g c =
+    let source = flow (seen_by g.S.Source.to_come g.S.Source.gave c.args.input.now)
+    (seen_by g.S.Source.to_come g.S.Source.gave c.inspect.new.input) in
+    late_or_front c.args.limits.now source _ (Err c.in-Err-unlock_header.fault) c.in-Ok.ensures.verdict
+
+pub returns-in-Err-header_for-clause-front : goal.returns-in-Err-header_for-clause-front
+returns-in-Err-header_for-clause-front g c =
+    let source = flow (seen_by g.S.Source.to_come g.S.Source.gave c.args.input.now)
+    (seen_by g.S.Source.to_come g.S.Source.gave c.inspect.new.input) in
+    late_or_front c.args.limits.now source _ (Err c.in-Err-header_for.fault) c.in-Ok.ensures.verdict
+
+pub returns-in_err-text-clause-front : goal.returns-in_err-text-clause-front
+returns-in_err-text-clause-front g c =
+    let source = flow (seen_by g.S.Source.to_come g.S.Source.gave c.args.input.now)
+    (seen_by g.S.Source.to_come g.S.Source.gave c.inspect.new.input) in
+    late_or_front c.args.limits.now source _ c.from_residual.result c.in-Ok.ensures.verdict
+
+pub returns-in_err-buf-clause-front : goal.returns-in_err-buf-clause-front
+returns-in_err-buf-clause-front g c =
+    let source = flow (seen_by g.S.Source.to_come g.S.Source.gave c.args.input.now)
+    (seen_by g.S.Source.to_come g.S.Source.gave c.inspect.new.input) in
+    late_or_front c.args.limits.now source _ c.from_residual-in_err-buf.result c.in-Ok.ensures.verdict
+
+pub returns-clause-front : goal.returns-clause-front
+returns-clause-front g c =
+    let source = flow (seen_by g.S.Source.to_come g.S.Source.gave c.args.input.now)
+    (seen_by g.S.Source.to_come g.S.Source.gave c.copy_all.new.input) in
+    search (copies_late (GaveAtMost c.args.limits.now.max_header source), c.copy_all.ensures.copies)

@@ -1,10 +1,11 @@
 use Rattle.std.proofs.Common.{Err, sym}
-use Rattle.age_header.specs.Device.{move_by}
+use Rattle.age_header.specs.Device.{flow, move_by, seen_by}
 use Rattle.age_stream.specs.Salvage.{losses_by}
 use Rattle.age_file.specs.Verdict.{answers_by}
 use Rattle.age_file.proofs.DecryptLemmas.{reads_file}
 use Rattle.age_file.proofs.SalvageLaws.{quiet_pieces}
 use Rattle.age_file.proofs.SalvageLemmas.{inspect_salvages, locked_salvages, payload_salvages, salvage_takes}
+use Rattle.age_file.proofs.FrontLemmas.{front_gave}
 use Rattle.age_file.proofs.salvaging.salvage.Goals as goal
 
 pub returns-in-Err-clause-salvages : goal.returns-in-Err-clause-salvages
@@ -45,3 +46,8 @@ pub returns-clause-reads : goal.returns-clause-reads
 returns-clause-reads g c =
     rw (c.from.ensures, sym c.in-Ok.ensures.reads)
     (search (reads_file, c.in-Err-salvage_payload.ensures.reads))
+
+pub returns-in-Err-unlock_header-clause-front : goal.returns-in-Err-unlock_header-clause-front
+returns-in-Err-unlock_header-clause-front g c =
+    λ is. front_gave c.args.limits.now (flow (seen_by g.S.Source.to_come g.S.Source.gave c.args.input.now)
+    (seen_by g.S.Source.to_come g.S.Source.gave c.inspect.new.input)) _ c.in-Ok.ensures.verdict

@@ -1,5 +1,7 @@
 use Rattle.age_header.proofs.Common.{◌≡◌, ◌∙◌, length, sym, arith, rules, Err, common_steps, Bytes, iff_false}
 use Rattle.age_header.proofs.DeviceLemmas.{gave_some, of_any, some_then}
+use Rattle.age_header.specs.Device.{seen_by}
+use Rattle.age_header.proofs.MostLemmas.{line_within, reached_most}
 use Rattle.age_header.proofs.ReaderLemmas.{outside}
 use Rattle.age_header.proofs.VerdictLaterLinesLemmas.{path_truncated, path_too_large, path_header, path_bad, path_more, path_lines, path_start}
 use Rattle.age_header.proofs.reader.read_header.Goals.{then-is_whole+in-Ok-None, else-is_whole}
@@ -82,3 +84,34 @@ lines-preserved g c =
     let size : length text ≡ c.len.result = grind (arith, common_steps) in
     let more = path_more text c.lines.invariant.path bytes c.in_ok-text.ensures.text low step in
     record { count = c.in_ok-text.ensures.count ∙ c.lines.invariant.count; path = rw (← size) more }
+
+pub returns-in_err-text-clause-most : goal.returns-in_err-text-clause-most
+returns-in_err-text-clause-most g c =
+    let is : c.from_residual-in_err-text.result ≡ Err c.in_err-text.field-0.0 = search rules in
+    rw is (reached_most c.in_err-text.field-0.0 (seen_by g.S.Source.to_come g.S.Source.gave c.read_line.new.input)
+    c.lines.invariant.path c.in_err-text.ensures.most)
+
+pub returns-in-Input-clause-most : goal.returns-in-Input-clause-most
+returns-in-Input-clause-most g c =
+    line_within (seen_by g.S.Source.to_come g.S.Source.gave c.read_line.new.input) c.in_ok-text.end
+    c.in_ok-text.text.items c.lines.invariant.path c.in_ok-text.ensures.bytes c.in_ok-text.ensures.end
+
+pub returns-in-Room-clause-most : goal.returns-in-Room-clause-most
+returns-in-Room-clause-most g c =
+    line_within (seen_by g.S.Source.to_come g.S.Source.gave c.read_line.new.input) c.in_ok-text.end
+    c.in_ok-text.text.items c.lines.invariant.path c.in_ok-text.ensures.bytes c.in_ok-text.ensures.end
+
+pub returns-in-Err-clause-most : goal.returns-in-Err-clause-most
+returns-in-Err-clause-most g c =
+    line_within (seen_by g.S.Source.to_come g.S.Source.gave c.read_line.new.input) c.in_ok-text.end
+    c.in_ok-text.text.items c.lines.invariant.path c.in_ok-text.ensures.bytes c.in_ok-text.ensures.end
+
+pub returns-in-Ok-None-step-clause-most : goal.returns-in-Ok-None-step-clause-most
+returns-in-Ok-None-step-clause-most g c =
+    line_within (seen_by g.S.Source.to_come g.S.Source.gave c.read_line.new.input) c.in_ok-text.end
+    c.in_ok-text.text.items c.lines.invariant.path c.in_ok-text.ensures.bytes c.in_ok-text.ensures.end
+
+pub returns-in-Err-step-clause-most : goal.returns-in-Err-step-clause-most
+returns-in-Err-step-clause-most g c =
+    line_within (seen_by g.S.Source.to_come g.S.Source.gave c.read_line.new.input) c.in_ok-text.end
+    c.in_ok-text.text.items c.lines.invariant.path c.in_ok-text.ensures.bytes c.in_ok-text.ensures.end

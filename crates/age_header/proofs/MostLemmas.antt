@@ -1,0 +1,60 @@
+-- How much is read of a header that is refused.
+use Rattle.std.proofs.Common.{◌∙◌, ◌++◌, ◌∷◌, [], ◌+◌, ◌<◌, ◌≤◌, ℕ, ap, arith, length, length-append, Option}
+use Rattle.std.specs.Prelude.{⊤}
+use Rattle.age_kdf.specs.Bytes.{Bytes}
+use Rattle.age_header.specs.Device.{Flow, Gave, GaveAtMost, Seen, flow}
+use Rattle.age_header.specs.declared.fault.HeaderFault.{HeaderFault}
+use Rattle.age_header.specs.declared.fault.HeaderFault.TheVariants.{Read}
+use Rattle.age_header.specs.declared.lines.LineEnd.{LineEnd}
+use Rattle.age_header.specs.declared.lines.LineEnd.TheVariants.{Lf, Input, Room}
+use Rattle.age_header.specs.Header.{version_line, version_size}
+use Rattle.age_header.specs.Lines.{IsEnd, line_bytes}
+use Rattle.age_header.specs.Reader.{ReadAtMost}
+use Rattle.age_header.specs.Steps.{State}
+use Rattle.age_header.specs.Verdict.{lines_text}
+use Rattle.age_header.proofs.DeviceLemmas.{gave_then}
+use Rattle.age_header.proofs.LengthLemmas.{length-version_line}
+use Rattle.age_header.proofs.VerdictPathLemmas.{Reached}
+
+pub within : {a b c : Seen} {x : Bytes} (k n : ℕ) → Gave (flow a b) x → GaveAtMost k (flow b c) → length x + k ≤ n
+    → GaveAtMost n (flow a c)
+within {x} k n g h low = (x ++ h.0, gave_then g h.1, omega (arith, length-append x h.0, h.2, low))
+
+pub most_of : (e : HeaderFault) (n : ℕ) (source : Flow) → GaveAtMost n source → ReadAtMost n source e
+most_of Read n source g = tt
+most_of e n source g = g
+
+pub most_under : (e : HeaderFault) (k n : ℕ) (source : Flow) → k ≤ n → ReadAtMost k source e → ReadAtMost n source e
+most_under Read k n source low h = tt
+most_under e k n source low h = (h.0, h.1, omega (arith, h.2, low))
+
+-- a line that was read under a limit
+pub line_most : (end : LineEnd) (text : Bytes) (k n : ℕ) (left : Option Bytes) (source : Flow)
+    → Gave source (line_bytes text end) → IsEnd end (length text) k left → k ≤ n → GaveAtMost n source
+line_most Lf text k n left source g is low =
+    (text ++ 10 ∷ [], g, omega (arith, length-append text (10 ∷ []), is, low))
+line_most Input text k n left source g is low = (text, g, omega (arith, is.0, low))
+line_most Room text k n left source g is low = (text, g, omega (arith, is, low))
+
+-- what follows a path, within the room that is left
+pub reached_within : {a mid : Seen} (new : Seen) {max room count : ℕ} {s : State}
+    → Reached a mid max room count s → GaveAtMost room (flow mid new) → GaveAtMost max (flow a new)
+reached_within new {max} {room} p h =
+    within room max p.read h (omega (
+      arith,
+      length-append version_line (lines_text p.ls),
+      length-version_line,
+      p.size,
+    ))
+
+pub reached_most : (e : HeaderFault) {a mid : Seen} (new : Seen) {max room count : ℕ} {s : State}
+    → Reached a mid max room count s → ReadAtMost room (flow mid new) e → ReadAtMost max (flow a new) e
+reached_most Read new p h = tt
+reached_most e new p h = reached_within new p h
+
+-- a line behind a path
+pub line_within : {a mid : Seen} (new : Seen) {max room count : ℕ} {s : State} (end : LineEnd) (text : Bytes)
+    → Reached a mid max room count s → Gave (flow mid new) (line_bytes text end)
+    → IsEnd end (length text) room new.to_come → GaveAtMost max (flow a new)
+line_within {mid = mid} new {room = room} end text p g is =
+    reached_within new p (line_most end text room room new.to_come (flow mid new) g is (omega arith))
