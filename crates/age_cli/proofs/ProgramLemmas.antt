@@ -6,7 +6,7 @@ use Rattle.age_file.specs.declared.fault.Fault.{Fault as FileFault}
 use Rattle.age_job.specs.declared.job.Job.{Job}
 use Rattle.age_words.specs.declared.fault.WordsFault.{WordsFault}
 use Rattle.age_words.specs.declared.fault.WordsFault.TheVariants.{Memory, Refused}
-use Rattle.age_words.specs.JobOf.{AreWrong, AskForText, Reads}
+use Rattle.age_words.specs.JobOf.{AreWrong, AskForText, Makes, Reads}
 use Rattle.age_words.proofs.RefusalLemmas.{shown, wrong}
 use Rattle.age_cli.specs.declared.failure.Failure.{Failure}
 use Rattle.age_commands.specs.declared.task.Task.{Task}
@@ -103,3 +103,14 @@ pub unused : (words : List Bytes) {unread unwritten : Type 0} (fault : WordsFaul
 unused words Memory status h a kept = inr (inl (kept, a.1))
 unused words (Refused error) status h (inl (low, is)) kept = inl (shown words error h is, kept)
 unused words (Refused error) status h (inr (two, stays, hidden)) kept = inr (inl (kept, stays))
+
+-- the status of words that make no job
+pub wrong_status : (words : List Bytes) {unwritten : Type 0} (fault : WordsFault) (status : ℕ) → Reads words (Err fault)
+    → AnswersRefusal fault status unwritten → AskForText words ⊎ ((status ≡ 2) ⊎ ((status ≡ 1) × unwritten))
+wrong_status words Memory status h a = inr (inr a)
+wrong_status words (Refused error) status h (inl (low, is)) = inl (shown words error h is)
+wrong_status words (Refused error) status h (inr (two, stays, hidden)) = inr (inl two)
+
+-- words that make a job are not wrong
+pub not_wrong : (words : List Bytes) (job : Job) → Makes words job → AreWrong words → ⊥
+not_wrong words job makes bad = let none = rw makes.0 at bad in absurd (cc)

@@ -1,7 +1,8 @@
 //! The program, over a reader and two writers.
-ghost use Rattle.std.specs.Prelude.{◌≡◌, ◌≢◌, ◌≤◌, ◌⊎◌, None, map, IfOk, OnOk};
+ghost use Rattle.std.specs.Prelude.{◌≡◌, ◌≢◌, ◌≤◌, ◌⊎◌, None, IfOk, OnOk};
 ghost use Rattle.age_job.specs.Job.{IsInRange};
 ghost use Rattle.age_words.specs.JobOf.{AreWrong, AskForText};
+ghost use Rattle.age_words.specs.Words.{texts};
 ghost use Rattle.age_cli.specs.Program.{AnswersRefusal, Begins, BeginsWords, Completes, FinishesOn, FinishesWords, IsTaskOf, PerformsOn, UsesStreams};
 ghost use Rattle.age_header.specs.Device.{Stays, move_by};
 
@@ -47,25 +48,30 @@ pub fn run<F: Files + Clock + AllocGlobal, R: Read, W: Write + IsTerminal, E: Wr
     ensures status { result ≤ 2 }
     // Status 2: the words are wrong, the input was not read, and the output is unchanged.
     ensures refused { result ≡ 2 → (input.new ≡ input.old) × (out.new ≡ out.old)
-        × AreWrong (map (λ word. word.now) words.now) }
+        × AreWrong (texts words.now) }
+    // Wrong words: the status is 2; or memory was refused, and it is 1 and the output is unchanged.
+    // If `clap` could also take them to ask for a text, that text may be shown instead.
+    ensures refuses { AreWrong (texts words.now)
+        → AskForText (texts words.now)
+        ⊎ ((result ≡ 2) ⊎ ((result ≡ 1) × (out.new ≡ out.old))) }
     // Status 0: `err` is unchanged. No clause covers the line on how much was read.
     ensures quiet { result ≡ 0 → err.new ≡ err.old }
     // Status 0: the words ask for a text of `clap`, or they make a job and a task of its command
     // was performed from its IN to its OUT. Unless named, these are standard input and standard
     // output. A named one is some value of the file type, not tied to the file opened.
-    ensures finishes { result ≡ 0 → AskForText (map (λ word. word.now) words.now)
+    ensures finishes { result ≡ 0 → AskForText (texts words.now)
         ⊎ FinishesWords F.File ⟦<F::File as Read>⟧.remaining ⟦<F::File as Write>⟧.contents
-        (map (λ word. word.now) words.now) (R.remaining input.old)
+        (texts words.now) (R.remaining input.old)
         (move_by W.contents out.old out.new) }
     // Status 1: the words ask for a text that could not be written, the output is as it was, or the
     // words make a job of which, if it names no OUT, a task ended with a fault.
-    ensures begins { result ≡ 1 → AskForText (map (λ word. word.now) words.now)
+    ensures begins { result ≡ 1 → AskForText (texts words.now)
         ⊎ (Stays (move_by W.contents out.old out.new)
-        ⊎ BeginsWords F.File ⟦<F::File as Read>⟧.remaining (map (λ word. word.now) words.now)
+        ⊎ BeginsWords F.File ⟦<F::File as Read>⟧.remaining (texts words.now)
         (R.remaining input.old) (move_by W.contents out.old out.new)) }
     // No standard input is read if the words make a job that names IN, and nothing is written to
     // standard output if it names OUT; neither is without a job, but for a text that they ask for.
-    ensures streams { UsesStreams (map (λ word. word.now) words.now) (input.new ≡ input.old)
+    ensures streams { UsesStreams (texts words.now) (input.new ≡ input.old)
         (out.new ≡ out.old) }
 {
     match read_words(rt.alloc(), words) {

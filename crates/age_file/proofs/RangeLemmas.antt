@@ -11,6 +11,7 @@ use Rattle.age_header.specs.declared.fault.HeaderFault.TheVariants as header
 use Rattle.age_header.specs.Header.{HeaderParts}
 use Rattle.age_header.specs.Mac.{header_mac}
 use Rattle.age_header.proofs.DeviceLemmas.{of_known}
+use Rattle.age_header.proofs.VerdictUniqueLemmas.{begins_found}
 use Rattle.age_header.specs.Reader.{Refuses}
 use Rattle.age_header.specs.Verdict.{HeaderVerdict}
 use Rattle.age_header.specs.declared.file_key.FileKey.{FileKey}
@@ -25,13 +26,14 @@ use Rattle.age_stream.specs.Ranges as stream
 use Rattle.age_stream.specs.Ranges.{OpensRanges}
 use Rattle.age_stream.specs.Slice.{last_piece, range_outcome}
 use Rattle.age_file.specs.declared.fault.Fault.{Fault}
-use Rattle.age_file.specs.declared.fault.Fault.TheVariants.{BadMac, MixedPassphrase, OutOfMemory}
+use Rattle.age_file.specs.declared.fault.Fault.TheVariants.{BadMac, MixedPassphrase, OutOfMemory, Read}
 use Rattle.age_file.specs.AgeFile.{Bounds, is_mixed}
-use Rattle.age_file.specs.Inspect.{Inspects}
+use Rattle.age_file.specs.Inspect.{Inspects, ReadsFront}
 use Rattle.age_file.specs.Device.{IsNoDeviceFault, is_read}
 use Rattle.age_file.specs.Ranges.{AtState, BeginsFile, GaveFirst, GaveHeader, HasHeader, IsOpenFault, IsRangesOf, IsWithin, MissesHeader, MissesRanges, RefusesRanges, ranges_under}
 use Rattle.age_file.specs.Verdict.{Answering, checked_key, finding, header_fault, stream_fault, unlock_fault, header_key}
 use Rattle.age_file.proofs.AtStateLemmas.{first_none, first_stays}
+use Rattle.age_file.proofs.FrontLemmas.{saving_front}
 use Rattle.age_file.proofs.DecryptLemmas.{err_err, found_key, headed, reads_file}
 
 -- a header that was read from the first byte on
@@ -64,6 +66,17 @@ header_gave to_come gave {limits} {old} {h} start i =
       verdict = subst (λ t. HeaderVerdict t limits.max_header (Ok (finding is.text h))) (append-nil is.text)
           (is.verdict []);
     }
+
+-- how much was read of a header that was refused
+pub header_most : {D : Type 0} (to_come : AtState D → Known) (gave : D → ℕ → ℕ → Type 0) (limits : Bounds)
+    {old new : AtState D} {fault : Fault} (base : ℕ) {given at : ℕ} → old.at ≡ 0
+    → ReadsFront limits (flow_by to_come (λ s. GaveFirst (gave s.dev) s.at) old new) fault → at ≡ new.at
+    → given ≤ base + at → (fault ≡ Read) ⊎ (given ≤ base + limits.max_header)
+header_most to_come gave limits base start (inl e) same le = inl e
+header_most to_come gave limits {old} base start (inr (read, gaves, fits)) same le =
+    let first = gaves.grew [] (subst (λ n. GaveFirst (gave old.dev) n []) (sym start) (first_none (gave old.dev))) in
+    let reached = first.0 in
+    inr (omega (arith, reached, fits, same, le))
 
 refused : (limits : Bounds) (b : Bytes) (g : HeaderFault) → Refuses b limits.max_header g
     → MissesHeader limits (Some b) (header_fault g)
@@ -160,42 +173,59 @@ payload_named e h = tt
 
 -- ---- why a file was not opened
 
-pub header_refuses : (limits : Bounds) (answers : Answering) (told : Known) {told2 : Known} (failed : ℕ) {failed2 : ℕ}
-    {fault : Fault} → MissesHeader limits told fault → IsOpenFault fault
+pub header_refuses : (limits : Bounds) (answers : Answering) (told : Known) {told2 : Known} (given : ℕ) {given2 : ℕ}
+    (failed : ℕ) {failed2 : ℕ} {fault : Fault} → MissesHeader limits told fault → IsOpenFault fault
+    → (fault ≡ Read) ⊎ (given2 ≤ given + limits.max_header)
     → told2 ≡ told → CountsFaultIf is_read failed failed2 fault
-    → RefusesRanges limits answers (move_of told told2) failed failed2 fault
-header_refuses limits answers told failed {fault} m early stay count =
-    record { misses = missed_ranges limits answers told fault m; named = early; stay = stay; counted = count }
+    → RefusesRanges limits answers (move_of told told2) given given2 failed failed2 fault
+header_refuses limits answers told given {given2} failed {fault} m early front stay count = record {
+  misses = missed_ranges limits answers told fault m;
+  named = early;
+  front = elim front [ inl e ↦ inl (rw e tt) | inr most ↦ inr (inr (inr most)) ];
+  stay = stay;
+  counted = count;
+}
+
+-- a header that was found fits into its limit
+header_fits : {limits : Bounds} {gave : ℕ → ℕ → Type 0} {at : ℕ} {h : HeaderParts} → GaveHeader limits gave at h
+    → at ≤ limits.max_header
+header_fits {limits} {h} first =
+    let found = begins_found first.text limits.max_header (finding first.text h) first.verdict in
+    omega (arith, first.gave_text.0, found.fits)
 
 none_counted : (fault : Fault) (old new : ℕ) → IsNoDeviceFault fault → new ≡ old → CountsFaultIf is_read old new fault
 none_counted fault old new none same =
     subst (λ b. new ≡ (if b then min (old + 1) (2 ^ 64 - 1) else old)) (sym none.0) same
 
-pub locked_refuses : (limits : Bounds) (answers : Answering) (told mid told2 : Known) (failed failed2 at : ℕ)
-    (h : HeaderParts) (fault : Fault) → mid ≡ told → HasHeader limits told at h
+pub locked_refuses : (limits : Bounds) (answers : Answering) (told mid told2 : Known)
+    (given given1 given2 failed failed2 at : ℕ) {gave : ℕ → ℕ → Type 0} (h : HeaderParts) (fault : Fault) → mid ≡ told
+    → given1 ≤ given + at → HasHeader limits told at h → GaveHeader limits gave at h
     → (◌≡◌ {A = Result FileKey Fault} (Err fault) (Err OutOfMemory)) ⊎ (Err fault ≡ header_key answers h)
-    → IsNoDeviceFault fault → told2 ≡ mid → failed2 ≡ failed
-    → RefusesRanges limits answers (move_of told told2) failed failed2 fault
-locked_refuses limits answers told mid told2 failed failed2 at h fault same found key none stay count = record {
-  misses = locked_ranges limits answers told at h fault found key;
-  named = locked_named answers h fault key;
-  stay = stay ∙ same;
-  counted = none_counted fault failed failed2 none count;
-}
+    → IsNoDeviceFault fault → told2 ≡ mid → given2 ≡ given1 → failed2 ≡ failed
+    → RefusesRanges limits answers (move_of told told2) given given2 failed failed2 fault
+locked_refuses limits answers told mid told2 given given1 given2 failed failed2 at h fault same le found first key none
+    stay kept count = record {
+      misses = locked_ranges limits answers told at h fault found key;
+      named = locked_named answers h fault key;
+      front = inr (inr (inr (let fits = header_fits first in omega (arith, le, kept, fits))));
+      stay = stay ∙ same;
+      counted = none_counted fault failed failed2 none count;
+    }
 
 pub payload_refuses : (limits : Bounds) (answers : Answering) (told mid told2 : Known)
-    (failed failed1 failed2 at max : ℕ) (h : HeaderParts) (k : FileKey) (fault : StreamFault) → mid ≡ told
+    (given given2 failed failed1 failed2 at max : ℕ) (h : HeaderParts) (k : FileKey) (fault : StreamFault) → mid ≡ told
     → failed1 ≡ failed → max ≡ limits.max_chunks → HasHeader limits told at h
     → (◌≡◌ {A = Result FileKey Fault} (Ok k) (Err OutOfMemory)) ⊎ (Ok k ≡ header_key answers h)
     → OpensRanges k max at mid (Err fault) → stream.IsOpenFault fault → told2 ≡ mid
     → CountsFaultIf counts.is_read failed1 failed2 fault
-    → RefusesRanges limits answers (move_of told told2) failed failed2 (stream_fault fault)
-payload_refuses limits answers told mid told2 failed failed1 failed2 at max h k fault same before most found key opens
-    early stay count = record {
+    → RefusesRanges limits answers (move_of told told2) given given2 failed failed2 (stream_fault fault)
+payload_refuses limits answers told mid told2 given given2 failed failed1 failed2 at max h k fault same before most
+    found key opens early stay count = record {
       misses = payload_missed limits answers told at h k fault found key
           (subst (λ m. OpensRanges k m at told (Err fault)) most
           (subst (λ t. OpensRanges k max at t (Err fault)) same opens));
       named = payload_named fault early;
+      front = saving_front fault;
       stay = stay ∙ same;
       counted = subst (λ n. CountsFaultIf is_read n failed2 (stream_fault fault)) before
           (reads_file failed1 fault count);

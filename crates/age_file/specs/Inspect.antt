@@ -1,11 +1,11 @@
 -- The result of reading a file's header.
-use Rattle.std.specs.Prelude.{◌≡◌, ◌⊎◌, ⊤, Result, Ok, Err}
+use Rattle.std.specs.Prelude.{◌≡◌, ◌⊎◌, Result, Ok, Err}
 use Rattle.age_header.specs.Device.{Flow, GaveAtMost}
 use Rattle.age_header.specs.declared.fault.HeaderFault.{HeaderFault}
 use Rattle.age_header.specs.Header.{HeaderParts}
 use Rattle.age_header.specs.Reader.{ReadsHeader}
 use Rattle.age_file.specs.declared.fault.Fault.{Fault}
-use Rattle.age_file.specs.declared.fault.Fault.TheVariants.{NotAge, BadLine, HeaderTruncated, HeaderTooLarge, MixedPassphrase, NoMatch, WrongKey, Malformed, BadMac, Read}
+use Rattle.age_file.specs.declared.fault.Fault.TheVariants.{Read}
 use Rattle.age_file.specs.AgeFile.{Bounds}
 use Rattle.age_file.specs.Verdict.{header_fault}
 
@@ -23,16 +23,3 @@ Inspects limits source r =
 -- a read failed, or at most as many bytes were read as a header may have
 abbrev pub ReadsFront : (limits : Bounds) (source : Flow) (fault : Fault) → Type 0
 ReadsFront limits source fault = (fault ≡ Read) ⊎ GaveAtMost limits.max_header source
-
--- a fault of the header, or of finding its key
-abbrev pub IsOfHeader : Fault → Type 0
-IsOfHeader NotAge = ⊤
-IsOfHeader (BadLine n) = ⊤
-IsOfHeader HeaderTruncated = ⊤
-IsOfHeader HeaderTooLarge = ⊤
-IsOfHeader MixedPassphrase = ⊤
-IsOfHeader NoMatch = ⊤
-IsOfHeader WrongKey = ⊤
-IsOfHeader (Malformed fault) = ⊤
-IsOfHeader BadMac = ⊤
-IsOfHeader _ = ⊥

@@ -10,9 +10,9 @@ use Rattle.age_stream.specs.Offsets.{GaveAt}
 use Rattle.age_stream.specs.Ranges.{BeginsAt, IsOpened, KeepsVerified, RangeState}
 use Rattle.age_stream.specs.Slice.{last_piece, range_outcome}
 use Rattle.age_file.specs.declared.fault.Fault.{Fault}
-use Rattle.age_file.specs.declared.fault.Fault.TheVariants.{IncompatibleRecipients, NoRecipients, OutOfMemory, Read, Refused, Write}
+use Rattle.age_file.specs.declared.fault.Fault.TheVariants.{IncompatibleRecipients, NoRecipients, NonceTruncated, OutOfMemory, Read, Refused, Write}
 use Rattle.age_file.specs.AgeFile.{Bounds}
-use Rattle.age_file.specs.Device.{is_read}
+use Rattle.age_file.specs.Device.{IsLate, is_read}
 use Rattle.age_file.specs.Verdict.{Answering, finding, header_fault, parts_of, stream_fault, header_key}
 use Rattle.age_stream.specs.Sizes.{nonce_size}
 
@@ -106,11 +106,15 @@ pub record BeginsFile (limits : Bounds) (answers : Answering) (gave : (at byte :
   pub begins : BeginsAt key at gave size chunks
 
 -- Opening a file for ranges failed with the first fault of the known bytes, a failed read or out of
--- memory. The contents are unchanged, and a failed read was counted.
+-- memory. The contents are unchanged, and a failed read was counted. On a fault of the header or
+-- its key, at most as many bytes were read as a header may have.
 pub record RefusesRanges (limits : Bounds) (answers : Answering) (source : Moved)
-    (failed failed2 : ℕ) (fault : Fault) : Type 0 where
+    (given given2 failed failed2 : ℕ) (fault : Fault) : Type 0 where
   pub misses : MissesRanges limits answers source.before fault
   pub named : IsOpenFault fault
+  pub front : IsLate fault
+      ⊎ ((fault ≡ NonceTruncated)
+      ⊎ ((fault ≡ OutOfMemory) ⊎ (given2 ≤ given + limits.max_header)))
   pub stay : source.after ≡ source.before
   pub counted : CountsFaultIf is_read failed failed2 fault
 
@@ -127,4 +131,5 @@ StartsFileRanges told given failed gave found limits answers old new (Ok chunks)
     × (chunks.index ≡ Some (chunks.layout.count - 1)) × (chunks.opened ≡ 1)
     × (failed new ≡ failed old)
 StartsFileRanges told given failed gave found limits answers old new (Err fault) =
-    RefusesRanges limits answers (move_by told old new) (failed old) (failed new) fault
+    RefusesRanges limits answers (move_by told old new) (given old) (given new) (failed old)
+    (failed new) fault

@@ -16,7 +16,7 @@ use Rattle.age_file.specs.declared.fault.Fault.TheVariants.{MixedPassphrase, Out
 use Rattle.age_file.specs.declared.limits.Fresh.{Fresh}
 use Rattle.age_file.specs.AgeFile.{Bounds, is_mixed}
 use Rattle.age_file.specs.Device.{is_read, is_write}
-use Rattle.age_file.specs.Inspect.{Inspects}
+use Rattle.age_file.specs.Inspect.{Inspects, ReadsFront}
 use Rattle.age_file.specs.Verdict.{stream_fault}
 
 -- a file ready to be written: its header, its key and nonce, and the limits
@@ -53,7 +53,8 @@ abbrev pub limits_of : {S H : Type 0} → Decryptor S H → Bounds
 limits_of d = d.limits
 
 -- The result of reading a header, and its effect on the source: exactly a header was read that has
--- no `scrypt` stanza beside another; or there is no such header, and a failed read was counted.
+-- no `scrypt` stanza beside another; or there is no such header, at most as many bytes were read as
+-- a header may have, and a failed read was counted.
 abbrev pub StartsDecryptor : {S : Type 0} (to_come : S → Known) (gave : S → Bytes → Type 0)
     (failed : S → ℕ) (limits : Bounds) (old new : S) (r : Result HeaderParts Fault) → Type 0
 StartsDecryptor to_come gave failed limits old new (Ok header) =
@@ -61,6 +62,7 @@ StartsDecryptor to_come gave failed limits old new (Ok header) =
     × (failed new ≡ failed old)
 StartsDecryptor to_come gave failed limits old new (Err fault) =
     CountsFaultIf is_read (failed old) (failed new) fault
+    × ReadsFront limits (flow_by to_come gave old new) fault
     × (Inspects limits (flow_by to_come gave old new) (Err fault)
     ⊎ ((fault ≡ MixedPassphrase)
     × ((header : HeaderParts) × Inspects limits (flow_by to_come gave old new) (Ok header)

@@ -1,6 +1,6 @@
 //! Ranges of a file's plaintext.
 
-ghost use Rattle.std.specs.Prelude.{◌≡◌, ◌+◌, ◌≤◌, Ok, Err, IfOk, IfErr};
+ghost use Rattle.std.specs.Prelude.{◌≡◌, ◌⊎◌, ◌+◌, ◌≤◌, Ok, Err, IfOk, IfErr};
 ghost use Rattle.age_header.specs.Device.{CountsFaultIf};
 ghost use Rattle.age_stream.specs.Ranges.{chunks_of, source_at_of};
 ghost use Rattle.age_file.specs.Device.{is_read};
@@ -49,6 +49,8 @@ fn header_at<'a, D: ReadAt, K: Origin>(
     ensures misses { IfErr result
         (λ refused. MissesHeader limits.now K.bytes (fault_of refused)) }
     ensures named { IfErr result (λ refused. IsOpenFault (fault_of refused)) }
+    ensures front { IfErr result (λ refused. (fault_of refused ≡ Fault.Read)
+        ⊎ (D.given (device_of refused).now ≤ K.given + limits.now.max_header)) }
     ensures left { IfErr result (λ refused. D.bytes (device_of refused).now ≡ K.bytes) }
     ensures counted { IfErr result (λ refused. CountsFaultIf is_read (D.failed dev.old)
         (D.failed (device_of refused).now) (fault_of refused)) }
@@ -89,6 +91,7 @@ pub fn opened_ranges<'a, D: ReadAt>(
         (λ refused. (device_of refused).ghost_name ≡ dev.entry.ghost_name) }
     // The fault is the first that applies: those of `decrypt` up to a truncated nonce, too many
     // chunks, the last chunk's. A failed read, which is counted, or out of memory may come before.
+    // On a fault of the header or its key, at most as many bytes were read as a header may have.
     // Even of a file, it is never a recipient's refusal or a failed write.
     ensures refuses { IfErr result (λ refused. StartsFileRanges D.bytes D.given D.failed D.gave
         D.found limits.now (answers_by identities.now (λ i s. meaning i s)) dev.old

@@ -1,11 +1,10 @@
 //! Saving what can be saved of a damaged file.
 
-ghost use Rattle.std.specs.Prelude.{◌≡◌, IfErr, IfOk};
+ghost use Rattle.std.specs.Prelude.{◌≡◌, ◌⊎◌, IfErr, IfOk};
 ghost use Rattle.age_header.specs.Device.{CountsIf, GaveAtMost, flow_by, move_by};
-ghost use Rattle.age_file.specs.Inspect.{IsOfHeader};
 ghost use Rattle.age_stream.specs.Salvage.{losses_by};
 ghost use Rattle.age_file.specs.Decrypt.{TookUpTo};
-ghost use Rattle.age_file.specs.Device.{IsQuiet, is_read, is_write};
+ghost use Rattle.age_file.specs.Device.{IsLate, IsQuiet, is_read, is_write};
 ghost use Rattle.age_file.specs.Salvage.{SalvagesFile};
 ghost use Rattle.age_file.specs.Verdict.{answers_by};
 
@@ -56,9 +55,11 @@ pub fn salvage<S: Source, W: Sink, L: Losses>(
     // pieces up to and including piece i, and one more byte were read.
     ensures took { IfErr result (TookUpTo limits.now (flow_by S.to_come S.gave input.old input.new)
         (move_by W.taken out.old out.new)) }
-    // On a fault of the header or its key, at most as many bytes were read as a header may have.
-    ensures front { IfErr result (λ fault. IsOfHeader fault
-        → GaveAtMost limits.now.max_header (flow_by S.to_come S.gave input.old input.new)) }
+    // On a fault before the nonce is read, at most as many bytes were read as a header may have,
+    // unless memory was refused.
+    ensures front { IfErr result (λ fault. IsLate fault
+        ⊎ ((fault ≡ Fault.NonceTruncated) ⊎ ((fault ≡ Fault.OutOfMemory)
+        ⊎ GaveAtMost limits.now.max_header (flow_by S.to_come S.gave input.old input.new)))) }
 {
     let header = match inspect(alloc, input, limits) {
         Ok(header) => header,

@@ -1,5 +1,5 @@
 use Rattle.std.proofs.Common.{◌≡◌, ap, refl, inl, inr, map}
-use Rattle.age_cli.proofs.ProgramLemmas.{answered, failed, refused, stays_known, unused}
+use Rattle.age_cli.proofs.ProgramLemmas.{answered, failed, not_wrong, refused, stays_known, unused, wrong_status}
 use Rattle.age_cli.proofs.program.run.Goals as goal
 
 pub returns-in-Ok-clause-finishes : goal.returns-in-Ok-clause-finishes
@@ -44,3 +44,12 @@ pub returns-in-Err-clause-streams : goal.returns-in-Err-clause-streams
 returns-in-Err-clause-streams g c =
     unused (map (λ word. word.now) c.args.words.now) c.in-Err.fault c.answer_refusal.result c.in-Err.ensures.reads
     c.answer_refusal.ensures.answers refl
+
+pub returns-in-Ok-clause-refuses : goal.returns-in-Ok-clause-refuses
+returns-in-Ok-clause-refuses g c = λ bad.
+    absurd (not_wrong (map (λ word. word.now) c.args.words.now) c.in-Ok.job c.in-Ok.ensures.reads bad)
+
+pub returns-in-Err-clause-refuses : goal.returns-in-Err-clause-refuses
+returns-in-Err-clause-refuses g c = λ bad.
+    wrong_status (map (λ word. word.now) c.args.words.now) c.in-Err.fault c.answer_refusal.result
+    c.in-Err.ensures.reads c.answer_refusal.ensures.answers

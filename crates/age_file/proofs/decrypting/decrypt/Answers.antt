@@ -1,9 +1,9 @@
-use Rattle.std.proofs.Common.{◌≡◌, rules, Ok, Err}
+use Rattle.std.proofs.Common.{◌≡◌, inl, inr, rules, Ok, Err}
 use Rattle.age_header.specs.Device.{flow, seen_by}
 use Rattle.age_file.specs.Verdict.{answers_by}
 use Rattle.age_file.proofs.DecryptLemmas.{inspect_decrypts, locked_decrypts, missed_decrypts, payload_takes, written_decrypts}
 use Rattle.age_file.proofs.PayloadLemmas.{payload_ends}
-use Rattle.age_file.proofs.FrontLemmas.{front_gave}
+use Rattle.age_file.proofs.FrontLemmas.{ended_late, front_gave, started_front}
 use Rattle.age_file.proofs.decrypting.decrypt.Goals as goal
 
 pub returns-in_err-header-clause-decrypts : goal.returns-in_err-header-clause-decrypts
@@ -56,5 +56,18 @@ returns-in-Err-clause-decrypts g c =
 pub returns-in_err-key-clause-front : goal.returns-in_err-key-clause-front
 returns-in_err-key-clause-front g c =
     let is : c.from_residual-in_err-key.result ≡ Err c.in_err-key.field-0.0 = search rules in
-    rw is (λ of. front_gave c.args.limits.now (flow (seen_by g.S.Source.to_come g.S.Source.gave c.args.input.now)
-    (seen_by g.S.Source.to_come g.S.Source.gave c.inspect.new.input)) _ c.in_ok-header.ensures.verdict)
+    rw is (inr (inr (front_gave c.args.limits.now (flow (seen_by g.S.Source.to_come g.S.Source.gave c.args.input.now)
+    (seen_by g.S.Source.to_come g.S.Source.gave c.inspect.new.input)) _ c.in_ok-header.ensures.verdict)))
+
+pub returns-in-Err-clause-front : goal.returns-in-Err-clause-front
+returns-in-Err-clause-front g c =
+    rw (c.from.ensures, c.fault.ensures.fault)
+    (started_front c.args.limits.now g.S.Source.to_come g.S.Source.gave g.S.Source.failed _ c.in_ok-key.key
+    c.max_chunks.result c.in-Err.refused.fault c.in_ok-header.ensures.verdict (search rules))
+
+pub returns-clause-front : goal.returns-clause-front
+returns-clause-front g c =
+    rw c.from-in-Err-copy_to.ensures
+    (inl (ended_late c.in-Err-copy_to.fault (payload_ends c.in_ok-key.key
+    (rw c.max_chunks.ensures.value at c.in-Ok.ensures.starts.0) c.in-Ok.ensures.starts.1
+    c.in-Err-copy_to.ensures.ends)))

@@ -1,6 +1,6 @@
 use Rattle.std.proofs.Common.{◌∙◌, ap, drop, option_map, refl, sym, subst}
 use Rattle.age_file.specs.Ranges.{IsWithin}
-use Rattle.age_file.proofs.RangeLemmas.{range_header_found, header_gave, header_missed, header_named}
+use Rattle.age_file.proofs.RangeLemmas.{range_header_found, header_gave, header_missed, header_most, header_named}
 use Rattle.age_file.proofs.ranges.header_at.Goals as goal
 
 pub returns-in-Ok-clause-header : goal.returns-in-Ok-clause-header
@@ -27,3 +27,10 @@ returns-in-Err-clause-misses g c =
 
 pub returns-in-Err-clause-named : goal.returns-in-Err-clause-named
 returns-in-Err-clause-named g c = rw c.of.ensures.fault (search (header_named, c.in-Err.ensures.verdict))
+
+pub returns-in-Err-clause-front : goal.returns-in-Err-clause-front
+returns-in-Err-clause-front g c =
+    rw (c.of.ensures.fault, c.of.ensures.unchanged)
+    (header_most (λ s. option_map (drop s.at) (g.D.ReadAt.bytes s.dev)) g.D.ReadAt.gave c.args.limits.now
+    g.K.Origin.given (rw c.new-source.ensures refl) c.in-Err.ensures.most c.into_parts-dev-in-Err.ensures.at
+    c.into_parts-dev-in-Err.ensures.given)

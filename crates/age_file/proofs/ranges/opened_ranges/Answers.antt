@@ -1,4 +1,4 @@
-use Rattle.std.proofs.Common.{◌∙◌, ap, List, map, refl}
+use Rattle.std.proofs.Common.{◌∙◌, ap, List, map}
 use Rattle.age_header.specs.Header.{StanzaParts}
 use Rattle.age_stream.specs.Ranges.{chunks_of}
 use Rattle.age_file.specs.Verdict.{stream_fault}
@@ -12,7 +12,7 @@ returns-in-Err-clause-refuses g c =
 pub returns-in-Err-unlock_header-clause-refuses : goal.returns-in-Err-unlock_header-clause-refuses
 returns-in-Err-unlock_header-clause-refuses g c =
     rw (c.of.ensures.fault, c.of.ensures.unchanged)
-    (search (locked_refuses, c.in-Ok.ensures, c.in-Err-unlock_header.ensures, refl))
+    (search (locked_refuses, c.in-Ok.ensures, c.in-Err-unlock_header.ensures))
 
 pub returns-in-Ok-started-clause-ranges : goal.returns-in-Ok-started-clause-ranges
 returns-in-Ok-started-clause-ranges g c =

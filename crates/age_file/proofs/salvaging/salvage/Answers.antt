@@ -1,4 +1,4 @@
-use Rattle.std.proofs.Common.{Err, sym}
+use Rattle.std.proofs.Common.{Err, inr, sym}
 use Rattle.age_header.specs.Device.{flow, move_by, seen_by}
 use Rattle.age_stream.specs.Salvage.{losses_by}
 use Rattle.age_file.specs.Verdict.{answers_by}
@@ -49,5 +49,5 @@ returns-clause-reads g c =
 
 pub returns-in-Err-unlock_header-clause-front : goal.returns-in-Err-unlock_header-clause-front
 returns-in-Err-unlock_header-clause-front g c =
-    λ is. front_gave c.args.limits.now (flow (seen_by g.S.Source.to_come g.S.Source.gave c.args.input.now)
-    (seen_by g.S.Source.to_come g.S.Source.gave c.inspect.new.input)) _ c.in-Ok.ensures.verdict
+    inr (inr (inr (front_gave c.args.limits.now (flow (seen_by g.S.Source.to_come g.S.Source.gave c.args.input.now)
+    (seen_by g.S.Source.to_come g.S.Source.gave c.inspect.new.input)) _ c.in-Ok.ensures.verdict)))
