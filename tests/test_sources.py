@@ -73,6 +73,18 @@ class Columns(unittest.TestCase):
         self.assertEqual(wide_lines("block.md", f"```\n{wide}\n```\n| {wide}"), [])
 
 
+def quoted_clauses(start, text):
+    """The clauses that a text quotes, each behind this start of a line."""
+    found = re.findall(start + r"((?:requires|ensures) \w+ \{ .*? \})(?:`|$)", text, re.MULTILINE | re.DOTALL)
+    return [" ".join(clause.split()) for clause in found]
+
+
+def anchors(page):
+    """The anchors of a page's headings."""
+    headings = re.findall("^#+ (.*)$", re.sub("(?ms)^```.*?^```$", "", page), re.MULTILINE)
+    return {re.sub(r"[^\w -]", "", heading).lower().replace(" ", "-") for heading in headings}
+
+
 class Documents(unittest.TestCase):
     def test_code(self):
         """Each block of Rust or of a proof in these pages stands in a source."""
@@ -84,6 +96,49 @@ class Documents(unittest.TestCase):
             for block in map(textwrap.dedent, blocks):
                 with self.subTest(block.split("\n")[0]):
                     self.assertTrue("\n" + block in "\n" + sources, f"not in a source:\n{block}")
+
+    def test_open_chunk(self):
+        """docs/PROOFS.md has the clauses of `open_chunk`, all and in order; README.md has some of them."""
+        source = text_of(ROOT + "/crates/age_stream/src/opening.rt")
+        contract = re.search(r"^pub fn open_chunk\(.*?^\{$", source, re.MULTILINE | re.DOTALL)[0]
+        clauses = quoted_clauses("^ *", contract)
+        self.assertTrue(clauses)
+        self.assertEqual(quoted_clauses(r"^\| `", text_of(ROOT + "/docs/PROOFS.md").replace("\\|", "|")), clauses)
+        shown = quoted_clauses("^", text_of(ROOT + "/README.md"))
+        self.assertEqual((len(shown), [clause for clause in shown if clause not in clauses]), (3, []))
+
+    def test_links(self):
+        """Each link leads to a page of the packages that have the documents, and to a heading of it. The
+        packages for Python and Rust have their README.md alone: its links are absolute."""
+        stage = re.search(r"^stage_documents\(\) \{\n.*?^\}\n", text_of(ROOT + "/package"), re.MULTILINE | re.DOTALL)[0]
+        folder = scratch()
+        subprocess.run(["bash", "-euc", f'{stage}stage_documents "$0"', folder], env={**os.environ, "root": ROOT}, check=True)
+        pages = [os.path.relpath(name, folder) for name in glob.glob(folder + "/**/*.md", recursive=True)]
+        self.assertGreater(len(pages), 15)
+        for page in sorted(pages):
+            links = re.findall(r"\]\((?!https?:)([^)#]*)(?:#([^)]*))?\)", text_of(f"{folder}/{page}"))
+            if page in ("bindings/python/README.md", "bindings/rust/README.md"):
+                self.assertEqual(links, [], page)
+            for path, anchor in links:
+                with self.subTest(f"{page}: {path}#{anchor}"):
+                    target = os.path.normpath(os.path.join(folder, os.path.dirname(page), path)) if path else f"{folder}/{page}"
+                    self.assertTrue(os.path.isfile(target))
+                    self.assertIn(anchor, {"", *anchors(text_of(target) if anchor else "")})
+
+    def test_commands(self):
+        """The commands of docs/PROMISES.md run, and those of CONTRIBUTING.md name what there is."""
+        commands = re.findall(r"^\$ (share/promises.*?) *#", text_of(ROOT + "/docs/PROMISES.md"), re.MULTILINE)
+        self.assertEqual(len(commands), 3)
+        for command in commands:
+            with self.subTest(command):
+                done = subprocess.run(["bash", "-c", f"{command} | head -n 1"], cwd=ROOT, capture_output=True, text=True)
+                self.assertEqual((done.returncode, done.stderr), (0, ""))
+        page = text_of(ROOT + "/CONTRIBUTING.md")
+        for name in re.search(r"^tests/cli.sh (.*)$", page, re.MULTILINE)[1].split():
+            self.assertTrue(os.path.exists(f"{TESTS}/cli/{name}.console"), name)
+        for name in re.search(r"^tests/unit.sh (.*)$", page, re.MULTILINE)[1].split():
+            module, _, case = name.partition(".")
+            self.assertIn(f"class {case}", text_of(f"{TESTS}/{module}.py"))
 
     def test_faults(self):
         """What docs/FORMAT.md calls each fault stands in its text too, where it says when the fault comes."""
