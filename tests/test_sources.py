@@ -1,7 +1,8 @@
-"""What the repository's texts hold themselves to: lines of at most 100 columns, the README's blocks of
-code, the toolchain, the words of each clause, the clause and the text of each planted bug, programs
-that the compiler has to refuse."""
+"""What the repository's texts hold themselves to: lines of at most 100 columns, the blocks of code and
+links of documents, words that users do not know, the toolchain, the words of each clause, the clause
+and the text of each planted bug, programs that the compiler has to refuse."""
 
+import ast
 import concurrent.futures
 import glob
 import importlib.machinery
@@ -149,6 +150,44 @@ class Documents(unittest.TestCase):
         self.assertEqual([term for term in terms if term.lower() not in text], [])
 
 
+def prose(name):
+    """What users read in a file: of code the docstrings, doc comments or texts; no blocks or names of code."""
+    text = text_of(f"{ROOT}/{name}")
+    if name.endswith(".py"):
+        kinds = ast.Module, ast.ClassDef, ast.FunctionDef
+        text = "\n".join(ast.get_docstring(node) or "" for node in ast.walk(ast.parse(text)) if isinstance(node, kinds))
+    elif name.endswith(".rs"):
+        text = "\n".join(re.findall("^ *//[/!] ?(.*)$", text, re.MULTILINE))
+    elif name.endswith(".rt"):
+        text = re.sub(r"\\\n *|\\n", " ", " ".join(re.findall(r'"((?:[^"\\]|\\.)*)"', text, re.DOTALL)))
+    return " ".join(re.sub("(?ms)^ *```.*?^ *```$|`[^`\n]*`", "", text).split())
+
+
+class Dialect(unittest.TestCase):
+    """Words that only this project uses, or uses as nobody else does, and what to write on a page for users."""
+
+    WORDS = {
+        "front": "header and nonce", "gather(s|ed)?": "collect", "gave": "returned", "told": "known", "headings?": "header",
+        "openings|(an|the|its) opening (?!a|the)": "plaintext of a chunk", "the lost": "lost chunks", "what salvage misses": "lost chunks",
+        "in the place of": "in place of", "no age file": "not an age file", "each other|one another": "name both",
+        "(a|each) try": "attempt", "greatest": "largest", "at hand": "this machine's", "the gate": "the tests", "anew": "again",
+        "planted|edits": "bugs that tests must find", "hints?": "second line", "also (after|if|when|where)": "even",
+        "(is|are|was) no (key|number|file|chunk|passphrase|recipient)": "is not a",
+        "what is (printed|written|read)": "the output", "as the last one|as another": "as the last chunk",
+    }
+    PAGES = ("README.md", "docs/USE.md", "docs/C.md", "share/man/agep.1", "bindings/*/README.md", "bindings/python/agefile/*.py",
+             "bindings/rust/src/*.rs", "crates/age_words/src/texts.rt", "crates/age_words/src/options.rt")
+
+    def test_words(self):
+        found = [os.path.relpath(name, ROOT) for page in self.PAGES for name in sorted(glob.glob(f"{ROOT}/{page}"))]
+        self.assertGreater(len(found), 25)
+        for name in found:
+            text = prose(name)
+            for word, better in self.WORDS.items():
+                with self.subTest(f"{name}: {word}, better: {better}"):
+                    self.assertEqual([text[max(0, at.start() - 30) : at.end() + 30] for at in re.finditer(rf"(?i)\b({word})\b", text)], [])
+
+
 def load_promises():
     """The script share/promises as a module."""
     loader = importlib.machinery.SourceFileLoader("promises", ROOT + "/share/promises")
@@ -181,16 +220,14 @@ class Promises(unittest.TestCase):
             with self.subTest(crate):
                 self.assertEqual(len(list(PROMISES.clauses(crate))), len(re.findall("^ *ensures", sources, re.MULTILINE)))
 
-
     def test_reading(self):
-        """What README.md and docs/PROOFS.md say of how much a contract rests on is what the script prints."""
-        for page in ("README.md", "docs/PROOFS.md"):
-            said = re.findall(r"^- `(\w+::\w+)` rests on (\d+ definitions) in (\d+ lines)", text_of(f"{ROOT}/{page}"), re.MULTILINE)
-            self.assertEqual(len(said), 3, page)
-            for name, definitions, lines in said:
-                with self.subTest(f"{page}: {name}"):
-                    done = subprocess.run([ROOT + "/share/promises", name], capture_output=True, text=True)
-                    self.assertEqual(done.stdout.split("\n")[-2], f"{definitions}, {lines}")
+        """What docs/PROOFS.md says of how much a contract rests on is what the script prints."""
+        said = re.findall(r"^- `(\w+::\w+)` rests on (\d+ definitions in \d+ lines)", text_of(ROOT + "/docs/PROOFS.md"), re.MULTILINE)
+        self.assertEqual(len(said), 3)
+        for name, count in said:
+            with self.subTest(name):
+                done = subprocess.run([ROOT + "/share/promises", name], capture_output=True, text=True)
+                self.assertEqual(done.stdout.split("\n")[-2].replace(", ", " in "), count)
 
 
 def planted_bugs():
