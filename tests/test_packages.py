@@ -133,17 +133,18 @@ class Packages(unittest.TestCase):
             self.assertEqual((self.work / deb.name).read_bytes(), deb.read_bytes(), deb.name)
 
     def test_documents(self):
-        """The links of each README.md lead somewhere in its package, and the licence is in each."""
-        for name, pages in ("agep_*.deb", 2), ("agep-*.tar.xz", 2), ("python3-agefile*.deb", 1), ("*.crate", 1), ("*.whl", 0):
+        """The links of each page lead somewhere in its package, and the licence is in each."""
+        whole = ("agep_*.deb", 5), ("agep-*.tar.xz", 5), ("libagefile-dev*.deb", 5)
+        for name, pages in *whole, ("python3-agefile*.deb", 1), ("*.crate", 1), ("*.whl", 0):
             with self.subTest(name):
                 tree = self.unpacked(name)
-                texts = {path: path.read_text() for path in [*tree.rglob("README.md"), *tree.rglob("METADATA")]}
+                texts = {path: path.read_text() for path in [*tree.rglob("*.md"), *tree.rglob("METADATA")]}
                 targets = [path.parent / link for path, text in texts.items() for link in re.findall(r"\]\(([^)#:]+)", text)]
                 self.assertEqual([path for path in targets if not path.exists()], [])
                 self.assertEqual(len([path for path in texts if path.name == "README.md"]), pages)
                 licence = "Permission is hereby granted, free of charge, to any person obtaining a copy"
                 self.assertIn(licence, "".join(path.read_text() for path in [*tree.rglob("LICENSE"), *tree.rglob("copyright")]))
-                self.assertEqual({path.name for path in tree.rglob("*.md")} >= {"USE.md", "CHANGELOG.md"}, pages == 2)
+                self.assertEqual({path.name for path in tree.rglob("*.md")} >= {"USE.md", "CHANGELOG.md"}, pages == 5)
 
     @needs("dpkg")
     def test_installed_and_removed(self):

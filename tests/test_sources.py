@@ -1,7 +1,8 @@
-"""What the repository's texts hold themselves to: lines of at most 100 columns, the README's blocks of
-code, the toolchain, the words of each clause, the clause and the text of each planted bug, programs
-that the compiler has to refuse."""
+"""What the repository's texts hold themselves to: lines of at most 100 columns, the blocks of code and
+links of documents, words that users do not know, the toolchain, the words of each clause, the clause
+and the text of each planted bug, programs that the compiler has to refuse."""
 
+import ast
 import concurrent.futures
 import glob
 import importlib.machinery
@@ -73,6 +74,18 @@ class Columns(unittest.TestCase):
         self.assertEqual(wide_lines("block.md", f"```\n{wide}\n```\n| {wide}"), [])
 
 
+def quoted_clauses(start, text):
+    """The clauses that a text quotes, each behind this start of a line."""
+    found = re.findall(start + r"((?:requires|ensures) \w+ \{ .*? \})(?:`|$)", text, re.MULTILINE | re.DOTALL)
+    return [" ".join(clause.split()) for clause in found]
+
+
+def anchors(page):
+    """The anchors of a page's headings."""
+    headings = re.findall("^#+ (.*)$", re.sub("(?ms)^```.*?^```$", "", page), re.MULTILINE)
+    return {re.sub(r"[^\w -]", "", heading).lower().replace(" ", "-") for heading in headings}
+
+
 class Documents(unittest.TestCase):
     def test_code(self):
         """Each block of Rust or of a proof in these pages stands in a source."""
@@ -85,6 +98,49 @@ class Documents(unittest.TestCase):
                 with self.subTest(block.split("\n")[0]):
                     self.assertTrue("\n" + block in "\n" + sources, f"not in a source:\n{block}")
 
+    def test_open_chunk(self):
+        """docs/PROOFS.md has the clauses of `open_chunk`, all and in order; README.md has some of them."""
+        source = text_of(ROOT + "/crates/age_stream/src/opening.rt")
+        contract = re.search(r"^pub fn open_chunk\(.*?^\{$", source, re.MULTILINE | re.DOTALL)[0]
+        clauses = quoted_clauses("^ *", contract)
+        self.assertTrue(clauses)
+        self.assertEqual(quoted_clauses(r"^\| `", text_of(ROOT + "/docs/PROOFS.md").replace("\\|", "|")), clauses)
+        shown = quoted_clauses("^", text_of(ROOT + "/README.md"))
+        self.assertEqual((len(shown), [clause for clause in shown if clause not in clauses]), (3, []))
+
+    def test_links(self):
+        """Each link leads to a page of the packages that have the documents, and to a heading of it. The
+        packages for Python and Rust have their README.md alone: its links are absolute."""
+        stage = re.search(r"^stage_documents\(\) \{\n.*?^\}\n", text_of(ROOT + "/package"), re.MULTILINE | re.DOTALL)[0]
+        folder = scratch()
+        subprocess.run(["bash", "-euc", f'{stage}stage_documents "$0"', folder], env={**os.environ, "root": ROOT}, check=True)
+        pages = [os.path.relpath(name, folder) for name in glob.glob(folder + "/**/*.md", recursive=True)]
+        self.assertGreater(len(pages), 15)
+        for page in sorted(pages):
+            links = re.findall(r"\]\((?!https?:)([^)#]*)(?:#([^)]*))?\)", text_of(f"{folder}/{page}"))
+            if page in ("bindings/python/README.md", "bindings/rust/README.md"):
+                self.assertEqual(links, [], page)
+            for path, anchor in links:
+                with self.subTest(f"{page}: {path}#{anchor}"):
+                    target = os.path.normpath(os.path.join(folder, os.path.dirname(page), path)) if path else f"{folder}/{page}"
+                    self.assertTrue(os.path.isfile(target))
+                    self.assertIn(anchor, {"", *anchors(text_of(target) if anchor else "")})
+
+    def test_commands(self):
+        """The commands of docs/PROMISES.md run, and those of CONTRIBUTING.md name what there is."""
+        commands = re.findall(r"^\$ (share/promises.*?) *#", text_of(ROOT + "/docs/PROMISES.md"), re.MULTILINE)
+        self.assertEqual(len(commands), 3)
+        for command in commands:
+            with self.subTest(command):
+                done = subprocess.run(["bash", "-c", f"{command} | head -n 1"], cwd=ROOT, capture_output=True, text=True)
+                self.assertEqual((done.returncode, done.stderr), (0, ""))
+        page = text_of(ROOT + "/CONTRIBUTING.md")
+        for name in re.search(r"^tests/cli.sh (.*)$", page, re.MULTILINE)[1].split():
+            self.assertTrue(os.path.exists(f"{TESTS}/cli/{name}.console"), name)
+        for name in re.search(r"^tests/unit.sh (.*)$", page, re.MULTILINE)[1].split():
+            module, _, case = name.partition(".")
+            self.assertIn(f"class {case}", text_of(f"{TESTS}/{module}.py"))
+
     def test_faults(self):
         """What docs/FORMAT.md calls each fault stands in its text too, where it says when the fault comes."""
         document = text_of(ROOT + "/docs/FORMAT.md")
@@ -92,6 +148,44 @@ class Documents(unittest.TestCase):
         text = " ".join(line for line in document.lower().split("\n") if not line.startswith("|"))
         self.assertTrue(terms)
         self.assertEqual([term for term in terms if term.lower() not in text], [])
+
+
+def prose(name):
+    """What users read in a file: of code the docstrings, doc comments or texts; no blocks or names of code."""
+    text = text_of(f"{ROOT}/{name}")
+    if name.endswith(".py"):
+        kinds = ast.Module, ast.ClassDef, ast.FunctionDef
+        text = "\n".join(ast.get_docstring(node) or "" for node in ast.walk(ast.parse(text)) if isinstance(node, kinds))
+    elif name.endswith(".rs"):
+        text = "\n".join(re.findall("^ *//[/!] ?(.*)$", text, re.MULTILINE))
+    elif name.endswith(".rt"):
+        text = re.sub(r"\\\n *|\\n", " ", " ".join(re.findall(r'"((?:[^"\\]|\\.)*)"', text, re.DOTALL)))
+    return " ".join(re.sub("(?ms)^ *```.*?^ *```$|`[^`\n]*`", "", text).split())
+
+
+class Dialect(unittest.TestCase):
+    """Words that only this project uses, or uses as nobody else does, and what to write on a page for users."""
+
+    WORDS = {
+        "front": "header and nonce", "gather(s|ed)?": "collect", "gave": "returned", "told": "known", "headings?": "header",
+        "openings|(an|the|its) opening (?!a|the)": "plaintext of a chunk", "the lost": "lost chunks", "what salvage misses": "lost chunks",
+        "in the place of": "in place of", "no age file": "not an age file", "each other|one another": "name both",
+        "(a|each) try": "attempt", "greatest": "largest", "at hand": "this machine's", "the gate": "the tests", "anew": "again",
+        "planted|edits": "bugs that tests must find", "hints?": "second line", "also (after|if|when|where)": "even",
+        "(is|are|was) no (key|number|file|chunk|passphrase|recipient)": "is not a",
+        "what is (printed|written|read)": "the output", "as the last one|as another": "as the last chunk",
+    }
+    PAGES = ("README.md", "docs/USE.md", "docs/C.md", "share/man/agep.1", "bindings/*/README.md", "bindings/python/agefile/*.py",
+             "bindings/rust/src/*.rs", "crates/age_words/src/texts.rt", "crates/age_words/src/options.rt")
+
+    def test_words(self):
+        found = [os.path.relpath(name, ROOT) for page in self.PAGES for name in sorted(glob.glob(f"{ROOT}/{page}"))]
+        self.assertGreater(len(found), 25)
+        for name in found:
+            text = prose(name)
+            for word, better in self.WORDS.items():
+                with self.subTest(f"{name}: {word}, better: {better}"):
+                    self.assertEqual([text[max(0, at.start() - 30) : at.end() + 30] for at in re.finditer(rf"(?i)\b({word})\b", text)], [])
 
 
 def load_promises():
@@ -126,16 +220,14 @@ class Promises(unittest.TestCase):
             with self.subTest(crate):
                 self.assertEqual(len(list(PROMISES.clauses(crate))), len(re.findall("^ *ensures", sources, re.MULTILINE)))
 
-
     def test_reading(self):
-        """What README.md and docs/PROOFS.md say of how much a contract rests on is what the script prints."""
-        for page in ("README.md", "docs/PROOFS.md"):
-            said = re.findall(r"^- `(\w+::\w+)` rests on (\d+ definitions) in (\d+ lines)", text_of(f"{ROOT}/{page}"), re.MULTILINE)
-            self.assertEqual(len(said), 3, page)
-            for name, definitions, lines in said:
-                with self.subTest(f"{page}: {name}"):
-                    done = subprocess.run([ROOT + "/share/promises", name], capture_output=True, text=True)
-                    self.assertEqual(done.stdout.split("\n")[-2], f"{definitions}, {lines}")
+        """What docs/PROOFS.md says of how much a contract rests on is what the script prints."""
+        said = re.findall(r"^- `(\w+::\w+)` rests on (\d+ definitions in \d+ lines)", text_of(ROOT + "/docs/PROOFS.md"), re.MULTILINE)
+        self.assertEqual(len(said), 3)
+        for name, count in said:
+            with self.subTest(name):
+                done = subprocess.run([ROOT + "/share/promises", name], capture_output=True, text=True)
+                self.assertEqual(done.stdout.split("\n")[-2].replace(", ", " in "), count)
 
 
 def planted_bugs():

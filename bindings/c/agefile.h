@@ -23,7 +23,7 @@
  * stanzas and bytes from 0.
  *
  * A passphrase is any bytes; an empty one can open files but not make them. A work factor is 1 to
- * 30, usually 18 for a new file. `max_work` is the greatest one that is accepted, usually 22.
+ * 30, usually 18 for a new file. `max_work` is the largest one that is accepted, usually 22.
  *
  * A seed is 48 fresh random bytes (getrandom) for each file: files made with the same seed have the
  * same keys. A caller must not change a payload or a part, nor copy one while it is in use, because

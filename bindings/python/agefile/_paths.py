@@ -162,7 +162,7 @@ def with_name(error: Exception, name: Any) -> Exception:
 
 @contextlib.contextmanager
 def named(name: Any) -> Iterator[None]:
-    """Adds the name of the file to errors of the block."""
+    """Adds the file's name to an error that the block raises."""
     try:
         yield
     except AgeError as error:

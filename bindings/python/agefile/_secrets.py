@@ -69,7 +69,7 @@ class Passphrase(_Secret):
     """A passphrase, as a recipient and as an identity: text, which is encoded as UTF-8, or bytes.
 
     `work` is the work factor of new files: each attempt to open one takes 2^work KiB of memory.
-    `max_work` is the greatest work factor that is accepted from a file. Both are 1 to 30. An empty
+    `max_work` is the largest work factor that is accepted from a file. Both are 1 to 30. An empty
     passphrase can open files but not make them.
     """
 

@@ -56,7 +56,7 @@ def _sealed_len(length: int) -> int:
 
 
 def _opened_len(length: int) -> int:
-    """The greatest length of the text of sealed chunks with this total length."""
+    """The largest length of the text of sealed chunks with this total length."""
     full, rest = divmod(length, lib.SEALED_CHUNK)
     return full * lib.TEXT_CHUNK + max(rest - lib.TAG, 0)
 

@@ -50,3 +50,8 @@ pub use reader::{Opening, Reader};
 pub use secret::{FileKey, Identity, Key, Passphrase, Recipient};
 pub use whole::{decrypt, encrypt, library_version, rewrap};
 pub use writer::{FinishError, Writer};
+
+/// The example of README.md, which the compiler checks.
+#[cfg(doctest)]
+#[doc = include_str!("../README.md")]
+struct Readme;

@@ -34,7 +34,7 @@ pub struct Opening<R> {
 }
 
 impl<R: Read> Opening<R> {
-    /// Makes an opening over this source, without reading.
+    /// Makes an `Opening` over this source, without reading.
     pub fn new(source: R) -> Opening<R> {
         Opening { source, front: Front::default() }
     }

@@ -81,7 +81,7 @@ impl Passphrase {
         self
     }
 
-    /// Sets the greatest work factor that is accepted from a file, 1 to 30.
+    /// Sets the largest work factor that is accepted from a file, 1 to 30.
     pub fn with_max_work(mut self, max_work: u8) -> Passphrase {
         self.max_work = max_work;
         self

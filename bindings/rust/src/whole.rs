@@ -22,7 +22,7 @@ pub fn encrypt(plain: &[u8], recipients: &[&dyn Recipient]) -> io::Result<Vec<u8
     Ok(out)
 }
 
-/// The greatest length of the text of sealed chunks with this total length.
+/// The largest length of the text of sealed chunks with this total length.
 pub(crate) fn text_len(sealed: usize) -> usize {
     sealed / SEALED_CHUNK * TEXT_CHUNK + (sealed % SEALED_CHUNK).saturating_sub(TAG)
 }

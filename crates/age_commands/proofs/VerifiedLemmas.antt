@@ -200,7 +200,7 @@ pub quiet_part : {W : Type 0} (gave : ℕ → ℕ → Type 0) (s : RangeState) (
 quiet_part gave s at len sink old new (Ok u) h = tt
 quiet_part gave s at len sink old new (Err fault) h = inl (part_is_late s at len fault h.0)
 
--- a fault of opening is no failed write
+-- a fault of opening is not a failed write
 pub opens_unwritten : {n : ℕ} (fault : Fault) → IsOpenFault fault → CountsFaultIf is_write n n fault
 opens_unwritten Write is = absurd is
 opens_unwritten fault is = refl

@@ -46,7 +46,7 @@ pub enum Hint {
     Stanza,
     /// A key opens a stanza, but the header's MAC is wrong.
     ChangedHeader,
-    /// The header's MAC is not the one under the file key given.
+    /// The header's MAC does not match the file key given.
     OtherFileKey,
     /// The file ends within the payload's nonce.
     EndsInNonce,

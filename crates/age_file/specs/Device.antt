@@ -28,6 +28,7 @@ IsLate Read = ⊤
 IsLate Write = ⊤
 IsLate _ = ⊥
 
--- unless a fault is late, the sink is unchanged, whether or not its contents are known
+-- On a fault the sink is unchanged, whether or not its contents are known, unless the fault is a
+-- chunk's, `TooManyChunks`, `Read` or `Write`.
 abbrev pub IsQuiet : {W A : Type 0} (old new : W) (result : Result A Fault) → Type 0
 IsQuiet old new result = IfErr result (λ fault. IsLate fault ⊎ (new ≡ old))

@@ -47,8 +47,6 @@ pub fn decrypt<S: Source, W: Sink>(
     // number of the payload's pieces. If a device failed, a prefix of that plaintext was written.
     ensures decrypts { Decrypts limits.now (answers_by identities.now (λ i s. meaning i s))
         (flow_by S.to_come S.gave input.old input.new) (move_by W.taken out.old out.new) result }
-    // On a fault the sink is unchanged, whether or not its contents are known, unless the fault is
-    // a chunk's, `TooManyChunks`, `Read` or `Write`.
     ensures quiet { IsQuiet out.old out.new result }
     ensures reads { CountsIf is_read (S.failed input.old) (S.failed input.new) result }
     ensures writes { CountsIf is_write (W.failed out.old) (W.failed out.new) result }

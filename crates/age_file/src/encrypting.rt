@@ -57,8 +57,6 @@ pub fn encrypt<S: Source, W: Sink>(
     // alone; a header over the limit. The labels are some that the recipients may have returned.
     ensures refused { IfErr result (RefusesFirst limits.now fresh.now.file_key
         (gathering_by recipients.now (λ r k. wraps r k) (λ r. the_labels r) fresh.now.file_key)) }
-    // On a fault the sink is unchanged, whether or not its contents are known, unless the fault is
-    // a chunk's, `TooManyChunks`, `Read` or `Write`.
     ensures quiet { IsQuiet out.old out.new result }
     // If the fault is `Read` and something was written, the source gave 65,536 bytes or more.
     ensures spared { result ≡ Err Fault.Read

@@ -45,8 +45,6 @@ pub fn rewrap<S: Source, W: Sink>(
     ensures rewraps { Rewraps limits.now (answers_by identities.now (λ i s. meaning i s))
         (gathering_by recipients.now (λ r k. wraps r k) (λ r. the_labels r))
         (flow_by S.to_come S.gave input.old input.new) (move_by W.taken out.old out.new) result }
-    // On a fault the sink is unchanged, whether or not its contents are known, unless the fault is
-    // a chunk's, `TooManyChunks`, `Read` or `Write`.
     ensures quiet { IsQuiet out.old out.new result }
     ensures reads { CountsIf is_read (S.failed input.old) (S.failed input.new) result }
     ensures writes { CountsIf is_write (W.failed out.old) (W.failed out.new) result }

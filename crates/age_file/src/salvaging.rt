@@ -46,8 +46,6 @@ pub fn salvage<S: Source, W: Sink, L: Losses>(
         (losses_by L.lost losses.old losses.new) result }
     // If no chunk is lost, none was reported.
     ensures silent { IfOk result (λ s. s.lost ≡ 0 → losses.new ≡ losses.old) }
-    // On a fault the sink is unchanged, whether or not its contents are known, unless the fault is
-    // a chunk's, `TooManyChunks`, `Read` or `Write`.
     ensures quiet { IsQuiet out.old out.new result }
     ensures reads { CountsIf is_read (S.failed input.old) (S.failed input.new) result }
     ensures writes { CountsIf is_write (W.failed out.old) (W.failed out.new) result }

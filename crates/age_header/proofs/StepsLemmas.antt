@@ -37,7 +37,7 @@ pub no_arguments : (ss : List StanzaParts) (l : Bytes) (s : State)
 no_arguments ss l (between ts) none h = h
 no_arguments ss l (within ts args body) none h = none args h.2 h.3
 
--- a line that is no base64 leads nowhere within a stanza
+-- a line that is not base64 leads nowhere within a stanza
 pub no_base64 : (ss : List StanzaParts) (args : List Bytes) (body l : Bytes) (s : State)
     → ((b : Bytes) → IsBase64 b l → ⊥)
     → Step (within ss args body) l s → ⊥

@@ -66,7 +66,7 @@ path_header {max} {text} p took is low e =
       q.read,
     ))
 
--- a line that leads nowhere and is no end line
+-- a line that leads nowhere and is not an end line
 pub path_bad : {a mid new : Seen} {max room count : ℕ} {s : State} {text : Bytes}
     → Reached a mid max room count s → Gave (flow mid new) (line text) → IsLineText text → length text < room
     → (IsEndLine s text → ⊥) → ((t : State) → Step s text t → ⊥)

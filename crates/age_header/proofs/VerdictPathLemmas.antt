@@ -65,7 +65,7 @@ pub record Reached (a mid : Seen) (max room count : ℕ) (s : State) : Type 0 wh
   pub open so_far use *
   pub leads : Leads (between []) ls s
 
--- no text is no header
+-- the empty text is not a header
 pub no_empty : IsHeader [] → ⊥
 unfolding version_line
 no_empty (stanzas, mac, head) = let is = head.spelled in cc

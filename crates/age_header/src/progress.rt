@@ -88,7 +88,7 @@ impl Progress {
 }
 
 /// The progress after one more line of an open stanza's body. After a full line the stanza stays
-/// open, after a shorter one it is complete.
+/// open; after a shorter one it is complete.
 fn body_line(
     alloc: Global,
     engine: &GeneralPurpose,

@@ -175,7 +175,7 @@ fn inspect_command<'a>(alloc: Global) -> Result<Command<'a>, AllocError>
         alloc,
         RAW,
         'r',
-        "Write the header's bytes instead of a table",
+        "Print the header itself instead of a table",
     );
     let file_key = text_option(alloc, FILE_KEY, 'f', "FILE", FILE_KEY_HELP);
     let command = bare_subcommand(
@@ -194,19 +194,14 @@ fn inspect_command<'a>(alloc: Global) -> Result<Command<'a>, AllocError>
 fn range_command<'a>(alloc: Global) -> Result<Command<'a>, AllocError>
     ensures { IfOk result (λ command. shape_of command ≡ line.range) }
 {
-    let command = bare_subcommand(
-        alloc,
-        "range",
-        "Decrypt a part of a file with a passphrase or a key",
-        RANGE_END,
-    )?;
+    let command = bare_subcommand(alloc, "range", "Decrypt part of a file", RANGE_END)?;
     let at = offset_word(
         alloc,
         AT,
         "AT",
-        "The offset of the first byte in the plaintext, from 0",
+        "Offset of the first byte in the plaintext, from 0",
     );
-    let len = offset_word(alloc, LEN, "LEN", "The maximum number of bytes to write");
+    let len = offset_word(alloc, LEN, "LEN", "How many bytes to write at most");
     let input = required_word(alloc, INPUT, "IN", SEEKABLE_INPUT_HELP);
     let command = with_opening_options(alloc, command, PLAIN_OUTPUT_HELP)?;
     let command = with_arg(command, at)?;
@@ -220,7 +215,7 @@ fn rewrap_command<'a>(alloc: Global) -> Result<Command<'a>, AllocError>
     let command = bare_subcommand(
         alloc,
         "rewrap",
-        "Give a file a new passphrase or key without encrypting it again",
+        "Change the passphrase or keys without encrypting again",
         REWRAP_END,
     )?;
     let new_pass = text_option(alloc, NEW_PASS, 'P', "FILE", NEW_PASS_HELP);
@@ -239,7 +234,7 @@ fn salvage_command<'a>(alloc: Global) -> Result<Command<'a>, AllocError>
     let command = bare_subcommand(
         alloc,
         "salvage",
-        "Save what can be saved of a damaged file",
+        "Save what is left of a damaged file",
         SALVAGE_END,
     )?;
     let command = with_opening_options(alloc, command, PLAIN_OUTPUT_HELP)?;
