@@ -1,12 +1,13 @@
 #!/usr/bin/env python3
-"""Measures the library from C and Python beside agep and age, and prints one table.
+"""Measures the library from C, Rust and Python beside agep and age, and prints one table.
 
 usage: bench/library.py PREFIX [--mib 1024] [--runs 3] [--only WORD]
 
-PREFIX is where ./install --library put the library; `agep` has to be built, and it needs a C compiler and
-age. Each command runs in turn, as often as --runs says. The table has the best times, on the clock and
-of the processor, the ratio of processor time to that of agep, and the most memory. TMPDIR names the
-folder of the files, which takes four times the size; --only leaves out the rows without this word.
+PREFIX is where ./install --library put the library; `agep` has to be built, and it needs a C compiler,
+cargo and age. Programs in C and Rust link the archive, but for the row that says otherwise. Each command
+runs in turn, as often as --runs says. The table has the best times, on the clock and of the processor,
+the ratio of processor time to that of agep, and the most memory. TMPDIR names the folder of the files,
+which takes four times the size; --only leaves out the rows without this word.
 """
 
 import argparse
@@ -83,26 +84,45 @@ def in_python(rows, name):
         yield title, [sys.executable, "-c", SCRIPT.format(code=code, takes_data="(data" in code), name]
 
 
-def built(name, prefix, folder):
-    words = ["cc", "-O2", "-pthread", f"-I{prefix}/include", "-o", folder / name, ROOT / f"bindings/c/examples/{name}.c", prefix / "lib/libagefile.a"]
+def built(name, prefix, folder, library=None):
+    words = ["cc", "-O2", "-pthread", f"-I{prefix}/include", "-o", folder / name, ROOT / f"bindings/c/examples/{name}.c"]
+    words += library or [prefix / "lib/libagefile.a"]
     subprocess.run([str(word) for word in words], check=True)
     return folder / name
 
 
+def built_in_rust(prefix, folder):
+    words = ["cargo", "build", "-q", "--offline", "--release", "--example", "stream", "--manifest-path", str(ROOT / "bindings/rust/Cargo.toml")]
+    environment = os.environ | {"AGEFILE_LIB_DIR": str(prefix / "lib"), "CARGO_TARGET_DIR": str(folder / "target")}
+    subprocess.run(words, check=True, env=environment)
+    return folder / "target/release/examples/stream"
+
+
+def streams(prefix, folder):
+    """The same example in C and in Rust, by the archive and by the shared library."""
+    shared = built("stream", prefix, folder, [f"-L{prefix}/lib", "-lagefile", f"-Wl,-rpath,{prefix}/lib"])
+    return [
+        ("C, stream.c, shared library", shared.rename(folder / "stream_shared")), ("C, stream.c", built("stream", prefix, folder)),
+        ("Rust, stream.rs", built_in_rust(prefix, folder)),
+    ]
+
+
 def rows_of(prefix, folder):
     """Pairs of a title and a command; those that seal, and those that open."""
-    stream, parallel = built("stream", prefix, folder), built("parallel", prefix, folder)
+    programs, parallel = streams(prefix, folder), built("parallel", prefix, folder)
     to_null = ["sh", "-c", '"$@" <plain >/dev/null', "sh"]
     from_made = ["sh", "-c", '"$@" <made >/dev/null', "sh"]
     public = subprocess.check_output(["age-keygen", "-y", folder / "identity"], text=True).strip()
     sealing = [
-        ("agep", [AGEP, "encrypt", "-k", "key", "plain"]), ("age", ["age", "-r", public, "plain"]), ("C, stream.c", to_null + [stream, "-e", "key"]),
+        ("agep", [AGEP, "encrypt", "-k", "key", "plain"]), ("age", ["age", "-r", public, "plain"]),
+        *((title, to_null + [stream, "-e", "key"]) for title, stream in programs),
         *((f"C, parallel.c, {n} threads", [parallel, "-e", "key", n, "plain", "made.other"]) for n in (1, 4)),
         *in_python(SEALING, "plain"),
     ]
     to_file = ["sh", "-c", '"$@" >plain.other', "sh"]
     opening = [
-        ("agep", [AGEP, "decrypt", "-k", "key", "made"]), ("agep to a file", to_file + [AGEP, "decrypt", "-k", "key", "made"]), ("age", ["age", "-d", "-i", "identity", "made.age"]), ("C, stream.c", from_made + [stream, "key"]),
+        ("agep", [AGEP, "decrypt", "-k", "key", "made"]), ("agep to a file", to_file + [AGEP, "decrypt", "-k", "key", "made"]), ("age", ["age", "-d", "-i", "identity", "made.age"]),
+        *((title, from_made + [stream, "key"]) for title, stream in programs),
         *((f"C, parallel.c, {n} threads", [parallel, "key", n, "made", "plain.other"]) for n in (1, 4)),
         *in_python(OPENING, "made"),
     ]

@@ -55,11 +55,22 @@ need_rt() {
     fi
 }
 
-# Marks what was built with a text, and the version of the toolchain, as old as this file:
+# Marks what was built with a text, the version of the toolchain and the commit, as old as a file:
 # mark MARK TEXT BEGAN.
 mark() {
-    { echo "$2" && toolchain; } >"$1"
+    { echo "$2" && toolchain && commit; } >"$1"
     touch -r "$3" "$1"
+}
+
+# The commit of the crates at hand, with a word if they have changed since. An archive, which has no
+# repository, has it in share/commit. Empty where neither knows it.
+commit() {
+    name=$(cd "$root" && git --git-dir=.git rev-parse --short=10 HEAD 2>/dev/null) || {
+        sed -n 's/^\([0-9a-f]\{10\}\).*/commit \1/p' "$root/share/commit" 2>/dev/null || :
+        return
+    }
+    changes=$(cd "$root" && git --git-dir=.git status --porcelain crates crates.txt)
+    echo "commit $name${changes:+, changed}"
 }
 
 # Shows at a terminal what is at work, in place of what was shown before; with no words nothing.
@@ -93,8 +104,12 @@ library() {
 # Proves and builds the libraries up to age_file, or with the word age_cli up to that, lowest first.
 # A run of `rt` waits for another one that uses a library below both. So only what depends on none
 # of the others is proved in parallel with them: age_cipher, and age_job with age_words above it.
-# The latter is to end before age_commands, which depends on age_job.
+# The latter is to end before age_commands, which depends on age_job. What this script has proved
+# before is left out.
+proved_to=
 libraries() {
+    [ "$proved_to" != age_cli ] && [ "$proved_to" != "$1" ] || return 0
+    proved_to=$1
     finished=$(mktemp)
     begun=$(mktemp)
     all=6
@@ -122,6 +137,27 @@ libraries() {
 program=$root/crates/agep/out/agep
 built=$root/crates/agep/out/built
 
+# Keeps the program for a processor, its object and its mark beside it, so that none is built twice.
+keep_level() {
+    rm -f "$program-$1.o"
+    [ ! -f "$program.o" ] || cp -p "$program.o" "$program-$1.o"
+    cp -p "$program" "$program-$1"
+    cp -p "$built" "$program-$1.built"
+}
+
+# Whether the program that was kept for a processor is current.
+has_level() {
+    is_current "$program-$1" "$program-$1.built" "$1"
+}
+
+# Makes the program the one for a processor, if it was kept.
+take_level() {
+    has_level "$1" || return
+    cp -p "$program-$1" "$program.new"
+    mv "$program.new" "$program"
+    cp -p "$program-$1.built" "$built"
+}
+
 # Proves the program, and builds it for a processor: build_program WHO PROCESSOR. All output goes to
 # standard error, and no input is read.
 build_program() {
@@ -142,6 +178,7 @@ build_program() {
         exit 1
     fi
     mark "$built" "$2" "$began"
+    keep_level "$2"
     rm -f "$began"
     show
     echo "$1: built for $2 in $(($(date +%s) - seconds)) s" >&2
@@ -175,12 +212,17 @@ END
 # most distributions have the level x86-64.
 levels="x86-64 x86-64-v3"
 
+crate=$root/crates/agefile
+
+# Whether the library for a level is current.
+has_library() {
+    is_current "$crate/out/$1.a" "$crate/out/$1.built" "$1"
+}
+
 # Proves the library for C, and builds it for each level, to out/LEVEL.a: build_library WHO.
 build_library() {
-    crate=$root/crates/agefile
     for level in $levels; do
-        archived=$crate/out/$level.built
-        ! is_current "$crate/out/$level.a" "$archived" "$level" || continue
+        ! has_library "$level" || continue
         need_rt "$1" library
         echo "$1: building the library for $level; its proofs are checked first" >&2
         began=$(mktemp)
@@ -192,7 +234,7 @@ build_library() {
             exit 1
         fi
         cp "$crate/out/libagefile.a" "$crate/out/$level.a"
-        mark "$archived" "$level" "$began"
+        mark "$crate/out/$level.built" "$level" "$began"
         rm -f "$began"
     done
 }

@@ -37,10 +37,6 @@ class Avx2(ProgramCase):
                     subprocess.run(
                         ["cp", "-a", "--parents", f"crates/{crate}/{part}", copy], cwd=ROOT, check=True
                     )
-        # What ./package --build has built for this level is not built once more.
-        for name, made in (("agep", "agep-x86-64-v3"), ("built", "agep-x86-64-v3.built")):
-            if os.path.isfile(f"{copy}/crates/agep/out/{made}"):
-                shutil.copy2(f"{copy}/crates/agep/out/{made}", f"{copy}/crates/agep/out/{name}")
         env = {**os.environ, "AGEP_CPU": "x86-64-v3"}
         cls.done = subprocess.run([copy + "/agep", "--version"], env=env, stdin=subprocess.DEVNULL, capture_output=True)
 

@@ -12,8 +12,9 @@ import tempfile
 import unittest
 from pathlib import Path
 
-sys.path.append(str(Path(__file__).resolve().parent.parent / "share/generate"))
+sys.path += [str(Path(__file__).resolve().parent.parent / "share/generate"), str(Path(__file__).resolve().parent / "library")]
 import codes
+import header
 
 import test_vectors
 import testkit
@@ -32,9 +33,8 @@ SIZES = (0, 1, 65535, 65536, 65537, 131072, 131073, 200000)
 USAGE = """usage: ./install [--uninstall] [PREFIX]
        ./install --library [--libdir=DIR] [--uninstall] [PREFIX]
 """
-# How many random calls are made here. 100,000 take a quarter of an hour:
-# tests/library/random_calls.py DRIVER 100000
-RANDOM_CALLS = 2000
+# 100,000 random calls take a quarter of an hour.
+RANDOM_CALLS = int(os.environ.get("RANDOM_CALLS", 2000))
 
 
 def run(*words, **options):
@@ -62,6 +62,15 @@ def setUpModule():
 
 
 @functools.cache
+def compilers():
+    names = ("gcc", "clang", "g++", "clang++")
+    missing = [name for name in names if shutil.which(name) is None]
+    if missing:
+        print(f"skipped: header and diagnoses: {' and '.join(missing)} missing")
+    return [name for name in names if name not in missing]
+
+
+@functools.cache
 def work():
     """The folder of this run, with a key, a passphrase and a seed."""
     folder = Path(tempfile.mkdtemp())
@@ -81,6 +90,16 @@ def prefix():
     done = run(ROOT / "install", "--library", folder, umask=0o077, status=0)
     if not re.fullmatch(rb"(install: building the library for x86-64(-v3)?; its proofs are checked first\n)*", done.stderr):
         raise AssertionError(done.stderr)
+    return folder
+
+
+@functools.cache
+def texts():
+    """The folder of the texts in C that header.py makes of agefile.h."""
+    folder = work() / "texts"
+    folder.mkdir()
+    (folder / "stand_ins.h").write_text(header.stand_ins(header.Header()))
+    (folder / "driver_calls.h").write_text(header.driver_calls(header.Header()))
     return folder
 
 
@@ -182,14 +201,15 @@ class Installing(unittest.TestCase):
 class Names(unittest.TestCase):
     def test_names(self):
         """Archive and shared library have just the names of the header."""
-        declared = re.findall(r"^uint(?:32|64)_t agefile_(\w+)\(", HEADER.read_text(), re.M)
-        expected = sorted("agefile_" + name for name in declared)
-        self.assertEqual(len(expected), 25)
+        expected = sorted(f"agefile_{function.name}" for function in header.Header().exports)
         self.assertEqual(names_in("-g", "--defined-only", archive()), expected)
         versioned = sorted([f"{name}@@AGEFILE_1" for name in expected] + ["AGEFILE_1"])
         self.assertEqual(names_in("-D", "--defined-only", prefix() / "lib" / SONAME), versioned)
-        symbols = (ROOT / "share/debian/libagefile.symbols").read_text()
-        self.assertEqual(sorted(re.findall(r"^ (agefile_\w+)@", symbols, re.M)), expected)
+
+    def test_builds(self):
+        """The archive and the shared library have code for x86-64-v3, by its registers."""
+        for library in (archive(), prefix() / "lib" / SONAME):
+            self.assertGreater(said("objdump", "-d", library).count("%ymm"), 1000, library.name)
 
     def test_what_they_need(self):
         """They need malloc, realloc, free and functions on memory, and libc alone."""
@@ -239,13 +259,20 @@ class Processors(unittest.TestCase):
 
     def passed(self, *flags):
         """A program that prints the build that agefile.c calls, and fails if it passes a null pointer."""
-        source = (ROOT / "bindings/c/agefile.c", "-ffunction-sections", "-Wl,--gc-sections")
-        return built("passed", *flags, "-Wno-unused-parameter", library=source)
+        return built("passed", *flags, f"-I{texts()}", "-Wno-unused-parameter", library=(ROOT / "bindings/c/agefile.c",))
 
     def test_this_processor(self):
         """The build that fits is called, with no null pointer."""
         self.assertEqual(said(self.passed(*sanitizers())), "x86-64-v3\n" if has_v3() else "x86-64\n")
         self.assertEqual(said(self.passed(f"-include{older().parents[2]}/older.h")), "x86-64\n")
+
+    @unittest.skipUnless(has_v3(), "this processor is not of the level x86-64-v3")
+    def test_registers(self):
+        """The build for x86-64-v3 is called where the system keeps both halves of the registers of AVX."""
+        (work() / "system.h").write_text("#include <immintrin.h>\n#define _xgetbv(number) (0 * (number) + KEPT)\n")
+        for kept in range(8):
+            found = said(self.passed(f"-include{work()}/system.h", f"-DKEPT={kept}"))
+            self.assertEqual(found, "x86-64-v3\n" if kept >= 6 else "x86-64\n", kept)
 
     @needs("qemu-x86_64")
     def test_other_processors(self):
@@ -287,9 +314,7 @@ def opened_by(stream, file):
 class Languages(unittest.TestCase):
     def test_standards(self):
         """The header is C99, C11, C17 and C++ from 98 to 20, and it links."""
-        for compiler in ("gcc", "clang", "g++", "clang++"):
-            if shutil.which(compiler) is None:
-                continue
+        for compiler in compilers():
             plus = compiler.endswith("++")
             for standard in ("c++98", "c++11", "c++20") if plus else ("c99", "c11", "c17"):
                 with self.subTest(f"{compiler} {standard}"):
@@ -299,44 +324,35 @@ class Languages(unittest.TestCase):
 
 
 class Declarations(unittest.TestCase):
-    def compared(self, root):
-        environment = os.environ | {"AGEFILE_LIBRARY": str(prefix() / "lib" / SONAME), "PYTHONDONTWRITEBYTECODE": "1"}
-        return run(sys.executable, TESTS / "declarations.py", root, env=environment)
-
     def test_they_agree(self):
-        """The exports, agefile.h, _library.py and ffi.rs declare the same functions and structs."""
-        done = self.compared(ROOT)
-        self.assertEqual((done.stdout.decode(), done.stderr.decode(), done.returncode), ("25 functions, 6 structs\n", "", 0))
+        """agefile.h declares the functions and structs of the sources, of which ./generate makes the declarations for
+        other languages."""
+        self.assertEqual(header.differences(ROOT), [])
 
     def test_differences_are_found(self):
-        """Each difference is found, and shown as one of its file."""
-        header, python, rust = "bindings/c/agefile.h", "bindings/python/agefile/_library.py", "bindings/rust/src/ffi.rs"
-        rows = [
-            ("a parameter of an export", "crates/agefile/src/ranges.rt", "file_len: u64", "file_len: u32", header),
-            ("a field of an export", "crates/agefile/src/report.rt", "pub detail: u64", "pub detail: u32", header),
-            ("a slice of an export", "crates/agefile/src/listing.rt", "stanzas: &mut [StanzaSummary]", "stanzas: &mut [u8]", header),
-            ("a type in the header", header, "uint64_t count", "uint32_t count", header),
-            ("an order in the header", header, "const agefile_ranges *ranges, uint64_t at", "uint64_t at, const agefile_ranges *ranges", header),
-            ("a parameter that may be null", header, "AGEFILE_CALL((5, 6, 9))", "AGEFILE_CALL((5, 9))", header),
-            ("a convenience's parameter that may be null", header, "AGEFILE_CALL((3, 4, 7))", "AGEFILE_CALL((3, 7))", header),
-            ("a struct's size in the header", header, "uint8_t mac[32]", "uint8_t mac[24]", header),
-            ("a struct's order in the header", header, "    uint64_t first;      /* the offset of the first sealed chunk */\n", "", header),
-            ("a type in Python", python, '"take_part": (_pointer(Payload), number,', '"take_part": (_pointer(Payload), byte,', python),
-            ("a field in Python", python, '("first", number)', '("first", byte)', python),
-            ("a type in Rust", rust, "last: bool", "last: u8", rust),
-            ("a field in Rust", rust, "pub header_len: u64", "pub header_len: u32", rust),
-        ]
-        for title, name, old, new, shown in rows:
-            with self.subTest(title), tempfile.TemporaryDirectory() as folder:
+        """Each difference is found, and its line names the function or struct."""
+        text = HEADER.read_text()
+        for name, old, new in (
+            ("function ranges_open", "uint64_t file_len,\n    const", "uint32_t file_len,\n    const"),
+            ("function take_part", "uint64_t count", "uint64_t number"),
+            ("function ranges_locate", "*ranges, uint64_t at, agefile_report", "*at, uint64_t ranges, agefile_report"),
+            ("function wrap_key", "const uint8_t key[AGEFILE_LEAST 32],\n    const uint8_t salt", "const uint8_t key[AGEFILE_LEAST 16],\n    const uint8_t salt"),
+            ("function file_len", "uint64_t agefile_file_len", "uint32_t agefile_file_len"),
+            ("function version", "uint32_t agefile_version(void) AGEFILE_USED;", ""),
+            ("version: ", "agefile_version(void) AGEFILE_USED", "agefile_version(void) AGEFILE_CALL((1))"),
+            ("ranges_open: ", "AGEFILE_CALL((4, 5, 6));", "AGEFILE_CALL((4, 6));"),
+            ("encrypt_key: ", "AGEFILE_CALL((3, 4, 7))", "AGEFILE_CALL((3, 7))"),
+            ("struct summary", "uint8_t mac[32]", "uint8_t mac[24]"),
+            ("struct ranges", "    uint64_t first;      /* the offset of the first sealed chunk */\n", ""),
+        ):
+            with self.subTest(f"{name}: {new}"), tempfile.TemporaryDirectory() as folder:
                 shutil.copytree(ROOT / "crates/agefile/src", f"{folder}/crates/agefile/src")
-                shutil.copytree(ROOT / "bindings", f"{folder}/bindings", ignore=shutil.ignore_patterns("target"))
-                path = Path(folder, name)
-                text = path.read_text()
-                self.assertIn(old, text)
-                path.write_text(text.replace(old, new))
-                done = self.compared(folder)
-                self.assertEqual(done.returncode, 1, done.stderr)
-                self.assertRegex(done.stdout.decode(), rf"(?m)^\+\+\+ {re.escape(shown)}.*\n(.*\n)*[+-][^+-]")
+                changed = Path(folder, "bindings/c/agefile.h")
+                changed.parent.mkdir(parents=True)
+                self.assertEqual(text.count(old), 1)
+                changed.write_text(text.replace(old, new))
+                lines = header.differences(Path(folder))
+                self.assertEqual([line[: len(name)] for line in lines], [name], lines)
 
 
 class Diagnoses(unittest.TestCase):
@@ -356,9 +372,7 @@ class Diagnoses(unittest.TestCase):
     def test_diagnoses(self):
         """Results that are ignored, null pointers without a length, and short keys."""
         whole = "agefile_decrypt_key(front, 9, key, front, 9, &report)"
-        for compiler in ("gcc", "clang", "g++", "clang++"):
-            if shutil.which(compiler) is None:
-                continue
+        for compiler in compilers():
             with self.subTest(compiler):
                 self.assertEqual(self.diagnosis(compiler, f"return {self.CALL};"), "")
                 self.assertEqual(self.diagnosis(compiler, f"return {whole};"), "")
@@ -435,12 +449,6 @@ class Calls(unittest.TestCase):
     def test_refused_allocations(self):
         self.by_both_builds("refuse", *REFUSING)
 
-    def test_null_pointers(self):
-        self.each_test(built("nulls", *sanitizers()), "nulls")
-        self.each_test(built("nulls", "-O2"), "nulls, optimized")
-        if shutil.which("c++"):
-            self.each_test(built("nulls", *sanitizers(), compiler="c++"), "nulls in C++")
-
     def test_headers_of_age(self):
         """The stanzas of files of age are listed as the lines that they were."""
         for path in sorted((ROOT / "tests/data").glob("*.age")):
@@ -459,34 +467,35 @@ class Calls(unittest.TestCase):
                 shutil.copy(made, second / f"out/{level}.a")
         finally:
             shutil.copy2(kept, made)
-        run("sh", "-c", 'root=$0 crate=$1; . "$root/share/build.sh"; link_library "$crate"', ROOT, second, status=0)
+        run("sh", "-c", 'root=$0; . "$root/share/build.sh"; crate=$1; link_library "$crate"', ROOT, second, status=0)
         for name in ("buffers", "steps", "headers"):
             self.each_test(built(name, "-O1", library=(second / "libagefile.a",)), f"{name}, second compiler")
 
     def test_random_calls(self):
-        """Random calls agree with a model of the library in Python."""
+        """Calls with each pointer null, and random ones, agree with a model of the library in Python."""
         for title, library in both_builds().items():
             with self.subTest(title):
-                driver = built("driver", *sanitizers(), *REFUSING, library=library)
+                driver = built("driver", *sanitizers(), *REFUSING, f"-I{texts()}", library=library)
                 done = run(sys.executable, TESTS / "random_calls.py", driver, RANDOM_CALLS)
                 self.assertEqual((done.returncode, done.stderr), (0, b""), done.stdout.decode() + done.stderr.decode())
-                self.assertIn(f"{RANDOM_CALLS} calls; ", done.stdout.decode())
+                self.assertGreater(int(done.stdout.split()[0]), RANDOM_CALLS)
 
     def test_a_wrong_library_is_found(self):
         """Random calls tell a library that takes, writes, reports or returns something else from a right one."""
-        text = (TESTS / "driver.c").read_text()
-        call = "agefile_wrap_key(P(0), P(1), P(2), B(3), report)"
-        self.assertIn(f"case 5: return {call};", text)
+        text = (texts() / "driver_calls.h").read_text()
+        call = "agefile_wrap_key(P(0), P(1), P(2), P(3), N(3), report)"
+        self.assertIn(f" return {call};", text)
         for name, wrong in (
-            ("salt", f"P(2)[15] ^= 1; return {call};"),
-            ("output", f"{{ uint64_t code = {call}; if (code == 0) P(3)[a[3].number - 1] ^= 1; return code; }}"),
+            ("salt", f"((uint8_t *)P(2))[15] ^= 1; return {call};"),
+            ("output", f"{{ uint64_t code = {call}; if (code == 0) ((uint8_t *)P(3))[N(3) - 1] ^= 1; return code; }}"),
             ("place", f"{{ uint64_t code = {call}; report->place += code == 0; return code; }}"),
             ("code", f"{{ uint64_t code = {call}; return code == 0 ? AGEFILE_TOO_SMALL : code; }}"),
         ):
             with self.subTest(name):
-                source = work() / f"wrong_{name}.c"
-                source.write_text(text.replace(f"return {call};", wrong))
-                done = run(sys.executable, TESTS / "random_calls.py", built(source.stem, *REFUSING, f"-I{TESTS}", source=source), 400)
+                folder = work() / f"wrong_{name}"
+                folder.mkdir()
+                (folder / "driver_calls.h").write_text(text.replace(f"return {call};", wrong))
+                done = run(sys.executable, TESTS / "random_calls.py", built("driver", *REFUSING, f"-I{folder}"), 400)
                 self.assertEqual((done.returncode, done.stderr), (1, b""))
                 self.assertIn(": wrap_key, flags ", done.stdout.decode())
 

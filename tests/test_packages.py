@@ -3,6 +3,7 @@ Python and Rust over the wheel and the tarball. Those of the program that choose
 package."""
 
 import functools
+import json
 import os
 import re
 import shutil
@@ -53,11 +54,21 @@ def run(*words, **options):
 MODULES = ("build", "setuptools", "wheel")
 
 
+CARGO = (1, 80)
+
+
+def is_older_cargo():
+    """Whether cargo is older than the crate for Rust takes, as Debian 12's is."""
+    found = shutil.which("cargo") and re.match(r"cargo (\d+)\.(\d+)", subprocess.check_output(["cargo", "--version"], text=True))
+    return bool(found) and (int(found[1]), int(found[2])) < CARGO
+
+
 def needs(*tools):
     """Skips where one of these commands, or modules of Debian's Python, is missing."""
     words = ("/usr/bin/python3", "-c", "import importlib, sys; importlib.import_module(sys.argv[1])")
     modules = {tool for tool in tools if tool in MODULES and subprocess.run([*words, tool], capture_output=True).returncode == 0}
     missing = [tool for tool in tools if shutil.which(tool) is None and tool not in modules]
+    missing += ["cargo 1.80"] * ("cargo" in tools and is_older_cargo())
     return unittest.skipIf(missing, f"{' and '.join(missing)} missing")
 
 
@@ -269,11 +280,33 @@ class Packages(unittest.TestCase):
         shutil.copy(self.one("agep-*.tar.xz"), home)
         shutil.copy(ROOT / "bindings/c/examples/stream.c", home / "program.c")
         commands = re.findall(r"^\$ (.*)$", (ROOT / "docs/PACKAGES.md").read_text(), re.MULTILINE)
-        self.assertEqual(len(commands), 3)
-        words = "; ".join(["set -e", *commands, "agep --version", "ldd program"])
+        self.assertEqual(len(commands), 4)
+        words = "; ".join(["set -e", *commands[:3], "agep --version", "ldd program", "touch ~/.local/bin/other", commands[3]])
         said = run("bash", "-c", words, cwd=home, env={"HOME": str(home), "PATH": os.environ["PATH"]})
         self.assertIn(f"agep {self.version} ({level()})\n", said)
         self.assertIn(f" => {home}/.local/lib/", said)
+        left = [str(path.relative_to(home)) for path in home.rglob("*") if path.is_file() or path.is_symlink()]
+        self.assertEqual(sorted(left), sorted([".local/bin/other", *(path.name for path in home.glob("*") if path.is_file())]))
+        self.assertFalse((home / ".local/share/doc/agep").exists())
+
+    @needs("buildah")
+    @unittest.skipUnless(can_mount(), "no mount namespace")
+    def test_container(self):
+        """The command in share/Containerfile makes an image, in which agep runs."""
+        (tree,) = self.unpacked("agep-*.tar.xz").iterdir()
+        page = (tree / "share/doc/agep/Containerfile").read_text()
+        words = re.search(r"^# +podman build (.*)$", page, re.MULTILINE)[1].split()
+        store = Path(tempfile.mkdtemp(dir=self.work))
+        buildah = ("buildah", "--storage-driver", "vfs", "--root", store / "root", "--runroot", store / "run")
+        options = {"cwd": tree, "env": os.environ | {"XDG_RUNTIME_DIR": str(store)}}
+        run(*buildah, "build", "--isolation", "chroot", *words, **options)
+        entry = json.loads(run(*buildah, "inspect", "--type", "image", "agep", **options))["OCIv1"]["config"]["Entrypoint"]
+        container = run(*buildah, "from", "agep", **options).strip()
+        (store / "data").mkdir()
+        (store / "data/pass").write_text("correct horse\n")
+        shutil.copy(SECRET, store / "data/file")
+        ran = ("run", "--isolation", "chroot", "-v", f"{store}/data:/data", container, "--", *entry)
+        self.assertEqual(run(*buildah, *ran, "decrypt", "-p", "pass", "file", **options), "hello\n")
 
     @unittest.skipUnless(can_mount(), "no mount namespace")
     def test_static_program(self):

@@ -130,6 +130,18 @@ class Versions(Case):
         self.write("passphrase", "text")
         self.assert_version("0.7.1")
 
+    def test_archive(self):
+        """An archive without a repository, as a forge makes it, has the version of its commit or tag."""
+        self.write("CHANGELOG.md", RELEASED)
+        commit = self.commit()
+        for tag, version in ((), f"0.8.0-dev.0+g{commit}"), (("0.7.1",), "0.7.1"):
+            for name in tag:
+                self.git("tag", name)
+            folder = self.work / f"archive{len(tag)}"
+            folder.mkdir()
+            self.right("sh", "-c", f"git archive HEAD | tar -xC {folder}")
+            self.assertEqual(self.right("./package", "--version", cwd=folder), f"{version}\n")
+
     def test_no_repository(self):
         """A folder within a repository is not that repository."""
         (self.tree / ".git").rename(self.work / ".git")
@@ -200,6 +212,7 @@ class Release(Case):
         public = " ".join((self.work / "key.pub").read_text().split()[:2])
         self.signer = f'maintainers namespaces="git,cushionduck" {public}'
         self.write("share/signers", f"{self.signer}\n")
+        self.write("share/project", "Maintainer: Name <name@host>\nHomepage: https://host/\nVcs-Git: https://host/git\n")
         self.write(".ci/run", f"#!/bin/sh\ngit log -1 --format=%s >>{self.work}/gate\ntest ! -e {self.work}/wrong\n")
         _, _, older = (ROOT / "CHANGELOG.md").read_text().partition(f"\n## {LAST} ")
         self.write("CHANGELOG.md", f"{UNRELEASED}\n## {LAST} {older}")
@@ -225,12 +238,38 @@ class Release(Case):
         self.refused("release: 80.9.2 is not above 80.9.2", *self.release())
 
     def test_gate(self):
-        """After a gate that failed there is no tag, and nothing is packed."""
+        """After a gate that failed nothing is packed, and all is as before, so that a second try comes as far."""
         self.write("../wrong", "")
+        lines = ["release: the gate failed", "release: the commit, the tag and the packages are taken away again"]
+        for tries in (1, 2):
+            done = self.run_here(*self.release())
+            self.assertEqual((done.returncode, done.stderr.splitlines()[-2:]), (1, lines))
+            self.assertEqual((self.work / "gate").read_text(), "Release 80.9.2\n" * tries)
+            self.assert_as_before()
+
+    def test_check(self):
+        """So it is where the commands fail that check the release."""
+        page = (self.tree / "docs/PACKAGES.md").read_text()
+        self.write("docs/PACKAGES.md", page.replace("./package && cmp", "cmp package release && cmp"))
+        self.before = self.commit()
         done = self.run_here(*self.release())
-        self.assertEqual((done.returncode, done.stderr.splitlines()[-1]), (1, "release: the gate failed"))
-        self.assertEqual(self.git("tag"), "")
-        self.assertFalse(self.folder.exists())
+        self.assertIn("\n+ cmp package release\n", done.stderr)
+        self.assertEqual(done.returncode, 1)
+        self.assert_as_before()
+
+    def test_changed_meanwhile(self):
+        """A commit that somebody made during the gate stays."""
+        self.write(".ci/run", "#!/bin/sh\ngit commit -q --allow-empty -m Other\nexit 1\n")
+        self.before = self.commit()
+        done = self.run_here(*self.release())
+        made = self.git("rev-parse", "HEAD^")
+        self.assertEqual(done.stderr.splitlines()[-1], f"release: take the commit {made} away: the repository has changed since")
+        self.assertEqual((done.returncode, self.git("log", "-1", "--format=%s")), (1, "Other"))
+
+    def assert_as_before(self):
+        found = self.git("rev-parse", "HEAD")[:10], self.git("tag"), self.git("status", "--porcelain")
+        self.assertEqual(found, (self.before, "", ""))
+        self.assertEqual([path.name for path in self.folder.glob("*")], [])
 
     def test_refused(self):
         """Nothing is changed then."""
@@ -250,6 +289,9 @@ class Release(Case):
         self.git("tag", "80.9.2")
         self.refused("release: the tag 80.9.2 is there", *self.release())
         self.git("tag", "-d", "80.9.2")
+        self.write("share/project", "# This.example\nMaintainer: A <a@b.example>\nHomepage: https://c.example.org/\nVcs-Git: https://d.example/e\n")
+        self.commit()
+        self.refused("release: share/project still names a host in .example: Maintainer Vcs-Git", *self.release())
         self.write("share/signers", "")
         self.commit()
         self.refused(f"release: share/signers lacks this key; first commit there the line: {self.signer}", *self.release())

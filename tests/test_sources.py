@@ -472,18 +472,6 @@ class FailedCalls(unittest.TestCase):
         self.assertEqual(count, 8)
 
 
-class Layout(unittest.TestCase):
-    def test_codes(self):
-        """Each code of agefile.h has a line in libagefile.layout, and each struct a line with its size."""
-        header = text_of(ROOT + "/bindings/c/agefile.h")
-        codes = set(re.findall(r"^    (AGEFILE_\w+) = (\d+),?$", header, re.MULTILINE))
-        structs = set(re.findall(r"^} (agefile_\w+);$", header, re.MULTILINE))
-        rows = {tuple(line.rsplit(" ", 1)) for line in text_of(ROOT + "/share/debian/libagefile.layout").split("\n")}
-        self.assertTrue(codes and structs)
-        self.assertEqual(codes - rows, set())
-        self.assertEqual({f"sizeof({name})" for name in structs} - {row[0] for row in rows}, set())
-
-
 LIBRARIES = ["age_cipher", "age_kdf", "age_header", "age_recipient", "age_stream", "age_file"]
 
 

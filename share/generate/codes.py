@@ -4,6 +4,8 @@ import re
 import sys
 from typing import NamedTuple
 
+import calls
+
 FAULT, PART, CODE = "age_file/src/fault.rt", "age_recipient/src/unwrapped.rt", "agefile/src/code.rt"
 # The faults of files that no call of the crate for Rust returns as a fault of its own.
 NOT_IN_RUST = {"Read", "Write", "Refused", "IncompatibleRecipients"}
@@ -108,6 +110,7 @@ def texts(root):
         "texts of errors": lines(lambda f: f'            Error::{f.name}{holds[f.held][2]} => write!(f, "{f.shown(f.held)}"),\n', rust),
         "details of parts": lines(lambda p: f"            {p.code} => Part::{named[p]},\n", details),
         "texts of parts": lines(lambda p: f'            Part::{named[p]} => "{p.text}",\n', details),
+        "numbers": calls.grown(root, calls.LAYOUT, r"^(AGEFILE_\w+) (\d+)$(?=[\s\S]*^# end of numbers)", [(f"AGEFILE_{f.constant}", f.code) for f in every]),
         "codes of the library": "| Code in C | What it stands for |\n|---|---|\n"
         + lines(lambda f: f"| {f.code} | {f.text} |\n" * bool(f.code), sorted(own_codes)),
     }

@@ -3,7 +3,7 @@
 // marked is first made with each allocation refused in turn, and on eight threads at once. Linked
 // with --wrap=malloc, --wrap=realloc and --wrap=free.
 //
-// A request, in the byte order of the machine: the call's index in random_calls.py, flags, the number
+// A request, in the byte order of the machine: the call's index in Header.functions of header.py, flags, the number
 // of arguments, a byte each; then of each argument its kind and its shift, a byte each, a number of 8
 // bytes, and for a buffer as many bytes. The answer: the result, 8 bytes; 1 if the call kept what it
 // had to, else 0, a byte; the report; the bytes of all buffers.
@@ -102,53 +102,12 @@ static bool are_surroundings_kept(const struct memory *memory, const struct call
     return is_surrounding_kept(memory, call->count, sizeof(agefile_report), 0);
 }
 
+// make_call and opened_by, by header.py.
+#include "driver_calls.h"
+
 static uint64_t make(const struct call *call, const struct memory *m)
 {
-    const struct argument *a = call->arguments;
-    agefile_report *report = (agefile_report *)(void *)m->pointers[call->count];
-#define B(i) m->pointers[i], a[i].number
-#define P(i) m->pointers[i]
-#define N(i) a[i].number
-#define S(i, type) (agefile_##type *)(void *)m->pointers[i]
-    switch (call->index) {
-    case 0: return agefile_inspect(B(0), S(1, summary), report);
-    case 1: return agefile_stanzas(B(0), S(1, stanza_summary), N(1) / sizeof(agefile_stanza_summary), B(2), report);
-    case 2: return agefile_unlock_passphrase(B(0), B(1), (uint8_t)N(2), P(3), report);
-    case 3: return agefile_unlock_key(B(0), P(1), P(2), report);
-    case 4: return agefile_wrap_passphrase(P(0), B(1), (uint8_t)N(2), P(3), B(4), report);
-    case 5: return agefile_wrap_key(P(0), P(1), P(2), B(3), report);
-    case 6: return agefile_wrap(B(0), B(1), B(2), report);
-    case 7: return agefile_header(B(0), P(1), B(2), report);
-    case 8: return agefile_begin(B(0), P(1), P(2), B(3), S(4, payload), report);
-    case 9: return agefile_open(B(0), P(1), S(2, payload), report);
-    case 10: return agefile_open_next(S(0, payload), B(1), N(2) != 0, report);
-    case 11: return agefile_seal_next(S(0, payload), B(1), N(2) != 0, report);
-    case 12: return agefile_take_part(S(0, payload), N(1), S(2, part), report);
-    case 13: return agefile_part_open_next(S(0, part), B(1), report);
-    case 14: return agefile_part_seal_next(S(0, part), B(1), report);
-    case 15: return agefile_ranges_open(B(0), N(1), P(2), S(3, ranges), report);
-    case 16: return agefile_ranges_last(S(0, ranges), B(1), report);
-    case 17: return agefile_ranges_locate(S(0, ranges), N(1), report);
-    case 18: return agefile_ranges_chunk(S(0, ranges), N(1), B(2), report);
-    case 19: return agefile_decrypt(B(0), P(1), B(2), report);
-    case 20: return agefile_encrypt(B(0), B(1), P(2), P(3), B(4), report);
-    case 21: return agefile_decrypt_passphrase(B(0), B(1), (uint8_t)N(2), B(3), report);
-    case 22: return agefile_decrypt_key(B(0), P(1), B(2), report);
-    case 23: return agefile_encrypt_passphrase(B(0), B(1), (uint8_t)N(2), P(3), B(4), report);
-    case 24: return agefile_encrypt_key(B(0), P(1), P(2), B(3), report);
-    case 25: return agefile_sealed_len(N(0));
-    case 26: return agefile_plain_len_at_most(N(0));
-    case 27: return agefile_file_len(N(0), N(1));
-    case 28: return agefile_version();
-    default: give_up("no such call");
-    }
-    return 0;
-}
-
-// The argument of a call that is a struct to be opened: after a refusal it is closed.
-static int opened_by(uint8_t index)
-{
-    return index == 8 ? 4 : index == 9 ? 2 : index == 15 ? 3 : -1;
+    return make_call(call->index, call->arguments, m->pointers, (agefile_report *)(void *)m->pointers[call->count]);
 }
 
 // Whether after a refused allocation everything is as it was, and what was to be opened is closed.

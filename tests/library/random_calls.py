@@ -3,17 +3,19 @@
 
 usage: tests/library/random_calls.py DRIVER [COUNT [SEED]]
 
-DRIVER is tests/library/driver.c, linked with the library and -pthread
--Wl,--wrap=malloc,--wrap=realloc,--wrap=free. Files, headers, structs, lengths and numbers are right or
-wrong in many ways; structs come from earlier calls, or are random. Each buffer lies at the end
-or at the start of its pages, shifted by up to 15 bytes. Some calls are made with each allocation refused
-in turn, some on eight threads at once. Prints how many calls returned which code; with a difference it
-prints the call, and the status is 1.
+DRIVER is tests/library/driver.c, built with the library and the calls of header.py. First each pointer
+that a length follows is null, with the length 0 and with another. Then files, headers, structs, lengths
+and numbers are right or wrong in many ways; structs come from earlier calls, or are random. Each buffer
+lies at the end or at the start of its pages, shifted by up to 15 bytes. Some calls are made with each
+allocation refused in turn, some on eight threads at once. Prints how many calls returned which code;
+with a difference it prints the call, and the status is 1.
 """
 
 import collections
+import itertools
 import os
 import random
+import re
 import struct
 import subprocess
 import sys
@@ -21,6 +23,7 @@ import sys
 sys.dont_write_bytecode = True
 sys.path.insert(0, os.path.join(os.path.dirname(os.path.abspath(__file__)), ".."))
 
+import header
 import model
 import reference
 from model import MOST, NULL, SEALED, TAG, TEXT
@@ -28,24 +31,26 @@ from program import version
 
 AT_START, REFUSING, THREADS = 1, 2, 4
 VERSION = int("".join(f"{int(number):02x}" for number in version().split(".")), 16)
-# In the order of driver.c. Of each argument: a struct's size, or "n" for a number, "b" for bytes with a length,
-# "o" for bytes that are written, "s" for an array of structs.
-CALLS = {
-    "inspect": ("b", 48), "stanzas": ("b", "s", "o"), "unlock_passphrase": ("b", "b", "n", 16), "unlock_key": ("b", 32, 16),
-    "wrap_passphrase": (16, "b", "n", 16, "o"), "wrap_key": (16, 32, 16, "o"), "wrap": ("b", "b", "o"), "header": ("b", 16, "o"),
-    "begin": ("b", 16, 16, "o", 64), "open": ("b", 16, 64), "open_next": (64, "o", "n"), "seal_next": (64, "o", "n"),
-    "take_part": (64, "n", 64), "part_open_next": (64, "o"), "part_seal_next": (64, "o"), "ranges_open": ("b", "n", 16, 56),
-    "ranges_last": (56, "o"), "ranges_locate": (56, "n"), "ranges_chunk": (56, "n", "o"), "decrypt": ("b", 16, "o"),
-    "encrypt": ("b", "b", 16, 16, "o"), "decrypt_passphrase": ("b", "b", "n", "o"), "decrypt_key": ("b", 32, "o"),
-    "encrypt_passphrase": ("b", "b", "n", 48, "o"), "encrypt_key": ("b", 32, 48, "o"), "sealed_len": ("n",),
-    "plain_len_at_most": ("n",), "file_len": ("n", "n"), "version": (),
-}
+HEADER = header.Header()
+SIZES = {name: int(size) for name, size in re.findall(r"sizeof\(agefile_(\w+)\) (\d+)", (header.ROOT / header.LAYOUT).read_text())}
+
+
+def kind_of(value):
+    """A struct's or an array's size, or "n" for a number, "b" for bytes with a length, "o" for bytes that are written,
+    "s" for an array of structs."""
+    if value.has_length:
+        return "s" if value.kind in SIZES else "b" if value.access == "const" else "o"
+    return value.count or SIZES.get(value.kind, "n")
+
+
+CALLS = {e.name: tuple(kind_of(value) for value in e.parameters if value.kind != "report") for e in HEADER.functions}
 INDEX = {name: index for index, name in enumerate(CALLS)}
 # Those that allocate nothing.
 CHUNKS = ("open_next", "seal_next", "take_part", "part_open_next", "part_seal_next", "ranges_last", "ranges_locate", "ranges_chunk")
-NUMBERS = ("sealed_len", "plain_len_at_most", "file_len", "version")
+# Those without a report.
+NUMBERS = [e.name for e in HEADER.functions if not any(value.kind == "report" for value in e.parameters)]
 # Those that open a struct, and which argument it is.
-OPENING = {"begin": 4, "open": 2, "ranges_open": 3}
+OPENING = {name: len(CALLS[name]) - 1 for name in header.OPENING}
 
 
 class Driver:
@@ -382,11 +387,22 @@ class Maker:
     def for_version(self):
         return ()
 
+    def arguments_of(self, name):
+        return [a if isinstance(a, int) else bytearray(a) for a in getattr(self, "for_" + name)()]
+
+    def null_calls(self):
+        """Each call with each pointer that a length follows null, as `call` returns it."""
+        for name, kinds in CALLS.items():
+            for at in (i for i, kind in enumerate(kinds) if kind in ("b", "o", "s")):
+                for length in (0, 24, 2**62 // 24 * 24):
+                    arguments = self.arguments_of(name)
+                    arguments[at] = NULL(length)
+                    yield name, 0, arguments, [0] * len(kinds)
+
     def call(self):
         """The name of a call, its flags, arguments and shifts."""
         name = self.choice(*CALLS)
-        arguments = [a if isinstance(a, int) else bytearray(a) for a in getattr(self, "for_" + name)()]
-        kinds = CALLS[name]
+        arguments, kinds = self.arguments_of(name), CALLS[name]
         if self.is_rare(60) and any(kind in ("b", "o", "s") for kind in kinds):
             at = self.choice(*(i for i, kind in enumerate(kinds) if kind in ("b", "o", "s")))
             arguments[at] = NULL(self.choice(0, 0, 24, 2**40 // 24 * 24))
@@ -425,8 +441,8 @@ def expected(name, arguments):
 
 def main(program, count=2000, seed=1):
     maker, driver, codes = Maker(seed), Driver(program), collections.Counter()
-    for number in range(count):
-        name, flags, arguments, shifts = maker.call()
+    calls = itertools.chain(maker.null_calls(), (maker.call() for _ in range(count)))
+    for number, (name, flags, arguments, shifts) in enumerate(calls):
         result, is_well, report, after = driver.call(name, flags, arguments, shifts)
         code, wanted_report, wanted = expected(name, arguments)
         wanted = [bytes(w) if isinstance(a, bytearray) else None for w, a in zip(wanted, arguments)] or after
@@ -443,7 +459,7 @@ def main(program, count=2000, seed=1):
     if driver.process.wait() != 0:
         print("the driver ended with an error")
         return 1
-    print(f"{count} calls; " + ", ".join(f"{code}: {times}" for code, times in sorted(codes.items(), key=str)))
+    print(f"{sum(codes.values())} calls; " + ", ".join(f"{code}: {times}" for code, times in sorted(codes.items(), key=str)))
     return 0
 
 

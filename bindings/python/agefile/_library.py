@@ -26,30 +26,29 @@ size = ctypes.c_size_t
 byte = ctypes.c_uint8
 address = ctypes.c_void_p
 
-
-class Report(ctypes.Structure):
-    _fields_ = [("len", number), ("place", number), ("detail", number)]
-    len: int
-    place: int
-    detail: int
+# generated: structs
 
 
 class Summary(ctypes.Structure):
-    _fields_ = [("header_len", number), ("stanzas", number), ("mac", byte * 32)]
+    _fields_ = [
+        ("header_len", number),
+        ("stanzas", number),
+        ("mac", byte * 32),
+    ]
     header_len: int
     stanzas: int
     mac: Any
 
 
 class StanzaSummary(ctypes.Structure):
-    _fields_ = [("args", number), ("args_len", number), ("body_len", number)]
+    _fields_ = [
+        ("args", number),
+        ("args_len", number),
+        ("body_len", number),
+    ]
     args: int
     args_len: int
     body_len: int
-
-
-class Payload(ctypes.Structure):
-    _fields_ = [("key", byte * 32), ("number", number), ("state", number), ("spare", number * 2)]
 
 
 class Part(ctypes.Structure):
@@ -60,13 +59,51 @@ class Part(ctypes.Structure):
         ("state", number),
         ("spare", number),
     ]
+    key: Any
+    number: int
+    left: int
+    state: int
+    spare: int
+
+
+class Payload(ctypes.Structure):
+    _fields_ = [
+        ("key", byte * 32),
+        ("number", number),
+        ("state", number),
+        ("spare", number * 2),
+    ]
+    key: Any
+    number: int
+    state: int
+    spare: Any
 
 
 class Ranges(ctypes.Structure):
-    _fields_ = [("key", byte * 32), ("first", number), ("sealed_len", number), ("state", number)]
+    _fields_ = [
+        ("key", byte * 32),
+        ("first", number),
+        ("sealed_len", number),
+        ("state", number),
+    ]
+    key: Any
     first: int
     sealed_len: int
     state: int
+
+
+class Report(ctypes.Structure):
+    _fields_ = [
+        ("len", number),
+        ("place", number),
+        ("detail", number),
+    ]
+    len: int
+    place: int
+    detail: int
+
+
+# end of structs
 
 
 def _pointer(struct: type[ctypes.Structure]) -> Any:

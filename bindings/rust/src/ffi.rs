@@ -10,16 +10,9 @@ pub const FRONT: usize = 65552;
 pub const TAG: usize = 16;
 pub const NONCE: usize = 16;
 
+// generated: structs of the library
 #[repr(C)]
-#[derive(Default)]
-pub struct Report {
-    pub len: u64,
-    pub place: u64,
-    pub detail: u64,
-}
-
-#[repr(C)]
-#[derive(Default)]
+#[derive(Clone, Copy, Default)]
 pub struct Summary {
     pub header_len: u64,
     pub stanzas: u64,
@@ -34,34 +27,43 @@ pub struct StanzaSummary {
     pub body_len: u64,
 }
 
-#[repr(C)]
-#[derive(Default)]
-pub struct Payload {
-    key: [u8; 32],
-    number: u64,
-    state: u64,
-    spare: [u64; 2],
-}
-
-#[cfg_attr(not(feature = "parallel"), allow(dead_code))]
+#[cfg(feature = "parallel")]
 #[repr(C)]
 #[derive(Default)]
 pub struct Part {
-    key: [u8; 32],
-    number: u64,
-    left: u64,
-    state: u64,
-    spare: u64,
+    pub key: [u8; 32],
+    pub number: u64,
+    pub left: u64,
+    pub state: u64,
+    pub spare: u64,
+}
+
+#[repr(C)]
+#[derive(Default)]
+pub struct Payload {
+    pub key: [u8; 32],
+    pub number: u64,
+    pub state: u64,
+    pub spare: [u64; 2],
 }
 
 #[repr(C)]
 #[derive(Default)]
 pub struct Ranges {
-    key: [u8; 32],
+    pub key: [u8; 32],
     pub first: u64,
     pub sealed_len: u64,
-    state: u64,
+    pub state: u64,
 }
+
+#[repr(C)]
+#[derive(Clone, Copy, Default)]
+pub struct Report {
+    pub len: u64,
+    pub place: u64,
+    pub detail: u64,
+}
+// end of structs of the library
 
 #[allow(dead_code)]
 #[rustfmt::skip]
