@@ -40,19 +40,26 @@ def _sentences(option):
 
 
 def _options(commands):
-    """Each option once; where its text depends on the command, each text with its commands."""
+    """Each option once. Where its text depends on the command, each text with its commands; of one
+    that begins with the first text only the rest."""
     found = {}
     for command in commands:
         for option in command.options:
-            found.setdefault((option.short, option.long, option.value), {}).setdefault(option, []).append(command.name)
+            said = tuple(_sentences(option))
+            found.setdefault((option.short, option.long, option.value), {}).setdefault(said, []).append(command.name)
     lines = []
     for (short, long, value), by_text in found.items():
         word = f' " \\fI{value}\\fR"' if value else ""
         lines += [".TP", f'.BR {_escaped(short)} ", " {_escaped("--" + long)}{word}']
-        for number, (option, users) in enumerate(by_text.items()):
-            lines += [".IP"] if number else []
+        first = next(iter(by_text))
+        for said, users in by_text.items():
+            is_more = said != first and said[: len(first)] == first
+            if said == first:
+                every = [name for text, names in by_text.items() if text[: len(first)] == first for name in names]
+                users = [command.name for command in commands if command.name in every]
+            lines += [".IP"] if said != first else []
             if len(users) < len(commands):
                 *others, last = users
                 lines.append(f"(\\fB{', '.join(others)}{' and ' if others else ''}{last}\\fR)")
-            lines += _sentences(option)
+            lines += said[len(first) :] if is_more else said
     return "\n".join(lines) + "\n"
