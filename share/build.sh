@@ -153,8 +153,8 @@ has_level() {
 # Makes the program the one for a processor, if it was kept.
 take_level() {
     has_level "$1" || return
-    cp -p "$program-$1" "$program.new"
-    mv "$program.new" "$program"
+    cp -p "$program-$1" "$program.$$"
+    mv "$program.$$" "$program"
     cp -p "$program-$1.built" "$built"
 }
 

@@ -426,11 +426,11 @@ class Constants(unittest.TestCase):
 class Calls(unittest.TestCase):
     """The tests in C, each with faulting pages around its buffers, at their end and at their start."""
 
-    def each_test(self, program, title=""):
+    def each_test(self, program, title="", emulator=()):
         for name in said(program).splitlines():
-            for placing in ({}, {"AT_START": "1"}):
+            for placing in ({},) if emulator else ({}, {"AT_START": "1"}):
                 with self.subTest(f"{title or program.name}: {name}{', at the start of pages' if placing else ''}"):
-                    done = run(program, name, env=os.environ | placing)
+                    done = run(*emulator, program, name, env=os.environ | placing)
                     self.assertEqual((done.returncode, done.stderr), (0, b""), done.stdout.decode() + done.stderr.decode())
 
     def by_both_builds(self, name, *flags):
@@ -445,6 +445,12 @@ class Calls(unittest.TestCase):
 
     def test_headers(self):
         self.by_both_builds("headers")
+
+    @needs("qemu-x86_64")
+    def test_older_processors(self):
+        """The same tests where an instruction of x86-64-v3 ends a program."""
+        for name in ("buffers", "steps"):
+            self.each_test(built(name, "-O1"), f"{name} by qemu", ("qemu-x86_64", "-cpu", "Nehalem"))
 
     def test_refused_allocations(self):
         self.by_both_builds("refuse", *REFUSING)

@@ -179,16 +179,33 @@ class Packages(unittest.TestCase):
         self.assertEqual(run(agep, "--version"), f"agep {self.version} ({level()})\n")
         (self.work / "pass").write_text("correct horse\n")
         self.assertEqual(run(agep, "decrypt", "-p", self.work / "pass", SECRET), "hello\n")
-        for build in ("agep-x86-64", "agep-x86-64-v3"):
-            self.assertIn(b"\x7fELF", (root / "usr/lib/agep" / build).read_bytes()[:4])
-        self.assertEqual(run(root / "usr/lib/agep/agep-x86-64", "--version"), f"agep {last_release()}\n")
-        (self.work / "stick").mkdir()
-        alone = shutil.copy(agep, self.work / "stick")
+        alone = shutil.copy(agep, self.work / "copy")
         self.assertEqual(run(alone, "decrypt", "-p", self.work / "pass", SECRET), "hello\n")
+        self.assertEqual(run(alone, "help", "decrypt"), run(AGEP, "help", "decrypt").replace("agep decrypt", "copy decrypt"))
         refused = subprocess.run([agep, "decrypt"], input=b"hello", capture_output=True)
         self.assertEqual(refused.returncode, 1)
         for name in ("bash-completion/completions/agep", "zsh/vendor-completions/_agep", "fish/vendor_completions.d/agep.fish"):
             self.assertIn("agep", (root / "usr/share" / name).read_text())
+
+    def test_builds_of_the_program(self):
+        """Both programs hold both builds, one of which uses the registers of x86-64-v3, and run on older processors."""
+        (self.work / "pass").write_text("correct horse\n")
+        for path in (self.unpacked("agep_*.deb") / "usr/bin/agep", *self.unpacked("agep-*.tar.xz").glob("*/bin/agep-static")):
+            with self.subTest(path.name):
+                self.assertGreater(run("objdump", "-d", path).count("%ymm"), 1000)
+                for processor in ("Nehalem", "Haswell") if shutil.which("qemu-x86_64") else ():
+                    words = ("qemu-x86_64", "-cpu", processor, path, "decrypt", "-p", self.work / "pass", SECRET)
+                    self.assertEqual(run(*words), "hello\n", processor)
+
+    def test_limit_of_a_file_size(self):
+        """A write above it fails, where the program that ./agep runs would end by a signal."""
+        agep = self.unpacked("agep_*.deb") / "usr/bin/agep"
+        (self.work / "key").write_bytes(fixture.KEY)
+        (self.work / "big").write_bytes(bytes(200000))
+        words = 'ulimit -f 100; exec "$0" encrypt -k key -o out big'
+        done = subprocess.run(["sh", "-c", words, agep], cwd=self.work, capture_output=True, text=True)
+        self.assertEqual((done.returncode, done.stdout, done.stderr), (1, "", "agep: write failed\n"))
+        self.assertEqual((self.work / "out").stat().st_size, 100 * 512)
 
     @needs("man")
     def test_manual_page(self):
@@ -200,7 +217,7 @@ class Packages(unittest.TestCase):
         root = self.unpacked("*.deb", "*.whl")
         files = [path for path in root.rglob("*") if path.is_file() and path.read_bytes()[:4] == b"\x7fELF"]
         libraries = {path for path in files if ".so" in path.name}
-        self.assertEqual((len(libraries), len(files)), (3, 6))
+        self.assertEqual((len(libraries), len(files)), (3, 4))
         self.assertEqual(max(glibc(path) for path in libraries), GLIBC_OF_LIBRARY)
         self.assertEqual(max(glibc(path) for path in files), GLIBC)
         (facts,) = self.unpacked("*.whl").glob("*.dist-info")
@@ -319,113 +336,56 @@ class Packages(unittest.TestCase):
         self.assertEqual(run(*in_a_namespace(":"), "chroot", root, "/agep-static", "decrypt", "-p", "pass", "file"), "hello\n")
 
 
-# A stand-in for a build: it prints its name and its second word.
-STAND_IN = '#include <stdio.h>\nint main(int n, char **words) { return n < 2 || printf("%%s %%s\\n", "%s", words[1]) < 0; }\n'
-BUILDS = ("agep-x86-64-v3", "agep-x86-64")
-
-
 def level():
     """The level of the build that this processor runs."""
     has_v3 = subprocess.run(["sh", "-c", f'root={ROOT}; . "$root/share/build.sh"; has_v3']).returncode == 0
     return "x86-64-v3" if has_v3 else "x86-64"
 
 
+# Stand-ins for the builds: each prints its name and its second word.
+STAND_INS = "".join(
+    f'int main_{build}(int n, char **words) {{ return n < 2 || printf("{level} %s\\n", words[1]) < 0; }}\n'
+    for build, level in (("x86_64", "x86-64"), ("x86_64_v3", "x86-64-v3"))
+)
+
+
 @needs("cc")
 class Chooser(unittest.TestCase):
     """share/agep.c, with stand-ins for the builds."""
 
-    @classmethod
-    def setUpClass(cls):
-        cls.work = Path(tempfile.mkdtemp())
-        cls.addClassCleanup(shutil.rmtree, cls.work)
-        for name in (*BUILDS, "held"):
-            cls.compile(cls.work / name, "-x", "c", "-", input=STAND_IN % name)
-        cls.words = (f'-DAGEP_BUILD="{cls.work}/held"', '-DAGEP_VERSION="1.2.3"', ROOT / "share/agep.c")
-        cls.compile(cls.work / "agep", *cls.words)
+    def compile(self, *flags):
+        work = tempfile.mkdtemp()
+        self.addCleanup(shutil.rmtree, work)
+        words = ("cc", "-O2", "-Wall", "-Wextra", "-Werror", *flags, '-DAGEP_VERSION="1.2.3"', "-o", f"{work}/agep")
+        run(*words, ROOT / "share/agep.c", "-include", "stdio.h", "-x", "c", "-", input=STAND_INS)
+        return f"{work}/agep"
 
-    @classmethod
-    def compile(cls, made, *words, **options):
-        run("cc", "-O2", "-static", "-Wall", "-Wextra", "-Werror", "-o", made, *words, **options)
+    def calls(self, build, *words):
+        """The words call this build, and --version names it."""
+        self.assertEqual(run(*words, "word"), f"{build} word\n")
+        for option in ("--version", "-V"):
+            self.assertEqual(run(*words, option), f"agep 1.2.3 ({build})\n")
 
-    def setUp(self):
-        self.root = Path(tempfile.mkdtemp(dir=self.work))
-        for folder in ("bin", "lib/agep", "stick"):
-            (self.root / folder).mkdir(parents=True)
-        for name in BUILDS:
-            shutil.copy(self.work / name, self.root / "lib/agep")
-        for folder in ("bin", "stick"):
-            shutil.copy(self.work / "agep", self.root / folder)
-        self.agep = self.root / "bin/agep"
+    def test_this_processor(self):
+        """The build that fits is called."""
+        self.calls(level(), self.compile())
+        for answer, build in (('__builtin_strcmp(level, "x86-64-v3") == 0', "x86-64-v3"), ("((void)level, 0)", "x86-64")):
+            self.calls(build, self.compile(f"-D__builtin_cpu_supports(level)=({answer})"))
 
-    def build(self, number):
-        return self.root / "lib/agep" / BUILDS[number]
+    @needs("qemu-x86_64")
+    def test_other_processors(self):
+        """The build for x86-64-v3 is called where no part of that level is missing."""
+        agep = self.compile("-static")
+        for processor in ("Haswell", "qemu64", "Nehalem", "Haswell,-avx2", "Haswell,-bmi2", "Haswell,-movbe", "Haswell,-xsave"):
+            with self.subTest(processor):
+                self.calls("x86-64-v3" if processor == "Haswell" else "x86-64", "qemu-x86_64", "-cpu", processor, agep)
 
-    def runs(self, build, *words, **options):
-        """The words, with one more behind them, run this build."""
-        self.assertEqual(run(*words, "word", **options), f"{build} word\n")
-
-    def test_processors(self):
-        """A build for x86-64-v3 runs just on a processor that has the level."""
-        self.runs(f"agep-{level()}", self.agep)
-        for answer, build in (('__builtin_strcmp(level, "x86-64-v3") == 0', BUILDS[0]), ("((void)level, 0)", BUILDS[1])):
-            self.compile(self.agep, f"-D__builtin_cpu_supports(level)=({answer})", *self.words)
-            self.runs(build, self.agep)
-            for words in ("--version", "-V"):
-                self.assertEqual(run(self.agep, words), f"agep 1.2.3 ({build.removeprefix('agep-')})\n")
-
-    def test_builds_that_are_missing(self):
-        """Without the build for x86-64-v3, or where it cannot be run, it is the other one, and then its own."""
-        for number in (0, 1):
-            self.build(number).write_bytes(b"\x7fELF")
-            self.runs((*BUILDS, "held")[number + 1], self.agep)
-            self.build(number).unlink()
-            self.runs((*BUILDS, "held")[number + 1], self.agep)
-
-    def test_alone(self):
-        """A copy runs its own build, also where another folder beside has builds."""
-        self.runs("held", self.root / "stick/agep")
-        self.assertEqual(run(self.root / "stick/agep", "--version"), "agep 1.2.3 (x86-64)\n")
-        self.runs("held", "./agep", cwd=self.root / "stick")
-
-    def test_no_build(self):
-        """Where none can be run, a line names each place, and the status is 1."""
-        self.build(0).unlink()
-        self.build(1).unlink()
-        done = subprocess.run(["sh", "-c", 'ulimit -f 100; exec "$0" word', self.agep], capture_output=True, text=True)
-        missing = [f"{self.build(number)}: No such file or directory, " for number in (0, 1)]
-        lines = [f"agep: cannot run {names}its own build: File too large\n" for names in ("".join(missing), missing[1])]
-        self.assertEqual((done.returncode, done.stdout), (1, ""))
-        self.assertIn(done.stderr, lines)
-
-    @unittest.skipUnless(can_mount(), "no mount namespace")
-    def test_without_proc(self):
-        """By the path by which it was called: relative, through PATH, and through a link."""
-        build = run(self.agep, "word").split()[0]
-        self.runs(build, *WITHOUT_PROC, self.agep)
-        self.runs(build, *WITHOUT_PROC, "./agep", cwd=self.root / "bin")
-        self.runs(build, *WITHOUT_PROC, "agep", env=os.environ | {"PATH": f"{self.root}/bin:{os.environ['PATH']}"})
-        (self.root / "link").symlink_to("bin/agep")
-        self.runs(build, *WITHOUT_PROC, self.root / "link")
-        self.runs("held", *WITHOUT_PROC, self.root / "stick/agep")
-
-    @unittest.skipUnless(can_mount(), "no mount namespace")
-    def test_another_root(self):
-        """In a folder as root with nothing mounted."""
-        build = run(self.agep, "word").split()[0]
-        chroot = (*in_a_namespace(":"), "chroot", self.root)
-        self.runs(build, *chroot, "/bin/agep")
-        self.runs("held", *chroot, "/stick/agep")
-
-    def test_limit_of_a_file_size(self):
-        """A write above it fails, where the program alone would end by a signal."""
-        for number in (0, 1):
-            shutil.copy(AGEP, self.build(number))
-        (self.root / "key").write_bytes(fixture.KEY)
-        (self.root / "big").write_bytes(bytes(200000))
-        words = "ulimit -f 100; exec bin/agep encrypt -k key -o out big"
-        done = subprocess.run(["sh", "-c", words], cwd=self.root, capture_output=True, text=True)
-        self.assertEqual((done.returncode, done.stdout, done.stderr), (1, "", "agep: write failed\n"))
-        self.assertEqual((self.root / "out").stat().st_size, 100 * 512)
+    def test_version(self):
+        """A version that cannot be written is an error, and one beside another word is the program's."""
+        agep = self.compile()
+        done = subprocess.run(["sh", "-c", 'exec "$0" --version >/dev/full', agep], capture_output=True, text=True)
+        self.assertEqual((done.returncode, done.stderr), (1, "agep: write failed\n"))
+        self.assertEqual(run(agep, "--version", "word"), f"{level()} --version\n")
 
 
 @functools.cache

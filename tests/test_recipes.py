@@ -5,6 +5,7 @@ import fcntl
 import os
 import re
 import shlex
+import shutil
 import subprocess
 import unittest
 
@@ -90,6 +91,16 @@ class Systemd(unittest.TestCase):
         self.assertEqual(run("agep decrypt -k key dump.age", **environment), b"text")
         os.remove("dump")
         self.assertIn(b"dump: No such file or directory\n", run(lines[0], **environment))
+
+    @unittest.skipUnless(shutil.which("systemd-analyze"), "systemd-analyze missing")
+    def test_unit(self):
+        """systemd finds nothing wrong with the service, and reads its credential."""
+        service = block("ini").replace("=agep ", f"={installed()}/bin/agep ")
+        for text, line in (service, b""), (service.replace("Credential=key:", "Credential=key;"), b"not valid"):
+            write("backup.service", text.encode())
+            done = subprocess.run(["systemd-analyze", "verify", "--man=no", "./backup.service"], capture_output=True)
+            self.assertIn(line, done.stderr)
+            self.assertEqual((done.returncode, done.stderr == b""), (0, line == b""), done.stderr)
 
 
 if __name__ == "__main__":

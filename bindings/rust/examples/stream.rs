@@ -3,10 +3,15 @@
 //!
 //!     stream [-e] KEY_FILE
 
-use std::io::Write;
-use std::{env, fs, io, process};
+use std::fs::{self, File};
+use std::io::{self, BufRead, BufReader, Write};
+use std::os::fd::AsFd;
+use std::{env, process};
 
 use agefile::{Key, Reader, Writer};
+
+/// By pieces of this length, where `io::copy` takes 8 KiB.
+const PIECE: usize = 65536;
 
 fn main() -> io::Result<()> {
     let words: Vec<String> = env::args().skip(1).collect();
@@ -20,13 +25,24 @@ fn main() -> io::Result<()> {
     };
     let bytes = fs::read(name)?.try_into().map_err(|_| io::Error::other("a key has 32 bytes"))?;
     let key = Key::new(bytes);
-    let (mut input, mut output) = (io::stdin().lock(), io::stdout().lock());
+    // As files: standard output of the library of Rust looks for the ends of lines.
+    let input = File::from(io::stdin().as_fd().try_clone_to_owned()?);
+    let mut output = File::from(io::stdout().as_fd().try_clone_to_owned()?);
     if is_encrypting {
         let mut writer = Writer::new(output, &[&key])?;
-        io::copy(&mut input, &mut writer)?;
-        writer.finish()?.flush()
+        io::copy(&mut BufReader::with_capacity(PIECE, input), &mut writer)?;
+        writer.finish()?;
     } else {
-        io::copy(&mut Reader::new(input, &[&key])?, &mut output)?;
-        output.flush()
+        let mut reader = Reader::new(input, &[&key])?;
+        loop {
+            let text = reader.fill_buf()?;
+            if text.is_empty() {
+                break;
+            }
+            output.write_all(text)?;
+            let len = text.len();
+            reader.consume(len);
+        }
     }
+    Ok(())
 }

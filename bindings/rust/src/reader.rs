@@ -1,7 +1,7 @@
 //! Reading a stream.
 
 use std::fmt;
-use std::io::{self, Read};
+use std::io::{self, BufRead, Read};
 use std::ops::Range;
 
 use crate::ffi::{self, Payload, SEALED_CHUNK};
@@ -133,13 +133,28 @@ impl<R: Read> Reader<R> {
 
 impl<R: Read> Read for Reader<R> {
     fn read(&mut self, out: &mut [u8]) -> io::Result<usize> {
-        if self.text.is_empty() && !self.has_ended && !out.is_empty() {
+        if out.is_empty() {
+            return Ok(0);
+        }
+        let text = self.fill_buf()?;
+        let count = out.len().min(text.len());
+        out[..count].copy_from_slice(&text[..count]);
+        self.consume(count);
+        Ok(count)
+    }
+}
+
+/// The buffer holds the text of one chunk.
+impl<R: Read> BufRead for Reader<R> {
+    fn fill_buf(&mut self) -> io::Result<&[u8]> {
+        if self.text.is_empty() && !self.has_ended {
             self.advance()?;
         }
-        let count = out.len().min(self.text.len());
-        out[..count].copy_from_slice(&self.buf[self.text.start..][..count]);
-        self.text.start += count;
-        Ok(count)
+        Ok(&self.buf[self.text.clone()])
+    }
+
+    fn consume(&mut self, count: usize) {
+        self.text.start += count.min(self.text.len());
     }
 }
 

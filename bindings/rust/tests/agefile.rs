@@ -3,7 +3,7 @@
 mod common;
 
 use std::cell::{Cell, RefCell};
-use std::io::{self, Cursor, ErrorKind, Read, Seek, SeekFrom, Write};
+use std::io::{self, BufRead, Cursor, ErrorKind, Read, Seek, SeekFrom, Write};
 
 use agefile::{
     decrypt, encrypt, inspect, rewrap, Error, FileKey, Header, Identity, Key, Opening, Part, Passphrase, RangeReader,
@@ -60,6 +60,26 @@ fn streamed(plain: &[u8], recipient: &dyn Recipient, piece: usize) -> Vec<u8> {
         writer.write_all(piece).unwrap();
     }
     writer.finish().unwrap()
+}
+
+#[test]
+fn lines_of_a_file() {
+    let plain = b"some words\n".repeat(20000);
+    let mut file = streamed(&plain, &key(), 1000);
+    let expected: Vec<&[u8]> = plain[..plain.len() - 1].split(|byte| *byte == b'\n').collect();
+    let lines: Vec<Vec<u8>> = Reader::new(&file[..], &[&key()]).unwrap().split(b'\n').map(Result::unwrap).collect();
+    assert_eq!(lines, expected);
+
+    *file.last_mut().unwrap() ^= 1;
+    let mut reader = Reader::new(&file[..], &[&key()]).unwrap();
+    let mut verified: Vec<u8> = Vec::new();
+    while let Ok(text) = reader.fill_buf() {
+        assert!(!text.is_empty());
+        verified.extend(text);
+        reader.consume(usize::MAX);
+    }
+    assert_eq!(verified, plain[..196608]);
+    assert_eq!(fault(reader.fill_buf().unwrap_err()), Error::BadChunk(3));
 }
 
 #[test]
