@@ -11,7 +11,7 @@ import threading
 from typing import Any, BinaryIO, TypeVar
 
 from . import _library as lib
-from ._errors import AgeChangedError, AgeError, Code
+from ._errors import AgeChangedError, AgeError, Code, chunk_hint
 from ._paths import is_open, name_of, named, opened, raw_of, with_name
 from ._payload import Chunk, Front
 from ._secrets import Identities, unlock
@@ -93,7 +93,9 @@ class _Chunks:
         """Opens the last chunk, whose tag proves where the plaintext ends."""
         before = max(self._sealed_len - 1, 0) // lib.SEALED_CHUNK
         length = self._read(before)
-        report = lib.check("ranges_last", ctypes.byref(self.ranges), self._chunk.base, length)
+        code, report = lib.call("ranges_last", ctypes.byref(self.ranges), self._chunk.base, length)
+        if code:
+            raise AgeError.of(code, report.place, 0, chunk_hint(code, report.place, length))
         self.length: int = report.len
         self._number, self._len = before, self.length - before * lib.TEXT_CHUNK
 
@@ -228,7 +230,7 @@ class Reader(io.BufferedIOBase):
         return self._chunks.source.file
 
     def __reduce_ex__(self, protocol: Any) -> tuple[Any, ...]:
-        return reopen, (*self.again(), self.tell())
+        return _reopen, (*self.again(), self.tell())
 
     def again(self) -> tuple[Any, bytes]:
         """What is needed to open the same plaintext again without a secret: the opener, and the
@@ -330,7 +332,7 @@ def open_reader(file: Any, identities: Identities) -> Reader:
     return reader
 
 
-def reopen(opener: Any, ranges: bytes, position: int) -> Reader:
+def _reopen(opener: Any, ranges: bytes, position: int) -> Reader:
     """Opens a plaintext again with its payload's key. Verifies the last chunk again."""
     below, found = opened(opener), lib.Ranges.from_buffer_copy(ranges)
     with named(name_of(opener)), contextlib.ExitStack() as stack:

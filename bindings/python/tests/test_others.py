@@ -225,6 +225,18 @@ class Programs(InFolder):
         self.put(bytes(65537), "pass")
         self.assertRaises(ValueError, Passphrase.from_file, "pass")
 
+    def test_key_files(self):
+        self.put(bytes(range(32)), "key")
+        for file in ("key", os.open("key", os.O_RDONLY), io.BytesIO(bytes(range(32)))):
+            self.assertEqual(agefile.decrypt(agefile.encrypt(b"text", recipients=KEY), identities=Key.from_file(file)), b"text")
+        for wrong, found in ((bytes(31), "has 31"), (bytes(33), "has more"), (b"00" * 32, "has more"), (b"", "has 0")):
+            with self.assertRaisesRegex(ValueError, f"32 raw bytes, no hexadecimal; this one {found}"):
+                Key.from_file(self.put(wrong, "wrong"))
+        self.assertRaises(FileNotFoundError, Key.from_file, "absent")
+        for text in ("00" * 32, ""):
+            with self.assertRaisesRegex(TypeError, "bytes.fromhex.*Key.from_file"):
+                Key(text)
+
     @unittest.skipUnless(os.path.exists(AGEP), "agep is not built")
     def test_rewrapped_for_agep(self):
         file = self.run_on(text(70000), AGEP, "encrypt", "-k", "key")

@@ -169,7 +169,7 @@ class Wrong(unittest.TestCase):
                     agefile.decrypt(data, identities=secret, threads=threads)
                 error = caught.exception
                 self.assertEqual((error.code, error.place, str(error)), (code, place, line))
-                self.assertIsInstance(error, ValueError)
+                self.assertNotIsInstance(error, (ValueError, OSError))
 
     def test_the_gravest_miss_of_several(self):
         """A key that is wrong is told, wherever it stands among identities for which there is no stanza."""
@@ -254,7 +254,7 @@ class Wrong(unittest.TestCase):
             lambda: agefile.rewrap(agefile.encrypt(b"", recipients=KEY), identities=KEY, recipients=empty),
             lambda: empty.wrap(bytes(16)),
         ):
-            with self.assertRaises(ValueError) as caught:
+            with self.assertRaises(AgeError) as caught:
                 call()
             self.assertEqual(str(caught.exception), "passphrase is empty")
         file = fixture.for_passphrase(b"hello\n", b"", 1)
