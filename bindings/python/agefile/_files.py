@@ -6,7 +6,7 @@ import codecs
 import io
 from typing import Any, Literal, overload
 
-from ._paths import is_path
+from ._paths import check_atomic
 from ._reader import Reader, open_reader
 from ._secrets import Identities, Recipients
 from ._writer import TextWriter, Writer
@@ -88,8 +88,7 @@ def open(
         return reader if "b" in mode else _text(io.TextIOWrapper, reader, mode, words)
     if recipients is None or identities is not None:
         raise TypeError("to write a file takes recipients, and no identities")
-    if atomic and not is_path(file):
-        raise TypeError("atomic takes a path, beside which the new file is written")
+    check_atomic(file, atomic)
     writer = Writer(file, kind + "b", recipients, atomic)
     if "b" in mode:
         return writer

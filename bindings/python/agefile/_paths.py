@@ -4,6 +4,7 @@ from __future__ import annotations
 
 import contextlib
 import errno
+import functools
 import io
 import operator
 import os
@@ -102,10 +103,10 @@ class Output(io.FileIO):
 
 
 class Replacement(io.FileIO):
-    """A new file beside the file of a path. `commit` moves it to the path; closed without `commit`,
+    """A new file beside the file of a path. `replace_old` moves it to the path; closed before that,
     it is removed."""
 
-    def __init__(self, path: Any, mode: str) -> None:
+    def __init__(self, path: Any, mode: str, permissions: int) -> None:
         self._target = os.path.realpath(os.fsdecode(path))
         self._is_new, self._process, self._is_beside = "x" in mode, os.getpid(), False
         found = os.stat(self._target) if os.path.lexists(self._target) else None
@@ -115,14 +116,14 @@ class Replacement(io.FileIO):
             raise ValueError(f"only a regular file is replaced, which {path!r} is not")
         self._folder = os.path.dirname(self._target)
         self._beside = os.path.join(self._folder, f".agefile-{os.urandom(8).hex()}")
-        super().__init__(self._beside, "xb")
+        super().__init__(self._beside, "xb", opener=functools.partial(os.open, mode=permissions))
         self._is_beside = True
         if found is not None:
             with contextlib.suppress(OSError):
                 os.fchown(self.fileno(), found.st_uid, found.st_gid)
             os.fchmod(self.fileno(), stat.S_IMODE(found.st_mode))
 
-    def commit(self) -> None:
+    def replace_old(self) -> None:
         """Syncs the file, moves it to the path, and syncs the directory."""
         folder = os.open(self._folder, os.O_RDONLY)
         try:
@@ -149,7 +150,7 @@ def created(
 ) -> Any:
     """The file to write. That of a path keeps its contents for now."""
     if is_path(file):
-        return Replacement(file, mode) if atomic else Output(file, mode, permissions)
+        return (Replacement if atomic else Output)(file, mode, permissions)
     return opened(file, mode, closefd)
 
 
@@ -178,15 +179,24 @@ def reading(file: Any) -> Iterator[BinaryIO]:
         yield stack.enter_context(opened(file, closefd=False)) if is_ours else file
 
 
+def check_atomic(file: Any, atomic: bool) -> None:
+    if atomic and not is_path(file):
+        raise TypeError("atomic takes a path, beside which the new file is written")
+
+
 @contextlib.contextmanager
-def writing(file: Any, source: BinaryIO, permissions: int = 0o666) -> Iterator[Any]:
-    """The same for a file to write, which must not be the source."""
+def writing(
+    file: Any, source: BinaryIO, permissions: int = 0o666, atomic: bool = False
+) -> Iterator[Any]:
+    """The same for a file to write, which must not be the source, unless it is replaced."""
     if is_open(file, "write"):
         _refuse_source(file, source)
         yield file
         return
-    with created(file, "wb", closefd=False, permissions=permissions) as sink:
+    with created(file, "wb", atomic, closefd=False, permissions=permissions) as sink:
         _refuse_source(sink, source)
         yield sink
         if isinstance(sink, Output):
             sink.empty()
+        if isinstance(sink, Replacement):
+            sink.replace_old()

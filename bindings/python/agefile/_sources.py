@@ -2,9 +2,15 @@
 
 from __future__ import annotations
 
+import contextlib
 import functools
 import io
-from typing import Any, BinaryIO
+import os
+from typing import Any, BinaryIO, Callable, Optional
+
+from ._paths import raw_of
+
+Progress = Callable[[int, Optional[int]], object]
 
 
 def flat(data: Any) -> memoryview:
@@ -56,3 +62,43 @@ def write_all(sink: Any, data: Any) -> None:
         if count == len(rest) or count is None and not isinstance(sink, io.RawIOBase):
             return
         rest = memoryview(rest)[_checked(count, 1, len(rest), "write") :]
+
+
+class Counted:
+    """A source that reports its progress after each 64 KiB and at its end: the bytes read, and how
+    many there are from its position on, or None."""
+
+    def __init__(self, source: Any, progress: Progress) -> None:
+        self._readinto, self._progress = readinto_of(source), progress
+        self._read = getattr(source, "read1", source.read)
+        self._done, self._told, self._total = 0, -1, _length_of(source)
+
+    def _count(self, count: int) -> None:
+        self._done += count
+        if self._done - self._told >= 65536 or not count and self._done != self._told:
+            self._told = self._done
+            self._progress(self._done, self._total)
+
+    def readinto(self, room: memoryview) -> Any:
+        count = self._readinto(room)
+        if count is not None:
+            self._count(count)
+        return count
+
+    def read(self, size: int) -> Any:
+        piece = self._read(size)
+        if piece is not None:
+            self._count(len(piece))
+        return piece
+
+
+def _length_of(source: Any) -> int | None:
+    """The number of bytes from the position on, or None where a seek is impossible or slow, as in
+    compressed files."""
+    with contextlib.suppress(OSError):
+        if raw_of(source) or isinstance(source, io.BytesIO) or hasattr(source, "encrypted"):
+            at = source.tell()
+            end = source.seek(0, os.SEEK_END)
+            source.seek(at)
+            return max(int(end) - at, 0) or None
+    return None

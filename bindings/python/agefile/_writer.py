@@ -2,18 +2,52 @@
 
 from __future__ import annotations
 
+import atexit
 import contextlib
 import io
 import os
+import sys
 import threading
+import types
 import warnings
+import weakref
 from typing import Any
 
 from . import _library as lib
-from ._paths import Replacement, created, is_open, is_path, name_of, opener_of
+from ._paths import created, is_open, is_path, name_of, opener_of
 from ._payload import Chunk, begin
 from ._secrets import Recipients
 from ._sources import flat, write_all
+
+# The writers not closed yet, by their `id`.
+_unclosed: dict[int, Any] = {}
+
+
+class _AtEnd:
+    """Reports what finalizers may not report any more, such as the writers of daemon threads."""
+
+    def __del__(self) -> None:
+        for reference in list(_unclosed.values()):
+            writer = reference()
+            if writer is not None:
+                writer._warn("it was not closed before the program ended")
+
+
+@atexit.register
+def _report_at_end() -> None:
+    # Modules are freed after all functions of `atexit`, which may still close files.
+    if _unclosed:
+        last = types.ModuleType(__name__ + "_end")
+        last.__dict__["end"] = _AtEnd()
+        sys.modules[last.__name__] = last
+
+
+def _caller() -> tuple[str, int]:
+    """The file and the line that called this package."""
+    frame: Any = sys._getframe(1)
+    while frame.f_back is not None and frame.f_globals.get("__package__") == __package__:
+        frame = frame.f_back
+    return frame.f_code.co_filename, frame.f_lineno
 
 
 class Writer(io.BufferedIOBase):
@@ -22,10 +56,11 @@ class Writer(io.BufferedIOBase):
     Each full chunk is sealed and written, the last chunk when the file is closed. The header is
     written before the first chunk, or by `flush`. Until then an existing file keeps its contents.
 
-    A file that was not closed, whose `with` body raised, or to which a write failed has no last
-    chunk, so every reader refuses it. After a failed write `close` raises. Code that calls `close`
-    after another exception completes the file although data are missing: `contextlib.closing`, a
-    `TextIOWrapper` or `BufferedWriter` over this object, and `fsspec.open` do so. A forked child
+    A file has no last chunk, so every reader refuses it, if it was not closed, if a write to it
+    failed, if its `with` body raised, or if `close` was called while an exception was handled that
+    was not being handled when the file was opened. `contextlib.closing`, a `TextIOWrapper` or
+    `BufferedWriter` over this object, and `fsspec.open` call `close` like that. After a failed
+    write `close` raises. If no exception reports the loss, a RuntimeWarning does. A forked child
     cannot write: it would seal other bytes under the nonces of its parent.
     """
 
@@ -36,8 +71,13 @@ class Writer(io.BufferedIOBase):
         self._front, payload = begin(recipients)
         self._seal_next = lib.for_chunks("seal_next", payload)
         is_later = self._owned and not (is_path(file) or isinstance(file, int))
-        sink = None if is_later else created(file, mode, atomic) if self._owned else file
+        sink: Any = None if is_later else created(file, mode, atomic) if self._owned else file
         self._opener, self._sink = opener_of(file) if is_later else None, sink
+        # The exception that is being handled, and its traceback, which is another if it is raised
+        # again from elsewhere.
+        self._handled: tuple[Any, Any] = sys.exc_info()[1:]
+        self._place, self._is_told = _caller(), False
+        _unclosed[id(self)] = weakref.ref(self)
 
     def __repr__(self) -> str:
         return f"<agefile.Writer name={self.name!r} mode={self.mode!r}>"
@@ -60,11 +100,25 @@ class Writer(io.BufferedIOBase):
         """Seals the text and writes it. An interrupt meanwhile counts as a failure."""
         self._failed = True
         length = self._seal_next(self._chunk.base, self._filled + lib.TAG, is_last)
-        self._filled = 0
+        self._total, self._filled = self._total + self._filled, 0
         self._put(self._chunk.view[:length])
 
     def write(self, data: Any, /) -> int:
-        with self._lock, flat(data) as rest:
+        with self._lock:
+            # Only `bytes` surely have as many bytes as their length says.
+            size, begin = len(data) if type(data) is bytes else lib.FRONT, self._filled
+            if begin + size > lib.TEXT_CHUNK or self._failed or os.getpid() != self._process:
+                return self._write_slowly(data)
+            try:
+                self._chunk.view[begin : begin + size] = data
+                self._filled = begin + size
+            except BaseException:
+                self._failed = True
+                raise
+            return size
+
+    def _write_slowly(self, data: Any) -> int:
+        with flat(data) as rest:
             self._check_usable()
             try:
                 self._take(rest)
@@ -83,7 +137,6 @@ class Writer(io.BufferedIOBase):
             count = min(lib.TEXT_CHUNK - self._filled, len(rest) - at)
             self._chunk.view[self._filled : self._filled + count] = rest[at : at + count]
             self._filled += count
-            self._total += count
             at += count
 
     def _is_parent(self) -> bool:
@@ -99,36 +152,47 @@ class Writer(io.BufferedIOBase):
 
     def tell(self) -> int:
         self._check_usable()
-        return self._total
+        return self._total + self._filled
 
     def writable(self) -> bool:
         if self.closed:
             raise ValueError("I/O operation on closed file")
         return True
 
+    def _new_exception(self) -> BaseException | None:
+        """The exception that is being handled, unless it was when the file was opened."""
+        found = sys.exc_info()[1:]
+        return None if found == self._handled else found[0]
+
     def flush(self) -> None:
         """Writes the header, and flushes the sealed chunks. The bytes of a chunk that is not full
-        stay in the buffer."""
+        stay in the buffer. While an exception is handled that makes `close` an `abort`, no header
+        is written, so an existing file keeps its contents."""
         with self._lock:
             if not self.writable() or not self._is_parent():
                 return
-            if self._front and not self._failed:
+            if self._front and not self._failed and self._new_exception() is None:
                 self._put(b"")
             sink: Any = self._sink
             if hasattr(sink, "flush") and not getattr(sink, "closed", False):
                 sink.flush()
 
     def close(self) -> None:
-        """Seals the last chunk, which completes the file. Raises after a failed write."""
+        """Seals the last chunk, which completes the file. Raises after a failed write. While an
+        exception is handled that was not being handled when the file was opened, this is `abort`
+        with a RuntimeWarning: the exception may have kept data from being written."""
         with self._lock:
             if self.closed:
                 return
+            error = self._new_exception()
+            if error is not None:
+                return self._lose(f"it was closed while {type(error).__name__} was handled")
             try:
                 if self._is_parent():
                     self._check_usable()
                     self._seal(True)
-                    if isinstance(self._sink, Replacement):
-                        self._sink.commit()
+                    if hasattr(self._sink, "replace_old"):
+                        self._sink.replace_old()
             finally:
                 self._end()
 
@@ -140,7 +204,8 @@ class Writer(io.BufferedIOBase):
 
     def _end(self) -> None:
         # A flush after this must not write the header.
-        self._failed = True
+        self._failed, self._handled = True, (None, None)
+        _unclosed.pop(id(self), None)
         try:
             super().close()
         finally:
@@ -149,22 +214,43 @@ class Writer(io.BufferedIOBase):
             if self._owned and self._sink is not None and is_safe:
                 self._sink.close()
 
+    def _warn(self, why: str) -> None:
+        """Warns once for each file, at the line that opened it."""
+        if self._is_parent() and not self._is_told:
+            self._is_told = True
+            is_old = self._front or hasattr(self._sink, "replace_old")
+            text = f"{self!r} {'was not written' if is_old else 'is not whole'}: {why}"
+            warnings.warn_explicit(text, RuntimeWarning, *self._place)
+
+    def _lose(self, why: str) -> None:
+        """Aborts, and warns."""
+        if not self.closed:
+            try:
+                self.abort()
+            finally:
+                self._warn(why)
+
     def __exit__(self, kind: type[BaseException] | None, *rest: Any) -> None:
         if kind is None:
-            return self.close()
-        is_cut = not self.closed and self._is_parent()
-        self.abort()
-        if is_cut and issubclass(kind, (SystemExit, GeneratorExit)):
-            # Nothing else would report it.
-            warnings.warn(f"{self!r} is not whole: {kind.__name__}", RuntimeWarning, 2)
+            # The body has succeeded, whatever exception is handled around it.
+            self._handled = sys.exc_info()[1:]
+            self.close()
+        elif issubclass(kind, (Exception, KeyboardInterrupt)):
+            self.abort()
+        else:
+            # Nothing else would report SystemExit, GeneratorExit and cancelled tasks.
+            self._lose(kind.__name__)
+
+    def _dealloc_warn(self, _: Any) -> None:
+        """Called by a TextIOWrapper or BufferedWriter over this object which was not closed, before
+        its finalizer calls `close`."""
+        self._lose("it was not closed")
 
     def __del__(self) -> None:
-        # A file that was never closed stays without its last chunk.
-        if hasattr(self, "_sink") and not self.closed:
-            self.abort()
-            if self._is_parent():
-                text = f"{self!r} was not closed, so it is not whole"
-                warnings.warn(text, ResourceWarning, 2, self)
+        # A finalizer cannot tell whether all data were written: if an exception had freed this
+        # object, it is no longer being handled.
+        if hasattr(self, "_place"):
+            self._lose("it was not closed")
 
 
 class TextWriter(io.TextIOWrapper):
@@ -190,6 +276,7 @@ class TextWriter(io.TextIOWrapper):
 
     def __exit__(self, kind: type[BaseException] | None, *rest: Any) -> None:
         if kind is None:
+            self.buffer._handled = sys.exc_info()[1:]  # type: ignore[attr-defined]
             return self.close()
         self.buffer.__exit__(kind, *rest)
 

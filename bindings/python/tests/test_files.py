@@ -1,5 +1,6 @@
 """Opened files: reading by ranges, writing chunk by chunk, and what becomes of them."""
 
+import asyncio
 import contextlib
 import copy
 import csv
@@ -476,10 +477,12 @@ class Writing(InFolder):
 
     def test_a_body_that_ends_the_program(self):
         """Nothing else says that the file is not whole."""
-        for mode, kind in (("wb", SystemExit), ("w", SystemExit), ("wb", GeneratorExit)):
-            with self.assertWarnsRegex(RuntimeWarning, f"'e.age'.* is not whole: {kind.__name__}"):
-                with self.assertRaises(kind), agefile.open("e.age", mode, recipients=KEY):
-                    raise kind
+        for mode, kind in (("wb", SystemExit), ("w", SystemExit), ("wb", GeneratorExit), ("wb", asyncio.CancelledError)):
+            for call, what in ((lambda file: file.flush(), "is not whole"), (lambda file: None, "was not written")):
+                with self.assertWarnsRegex(RuntimeWarning, f"'e.age'.* {what}: {kind.__name__}"):
+                    with self.assertRaises(kind), agefile.open("e.age", mode, recipients=KEY) as file:
+                        call(file)
+                        raise kind
         with warnings.catch_warnings(), self.assertRaises(SystemExit):
             warnings.simplefilter("error")
             with agefile.open("e.age", "wb", recipients=KEY) as file:
@@ -498,29 +501,6 @@ class Writing(InFolder):
         with agefile.open("l.age", "w", recipients=KEY, encoding="locale") as file:
             self.assertEqual(file.encoding, io.TextIOWrapper(io.BytesIO(), "locale").encoding)
 
-    def test_a_file_that_nobody_closed(self):
-        for mode, data in (("wb", text(200000)), ("w", "text" * 100000)):
-            file = agefile.open("g.age", mode, recipients=KEY)
-            file.write(data)
-            with self.assertWarnsRegex(ResourceWarning, "'g.age'.* was not closed") as caught:
-                del file
-                gc.collect()
-            self.assertEqual(len(caught.warnings), 1)
-            self.refused("g.age")
-
-    def test_a_script_that_closes_nothing(self):
-        """Where warnings are shown, a script that ends without closing its file is told so, once."""
-        for mode, data in (("wb", "b'x'"), ("w", "'x'")):
-            code = f"import agefile; f = agefile.open('s.age', '{mode}', recipients=agefile.Key(bytes(32))); f.write({data})"
-            done = subprocess.run([sys.executable, "-X", "dev", "-c", code], capture_output=True, text=True)
-            self.assertEqual((done.returncode, done.stderr.count("ResourceWarning"), done.stderr.count("'s.age'")), (0, 1, 1), done.stderr)
-        with warnings.catch_warnings():
-            warnings.simplefilter("error")
-            with agefile.open("s.age", "wb", recipients=KEY), agefile.open("t.age", "w", recipients=KEY):
-                pass
-            agefile.open("s.age", "wb", recipients=KEY).abort()
-            gc.collect()
-
     def test_an_old_file_is_kept(self):
         """Until the header is known, and the first byte is due, a file keeps what it holds."""
 
@@ -533,7 +513,7 @@ class Writing(InFolder):
                 (ConnectionError, {"recipients": [KEY, Kms()]}),
                 (AgeError, {"recipients": []}),
                 (AgeError, {"recipients": [KEY, Passphrase("x", work=1)]}),
-                (ValueError, {"recipients": Passphrase("", work=1)}),
+                (AgeError, {"recipients": Passphrase("", work=1)}),
                 (TypeError, {"recipients": "word"}),
                 (TypeError, {"recipients": [KEY, b"word"]}),
                 (TypeError, {}),
@@ -627,6 +607,86 @@ class Writing(InFolder):
         agefile.copy("empty", "old", recipients=KEY)
         self.assertEqual(agefile.decrypt(self.got("old"), identities=KEY), b"")
 
+    def test_small_writes(self):
+        """They are collected, in whatever kind of object they come, and an interrupt is a failure."""
+        choose, pieces = random.Random(2), []
+        with agefile.open("s.age", "wb", recipients=KEY) as file:
+            for kind in (bytes, bytearray, memoryview) * 3000:
+                piece = text(300)[: choose.choice((0, 1, 20, 300))]
+                pieces.append(piece)
+                self.assertEqual((file.write(kind(piece)), file.tell()), (len(piece), sum(map(len, pieces))))
+            for wrong in ("text", 5, None):
+                self.assertRaises(TypeError, file.write, wrong)
+        self.assertEqual(agefile.decrypt(self.got("s.age"), identities=KEY), b"".join(pieces))
+        file = agefile.open("s.age", "wb", recipients=KEY)
+        with mock.patch.object(file._chunk, "view", None):
+            self.assertRaises(TypeError, file.write, b"text")
+        self.assertRaisesRegex(OSError, "an earlier write failed", file.close)
+        self.assertRaisesRegex(ValueError, "closed file", file.write, b"text")
+
+    def test_atomic_copies(self):
+        """The old file stays until the new one is whole; a file may be rewrapped in its place."""
+        def raises(*_):
+            raise KeyError
+
+        other = Key(bytes(32))
+        self.put(damaged(self.got(self.made(text(300000))), 3), "bad.age")
+        for error, call in (
+            (AgeError, lambda: agefile.copy("bad.age", "old", identities=KEY, atomic=True)),
+            (AgeError, lambda: agefile.copy("bad.age", "old", identities=KEY, atomic=True, threads=2)),
+            (AgeError, lambda: agefile.copy("bad.age", "bad.age", identities=KEY, atomic=True)),
+            (KeyError, lambda: agefile.copy("a.age", "old", recipients=KEY, atomic=True, progress=raises)),
+            (KeyError, lambda: agefile.rewrap_copy("a.age", "old", identities=KEY, recipients=other, atomic=True, progress=raises)),
+            (AgeError, lambda: agefile.rewrap_copy("a.age", "a.age", identities=other, recipients=KEY, atomic=True)),
+            (TypeError, lambda: agefile.copy("a.age", io.BytesIO(), identities=KEY, atomic=True)),
+            (TypeError, lambda: agefile.rewrap_copy("a.age", lambda: open("b", "wb"), identities=KEY, recipients=KEY, atomic=True)),
+        ):
+            self.put(b"old", "old")
+            before = [self.got(name) for name in ("a.age", "bad.age", "old")]
+            self.assertRaises(error, call)
+            self.assertEqual([self.got(name) for name in ("a.age", "bad.age", "old")], before)
+            self.assertEqual(sorted(os.listdir()), ["a.age", "bad.age", "old"])
+        os.chmod("a.age", 0o640)
+        self.assertIsNone(agefile.rewrap_copy("a.age", "a.age", identities=KEY, recipients=other, atomic=True))
+        self.assertEqual(os.stat("a.age").st_mode & 0o777, 0o640)
+        for name in ("new", "old"):
+            self.assertEqual(agefile.copy("a.age", name, identities=other, atomic=True), 300000)
+            self.assertEqual(self.got(name), text(300000))
+        self.assertEqual([os.stat(name).st_mode & 0o777 for name in ("new", "old")], [0o600, 0o644])
+        agefile.copy("new", "new", recipients=KEY, atomic=True)
+        self.assertEqual(agefile.decrypt(self.got("new"), identities=KEY), text(300000))
+        self.assertEqual(sorted(os.listdir()), ["a.age", "bad.age", "new", "old"])
+
+    def test_progress(self):
+        """It grows to the length of the source, which a pipe does not tell."""
+        class Plain:
+            def __init__(self, data):
+                self.read = io.BytesIO(data).read
+
+        for length in (0, 1, 65536, 300000, 5000000):
+            plain = text(length)
+            sealed = self.got(self.made(plain))
+            for threads in (1, 2):
+                for call, source in (
+                    (lambda source, **words: agefile.copy(source, io.BytesIO(), recipients=KEY, threads=threads, **words), plain),
+                    (lambda source, **words: agefile.copy(source, io.BytesIO(), identities=KEY, threads=threads, **words), sealed),
+                    (lambda source, **words: agefile.rewrap_copy(source, io.BytesIO(), identities=KEY, recipients=KEY, **words), sealed),
+                ):
+                    for kind in (io.BytesIO, lambda data: self.put(data, "source"), Plain):
+                        seen = []
+                        call(kind(source), progress=lambda *found: seen.append(found))
+                        counts, totals = zip(*seen)
+                        self.assertEqual((list(counts), counts[-1]), (sorted(set(counts)), len(source)))
+                        self.assertEqual(set(totals), {None if kind is Plain else len(source) or None})
+                        self.assertLessEqual(len(seen), len(source) // 65536 + 2)
+        read_end, write_end = os.pipe()
+        with open(write_end, "wb") as file:
+            file.write(b"text")
+        for source, total in ((read_end, None), (open("source", "rb"), os.path.getsize("source")), (agefile.open("a.age", identities=KEY), 5000000), (gzip.open(self.put(gzip.compress(b"text"), "gz")), None)):
+            seen = []
+            agefile.copy(source, io.BytesIO(), recipients=KEY, progress=lambda *found: seen.append(found))
+            self.assertEqual(seen[-1], (total or 4, total))
+
     def test_atomic(self):
         """The new file takes the old one's place, and its mode, when it is closed, and not before."""
         for mode, data in (("wb", text(200000)), ("wb", b""), ("w", "text" * 100000)):
@@ -663,6 +723,11 @@ class Writing(InFolder):
         def fails(*_):
             raise OSError(errno.EIO, "failed")
 
+        def opens_no_folder(path, flags, **words):
+            return fails() if flags == os.O_RDONLY else os_open(path, flags, **words)
+
+        os_open = os.open
+
         for name, work, patched in (
             ("the body raises", raises, None),
             ("it is aborted", lambda file: file.abort(), None),
@@ -671,13 +736,14 @@ class Writing(InFolder):
             ("the folder can't be opened", lambda file: None, "os.open"),
         ):
             self.put(b"old", "o.age")
-            patch = mock.patch(patched, fails) if patched else contextlib.nullcontext()
+            how = opens_no_folder if patched == "os.open" else fails
+            patch = mock.patch(patched, how) if patched else contextlib.nullcontext()
             with self.subTest(name), patch, contextlib.suppress(KeyError, OSError):
                 with agefile.open("o.age", "wb", recipients=KEY, atomic=True) as file:
                     file.write(text(200000))
                     work(file)
             self.assertEqual((self.got("o.age"), os.listdir()), (b"old", ["o.age"]))
-        with self.assertWarns(ResourceWarning):
+        with self.assertWarns(RuntimeWarning):
             agefile.open("o.age", "wb", recipients=KEY, atomic=True).write(b"text")
             gc.collect()
         self.assertEqual((self.got("o.age"), os.listdir()), (b"old", ["o.age"]))
@@ -779,7 +845,7 @@ class Writing(InFolder):
             file.write("secret")
             error = type("Limit", (ValueError,), {})
             with mock.patch.object(agefile.Writer, call, side_effect=error):
-                self.assertRaises(error, file.write, "text" * 10000)
+                self.assertRaises(error, file.write, "text" * 20000)
             self.assertRaises(OSError, file.close)
             self.assertEqual(agefile.decrypt(self.got("o.age"), identities=KEY), b"old")
         with agefile.open("o.age", "w", recipients=KEY, encoding="ascii") as file:
