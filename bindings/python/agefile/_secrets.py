@@ -2,11 +2,16 @@
 
 from __future__ import annotations
 
+import concurrent.futures
 import ctypes
+import functools
 import operator
 import os
+import threading
 from collections.abc import Iterable, Sequence
-from typing import Any, NamedTuple, Protocol, Union, runtime_checkable
+from typing import Any, Callable, NamedTuple, Protocol, TypeVar, Union, cast, runtime_checkable
+
+_Call = TypeVar("_Call", bound=Callable[..., Any])
 
 from . import _library as lib
 from ._errors import AgeError, Code, count_of
@@ -74,6 +79,32 @@ class _Secret:
         raise NotImplementedError
 
 
+def _interruptible(work: _Call) -> _Call:
+    """Runs scrypt on a thread of its own if the main thread calls it: Ctrl-C, which a call of the
+    library holds back, then ends the wait for it, and not the thread, at once."""
+
+    @functools.wraps(work)
+    def run(*arguments: Any) -> Any:
+        done: concurrent.futures.Future[Any] = concurrent.futures.Future()
+
+        def work_there() -> None:
+            try:
+                done.set_result(work(*arguments))
+            except BaseException as error:
+                done.set_exception(error)
+
+        if threading.current_thread() is not threading.main_thread():
+            return work(*arguments)
+        try:
+            threading.Thread(target=work_there, daemon=True).start()
+        except RuntimeError:
+            # There is no thread to be had.
+            return work(*arguments)
+        return done.result()
+
+    return cast(_Call, run)
+
+
 class Passphrase(_Secret):
     """A passphrase, as a recipient and as an identity: text, which is encoded as UTF-8, or bytes.
 
@@ -105,11 +136,13 @@ class Passphrase(_Secret):
         ends = {b"\r": " (the passphrase ends in CR)", b"\n": " (the passphrase ends in LF)"}
         return super()._wrong() + ends.get(self._secret[-1:], "")
 
+    @_interruptible
     def _text(self, file_key: bytes) -> bytes:
         salt = os.urandom(lib.SALT)
         with lib.Bytes(self._secret) as secret, lib.Bytes(file_key) as key, lib.Bytes(salt) as fresh:
             return _text_of("wrap_passphrase", key.address, *secret.pair, self._work, fresh.address)
 
+    @_interruptible
     def _unlock(self, front: bytes) -> tuple[int, lib.Report, bytes]:
         file_key = bytearray(lib.FILE_KEY)
         with lib.Bytes(front) as text, lib.Bytes(self._secret) as secret, lib.Bytes(file_key, True) as key:
