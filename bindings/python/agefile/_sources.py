@@ -28,9 +28,27 @@ def _checked(count: Any, least: int, most: int, call: str) -> int:
     return int(count)
 
 
-def readinto_of(source: BinaryIO) -> Any:
+def has_own(source: Any, method: str) -> bool:
+    """Whether its class has this method. A wrapper that counts in `read`, such as those of tqdm,
+    hands the other methods of its file on uncounted."""
+    return hasattr(type(source), method)
+
+
+def readinto_of(source: Any) -> Any:
     """The source's readinto, or a function that does the same with its read."""
-    return getattr(source, "readinto", None) or functools.partial(_read_by_copy, source)
+    is_own = has_own(source, "readinto") or not hasattr(source, "read")
+    return source.readinto if is_own else functools.partial(_read_by_copy, source)
+
+
+def read_some(source: Any, most: int) -> bytes:
+    """Reads what the source has ready, and at least a byte unless it has ended."""
+    piece = source.read1(most) if has_own(source, "read1") else source.read(most)
+    if piece == b"":
+        # An empty result of a buffer's read1 may mean that the call would block.
+        piece = source.read(1)
+    if piece is None:
+        raise BlockingIOError("the read would block")
+    return bytes(piece)
 
 
 def read_into(source: BinaryIO, room: memoryview) -> int:
@@ -69,8 +87,7 @@ class Counted:
     many there are from its position on, or None."""
 
     def __init__(self, source: Any, progress: Progress) -> None:
-        self._readinto, self._progress = readinto_of(source), progress
-        self._read = getattr(source, "read1", source.read)
+        self._source, self._readinto, self._progress = source, readinto_of(source), progress
         self._done, self._told, self._total = 0, -1, _length_of(source)
 
     def _count(self, count: int) -> None:
@@ -85,10 +102,9 @@ class Counted:
             self._count(count)
         return count
 
-    def read(self, size: int) -> Any:
-        piece = self._read(size)
-        if piece is not None:
-            self._count(len(piece))
+    def read(self, size: int) -> bytes:
+        piece = read_some(self._source, size)
+        self._count(len(piece))
         return piece
 
 

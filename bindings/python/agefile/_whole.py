@@ -12,7 +12,7 @@ from ._errors import AgeError, Code
 from ._paths import check_atomic, reading, writing
 from ._payload import OPENING, SEALING, Behind, Chunk, Front, begin, open_payload, open_source, rewrapped, run, thread_count
 from ._secrets import Header, Identities, Recipients, read_header, unlock
-from ._sources import Counted, Progress, read_into, write_all
+from ._sources import Counted, Progress, flat, read_into, write_all
 
 
 class _Collector:
@@ -46,7 +46,8 @@ def encrypt(data: Any, *, recipients: Recipients, threads: int = 1) -> bytes:
             with lib.Bytes(sink.out) as memory:
                 _seal_all(payload, plain, memory.pair[0] + len(front))
         else:
-            run(SEALING, payload, cast(BinaryIO, Behind(lib.view_of(plain, data), io.BytesIO())), sink, threads)
+            with flat(data) as view:
+                run(SEALING, payload, cast(BinaryIO, Behind(view, io.BytesIO())), sink, threads)
         return sink.out
 
 
@@ -100,8 +101,8 @@ def decrypt(data: Any, *, identities: Identities, threads: int = 1) -> bytes:
             with lib.Bytes(sink.out) as memory:
                 _open_all(payload, file, first, memory)
         else:
-            source = Behind(lib.view_of(file, data)[first:], io.BytesIO())
-            run(OPENING, payload, cast(BinaryIO, source), sink, threads)
+            with flat(data) as view, view[first:] as rest:
+                run(OPENING, payload, cast(BinaryIO, Behind(rest, io.BytesIO())), sink, threads)
         return sink.out
 
 

@@ -114,14 +114,15 @@ class Reference(unittest.TestCase):
         self.assertEqual(file[header.length :] == out.getvalue(), True)
 
     def test_passphrases(self):
-        for passphrase in (b"x", "über".encode(), b"\x00\xff\n", b"x" * 70000):
-            file = agefile.encrypt(b"text", recipients=Passphrase(passphrase, work=2))
+        for given in (b"x", "über".encode(), "über", "字", b"\x00\xff\n", b"x" * 70000):
+            file = agefile.encrypt(b"text", recipients=Passphrase(given, work=2))
+            passphrase = given if isinstance(given, bytes) else given.encode("utf-8")
             (stanza,) = agefile.inspect(file).stanzas
             salt = base64.b64decode(stanza.args[1] + "==")
             arguments, _ = reference.passphrase_stanza(passphrase, 2, salt)
             self.assertEqual(stanza.args, tuple(argument.decode() for argument in arguments))
             other = reference.age_file(SEED, [reference.passphrase_stanza(passphrase, 2, SEED[32:])], b"text")
-            self.assertEqual(agefile.decrypt(other, identities=Passphrase(passphrase)), b"text")
+            self.assertEqual(agefile.decrypt(other, identities=Passphrase(given)), b"text")
 
 
 class Fresh(unittest.TestCase):
