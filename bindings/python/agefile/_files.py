@@ -44,6 +44,27 @@ def open(
     newline: str | None = None,
     atomic: bool = False,
 ) -> io.TextIOWrapper: ...
+@overload
+def open(
+    file: Any,
+    mode: str,
+    *,
+    identities: Identities,
+    encoding: str | None = None,
+    errors: str | None = None,
+    newline: str | None = None,
+) -> Any: ...
+@overload
+def open(
+    file: Any,
+    mode: str,
+    *,
+    recipients: Recipients,
+    encoding: str | None = None,
+    errors: str | None = None,
+    newline: str | None = None,
+    atomic: bool = False,
+) -> Any: ...
 def open(
     file: Any,
     mode: str = "rb",

@@ -73,8 +73,8 @@ class _Chunks:
         self._first: int = ranges.first
         self._sealed_len: int = ranges.sealed_len
         self._lock = threading.Lock()
-        # Why a read was short: a bad chunk, the source, or the handler of a signal.
-        self.error: Exception | None = None
+        # Why a thread's read was short: a bad chunk, the source, or the handler of a signal.
+        self.errors: dict[int, Exception] = {}
         self._open_last()
 
     @staticmethod
@@ -134,7 +134,7 @@ class _Chunks:
                 if done < least or least and not isinstance(error, AgeError):
                     raise
                 if not least:
-                    self.error = self.error or error
+                    self.errors.setdefault(threading.get_ident(), error)
         return done
 
 
@@ -218,7 +218,8 @@ class Reader(io.BufferedIOBase):
         self._chunks, self.name, self.raw = chunks, chunks.name, _Plaintext(chunks, 1)
         self._below = _Plaintext(chunks, 0)
         self._buffer = io.BufferedReader(self._below, lib.TEXT_CHUNK)
-        # Within a call no other thread may move the position or change the error.
+        self._next_line, self._errors = self._buffer.readline, chunks.errors
+        # Within a call no other thread may move the position.
         self._lock = threading.RLock()
 
     def __repr__(self) -> str:
@@ -246,7 +247,7 @@ class Reader(io.BufferedIOBase):
 
     def _or_error(self, found: _Result, count: int) -> _Result:
         """Returns a result of this many bytes, or restores the position and raises the error."""
-        error, self._chunks.error = self._chunks.error, None
+        error = self._errors.pop(threading.get_ident(), None)
         if error is None:
             return found
         self.seek(-count, os.SEEK_CUR)
@@ -257,7 +258,6 @@ class Reader(io.BufferedIOBase):
 
     def read(self, size: int | None = -1, /) -> bytes:
         with self._lock:
-            self._chunks.error = None
             if size is None or size < 0:
                 # Joining the buffered bytes and the rest would make a second copy.
                 at = self.tell()
@@ -267,29 +267,32 @@ class Reader(io.BufferedIOBase):
 
     def read1(self, size: int = -1, /) -> bytes:
         with self._lock:
-            self._chunks.error = None
             found = self._buffer.read1(size)
-            if found and isinstance(self._chunks.error, AgeError):
-                self._chunks.error = None
+            if found and isinstance(self._errors.get(threading.get_ident()), AgeError):
+                del self._errors[threading.get_ident()]
             return self._or_error(found, len(found))
 
     def readinto(self, room: Any, /) -> int:
         with self._lock:
-            self._chunks.error = None
             count = self._buffer.readinto(room)
             return self._or_error(count, count)
 
     def peek(self, size: int = 0, /) -> bytes:
         with self._lock:
-            self._chunks.error = None
             return self._buffer.peek(size) or self._or_error(b"", 0)
 
     def readline(self, size: int | None = -1, /) -> bytes:
-        chunks = self._chunks
-        with self._lock:
-            chunks.error = None
-            line = self._buffer.readline(size)
-            return line if chunks.error is None else self._or_error(line, len(line))
+        # One call of the buffer needs no other lock. Nothing may be added here: lines are short.
+        line = self._buffer.readline(size)
+        return self._or_error(line, len(line)) if self._errors else line
+
+    def __next__(self) -> bytes:
+        line = self._next_line()
+        if line and not self._errors:
+            return line
+        if self._or_error(line, len(line)):
+            return line
+        raise StopIteration
 
     def readlines(self, hint: int | None = -1, /) -> list[bytes]:
         with self._lock:
