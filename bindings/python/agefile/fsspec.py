@@ -30,6 +30,7 @@ from fsspec.utils import tokenize  # type: ignore[import]
 
 from ._errors import AgeError
 from ._files import open as open_file
+from ._paths import beside
 from ._reader import Reader, _reopen, open_reader
 from ._secrets import Identities, Recipients, as_list
 from ._sources import write_all
@@ -44,6 +45,17 @@ def _refuse_unknown(options: dict[str, Any], known: str) -> None:
     if unknown:
         hint = "a secret is passed as identities or recipients"
         raise TypeError(f"unknown options: {', '.join(unknown)} ({hint})")
+
+
+# What is done by the file system below; `du` is the size of the files, encrypted.
+_BELOW = "mkdir makedirs rmdir rm rm_file created modified exists isfile isdir du ukey".split()
+
+
+def _below(name: str) -> Any:
+    def method(self: AgeFileSystem, path: Any, *arguments: Any, **options: Any) -> Any:
+        return getattr(self.fs, name)(self._strip_protocol(path), *arguments, **options)
+
+    return method
 
 
 class AgeFileSystem(AbstractFileSystem):  # type: ignore[misc]
@@ -128,8 +140,7 @@ class AgeFileSystem(AbstractFileSystem):  # type: ignore[misc]
             return open_file(path, mode, atomic=True, **words)
         if "x" in mode and self.fs.exists(path):
             raise FileExistsError(path)
-        opener = _Opener(self.fs, path, "wb")
-        return open_file(_Replacing(opener) if is_atomic else opener, mode, **words)
+        return open_file(_Opener(self.fs, path, "atomic" if is_atomic else "wb"), mode, **words)
 
     def _reader(self, path: str) -> Reader:
         opener, state = _Opener(self.fs, path, "rb"), str(self.fs.ukey(path))
@@ -163,20 +174,8 @@ class AgeFileSystem(AbstractFileSystem):  # type: ignore[misc]
         files = [{**each, "size": None} if each["type"] == "file" else each for each in found]
         return files if detail else [each["name"] for each in files]
 
-    def mkdir(self, path: str, create_parents: bool = True, **options: Any) -> None:
-        self.fs.mkdir(self._strip_protocol(path), create_parents=create_parents, **options)
-
-    def makedirs(self, path: str, exist_ok: bool = False) -> None:
-        self.fs.makedirs(self._strip_protocol(path), exist_ok)
-
-    def rmdir(self, path: str) -> None:
-        self.fs.rmdir(self._strip_protocol(path))
-
-    def rm(self, path: Any, recursive: bool = False, maxdepth: int | None = None) -> None:
-        self.fs.rm(self._strip_protocol(path), recursive=recursive, maxdepth=maxdepth)
-
-    def rm_file(self, path: str) -> None:
-        self.fs.rm_file(self._strip_protocol(path))
+    mkdir, makedirs, rmdir, rm, rm_file, created = map(_below, _BELOW[:6])
+    modified, exists, isfile, isdir, du, ukey = map(_below, _BELOW[6:])
 
     def cp_file(self, path1: str, path2: str, **options: Any) -> None:
         self.fs.cp_file(self._strip_protocol(path1), self._strip_protocol(path2), **options)
@@ -193,12 +192,6 @@ class AgeFileSystem(AbstractFileSystem):  # type: ignore[misc]
             self.open(path, "wb", **options).close()
         else:
             self.fs.touch(self._strip_protocol(path), truncate=False)
-
-    def created(self, path: str) -> Any:
-        return self.fs.created(self._strip_protocol(path))
-
-    def modified(self, path: str) -> Any:
-        return self.fs.modified(self._strip_protocol(path))
 
     def get_file(self, rpath: str, lpath: Any, *arguments: Any, **options: Any) -> None:
         self._refuse_same(rpath, lpath)
@@ -225,22 +218,6 @@ class AgeFileSystem(AbstractFileSystem):  # type: ignore[misc]
             self._keys.pop(self._strip_protocol(path), None)
         self.fs.invalidate_cache(path)
 
-    def exists(self, path: str, **options: Any) -> bool:
-        return bool(self.fs.exists(self._strip_protocol(path), **options))
-
-    def isfile(self, path: str) -> bool:
-        return bool(self.fs.isfile(self._strip_protocol(path)))
-
-    def isdir(self, path: str) -> bool:
-        return bool(self.fs.isdir(self._strip_protocol(path)))
-
-    def du(self, path: str, **options: Any) -> Any:
-        """Returns the size of the files, encrypted."""
-        return self.fs.du(self._strip_protocol(path), **options)
-
-    def ukey(self, path: str) -> Any:
-        return self.fs.ukey(self._strip_protocol(path))
-
     def __reduce__(self) -> tuple[Any, ...]:
         words = {"identities": self._identities, "recipients": self._recipients, "fo": self._target}
         words["atomic"] = self._atomic
@@ -248,25 +225,18 @@ class AgeFileSystem(AbstractFileSystem):  # type: ignore[misc]
 
 
 class _Opener:
-    """Opens a file of a file system. It can be pickled if the file system can."""
+    """Opens a file of a file system to read it, to write it or, in mode `atomic`, to replace it. It
+    can be pickled if the file system can."""
 
     def __init__(self, fs: AbstractFileSystem, path: str, mode: str) -> None:
         self._fs, self.path, self._mode = fs, path, mode
 
     def open(self) -> Any:
+        if self._mode == "atomic":
+            return _Beside(self._fs, self.path)
         # No cache below: each chunk is read once.
         words = {"cache_type": "none"} if self._mode == "rb" else {}
         return self._fs.open(self.path, self._mode, **words)
-
-
-class _Replacing:
-    """Opens a new file in the folder of another, whose place it takes in the end."""
-
-    def __init__(self, opener: _Opener) -> None:
-        self._fs, self.path = opener._fs, opener.path
-
-    def open(self) -> _Beside:
-        return _Beside(self._fs, self.path)
 
 
 class _Beside(io.RawIOBase):
@@ -275,7 +245,7 @@ class _Beside(io.RawIOBase):
 
     def __init__(self, fs: AbstractFileSystem, path: str) -> None:
         self._fs, self._path, self._process = fs, path, os.getpid()
-        self._name = path[: path.rfind("/") + 1] + f".agefile-{os.urandom(8).hex()}"
+        self._name = path[: path.rfind("/") + 1] + beside(path, os.urandom(8).hex())
         self._file = fs.open(self._name, "wb")
 
     def writable(self) -> bool:

@@ -2,9 +2,13 @@
 
 import contextlib
 import gc
+import importlib.util
 import os
 import pickle
 import shutil
+import subprocess
+import sys
+import time
 import unittest
 from unittest import mock
 
@@ -22,6 +26,11 @@ try:
     import pandas
 except ImportError:
     pandas = None
+try:
+    import dask.array
+    import zarr
+except ImportError:
+    zarr = None
 
 from agefile import AgeError, Code, Key, Passphrase, Stanza
 from support import KEY, TEXT, InFolder, damaged, message, text
@@ -186,6 +195,21 @@ class Keys(InSystem):
         self.assertEqual(self.asked_for(lambda: self.system.cat_file(path)), (b"text", 1))
         self.system.invalidate_cache()
         self.assertEqual(self.asked_for(lambda: self.system.cat_file(other)), (b"text", 1))
+        with mock.patch.object(self.system.fs, "invalidate_cache") as below:
+            self.system.invalidate_cache(path)
+            self.system.invalidate_cache()
+        self.assertEqual([call.args for call in below.call_args_list], [(path,), (None,)])
+
+    def test_a_key_of_the_state(self):
+        """`ukey`, by which Dask and the caches of fsspec know a file, is another after each write."""
+        path, found = self.new("a.age", b"text"), set()
+        system = fsspec.filesystem("age", identities=KEY, recipients=KEY)
+        for number in range(3):
+            with system.open(path, "wb") as file:
+                file.write(b"text" * number)
+            found.add(system.ukey(path))
+            self.assertEqual(system.ukey(path), system.ukey("age://" + path))
+        self.assertEqual(len(found), 3)
 
     def test_two_keys(self):
         """File systems with two keys are two, for fsspec and for Dask, and a pickle is the same."""
@@ -196,6 +220,10 @@ class Keys(InSystem):
         with self.assertRaises(AgeError), fsspec.open("age://" + path, identities=other) as file:
             file.read()
         self.assertFalse(type(first).cachable or first == second or hash(first) == hash(second))
+        for key, name in ((KEY, "first.age"), (other, "second.age")):
+            system = fsspec.filesystem("age", identities=key, recipients=key)
+            system.pipe_file(self.path(name), name.encode())
+            self.assertEqual((agefile.decrypt(self.got(name), identities=key), system.cat_file(self.path(name))), (name.encode(),) * 2)
         tokens = [fsspec.get_fs_token_paths("age://" + path, storage_options={"identities": key})[1] for key in (KEY, other, KEY)]
         self.assertEqual((tokens[0] == tokens[1], tokens[0]), (False, tokens[2]))
         again = pickle.loads(pickle.dumps(first))
@@ -250,6 +278,50 @@ class Chains(InSystem):
             file.write(b"text")
         self.assertEqual(system.cat_file("memory://agefile/a.age"), b"text")
         self.assertEqual(agefile.decrypt(memory.cat_file("/agefile/a.age"), identities=self.identity), b"text")
+
+
+MOUNT = """
+import sys
+try:
+    import fuse
+except ImportError:
+    import fusepy
+    sys.modules["fuse"] = fusepy
+import agefile.fsspec, fsspec.fuse
+system = fsspec.filesystem("age", identities=agefile.Key(bytes(range(32))))
+fsspec.fuse.run(system, sys.argv[1], sys.argv[2], foreground=True, threads=False)
+"""
+
+
+def can_mount():
+    is_there = any(importlib.util.find_spec(name) for name in ("fuse", "fusepy"))
+    return is_there and os.path.exists("/dev/fuse") and os.geteuid() == 0
+
+
+@unittest.skipUnless(can_mount(), "fusepy, /dev/fuse or the right to mount is missing")
+class Mounts(InSystem):
+    def test_a_mount(self):
+        """Any program reads the plaintexts, and fails where a chunk is damaged."""
+        plain = text(300000)
+        os.mkdir("files"), os.mkdir("mount")
+        self.new("files/whole", plain, KEY), self.put(damaged(self.got("files/whole"), 2), "files/bad")
+        words = [sys.executable, "-c", MOUNT, "files", "mount"]
+        with subprocess.Popen(words, stderr=subprocess.DEVNULL) as mount:
+            self.addCleanup(mount.kill)
+            self.addCleanup(subprocess.run, ["umount", "-l", self.path("mount")], capture_output=True)
+            for _ in range(600):
+                if os.path.ismount("mount"):
+                    break
+                time.sleep(0.05)
+            self.assertEqual(sorted(os.listdir("mount")), ["bad", "whole"])
+            self.assertEqual(os.path.getsize("mount/whole"), len(plain))
+            self.assertEqual(subprocess.run(["cat", "mount/whole"], capture_output=True).stdout == plain, True)
+            done = subprocess.run(["cat", "mount/bad"], capture_output=True)
+            self.assertEqual((done.returncode, plain.startswith(done.stdout)), (1, True))
+            with open("mount/bad", "rb") as file:
+                file.seek(4 * TEXT)
+                self.assertEqual(file.read(100), plain[4 * TEXT :][:100])
+            subprocess.run(["umount", "mount"], check=True)
 
 
 class Writes(InSystem):
@@ -465,6 +537,34 @@ class Writes(InSystem):
         for atomic in (False, True):
             table.to_csv("age://" + path, index=False, storage_options={**words, "atomic": atomic})
             self.assertTrue(pandas.read_csv("age://" + path, storage_options=words).equals(table))
+
+    @unittest.skipIf(zarr is None, "zarr is missing")
+    def test_zarr(self):
+        """A group is made, read and deleted, and Dask overwrites one."""
+        words, numbers = {"identities": KEY, "recipients": KEY}, list(range(100000))
+        group = zarr.group(store=zarr.storage.FSStore("age://" + self.path("g"), **words))
+        group.create_dataset("x", data=numbers, chunks=10000)
+        self.assertEqual((group["x"][:].tolist(), self.got("g/x/0")[:21]), (numbers, b"age-encryption.org/v1"))
+        del group["x"]
+        self.assertEqual((list(group), os.listdir("g")), ([], [".zgroup"]))
+        for factor in (1, 2):
+            table = dask.array.from_array([factor * number for number in numbers], chunks=10000)
+            dask.array.to_zarr(table, "age://" + self.path("d"), storage_options=words, overwrite=True)
+            self.assertEqual(dask.array.from_zarr("age://" + self.path("d"), storage_options=words).sum().compute(), factor * sum(numbers))
+
+    def test_a_pickled_system(self):
+        """A worker writes for the same recipients, and replaces as its sender would."""
+        path = self.new("a.age", b"old")
+        for atomic in (False, True):
+            system = fsspec.filesystem("age", identities=KEY, recipients=KEY, atomic=atomic)
+            again = pickle.loads(pickle.dumps(system))
+            with contextlib.suppress(KeyError), again.open(path, "wb") as file:
+                file.write(text(200000))
+                raise KeyError
+            self.assertEqual(again.cat_file(path) if atomic else self.refused("a.age"), b"new" if atomic else Code.BAD_CHUNK)
+            with again.open(path, "wb") as file:
+                file.write(b"new")
+            self.assertEqual(system.cat_file(path), b"new")
 
     def test_recipients_that_fail(self):
         path = self.new("a.age", b"old")
