@@ -430,6 +430,12 @@ class ForPython(unittest.TestCase):
     def test_opened_files(self):
         self.run_tests("test_files.py")
 
+    def test_errors(self):
+        self.run_tests("test_errors.py")
+
+    def test_unclosed_files(self):
+        self.run_tests("test_unclosed.py")
+
     def test_damaged_files(self):
         self.run_tests("test_damage.py")
 

@@ -23,7 +23,7 @@ from __future__ import annotations
 from ._errors import AgeChangedError, AgeError, AgeMemoryError, Code
 from ._files import open
 from ._library import version as library_version
-from ._reader import Reader
+from ._reader import Reader, _reopen
 from ._secrets import Header, Identity, Key, Passphrase, Recipient, Stanza
 from ._version import __version__
 from ._whole import copy, decrypt, encrypt, inspect, rewrap, rewrap_copy
@@ -52,3 +52,8 @@ __all__ = [
     "rewrap",
     "rewrap_copy",
 ]
+
+# Tracebacks and pickles name this package, and not its files.
+for _each in (*map(globals().get, __all__), _reopen):
+    if hasattr(_each, "__qualname__"):
+        _each.__module__ = __name__

@@ -6,7 +6,7 @@ import codecs
 import io
 from typing import Any, Literal, overload
 
-from ._paths import is_path
+from ._paths import check_atomic
 from ._reader import Reader, open_reader
 from ._secrets import Identities, Recipients
 from ._writer import TextWriter, Writer
@@ -44,6 +44,27 @@ def open(
     newline: str | None = None,
     atomic: bool = False,
 ) -> io.TextIOWrapper: ...
+@overload
+def open(
+    file: Any,
+    mode: str,
+    *,
+    identities: Identities,
+    encoding: str | None = None,
+    errors: str | None = None,
+    newline: str | None = None,
+) -> Any: ...
+@overload
+def open(
+    file: Any,
+    mode: str,
+    *,
+    recipients: Recipients,
+    encoding: str | None = None,
+    errors: str | None = None,
+    newline: str | None = None,
+    atomic: bool = False,
+) -> Any: ...
 def open(
     file: Any,
     mode: str = "rb",
@@ -88,8 +109,7 @@ def open(
         return reader if "b" in mode else _text(io.TextIOWrapper, reader, mode, words)
     if recipients is None or identities is not None:
         raise TypeError("to write a file takes recipients, and no identities")
-    if atomic and not is_path(file):
-        raise TypeError("atomic takes a path, beside which the new file is written")
+    check_atomic(file, atomic)
     writer = Writer(file, kind + "b", recipients, atomic)
     if "b" in mode:
         return writer

@@ -9,7 +9,7 @@ import os
 import pathlib
 from typing import Any, Callable
 
-from ._errors import AgeError, Code
+from ._errors import AgeError, Code, chunk_hint
 
 TEXT_CHUNK = 65536
 SEALED_CHUNK = 65552
@@ -189,7 +189,9 @@ def for_chunks(name: str, struct: ctypes.Structure) -> Callable[..., int]:
     def call_step(*arguments: int) -> int:
         code = step(*arguments, out)
         if code:
-            raise AgeError.of(code, report.place, report.detail)
+            left = arguments[1] if name == "open_next" and arguments[2] else None
+            hint = chunk_hint(code, report.place, left)
+            raise AgeError.of(code, report.place, report.detail, hint)
         return report.len
 
     return call_step

@@ -4,7 +4,10 @@ from __future__ import annotations
 
 import contextlib
 import errno
+import fcntl
+import functools
 import io
+import itertools
 import operator
 import os
 import stat
@@ -72,13 +75,26 @@ def _descriptor(file: Any) -> int | None:
 
 
 def _refuse_source(sink: Any, source: Any) -> None:
-    """Refuses a regular file that is the source, or from which a Reader reads its plaintext: it
-    would be emptied, or grow while it is read."""
-    to, of = _descriptor(sink), _descriptor(getattr(source, "encrypted", source))
-    if to is None or of is None or not stat.S_ISREG(os.fstat(to).st_mode):
-        return
-    if os.path.sameopenfile(to, of):
+    """Refuses a file that is the source, or from which a Reader reads its plaintext: it would be
+    emptied, or grow while it is read. A socket or terminal may be both."""
+    source = getattr(source, "encrypted", source)
+    to, of = _descriptor(sink), _descriptor(source)
+    if to is None or of is None:
+        is_same = sink is source and sink.seekable()
+    else:
+        is_same = stat.S_ISREG(os.fstat(to).st_mode) and os.path.sameopenfile(to, of)
+    if is_same:
         raise ValueError(f"{name_of(sink)!r} is the source, and cannot be the sink too")
+
+
+def _refuse_opener(sink: Any, source: Any) -> None:
+    """Refuses, before it is called, what would empty the source."""
+    if opener_of(sink) is sink:
+        raise TypeError("a function could empty the source: pass a path, or the file that it opens")
+    of, is_local = _descriptor(source), getattr(getattr(sink, "fs", None), "local_file", False)
+    if of is not None and is_local and os.path.exists(sink.path):
+        if os.path.samestat(os.stat(sink.path), os.fstat(of)):
+            raise ValueError(f"{sink.path!r} is the source, and cannot be the sink too")
 
 
 class Output(io.FileIO):
@@ -102,10 +118,11 @@ class Output(io.FileIO):
 
 
 class Replacement(io.FileIO):
-    """A new file beside the file of a path. `commit` moves it to the path; closed without `commit`,
-    it is removed."""
+    """A new file beside the file of a path. `replace_old` moves it to the path; closed before that,
+    it is removed. It is locked: the next file beside the path removes one that is not, because a
+    process that was killed has left it."""
 
-    def __init__(self, path: Any, mode: str) -> None:
+    def __init__(self, path: Any, mode: str, permissions: int) -> None:
         self._target = os.path.realpath(os.fsdecode(path))
         self._is_new, self._process, self._is_beside = "x" in mode, os.getpid(), False
         found = os.stat(self._target) if os.path.lexists(self._target) else None
@@ -114,15 +131,31 @@ class Replacement(io.FileIO):
         if found is not None and not stat.S_ISREG(found.st_mode):
             raise ValueError(f"only a regular file is replaced, which {path!r} is not")
         self._folder = os.path.dirname(self._target)
-        self._beside = os.path.join(self._folder, f".agefile-{os.urandom(8).hex()}")
-        super().__init__(self._beside, "xb")
+        try:
+            self._open_beside(functools.partial(os.open, mode=permissions))
+        except OSError as error:
+            error.filename = path
+            raise
         self._is_beside = True
         if found is not None:
             with contextlib.suppress(OSError):
                 os.fchown(self.fileno(), found.st_uid, found.st_gid)
             os.fchmod(self.fileno(), stat.S_IMODE(found.st_mode))
 
-    def commit(self) -> None:
+    def _open_beside(self, opener: Any) -> None:
+        for number in itertools.count():
+            self._beside = os.path.join(self._folder, beside(self._target, number))
+            _remove_unlocked(self._beside)
+            with contextlib.suppress(FileExistsError):
+                super().__init__(self._beside, "xb", opener=opener)
+                with contextlib.suppress(OSError):
+                    # Waits only for a process that is about to remove it.
+                    fcntl.flock(self.fileno(), fcntl.LOCK_EX)
+                if _has_path(self.fileno(), self._beside):
+                    return
+                super().close()
+
+    def replace_old(self) -> None:
         """Syncs the file, moves it to the path, and syncs the directory."""
         folder = os.open(self._folder, os.O_RDONLY)
         try:
@@ -144,12 +177,34 @@ class Replacement(io.FileIO):
             os.unlink(self._beside)
 
 
+def beside(path: str, number: Any) -> str:
+    """The name of a new file until it takes the place of the file of this path."""
+    return f".agefile-{os.path.basename(path)[:50]}-{number}"
+
+
+def _has_path(descriptor: int, path: str) -> bool:
+    """Whether an open file still has this path."""
+    with contextlib.suppress(FileNotFoundError):
+        return os.path.samestat(os.stat(path, follow_symlinks=False), os.fstat(descriptor))
+    return False
+
+
+def _remove_unlocked(path: str) -> None:
+    """Removes a file that no process has locked."""
+    with contextlib.suppress(OSError):
+        flags = os.O_RDONLY | os.O_NOFOLLOW | os.O_NONBLOCK | os.O_CLOEXEC
+        with io.FileIO(os.open(path, flags)) as file:
+            fcntl.flock(file.fileno(), fcntl.LOCK_EX | fcntl.LOCK_NB)
+            if _has_path(file.fileno(), path):
+                os.unlink(path)
+
+
 def created(
     file: Any, mode: str, atomic: bool = False, closefd: bool = True, permissions: int = 0o666
 ) -> Any:
     """The file to write. That of a path keeps its contents for now."""
     if is_path(file):
-        return Replacement(file, mode) if atomic else Output(file, mode, permissions)
+        return (Replacement if atomic else Output)(file, mode, permissions)
     return opened(file, mode, closefd)
 
 
@@ -178,15 +233,26 @@ def reading(file: Any) -> Iterator[BinaryIO]:
         yield stack.enter_context(opened(file, closefd=False)) if is_ours else file
 
 
+def check_atomic(file: Any, atomic: bool) -> None:
+    if atomic and not is_path(file):
+        raise TypeError("atomic takes a path, beside which the new file is written")
+
+
 @contextlib.contextmanager
-def writing(file: Any, source: BinaryIO, permissions: int = 0o666) -> Iterator[Any]:
-    """The same for a file to write, which must not be the source."""
+def writing(
+    file: Any, source: BinaryIO, permissions: int = 0o666, atomic: bool = False
+) -> Iterator[Any]:
+    """The same for a file to write, which must not be the source, unless it is replaced."""
     if is_open(file, "write"):
         _refuse_source(file, source)
         yield file
         return
-    with created(file, "wb", closefd=False, permissions=permissions) as sink:
+    if not is_path(file) and not isinstance(file, int):
+        _refuse_opener(file, source)
+    with created(file, "wb", atomic, closefd=False, permissions=permissions) as sink:
         _refuse_source(sink, source)
         yield sink
         if isinstance(sink, Output):
             sink.empty()
+        if isinstance(sink, Replacement):
+            sink.replace_old()

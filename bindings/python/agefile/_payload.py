@@ -13,7 +13,7 @@ from typing import Any, BinaryIO
 from . import _library as lib
 from ._errors import AgeError, Code
 from ._secrets import Header, Identities, Recipients, new_header, read_header, stanzas_text, unlock
-from ._sources import read_into, readinto_of, write_all
+from ._sources import read_into, read_some, readinto_of, write_all
 
 # How many chunks one thread seals or opens at a time.
 PART = 16
@@ -24,15 +24,11 @@ class Front:
     than the source has ready, so that a wrong key is reported while a pipe still waits."""
 
     def __init__(self, source: Any) -> None:
-        self.bytes = bytearray()
-        self._read = getattr(source, "read1", source.read)
-        self._ended = False
+        self.bytes, self._source, self._ended = bytearray(), source, False
 
     def more(self) -> bool:
         """Reads more, and returns whether there was more."""
-        piece = b"" if self._ended else self._read(lib.FRONT)
-        if piece is None:
-            raise BlockingIOError("the read would block")
+        piece = b"" if self._ended else read_some(self._source, lib.FRONT)
         self._ended = not piece
         self.bytes += piece
         return bool(piece)
@@ -245,14 +241,15 @@ class Behind:
     """The bytes already read from a source, then the source."""
 
     def __init__(self, first: bytes | memoryview, source: BinaryIO) -> None:
-        self._first, self._readinto = memoryview(first), readinto_of(source)
+        self._first, self._at, self._readinto = first, 0, readinto_of(source)
 
     def readinto(self, out: memoryview) -> Any:
-        if not self._first:
+        count = min(len(out), len(self._first) - self._at)
+        if count == 0:
             return self._readinto(out)
-        count = min(len(out), len(self._first))
-        out[:count] = self._first[:count]
-        self._first = self._first[count:]
+        # No slice is kept: a caller's buffer could not be resized as long as it lives.
+        out[:count] = self._first[self._at : self._at + count]
+        self._at += count
         return count
 
 

@@ -11,7 +11,7 @@ import threading
 from typing import Any, BinaryIO, TypeVar
 
 from . import _library as lib
-from ._errors import AgeChangedError, AgeError, Code
+from ._errors import AgeChangedError, AgeError, Code, chunk_hint
 from ._paths import is_open, name_of, named, opened, raw_of, with_name
 from ._payload import Chunk, Front
 from ._secrets import Identities, unlock
@@ -73,8 +73,8 @@ class _Chunks:
         self._first: int = ranges.first
         self._sealed_len: int = ranges.sealed_len
         self._lock = threading.Lock()
-        # Why a read was short: a bad chunk, the source, or the handler of a signal.
-        self.error: Exception | None = None
+        # Why a thread's read was short: a bad chunk, the source, or the handler of a signal.
+        self.errors: dict[int, Exception] = {}
         self._open_last()
 
     @staticmethod
@@ -93,7 +93,9 @@ class _Chunks:
         """Opens the last chunk, whose tag proves where the plaintext ends."""
         before = max(self._sealed_len - 1, 0) // lib.SEALED_CHUNK
         length = self._read(before)
-        report = lib.check("ranges_last", ctypes.byref(self.ranges), self._chunk.base, length)
+        code, report = lib.call("ranges_last", ctypes.byref(self.ranges), self._chunk.base, length)
+        if code:
+            raise AgeError.of(code, report.place, 0, chunk_hint(code, report.place, length))
         self.length: int = report.len
         self._number, self._len = before, self.length - before * lib.TEXT_CHUNK
 
@@ -132,7 +134,7 @@ class _Chunks:
                 if done < least or least and not isinstance(error, AgeError):
                     raise
                 if not least:
-                    self.error = self.error or error
+                    self.errors.setdefault(threading.get_ident(), error)
         return done
 
 
@@ -216,7 +218,8 @@ class Reader(io.BufferedIOBase):
         self._chunks, self.name, self.raw = chunks, chunks.name, _Plaintext(chunks, 1)
         self._below = _Plaintext(chunks, 0)
         self._buffer = io.BufferedReader(self._below, lib.TEXT_CHUNK)
-        # Within a call no other thread may move the position or change the error.
+        self._next_line, self._errors = self._buffer.readline, chunks.errors
+        # Within a call no other thread may move the position.
         self._lock = threading.RLock()
 
     def __repr__(self) -> str:
@@ -228,7 +231,7 @@ class Reader(io.BufferedIOBase):
         return self._chunks.source.file
 
     def __reduce_ex__(self, protocol: Any) -> tuple[Any, ...]:
-        return reopen, (*self.again(), self.tell())
+        return _reopen, (*self.again(), self.tell())
 
     def again(self) -> tuple[Any, bytes]:
         """What is needed to open the same plaintext again without a secret: the opener, and the
@@ -244,7 +247,7 @@ class Reader(io.BufferedIOBase):
 
     def _or_error(self, found: _Result, count: int) -> _Result:
         """Returns a result of this many bytes, or restores the position and raises the error."""
-        error, self._chunks.error = self._chunks.error, None
+        error = self._errors.pop(threading.get_ident(), None)
         if error is None:
             return found
         self.seek(-count, os.SEEK_CUR)
@@ -255,7 +258,6 @@ class Reader(io.BufferedIOBase):
 
     def read(self, size: int | None = -1, /) -> bytes:
         with self._lock:
-            self._chunks.error = None
             if size is None or size < 0:
                 # Joining the buffered bytes and the rest would make a second copy.
                 at = self.tell()
@@ -265,29 +267,32 @@ class Reader(io.BufferedIOBase):
 
     def read1(self, size: int = -1, /) -> bytes:
         with self._lock:
-            self._chunks.error = None
             found = self._buffer.read1(size)
-            if found and isinstance(self._chunks.error, AgeError):
-                self._chunks.error = None
+            if found and isinstance(self._errors.get(threading.get_ident()), AgeError):
+                del self._errors[threading.get_ident()]
             return self._or_error(found, len(found))
 
     def readinto(self, room: Any, /) -> int:
         with self._lock:
-            self._chunks.error = None
             count = self._buffer.readinto(room)
             return self._or_error(count, count)
 
     def peek(self, size: int = 0, /) -> bytes:
         with self._lock:
-            self._chunks.error = None
             return self._buffer.peek(size) or self._or_error(b"", 0)
 
     def readline(self, size: int | None = -1, /) -> bytes:
-        chunks = self._chunks
-        with self._lock:
-            chunks.error = None
-            line = self._buffer.readline(size)
-            return line if chunks.error is None else self._or_error(line, len(line))
+        # One call of the buffer needs no other lock. Nothing may be added here: lines are short.
+        line = self._buffer.readline(size)
+        return self._or_error(line, len(line)) if self._errors else line
+
+    def __next__(self) -> bytes:
+        line = self._next_line()
+        if line and not self._errors:
+            return line
+        if self._or_error(line, len(line)):
+            return line
+        raise StopIteration
 
     def readlines(self, hint: int | None = -1, /) -> list[bytes]:
         with self._lock:
@@ -330,7 +335,7 @@ def open_reader(file: Any, identities: Identities) -> Reader:
     return reader
 
 
-def reopen(opener: Any, ranges: bytes, position: int) -> Reader:
+def _reopen(opener: Any, ranges: bytes, position: int) -> Reader:
     """Opens a plaintext again with its payload's key. Verifies the last chunk again."""
     below, found = opened(opener), lib.Ranges.from_buffer_copy(ranges)
     with named(name_of(opener)), contextlib.ExitStack() as stack:

@@ -2,14 +2,19 @@
 
 from __future__ import annotations
 
+import concurrent.futures
 import ctypes
+import functools
 import operator
 import os
+import threading
 from collections.abc import Iterable, Sequence
-from typing import Any, NamedTuple, Protocol, Union, runtime_checkable
+from typing import Any, Callable, NamedTuple, Protocol, TypeVar, Union, cast, runtime_checkable
+
+_Call = TypeVar("_Call", bound=Callable[..., Any])
 
 from . import _library as lib
-from ._errors import AgeError, Code
+from ._errors import AgeError, Code, count_of
 from ._paths import reading
 from ._sources import read_into
 
@@ -49,10 +54,19 @@ class _Secret:
     """A secret that the library itself wraps and unwraps. Its repr does not show it."""
 
     def __init__(self, secret: bytes) -> None:
-        self._secret = secret
+        self._secret, self._token = secret, os.urandom(16).hex()
+
+    def __dask_tokenize__(self) -> str:
+        """A name for this object and its pickles, which tells nothing of the secret: from a hash of
+        it a weak passphrase could be guessed."""
+        return self._token
 
     def __repr__(self) -> str:
         return f"{type(self).__name__}(..)"
+
+    def _wrong(self) -> str:
+        """How a hint names this secret, which did not open a file."""
+        return type(self).__name__
 
     def wrap(self, file_key: bytes) -> list[Stanza]:
         """Returns the stanza that holds this file key."""
@@ -63,6 +77,32 @@ class _Secret:
 
     def _unlock(self, front: bytes) -> tuple[int, lib.Report, bytes]:
         raise NotImplementedError
+
+
+def _interruptible(work: _Call) -> _Call:
+    """Runs scrypt on a thread of its own if the main thread calls it: Ctrl-C, which a call of the
+    library holds back, then ends the wait for it, and not the thread, at once."""
+
+    @functools.wraps(work)
+    def run(*arguments: Any) -> Any:
+        done: concurrent.futures.Future[Any] = concurrent.futures.Future()
+
+        def work_there() -> None:
+            try:
+                done.set_result(work(*arguments))
+            except BaseException as error:
+                done.set_exception(error)
+
+        if threading.current_thread() is not threading.main_thread():
+            return work(*arguments)
+        try:
+            threading.Thread(target=work_there, daemon=True).start()
+        except RuntimeError:
+            # There is no thread to be had.
+            return work(*arguments)
+        return done.result()
+
+    return cast(_Call, run)
 
 
 class Passphrase(_Secret):
@@ -92,11 +132,17 @@ class Passphrase(_Secret):
             raise ValueError(f"a passphrase file has at most {lib.TEXT_CHUNK} bytes")
         return cls(bytes(room[:length]).removesuffix(b"\n"), work=work, max_work=max_work)
 
+    def _wrong(self) -> str:
+        ends = {b"\r": " (the passphrase ends in CR)", b"\n": " (the passphrase ends in LF)"}
+        return super()._wrong() + ends.get(self._secret[-1:], "")
+
+    @_interruptible
     def _text(self, file_key: bytes) -> bytes:
         salt = os.urandom(lib.SALT)
         with lib.Bytes(self._secret) as secret, lib.Bytes(file_key) as key, lib.Bytes(salt) as fresh:
             return _text_of("wrap_passphrase", key.address, *secret.pair, self._work, fresh.address)
 
+    @_interruptible
     def _unlock(self, front: bytes) -> tuple[int, lib.Report, bytes]:
         file_key = bytearray(lib.FILE_KEY)
         with lib.Bytes(front) as text, lib.Bytes(self._secret) as secret, lib.Bytes(file_key, True) as key:
@@ -111,9 +157,23 @@ class Key(_Secret):
     files encrypted with it."""
 
     def __init__(self, key: bytes) -> None:
+        if isinstance(key, str):
+            raise TypeError("a key is 32 bytes: pass bytes.fromhex(..), or a file to Key.from_file")
         super().__init__(bytes(memoryview(key)))
         if len(self._secret) != 32:
             raise ValueError(f"a key has 32 bytes, not {len(self._secret)}")
+
+    @classmethod
+    def from_file(cls, file: Any) -> Key:
+        """Reads a key file as `agep -k` does: 32 raw bytes. `file` is a path, a descriptor or a
+        binary file object."""
+        room = bytearray(33)
+        with reading(file) as source:
+            length = read_into(source, memoryview(room))
+        if length != 32:
+            found = "more" if length > 32 else str(length)
+            raise ValueError(f"a key file holds 32 raw bytes, no hexadecimal; this one has {found}")
+        return cls(bytes(room[:32]))
 
     def _text(self, file_key: bytes) -> bytes:
         salt = os.urandom(lib.SALT)
@@ -191,7 +251,9 @@ def read_header(front: bytes) -> Header:
     """The header at the start of these bytes."""
     summary = lib.Summary()
     with lib.Bytes(front) as text:
-        lib.check("inspect", *text.pair, ctypes.byref(summary))
+        code, report = lib.call("inspect", *text.pair, ctypes.byref(summary))
+        if code:
+            raise AgeError.of(code, report.place, report.detail, _front_hint(code, front))
         sizes, room = (lib.StanzaSummary * summary.stanzas)(), bytearray(summary.header_len)
         with lib.Bytes(room, True) as memory:
             lib.check("stanzas", *text.pair, sizes, summary.stanzas, *memory.pair)
@@ -204,19 +266,59 @@ def read_header(front: bytes) -> Header:
     return Header(tuple(stanzas), bytes(summary.mac), summary.header_len)
 
 
+def _front_hint(code: int, front: bytes) -> str | None:
+    """The hint for bytes that are not a header."""
+    if code == Code.HEADER_TRUNCATED:
+        where = f"the file ends after {count_of(len(front))}, within its header"
+        return where if front else "the file is empty"
+    if code != Code.NOT_AGE:
+        return None
+    if front.startswith(b"-----BEGIN AGE"):
+        return "ASCII armor stands at its start; age decrypts such a file"
+    if front.startswith(b"\xef\xbb\xbf"):
+        return "a byte-order mark stands at its start"
+    return "the first line of an age file is age-encryption.org/v1"
+
+
+def _stanzas_hint(stanzas: Sequence[Stanza]) -> str:
+    """The hint for a file for others: the types of its stanzas, and what opens it."""
+    types = list(dict.fromkeys(stanza.args[0] for stanza in stanzas))
+    tools = {"scrypt": "a Passphrase", "example.org/key": "a Key"}
+    tool = next((tools[kind] for kind in tools if kind in types), "another tool or identity")
+    shown = ", ".join(types[:5] + [".."] * (len(types) > 5))
+    return f"its stanzas are of type {shown}; {tool} opens it"
+
+
+def _work_hint(detail: int, stanzas: Sequence[Stanza]) -> str | None:
+    """The hint for a stanza whose work factor is too high."""
+    if detail != 4:
+        return None
+    digits = stanzas[0].args[2]
+    if len(digits) > 2:
+        return f"its work factor has {len(digits)} digits; at most 30 is accepted"
+    work = int(digits)
+    if work > 30:
+        return f"its work factor is {work}; at most 30 is accepted"
+    unit = min(work // 10, 2)
+    memory = f"{1 << work - 10 * unit} {('KiB', 'MiB', 'GiB')[unit]}"
+    return f"its work factor is {work}; max_work={work} accepts it and takes {memory} of memory"
+
+
 def unlock(front: bytes, identities: Identities) -> bytes:
     """The file key that the first matching identity finds. For a caller's own identity the MAC is
     not verified yet: opening the payload does that."""
     header, missed = read_header(front), Code.NO_MATCH
     if len(header.stanzas) > 1 and any(stanza.args[0] == "scrypt" for stanza in header.stanzas):
         raise AgeError(Code.MIXED_PASSPHRASE)
-    for identity in as_list(identities, "unwrap"):
+    secrets = as_list(identities, "unwrap")
+    for identity in secrets:
         if isinstance(identity, _Secret):
             code, report, file_key = identity._unlock(front)
             if code == Code.OK:
                 return file_key
             if code not in (Code.NO_MATCH, Code.WRONG_KEY):
-                raise AgeError.of(code, report.place, report.detail)
+                hint = _work_hint(report.detail, header.stanzas) if code == Code.MALFORMED else None
+                raise AgeError.of(code, report.place, report.detail, hint)
             missed = max(missed, Code(code))
             continue
         found = identity.unwrap(header.stanzas)
@@ -224,4 +326,7 @@ def unlock(front: bytes, identities: Identities) -> bytes:
             if len(found) != lib.FILE_KEY:
                 raise ValueError(f"a file key has 16 bytes, not {len(found)}")
             return bytes(found)
-    raise AgeError(missed)
+    if missed == Code.NO_MATCH:
+        raise AgeError.of(missed, hint=_stanzas_hint(header.stanzas))
+    kinds = [it._wrong() if isinstance(it, _Secret) else type(it).__name__ for it in secrets]
+    raise AgeError.of(missed, hint=f"not opened by {', '.join(kinds)}")

@@ -2,9 +2,15 @@
 
 from __future__ import annotations
 
+import contextlib
 import functools
 import io
-from typing import Any, BinaryIO
+import os
+from typing import Any, BinaryIO, Callable, Optional
+
+from ._paths import raw_of
+
+Progress = Callable[[int, Optional[int]], object]
 
 
 def flat(data: Any) -> memoryview:
@@ -22,9 +28,27 @@ def _checked(count: Any, least: int, most: int, call: str) -> int:
     return int(count)
 
 
-def readinto_of(source: BinaryIO) -> Any:
+def has_own(source: Any, method: str) -> bool:
+    """Whether its class has this method. A wrapper that counts in `read`, such as those of tqdm,
+    hands the other methods of its file on uncounted."""
+    return hasattr(type(source), method)
+
+
+def readinto_of(source: Any) -> Any:
     """The source's readinto, or a function that does the same with its read."""
-    return getattr(source, "readinto", None) or functools.partial(_read_by_copy, source)
+    is_own = has_own(source, "readinto") or not hasattr(source, "read")
+    return source.readinto if is_own else functools.partial(_read_by_copy, source)
+
+
+def read_some(source: Any, most: int) -> bytes:
+    """Reads what the source has ready, and at least a byte unless it has ended."""
+    piece = source.read1(most) if has_own(source, "read1") else source.read(most)
+    if piece == b"":
+        # An empty result of a buffer's read1 may mean that the call would block.
+        piece = source.read(1)
+    if piece is None:
+        raise BlockingIOError("the read would block")
+    return bytes(piece)
 
 
 def read_into(source: BinaryIO, room: memoryview) -> int:
@@ -56,3 +80,41 @@ def write_all(sink: Any, data: Any) -> None:
         if count == len(rest) or count is None and not isinstance(sink, io.RawIOBase):
             return
         rest = memoryview(rest)[_checked(count, 1, len(rest), "write") :]
+
+
+class Counted:
+    """A source that reports its progress after each 64 KiB and at its end: the bytes read, and how
+    many there are from its position on, or None."""
+
+    def __init__(self, source: Any, progress: Progress) -> None:
+        self._source, self._readinto, self._progress = source, readinto_of(source), progress
+        self._done, self._told, self._total = 0, -1, _length_of(source)
+
+    def _count(self, count: int) -> None:
+        self._done += count
+        if self._done - self._told >= 65536 or not count and self._done != self._told:
+            self._told = self._done
+            self._progress(self._done, self._total)
+
+    def readinto(self, room: memoryview) -> Any:
+        count = self._readinto(room)
+        if count is not None:
+            self._count(count)
+        return count
+
+    def read(self, size: int) -> bytes:
+        piece = read_some(self._source, size)
+        self._count(len(piece))
+        return piece
+
+
+def _length_of(source: Any) -> int | None:
+    """The number of bytes from the position on, or None where a seek is impossible or slow, as in
+    compressed files."""
+    with contextlib.suppress(OSError):
+        if raw_of(source) or isinstance(source, io.BytesIO) or hasattr(source, "encrypted"):
+            at = source.tell()
+            end = source.seek(0, os.SEEK_END)
+            source.seek(at)
+            return max(int(end) - at, 0) or None
+    return None

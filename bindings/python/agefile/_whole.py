@@ -9,10 +9,10 @@ from typing import Any, BinaryIO, cast
 
 from . import _library as lib
 from ._errors import AgeError, Code
-from ._paths import reading, writing
+from ._paths import check_atomic, reading, writing
 from ._payload import OPENING, SEALING, Behind, Chunk, Front, begin, open_payload, open_source, rewrapped, run, thread_count
 from ._secrets import Header, Identities, Recipients, read_header, unlock
-from ._sources import read_into, write_all
+from ._sources import Counted, Progress, flat, read_into, write_all
 
 
 class _Collector:
@@ -46,7 +46,8 @@ def encrypt(data: Any, *, recipients: Recipients, threads: int = 1) -> bytes:
             with lib.Bytes(sink.out) as memory:
                 _seal_all(payload, plain, memory.pair[0] + len(front))
         else:
-            run(SEALING, payload, cast(BinaryIO, Behind(lib.view_of(plain, data), io.BytesIO())), sink, threads)
+            with flat(data) as view:
+                run(SEALING, payload, cast(BinaryIO, Behind(view, io.BytesIO())), sink, threads)
         return sink.out
 
 
@@ -100,8 +101,8 @@ def decrypt(data: Any, *, identities: Identities, threads: int = 1) -> bytes:
             with lib.Bytes(sink.out) as memory:
                 _open_all(payload, file, first, memory)
         else:
-            source = Behind(lib.view_of(file, data)[first:], io.BytesIO())
-            run(OPENING, payload, cast(BinaryIO, source), sink, threads)
+            with flat(data) as view, view[first:] as rest:
+                run(OPENING, payload, cast(BinaryIO, Behind(rest, io.BytesIO())), sink, threads)
         return sink.out
 
 
@@ -126,12 +127,23 @@ def rewrap(data: Any, *, identities: Identities, recipients: Recipients) -> byte
     return sink.getvalue()
 
 
-def rewrap_copy(source: Any, sink: Any, *, identities: Identities, recipients: Recipients) -> None:
-    """Like `rewrap`, but from a file to another, each a path, a descriptor or a binary file object."""
-    with reading(source) as below:
+def rewrap_copy(
+    source: Any,
+    sink: Any,
+    *,
+    identities: Identities,
+    recipients: Recipients,
+    atomic: bool = False,
+    progress: Progress | None = None,
+) -> None:
+    """Like `rewrap`, but from a file to another, each a path, a descriptor or a binary file object.
+    `atomic` and `progress` are those of `copy`: with `atomic` a file can be rewrapped in place."""
+    check_atomic(sink, atomic)
+    with reading(source) as file:
+        below: Any = file if progress is None else Counted(file, progress)
         front = Front(below)
         header, old = rewrapped(front, identities, recipients)
-        with writing(sink, below) as out:
+        with writing(sink, file, atomic=atomic) as out:
             write_all(out, header)
             write_all(out, front.bytes[old:])
             room = memoryview(bytearray(lib.TEXT_CHUNK))
@@ -146,6 +158,8 @@ def copy(
     recipients: Recipients | None = None,
     identities: Identities | None = None,
     threads: int = 1,
+    atomic: bool = False,
+    progress: Progress | None = None,
 ) -> int:
     """Encrypts a file to another for `recipients`, or decrypts it with `identities`.
 
@@ -153,22 +167,29 @@ def copy(
     and up to `threads` threads. Returns the length of the plaintext.
 
     After an error in the payload the sink has the plaintext of the chunks before it. An existing
-    file at the sink's path keeps its contents until the first byte is written. A new file with a
-    plaintext can be read only by its owner.
+    file at the sink's path keeps its contents until the first byte is written. With `atomic` it
+    keeps them until the new file, which is written beside it, is complete: after any error nothing
+    has changed. A new file with a plaintext can be read only by its owner.
+
+    `progress` is called with the number of bytes read from the source and with the number of all,
+    or None if that is not known, as of pipes. An exception that it raises ends the copy.
     """
     if (recipients is None) == (identities is None):
         raise TypeError("copy takes recipients to encrypt, or identities to decrypt")
     threads = thread_count(threads)
-    if recipients is None:
-        assert identities is not None
-        with reading(source) as below:
+    check_atomic(sink, atomic)
+    begun = None if recipients is None else begin(recipients)
+    with reading(source) as file:
+        below: Any = file if progress is None else Counted(file, progress)
+        if begun is None:
+            assert identities is not None
             first, payload = open_source(below, identities)
-            with writing(sink, below, 0o600) as out:
+            with writing(sink, file, 0o600, atomic) as out:
                 return run(OPENING, payload, cast(BinaryIO, Behind(first, below)), out, threads)
-    front, payload = begin(recipients)
-    with reading(source) as below, writing(sink, below) as out:
-        room = memoryview(bytearray(lib.TEXT_CHUNK))
-        first = room[: read_into(below, room)]
-        write_all(out, front)
-        sealed = run(SEALING, payload, cast(BinaryIO, Behind(first, below)), out, threads)
-        return sealed - lib.TAG * ((sealed + lib.SEALED_CHUNK - 1) // lib.SEALED_CHUNK)
+        front, payload = begun
+        with writing(sink, file, atomic=atomic) as out:
+            room = memoryview(bytearray(lib.TEXT_CHUNK))
+            first = room[: read_into(below, room)]
+            write_all(out, front)
+            sealed = run(SEALING, payload, cast(BinaryIO, Behind(first, below)), out, threads)
+            return sealed - lib.TAG * ((sealed + lib.SEALED_CHUNK - 1) // lib.SEALED_CHUNK)

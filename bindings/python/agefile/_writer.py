@@ -2,49 +2,48 @@
 
 from __future__ import annotations
 
+import atexit
 import contextlib
 import io
 import os
+import sys
 import threading
+import types
 import warnings
+import weakref
 from typing import Any
 
 from . import _library as lib
-from ._paths import Replacement, created, is_open, is_path, name_of, opener_of
+from ._paths import created, is_open, is_path, name_of, opener_of
 from ._payload import Chunk, begin
 from ._secrets import Recipients
 from ._sources import flat, write_all
 
 
-class Writer(io.BufferedIOBase):
-    """The plaintext of a new age file, as a binary file to write.
-
-    Each full chunk is sealed and written, the last chunk when the file is closed. The header is
-    written before the first chunk, or by `flush`. Until then an existing file keeps its contents.
-
-    A file that was not closed, whose `with` body raised, or to which a write failed has no last
-    chunk, so every reader refuses it. After a failed write `close` raises. Code that calls `close`
-    after another exception completes the file although data are missing: `contextlib.closing`, a
-    `TextIOWrapper` or `BufferedWriter` over this object, and `fsspec.open` do so. A forked child
-    cannot write: it would seal other bytes under the nonces of its parent.
-    """
+class _Sealer(io.RawIOBase):
+    """The age file under a Writer, which collects and seals chunks. It is whole only after
+    `truncate`, which the Writer's `close` calls."""
 
     def __init__(self, file: Any, mode: str, recipients: Recipients, atomic: bool) -> None:
         self.name, self.mode, self._owned = name_of(file), mode, not is_open(file, "write")
         self._lock, self._process = threading.RLock(), os.getpid()
-        self._chunk, self._filled, self._total, self._failed = Chunk(), 0, 0, False
+        self._chunk, self._filled, self._total, self.failed = Chunk(), 0, 0, False
         self._front, payload = begin(recipients)
         self._seal_next = lib.for_chunks("seal_next", payload)
         is_later = self._owned and not (is_path(file) or isinstance(file, int))
-        sink = None if is_later else created(file, mode, atomic) if self._owned else file
+        sink: Any = None if is_later else created(file, mode, atomic) if self._owned else file
         self._opener, self._sink = opener_of(file) if is_later else None, sink
+        # The exception that is being handled, and its traceback, which is another if it is raised
+        # again from elsewhere.
+        self.handled: tuple[Any, Any] = sys.exc_info()[1:]
+        self._place = _caller()
 
     def __repr__(self) -> str:
         return f"<agefile.Writer name={self.name!r} mode={self.mode!r}>"
 
     def _put(self, data: Any) -> None:
         """Writes to the sink. After a failure or an interrupt nothing more is written."""
-        self._failed = True
+        self.failed = True
         if self._opener is not None:
             self._sink, self._opener = self._opener(), None
         write_all(self._sink, self._front)
@@ -54,13 +53,13 @@ class Writer(io.BufferedIOBase):
         if self._owned and hasattr(sink, "flush"):
             # The finalizer of a forked child would write what is left in a buffer.
             sink.flush()
-        self._failed = False
+        self.failed = False
 
     def _seal(self, is_last: bool) -> None:
         """Seals the text and writes it. An interrupt meanwhile counts as a failure."""
-        self._failed = True
+        self.failed = True
         length = self._seal_next(self._chunk.base, self._filled + lib.TAG, is_last)
-        self._filled = 0
+        self._total, self._filled = self._total + self._filled, 0
         self._put(self._chunk.view[:length])
 
     def write(self, data: Any, /) -> int:
@@ -70,7 +69,7 @@ class Writer(io.BufferedIOBase):
                 self._take(rest)
             except BaseException:
                 # An interrupt too: after it a text file would drop the text not yet passed on.
-                self._failed = True
+                self.failed = True
                 raise
             return len(rest)
 
@@ -83,92 +82,169 @@ class Writer(io.BufferedIOBase):
             count = min(lib.TEXT_CHUNK - self._filled, len(rest) - at)
             self._chunk.view[self._filled : self._filled + count] = rest[at : at + count]
             self._filled += count
-            self._total += count
             at += count
 
-    def _is_parent(self) -> bool:
+    def is_parent(self) -> bool:
         return self._process == os.getpid()
 
     def _check_usable(self) -> None:
-        if self.closed:
-            raise ValueError("I/O operation on closed file")
-        if not self._is_parent():
+        if not self.writable() or not self.is_parent():
             raise OSError("only the process that opened this file writes it")
-        if self._failed:
+        if self.failed:
             raise OSError("an earlier write failed, so this file stays without its end")
 
     def tell(self) -> int:
         self._check_usable()
-        return self._total
+        return self._total + self._filled
 
     def writable(self) -> bool:
         if self.closed:
             raise ValueError("I/O operation on closed file")
         return True
 
+    def new_exception(self) -> BaseException | None:
+        """The exception that is being handled, unless it was when the file was opened."""
+        found = sys.exc_info()[1:]
+        return None if found == self.handled else found[0]
+
     def flush(self) -> None:
-        """Writes the header, and flushes the sealed chunks. The bytes of a chunk that is not full
-        stay in the buffer."""
         with self._lock:
-            if not self.writable() or not self._is_parent():
+            if not self.writable() or not self.is_parent():
                 return
-            if self._front and not self._failed:
+            if self._front and not self.failed and self.new_exception() is None:
                 self._put(b"")
             sink: Any = self._sink
             if hasattr(sink, "flush") and not getattr(sink, "closed", False):
                 sink.flush()
 
-    def close(self) -> None:
-        """Seals the last chunk, which completes the file. Raises after a failed write."""
+    def truncate(self, size: int | None = None, /) -> int:
+        """Seals the last chunk, which completes the file, and closes it."""
+        with self._lock:
+            try:
+                self._check_usable()
+                self._seal(True)
+                if hasattr(self._sink, "replace_old"):
+                    self._sink.replace_old()
+            finally:
+                self.abort()
+        return self._total
+
+    def abort(self) -> None:
         with self._lock:
             if self.closed:
                 return
+            # A flush after this must not write the header.
+            self.failed, self.handled = True, (None, None)
             try:
-                if self._is_parent():
-                    self._check_usable()
-                    self._seal(True)
-                    if isinstance(self._sink, Replacement):
-                        self._sink.commit()
+                super().close()
             finally:
-                self._end()
+                # In a forked child a buffered file would write the contents of its parent's buffer.
+                is_safe = self.is_parent() or isinstance(self._sink, io.RawIOBase)
+                if self._owned and self._sink is not None and is_safe:
+                    self._sink.close()
+
+    def warn(self, why: str) -> None:
+        """Warns at the line that opened the file."""
+        if self.is_parent():
+            is_old = self._front or hasattr(self._sink, "replace_old")
+            text = f"{self!r} {'was not written' if is_old else 'is not whole'}: {why}"
+            warnings.warn_explicit(text, RuntimeWarning, *self._place)
+
+    def lose(self, why: str) -> None:
+        """Aborts, and warns, unless the file is closed."""
+        if not self.closed:
+            try:
+                self.abort()
+            finally:
+                self.warn(why)
+
+    def close(self) -> None:
+        # A finalizer cannot tell whether all data were written: if an exception had freed this
+        # object, it is no longer being handled.
+        if hasattr(self, "_place"):
+            self.lose("it was not closed")
+
+    def _dealloc_warn(self, _: Any) -> None:
+        """Called if a TextIOWrapper or BufferedWriter over the Writer was not closed, before its
+        finalizer calls `close`."""
+        self.close()
+
+
+class Writer(io.BufferedWriter):
+    """The plaintext of a new age file, as a binary file to write.
+
+    Each full chunk is sealed and written, the last chunk when the file is closed. The header is
+    written before the first chunk, or by `flush`. Until then an existing file keeps its contents.
+
+    If a file was not closed, if a write to it failed or its `with` body raised, it has no last
+    chunk, so every reader refuses it. The same holds if `close` is called while an exception is
+    handled that was not being handled when the file was opened, as by `contextlib.closing`, a
+    `TextIOWrapper` over this object, or `fsspec.open`. After a failed write `close` raises. If no
+    exception reports the loss, a RuntimeWarning does. A forked child cannot write: it would seal
+    other bytes under the nonces of its parent.
+    """
+
+    raw: _Sealer
+
+    def __init__(self, file: Any, mode: str, recipients: Recipients, atomic: bool) -> None:
+        super().__init__(_Sealer(file, mode, recipients, atomic), lib.TEXT_CHUNK)
+        _writers.add(self)
+
+    def __repr__(self) -> str:
+        return repr(self.raw)
+
+    def flush(self) -> None:
+        """Writes the header, and flushes the sealed chunks. The bytes of a chunk that is not full
+        stay in the buffer. Writes nothing while an exception is handled that makes `close` an
+        `abort`, so an existing file keeps its contents."""
+        if self.raw.writable() and self.raw.is_parent() and self.raw.new_exception() is None:
+            super().flush()
+        self.raw.flush()
+
+    def close(self) -> None:
+        """Seals the last chunk, which completes the file. Raises after a failed write. While an
+        exception is handled that was not being handled when the file was opened, this is `abort`
+        with a RuntimeWarning: the exception may have kept data from being written."""
+        error = self.raw.new_exception()
+        if error is not None:
+            return self.raw.lose(f"it was closed while {type(error).__name__} was handled")
+        try:
+            if not self.closed and self.raw.is_parent():
+                # Under the lock of the buffer, so that no other thread's write is lost.
+                super().truncate()
+        finally:
+            self.raw.abort()
 
     def abort(self) -> None:
         """Closes the file without its last chunk, so that every reader refuses it."""
-        with self._lock:
-            if not self.closed:
-                self._end()
+        self.raw.abort()
 
-    def _end(self) -> None:
-        # A flush after this must not write the header.
-        self._failed = True
-        try:
-            super().close()
-        finally:
-            # In a forked child a buffered file would write the contents of its parent's buffer.
-            is_safe = self._is_parent() or isinstance(self._sink, io.RawIOBase)
-            if self._owned and self._sink is not None and is_safe:
-                self._sink.close()
+    def truncate(self, size: int | None = None, /) -> int:
+        raise io.UnsupportedOperation("truncate")
+
+    def detach(self) -> io.RawIOBase:
+        raise io.UnsupportedOperation("detach")
 
     def __exit__(self, kind: type[BaseException] | None, *rest: Any) -> None:
         if kind is None:
-            return self.close()
-        is_cut = not self.closed and self._is_parent()
-        self.abort()
-        if is_cut and issubclass(kind, (SystemExit, GeneratorExit)):
-            # Nothing else would report it.
-            warnings.warn(f"{self!r} is not whole: {kind.__name__}", RuntimeWarning, 2)
+            # The body has succeeded, whatever exception is handled around it.
+            self.raw.handled = sys.exc_info()[1:]
+            self.close()
+        elif issubclass(kind, (Exception, KeyboardInterrupt)):
+            self.abort()
+        else:
+            # Nothing else would report SystemExit, GeneratorExit and cancelled tasks.
+            self.raw.lose(kind.__name__)
 
     def __del__(self) -> None:
-        # A file that was never closed stays without its last chunk.
-        if hasattr(self, "_sink") and not self.closed:
-            self.abort()
-            if self._is_parent():
-                text = f"{self!r} was not closed, so it is not whole"
-                warnings.warn(text, ResourceWarning, 2, self)
+        if self.raw is not None:
+            self.raw.close()
 
 
 class TextWriter(io.TextIOWrapper):
     """A text file over a Writer, complete under the same conditions."""
+
+    buffer: Writer
 
     def write(self, text: str, /) -> int:
         try:
@@ -177,7 +253,7 @@ class TextWriter(io.TextIOWrapper):
             raise
         except BaseException:
             # A TextIOWrapper drops text of earlier calls with that of this one.
-            self.buffer._failed = True  # type: ignore[attr-defined]
+            self.buffer.raw.failed = True
             raise
 
     def flush(self) -> None:
@@ -185,14 +261,56 @@ class TextWriter(io.TextIOWrapper):
         try:
             super().flush()
         except BaseException:
-            self.buffer.abort()  # type: ignore[attr-defined]
+            self.buffer.abort()
             raise
 
     def __exit__(self, kind: type[BaseException] | None, *rest: Any) -> None:
         if kind is None:
+            self.buffer.raw.handled = sys.exc_info()[1:]
             return self.close()
         self.buffer.__exit__(kind, *rest)
 
     def __del__(self) -> None:
         with contextlib.suppress(AttributeError, ValueError):
-            self.buffer.__del__()  # type: ignore[attr-defined]
+            self.buffer.__del__()
+
+
+def _caller() -> tuple[str, int]:
+    """The file and the line that called this package."""
+    frame: Any = sys._getframe(1)
+    while frame.f_back is not None and frame.f_globals.get("__package__") == __package__:
+        frame = frame.f_back
+    return frame.f_code.co_filename, frame.f_lineno
+
+
+_writers: weakref.WeakSet[Writer] = weakref.WeakSet()
+
+
+def _refuse_in_child() -> None:
+    def write(data: Any, /) -> int:
+        raise OSError("only the process that opened this file writes it")
+
+    for writer in list(_writers):
+        # The buffer would take a few bytes, and lose them.
+        setattr(writer, "write", write)
+
+
+os.register_at_fork(after_in_child=_refuse_in_child)
+
+
+class _AtEnd:
+    """Reports what finalizers may not report any more, such as the writers of daemon threads."""
+
+    def __del__(self) -> None:
+        for writer in list(_writers):
+            if not writer.closed:
+                writer.raw.warn("it was not closed before the program ended")
+
+
+@atexit.register
+def _report_at_end() -> None:
+    # Modules are freed after all functions of `atexit`, which may still close files.
+    if _writers:
+        last = types.ModuleType(__name__ + "_end")
+        last.__dict__["end"] = _AtEnd()
+        sys.modules[last.__name__] = last

@@ -17,6 +17,8 @@ the pickle can read these files.
 
 from __future__ import annotations
 
+import contextlib
+import io
 import os
 import shutil
 from typing import Any
@@ -24,16 +26,43 @@ from typing import Any
 import fsspec  # type: ignore[import]
 from fsspec.implementations.local import LocalFileSystem  # type: ignore[import]
 from fsspec.spec import AbstractFileSystem  # type: ignore[import]
+from fsspec.utils import tokenize  # type: ignore[import]
 
 from ._errors import AgeError
 from ._files import open as open_file
-from ._reader import Reader, open_reader, reopen
-from ._secrets import Identities, Recipients
+from ._paths import beside
+from ._reader import Reader, _reopen, open_reader
+from ._secrets import Identities, Recipients, as_list
+from ._sources import write_all
+
+# Words of fsspec for each file system, and for each open file.
+_OF_SYSTEMS = "asynchronous batch_size listings_expiry_time loop max_paths skip_instance_cache"
+_OF_FILES = "autocommit block_size cache_options cache_type compression size"
+
+
+def _refuse_unknown(options: dict[str, Any], known: str) -> None:
+    unknown = sorted(set(options) - set(known.split()))
+    if unknown:
+        hint = "a secret is passed as identities or recipients"
+        raise TypeError(f"unknown options: {', '.join(unknown)} ({hint})")
+
+
+# What is done by the file system below; `du` is the size of the files, encrypted.
+_BELOW = "mkdir makedirs rmdir rm rm_file created modified exists isfile isdir du ukey".split()
+
+
+def _below(name: str) -> Any:
+    def method(self: AgeFileSystem, path: Any, *arguments: Any, **options: Any) -> Any:
+        return getattr(self.fs, name)(self._strip_protocol(path), *arguments, **options)
+
+    return method
 
 
 class AgeFileSystem(AbstractFileSystem):  # type: ignore[misc]
     """The plaintexts of the age files in another file system, which are read with `identities` and
-    written for `recipients`.
+    written for `recipients`. With `atomic` a file that is written takes the place of the old one
+    when it is complete: see `agefile.open`, or, if the file system below is not the local one, by
+    its `mv`. `rm`, `mv`, `cp`, `created` and `modified` are those of the file system below.
 
     The file system below is `fs`, else that of the protocol of a chain, else the local one. `ls`
     opens no file, so its entries have no sizes; `info` of a single file has its size.
@@ -51,15 +80,28 @@ class AgeFileSystem(AbstractFileSystem):  # type: ignore[misc]
         target_protocol: str = "file",
         target_options: dict[str, Any] | None = None,
         fo: Any = "",
+        atomic: bool = False,
         **options: Any,
     ) -> None:
+        _refuse_unknown(options, _OF_SYSTEMS + " use_listings_cache")
         super().__init__(**options)
         self.fs = fs or fsspec.filesystem(target_protocol, **(target_options or {}))
-        self._identities, self._recipients, self._target = identities, recipients, fo
+        self._identities = None if identities is None else as_list(identities, "unwrap")
+        self._recipients = None if recipients is None else as_list(recipients, "wrap")
+        self._target, self._atomic = fo, atomic
+        groups = self._identities or [], self._recipients or []
+        names = [[getattr(it, "_token", os.urandom(16).hex()) for it in group] for group in groups]
+        self._token = tokenize(self.fs._fs_token, fo, atomic, names)
         # For each file opened: its state, and its payload's key with the offsets of its chunks.
         self._keys: dict[str, tuple[str, bytes]] = {}
         # The path of a chain is in its target.
         self._strip_protocol = self._name_below
+
+    @property
+    def _fs_token(self) -> str:
+        """fsspec and Dask take file systems with one token for one file system. fsspec's own token
+        contains the reprs of the secrets, which are all alike."""
+        return str(self._token)
 
     def _name_below(self, path: Any) -> Any:
         if isinstance(path, list):
@@ -73,6 +115,7 @@ class AgeFileSystem(AbstractFileSystem):  # type: ignore[misc]
         which would lose the end of the file, and a transaction are refused."""
         if "r" not in mode:
             return self._create(self._strip_protocol(path), mode, options)
+        _refuse_unknown(options, _OF_FILES + " encoding errors newline")
         if "b" not in mode:
             options["encoding"] = options.get("encoding") or "utf-8"
         return super().open(path, mode, **options)
@@ -84,14 +127,20 @@ class AgeFileSystem(AbstractFileSystem):  # type: ignore[misc]
         is_later = self._intrans or not options.get("autocommit", True)
         if is_later or options.get("compression") is not None:
             raise ValueError("a file is written without compression, and outside of transactions")
+        _refuse_unknown(options, _OF_FILES + " encoding errors newline recipients atomic")
         words: Any = {"recipients": self._recipients}
         for name in ("encoding", "errors", "newline", "recipients"):
             if name in options:
                 words[name] = options[name]
+        self._keys.pop(path, None)
+        is_atomic = options.get("atomic", self._atomic)
+        if is_atomic and isinstance(self.fs, LocalFileSystem):
+            if self.fs.auto_mkdir:
+                self.fs.makedirs(self.fs._parent(path), exist_ok=True)
+            return open_file(path, mode, atomic=True, **words)
         if "x" in mode and self.fs.exists(path):
             raise FileExistsError(path)
-        self._keys.pop(path, None)
-        return open_file(_Opener(self.fs, path, "wb"), mode, **words)
+        return open_file(_Opener(self.fs, path, "atomic" if is_atomic else "wb"), mode, **words)
 
     def _reader(self, path: str) -> Reader:
         opener, state = _Opener(self.fs, path, "rb"), str(self.fs.ukey(path))
@@ -107,7 +156,7 @@ class AgeFileSystem(AbstractFileSystem):  # type: ignore[misc]
         """An unchanged file, opened again with the key kept of it."""
         before, key = self._keys.get(opener.path, ("", b""))
         try:
-            return reopen(opener, key, 0) if before == state else None
+            return _reopen(opener, key, 0) if before == state else None
         except AgeError:
             return None
 
@@ -125,14 +174,24 @@ class AgeFileSystem(AbstractFileSystem):  # type: ignore[misc]
         files = [{**each, "size": None} if each["type"] == "file" else each for each in found]
         return files if detail else [each["name"] for each in files]
 
-    def mkdir(self, path: str, create_parents: bool = True, **options: Any) -> None:
-        self.fs.mkdir(self._strip_protocol(path), create_parents=create_parents, **options)
+    mkdir, makedirs, rmdir, rm, rm_file, created = map(_below, _BELOW[:6])
+    modified, exists, isfile, isdir, du, ukey = map(_below, _BELOW[6:])
 
-    def makedirs(self, path: str, exist_ok: bool = False) -> None:
-        self.fs.makedirs(self._strip_protocol(path), exist_ok)
+    def cp_file(self, path1: str, path2: str, **options: Any) -> None:
+        self.fs.cp_file(self._strip_protocol(path1), self._strip_protocol(path2), **options)
 
-    def rmdir(self, path: str) -> None:
-        self.fs.rmdir(self._strip_protocol(path))
+    def mv(self, path1: str, path2: str, **options: Any) -> None:
+        old, new = self._strip_protocol(path1), self._strip_protocol(path2)
+        if old != new:
+            self.fs.mv(old, new, **options)
+
+    def touch(self, path: str, truncate: bool = True, **options: Any) -> None:
+        """Makes a file without plaintext. Without `truncate` an existing file keeps its contents
+        and gets a new time, if the file system below can do that."""
+        if truncate or not self.exists(path):
+            self.open(path, "wb", **options).close()
+        else:
+            self.fs.touch(self._strip_protocol(path), truncate=False)
 
     def get_file(self, rpath: str, lpath: Any, *arguments: Any, **options: Any) -> None:
         self._refuse_same(rpath, lpath)
@@ -159,44 +218,65 @@ class AgeFileSystem(AbstractFileSystem):  # type: ignore[misc]
             self._keys.pop(self._strip_protocol(path), None)
         self.fs.invalidate_cache(path)
 
-    def exists(self, path: str, **options: Any) -> bool:
-        return bool(self.fs.exists(self._strip_protocol(path), **options))
-
-    def isfile(self, path: str) -> bool:
-        return bool(self.fs.isfile(self._strip_protocol(path)))
-
-    def isdir(self, path: str) -> bool:
-        return bool(self.fs.isdir(self._strip_protocol(path)))
-
-    def du(self, path: str, **options: Any) -> Any:
-        """Returns the size of the files, encrypted."""
-        return self.fs.du(self._strip_protocol(path), **options)
-
-    def ukey(self, path: str) -> Any:
-        return self.fs.ukey(self._strip_protocol(path))
-
     def __reduce__(self) -> tuple[Any, ...]:
         words = {"identities": self._identities, "recipients": self._recipients, "fo": self._target}
-        return _restore, (self.fs, words, self._keys)
+        words["atomic"] = self._atomic
+        return _restore, (self.fs, words, self._keys, self._token)
 
 
 class _Opener:
-    """Opens a file of a file system. It can be pickled if the file system can."""
+    """Opens a file of a file system to read it, to write it or, in mode `atomic`, to replace it. It
+    can be pickled if the file system can."""
 
     def __init__(self, fs: AbstractFileSystem, path: str, mode: str) -> None:
         self._fs, self.path, self._mode = fs, path, mode
 
     def open(self) -> Any:
+        if self._mode == "atomic":
+            return _Beside(self._fs, self.path)
         # No cache below: each chunk is read once.
         words = {"cache_type": "none"} if self._mode == "rb" else {}
         return self._fs.open(self.path, self._mode, **words)
 
 
+class _Beside(io.RawIOBase):
+    """A new file beside another. `replace_old` moves it to the other's name; closed before that, it
+    is removed."""
+
+    def __init__(self, fs: AbstractFileSystem, path: str) -> None:
+        self._fs, self._path, self._process = fs, path, os.getpid()
+        self._name = path[: path.rfind("/") + 1] + beside(path, os.urandom(8).hex())
+        self._file = fs.open(self._name, "wb")
+
+    def writable(self) -> bool:
+        return True
+
+    def write(self, data: Any, /) -> int:
+        write_all(self._file, data)
+        return len(data)
+
+    def replace_old(self) -> None:
+        self._file.close()
+        self._fs.mv(self._name, self._path)
+        self._name = ""
+
+    def close(self) -> None:
+        is_ours = not self.closed and self._process == os.getpid()
+        super().close()
+        if is_ours and self._name:
+            try:
+                self._file.close()
+            finally:
+                with contextlib.suppress(FileNotFoundError):
+                    self._fs.rm_file(self._name)
+
+
 def _restore(
-    fs: AbstractFileSystem, words: dict[str, Any], keys: dict[str, tuple[str, bytes]]
+    fs: AbstractFileSystem, words: dict[str, Any], keys: dict[str, tuple[str, bytes]], token: str
 ) -> AgeFileSystem:
     found = AgeFileSystem(fs=fs, **words)
     found._keys.update(keys)
+    found._token = token
     return found
 
 

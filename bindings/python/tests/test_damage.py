@@ -345,9 +345,9 @@ class Positions(unittest.TestCase):
         """It would keep the frames of its traceback, and be taken for that of another thread's read."""
         with agefile.open(io.BytesIO(damaged(agefile.encrypt(words(), recipients=KEY), 1)), identities=KEY) as file:
             self.assertEqual(file.raw.readinto(bytearray(LENGTH)), TEXT)
-            self.assertIsNone(file.raw.chunks.error)
+            self.assertEqual(file.raw.chunks.errors, {})
             self.assertRaises(AgeError, file.read)
-            self.assertIsNone(file.raw.chunks.error)
+            self.assertEqual(file.raw.chunks.errors, {})
 
     def test_errors_are_not_hidden(self):
         with self.assertRaises(AgeError):

@@ -1,8 +1,14 @@
 """The file system for fsspec: what it opens and what it keeps, other files beside, chains, writing."""
 
+import contextlib
+import gc
+import importlib.util
 import os
 import pickle
 import shutil
+import subprocess
+import sys
+import time
 import unittest
 from unittest import mock
 
@@ -12,8 +18,19 @@ try:
     import fsspec
     import agefile.fsspec
     from fsspec.implementations.dirfs import DirFileSystem
+    from fsspec.implementations.local import LocalFileOpener
 except ImportError as error:
     raise unittest.SkipTest(str(error)) from error
+
+try:
+    import pandas
+except ImportError:
+    pandas = None
+try:
+    import dask.array
+    import zarr
+except ImportError:
+    zarr = None
 
 from agefile import AgeError, Code, Key, Passphrase, Stanza
 from support import KEY, TEXT, InFolder, damaged, message, text
@@ -178,6 +195,42 @@ class Keys(InSystem):
         self.assertEqual(self.asked_for(lambda: self.system.cat_file(path)), (b"text", 1))
         self.system.invalidate_cache()
         self.assertEqual(self.asked_for(lambda: self.system.cat_file(other)), (b"text", 1))
+        with mock.patch.object(self.system.fs, "invalidate_cache") as below:
+            self.system.invalidate_cache(path)
+            self.system.invalidate_cache()
+        self.assertEqual([call.args for call in below.call_args_list], [(path,), (None,)])
+
+    def test_a_key_of_the_state(self):
+        """`ukey`, by which Dask and the caches of fsspec know a file, is another after each write."""
+        path, found = self.new("a.age", b"text"), set()
+        system = fsspec.filesystem("age", identities=KEY, recipients=KEY)
+        for number in range(3):
+            with system.open(path, "wb") as file:
+                file.write(b"text" * number)
+            found.add(system.ukey(path))
+            self.assertEqual(system.ukey(path), system.ukey("age://" + path))
+        self.assertEqual(len(found), 3)
+
+    def test_two_keys(self):
+        """File systems with two keys are two, for fsspec and for Dask, and a pickle is the same."""
+        path, other = self.new("a.age", b"one", KEY), Key(bytes(32))
+        first, second = (fsspec.filesystem("age", identities=key) for key in (KEY, other))
+        self.assertEqual(first.cat_file(path), b"one")
+        self.assertRaises(AgeError, second.cat_file, path)
+        with self.assertRaises(AgeError), fsspec.open("age://" + path, identities=other) as file:
+            file.read()
+        self.assertFalse(type(first).cachable or first == second or hash(first) == hash(second))
+        for key, name in ((KEY, "first.age"), (other, "second.age")):
+            system = fsspec.filesystem("age", identities=key, recipients=key)
+            system.pipe_file(self.path(name), name.encode())
+            self.assertEqual((agefile.decrypt(self.got(name), identities=key), system.cat_file(self.path(name))), (name.encode(),) * 2)
+        tokens = [fsspec.get_fs_token_paths("age://" + path, storage_options={"identities": key})[1] for key in (KEY, other, KEY)]
+        self.assertEqual((tokens[0] == tokens[1], tokens[0]), (False, tokens[2]))
+        again = pickle.loads(pickle.dumps(first))
+        self.assertEqual((again, again._fs_token, again.cat_file(path)), (first, first._fs_token, b"one"))
+        self.assertNotEqual(self.system, fsspec.filesystem("age", identities=[Counted()]))
+        for key in (KEY, Passphrase("word")):
+            self.assertEqual(pickle.loads(pickle.dumps(key)).__dask_tokenize__(), key.__dask_tokenize__())
 
     def test_a_wrong_key_is_not_kept(self):
         path = self.new("a.age", b"text", Key(bytes(32)))
@@ -225,6 +278,50 @@ class Chains(InSystem):
             file.write(b"text")
         self.assertEqual(system.cat_file("memory://agefile/a.age"), b"text")
         self.assertEqual(agefile.decrypt(memory.cat_file("/agefile/a.age"), identities=self.identity), b"text")
+
+
+MOUNT = """
+import sys
+try:
+    import fuse
+except ImportError:
+    import fusepy
+    sys.modules["fuse"] = fusepy
+import agefile.fsspec, fsspec.fuse
+system = fsspec.filesystem("age", identities=agefile.Key(bytes(range(32))))
+fsspec.fuse.run(system, sys.argv[1], sys.argv[2], foreground=True, threads=False)
+"""
+
+
+def can_mount():
+    is_there = any(importlib.util.find_spec(name) for name in ("fuse", "fusepy"))
+    return is_there and os.path.exists("/dev/fuse") and os.geteuid() == 0
+
+
+@unittest.skipUnless(can_mount(), "fusepy, /dev/fuse or the right to mount is missing")
+class Mounts(InSystem):
+    def test_a_mount(self):
+        """Any program reads the plaintexts, and fails where a chunk is damaged."""
+        plain = text(300000)
+        os.mkdir("files"), os.mkdir("mount")
+        self.new("files/whole", plain, KEY), self.put(damaged(self.got("files/whole"), 2), "files/bad")
+        words = [sys.executable, "-c", MOUNT, "files", "mount"]
+        with subprocess.Popen(words, stderr=subprocess.DEVNULL) as mount:
+            self.addCleanup(mount.kill)
+            self.addCleanup(subprocess.run, ["umount", "-l", self.path("mount")], capture_output=True)
+            for _ in range(600):
+                if os.path.ismount("mount"):
+                    break
+                time.sleep(0.05)
+            self.assertEqual(sorted(os.listdir("mount")), ["bad", "whole"])
+            self.assertEqual(os.path.getsize("mount/whole"), len(plain))
+            self.assertEqual(subprocess.run(["cat", "mount/whole"], capture_output=True).stdout == plain, True)
+            done = subprocess.run(["cat", "mount/bad"], capture_output=True)
+            self.assertEqual((done.returncode, plain.startswith(done.stdout)), (1, True))
+            with open("mount/bad", "rb") as file:
+                file.seek(4 * TEXT)
+                self.assertEqual(file.read(100), plain[4 * TEXT :][:100])
+            subprocess.run(["umount", "mount"], check=True)
 
 
 class Writes(InSystem):
@@ -307,6 +404,167 @@ class Writes(InSystem):
         self.system.mkdir(self.path("empty"))
         self.system.rmdir(self.path("empty"))
         self.assertFalse(os.path.exists("empty"))
+
+    def systems(self):
+        """Over local files, over these without their class, and over memory: a system, and a path."""
+        memory = fsspec.filesystem("memory")
+        self.addCleanup(lambda: memory.exists("/agefile") and memory.rm("/agefile", recursive=True))
+        words = {"identities": self.identity, "recipients": self.identity}
+        for fs, folder in ((fsspec.filesystem("file"), self.folder), (DirFileSystem(self.folder, fsspec.filesystem("file")), ""), (memory, "/agefile")):
+            system = fsspec.filesystem("age", fs=fs, **words)
+            system.makedirs(folder, exist_ok=True) if folder == "/agefile" else None
+            yield system, os.path.join(folder, "a.age")
+
+    def test_managing_files(self):
+        for system, path in self.systems():
+            with self.subTest(type(system.fs).__name__):
+                system.pipe_file(path, b"one")
+                system.cp(path, path + "2")
+                system.mv(path + "2", path + "3")
+                system.mv(path, path)
+                self.assertEqual([system.exists(path + end) for end in ("", "2", "3")], [True, False, True])
+                self.assertEqual(system.cat_file(path + "3"), b"one")
+                if not isinstance(system.fs, DirFileSystem):
+                    self.assertEqual(system.modified(path), system.fs.modified(path))
+                    self.assertEqual(system.created(path), system.fs.created(path))
+                system.touch(path + "4")
+                self.assertEqual(system.cat_file(path + "4"), b"")
+                system.touch(path)
+                self.assertEqual(system.cat_file(path), b"")
+                system.rm(path)
+                system.rm_file(path + "3")
+                system.rm([path + "4"])
+                self.assertEqual([system.exists(path + end) for end in ("", "3", "4")], [False] * 3)
+        self.system.makedirs(self.path("deep/er"))
+        self.system.pipe_file(self.path("deep/er/a.age"), b"text")
+        self.system.touch(self.path("deep/er/a.age"), truncate=False)
+        self.assertEqual(self.system.cat_file(self.path("deep/er/a.age")), b"text")
+        self.system.rm(self.path("deep"), recursive=True)
+        self.assertFalse(os.path.exists("deep"))
+
+    def test_atomic(self):
+        """By call and by file system: the old file stays until the new one is whole."""
+        for system, path in self.systems():
+            by_default = fsspec.filesystem("age", fs=system.fs, identities=self.identity, recipients=self.identity, atomic=True)
+            for used, words in ((system, {"atomic": True}), (by_default, {}), (pickle.loads(pickle.dumps(by_default)), {})):
+                with self.subTest(f"{type(system.fs).__name__} {words}"):
+                    system.pipe_file(path, b"old")
+                    for mode, data in (("wb", text(200000)), ("w", "x" * 200000)):
+                        with contextlib.suppress(KeyError), used.open(path, mode, **words) as file:
+                            file.write(data)
+                            raise KeyError
+                        with self.assertWarnsRegex(RuntimeWarning, "was not written"), contextlib.suppress(KeyError):
+                            with contextlib.closing(used.open(path, mode, **words)) as file:
+                                file.write(data)
+                                raise KeyError
+                    self.assertEqual(system.cat_file(path), b"old")
+                    with used.open(path, "wb", **words) as file:
+                        file.write(text(200000))
+                        self.assertEqual(system.cat_file(path), b"old")
+                    self.assertEqual(system.cat_file(path), text(200000))
+                    self.assertRaises(FileExistsError, used.open, path, "xb", **words)
+                    self.assertEqual(system.ls(os.path.dirname(path), detail=False), [system._strip_protocol(path)])
+            system.rm(path)
+
+    def test_atomic_that_fails(self):
+        """Whatever fails in the file system below, the old file stays, and nothing beside it."""
+        system = fsspec.filesystem("age", fs=DirFileSystem(self.folder, fsspec.filesystem("file")), identities=self.identity, recipients=self.identity, atomic=True)
+
+        def fails(*_, **words):
+            raise OSError(5, "failed")
+
+        for what, name in ((type(system.fs), "mv"), (LocalFileOpener, "write"), (LocalFileOpener, "close")):
+            old = self.got(self.new("a.age", b"old"))
+            with mock.patch.object(what, name, fails), self.assertRaises(OSError), system.open("a.age", "wb") as file:
+                file.write(text(200000))
+            self.assertEqual((self.got("a.age"), os.listdir()), (old, ["a.age"]), name)
+
+    def test_open_files_of_fsspec(self):
+        """An OpenFile does not tell the file of an exception."""
+        path, words = self.path("a.age"), {"identities": self.identity, "recipients": self.identity}
+        for mode, data in (("wb", text(200000)), ("w", "x" * 200000)):
+            with self.assertWarnsRegex(RuntimeWarning, "KeyError was handled"), self.assertRaises(KeyError):
+                with fsspec.open("age://" + path, mode, **words) as file:
+                    file.write(data)
+                    raise KeyError
+            self.assertRaises(AgeError, self.system.cat_file, path)
+            old = self.got(self.new("a.age", b"old"))
+            with self.assertWarnsRegex(RuntimeWarning, "was not written: .*KeyError"), self.assertRaises(KeyError):
+                with fsspec.open("age://" + path, mode, **words) as file:
+                    file.write(data[:60000])
+                    raise KeyError
+            self.assertEqual(self.got("a.age"), old)
+            with self.assertWarnsRegex(RuntimeWarning, "it was not closed"):
+                fsspec.open("age://" + path, mode, **words).open().write(data)
+                gc.collect()
+            self.assertRaises(AgeError, self.system.cat_file, path)
+            with fsspec.open("age://" + path, mode, **words) as file:
+                file.write(data)
+            self.assertEqual(self.system.info(path)["size"], 200000)
+
+    def test_unknown_words(self):
+        path = self.new("a.age", b"old")
+        for words in ({"passphrase": "x"}, {"identity": KEY}, {"atomic": True, "key": KEY}):
+            with self.assertRaisesRegex(TypeError, "identities or recipients"):
+                fsspec.filesystem("age", **words)
+        for mode, words in (("rb", {"atomic": True}), ("r", {"identities": KEY}), ("wb", {"identities": KEY}), ("w", {"word": 1})):
+            self.assertRaises(TypeError, self.system.open, path, mode, **words)
+        for words in ({"block_size": 100}, {"cache_type": "none"}):
+            self.assertEqual(self.system.open(path, **words).read(), b"old")
+
+    @unittest.skipIf(pandas is None, "pandas is missing")
+    def test_pandas(self):
+        """An export that breaks leaves no whole half, and with `atomic` the old file."""
+        class Bad:
+            def __str__(self):
+                raise RuntimeError("bad")
+
+            __reduce__ = __str__
+
+        path, words = self.path("a.age"), {"identities": self.identity, "recipients": self.identity}
+        for rows in (10, 100000):
+            table = pandas.DataFrame({"a": [*range(rows), Bad()]})
+            for atomic in (False, True):
+                for call, more in ((table.to_csv, {}), (table.to_pickle, {}), (table.to_csv, {"compression": "gzip"})):
+                    old = self.got(self.new("a.age", b"old"))
+                    with self.subTest(f"{rows} {atomic} {call.__name__}"), self.assertWarns(RuntimeWarning), self.assertRaisesRegex(RuntimeError, "bad"):
+                        call("age://" + path, storage_options={**words, "atomic": atomic}, **more)
+                    if atomic:
+                        self.assertEqual((self.got("a.age"), os.listdir()), (old, ["a.age"]))
+                    elif self.got("a.age") != old:
+                        self.assertRaises(AgeError, agefile.open, path, identities=self.identity)
+        table = pandas.DataFrame({"a": range(1000)})
+        for atomic in (False, True):
+            table.to_csv("age://" + path, index=False, storage_options={**words, "atomic": atomic})
+            self.assertTrue(pandas.read_csv("age://" + path, storage_options=words).equals(table))
+
+    @unittest.skipIf(zarr is None, "zarr is missing")
+    def test_zarr(self):
+        """A group is made, read and deleted, and Dask overwrites one."""
+        words, numbers = {"identities": KEY, "recipients": KEY}, list(range(100000))
+        group = zarr.group(store=zarr.storage.FSStore("age://" + self.path("g"), **words))
+        group.create_dataset("x", data=numbers, chunks=10000)
+        self.assertEqual((group["x"][:].tolist(), self.got("g/x/0")[:21]), (numbers, b"age-encryption.org/v1"))
+        del group["x"]
+        self.assertEqual((list(group), os.listdir("g")), ([], [".zgroup"]))
+        for factor in (1, 2):
+            table = dask.array.from_array([factor * number for number in numbers], chunks=10000)
+            dask.array.to_zarr(table, "age://" + self.path("d"), storage_options=words, overwrite=True)
+            self.assertEqual(dask.array.from_zarr("age://" + self.path("d"), storage_options=words).sum().compute(), factor * sum(numbers))
+
+    def test_a_pickled_system(self):
+        """A worker writes for the same recipients, and replaces as its sender would."""
+        path = self.new("a.age", b"old")
+        for atomic in (False, True):
+            system = fsspec.filesystem("age", identities=KEY, recipients=KEY, atomic=atomic)
+            again = pickle.loads(pickle.dumps(system))
+            with contextlib.suppress(KeyError), again.open(path, "wb") as file:
+                file.write(text(200000))
+                raise KeyError
+            self.assertEqual(again.cat_file(path) if atomic else self.refused("a.age"), b"new" if atomic else Code.BAD_CHUNK)
+            with again.open(path, "wb") as file:
+                file.write(b"new")
+            self.assertEqual(system.cat_file(path), b"new")
 
     def test_recipients_that_fail(self):
         path = self.new("a.age", b"old")

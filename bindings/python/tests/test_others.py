@@ -114,14 +114,15 @@ class Reference(unittest.TestCase):
         self.assertEqual(file[header.length :] == out.getvalue(), True)
 
     def test_passphrases(self):
-        for passphrase in (b"x", "über".encode(), b"\x00\xff\n", b"x" * 70000):
-            file = agefile.encrypt(b"text", recipients=Passphrase(passphrase, work=2))
+        for given in (b"x", "über".encode(), "über", "字", b"\x00\xff\n", b"x" * 70000):
+            file = agefile.encrypt(b"text", recipients=Passphrase(given, work=2))
+            passphrase = given if isinstance(given, bytes) else given.encode("utf-8")
             (stanza,) = agefile.inspect(file).stanzas
             salt = base64.b64decode(stanza.args[1] + "==")
             arguments, _ = reference.passphrase_stanza(passphrase, 2, salt)
             self.assertEqual(stanza.args, tuple(argument.decode() for argument in arguments))
             other = reference.age_file(SEED, [reference.passphrase_stanza(passphrase, 2, SEED[32:])], b"text")
-            self.assertEqual(agefile.decrypt(other, identities=Passphrase(passphrase)), b"text")
+            self.assertEqual(agefile.decrypt(other, identities=Passphrase(given)), b"text")
 
 
 class Fresh(unittest.TestCase):
@@ -224,6 +225,18 @@ class Programs(InFolder):
                 self.assertEqual(self.run_on(agefile.encrypt(b"text", recipients=secret), AGEP, "decrypt", "-p", "pass"), b"text")
         self.put(bytes(65537), "pass")
         self.assertRaises(ValueError, Passphrase.from_file, "pass")
+
+    def test_key_files(self):
+        self.put(bytes(range(32)), "key")
+        for file in ("key", os.open("key", os.O_RDONLY), io.BytesIO(bytes(range(32)))):
+            self.assertEqual(agefile.decrypt(agefile.encrypt(b"text", recipients=KEY), identities=Key.from_file(file)), b"text")
+        for wrong, found in ((bytes(31), "has 31"), (bytes(33), "has more"), (b"00" * 32, "has more"), (b"", "has 0")):
+            with self.assertRaisesRegex(ValueError, f"32 raw bytes, no hexadecimal; this one {found}"):
+                Key.from_file(self.put(wrong, "wrong"))
+        self.assertRaises(FileNotFoundError, Key.from_file, "absent")
+        for text in ("00" * 32, ""):
+            with self.assertRaisesRegex(TypeError, "bytes.fromhex.*Key.from_file"):
+                Key(text)
 
     @unittest.skipUnless(os.path.exists(AGEP), "agep is not built")
     def test_rewrapped_for_agep(self):

@@ -1,0 +1,473 @@
+"""Files that nobody closed, or that were closed because of an exception: what is on the disk is the
+old file or one that every reader refuses, and something says so. Scripts of their own, with each
+Python on PATH, where finalizers and the end of the program matter."""
+
+import asyncio
+import contextlib
+import csv
+import gc
+import gzip
+import io
+import json
+import logging
+import os
+import pickle
+import resource
+import shutil
+import subprocess
+import sys
+import tarfile
+import unittest
+import warnings
+import zipfile
+from unittest import mock
+from xml.etree import ElementTree
+
+import agefile
+from agefile import AgeError
+from support import KEY, InFolder, in_time, text
+
+HEAD = """
+import atexit
+atexit.register(lambda: BEFORE and file.close())
+BEFORE = False
+import gc, io, json, os, sys, threading, time
+import agefile
+class Cycle: pass
+DATA = {data}
+def new(mode="w"): return agefile.open("s.age", mode, recipients=agefile.Key(bytes(range(32))))
+"""
+
+# Scripts that lose what they write. Python's open, gzip and lzma write all of it, or the half before
+# an exception as a whole file. In cycles most of them lose the last 8 KiB without a word, and in a
+# daemon thread all of them.
+LOST = {
+    "one line": "json.dump(DATA, new())",
+    "one line of bytes": "new('wb').write(json.dumps(DATA).encode())",
+    "a variable of the module": "file = new(); json.dump(DATA, file)",
+    "sys.exit": "file = new(); json.dump(DATA, file); sys.exit()",
+    "an exception in the line": "try: json.dump([DATA, object()], new())\nexcept TypeError: pass",
+    "an exception in a function": "def work():\n    file = new(); json.dump(DATA, file); 1 / 0\ntry: work()\nexcept ZeroDivisionError: pass",
+    "a generator": "def work():\n    file = new(); json.dump(DATA, file); yield\nit = work(); next(it); del it",
+    "a thread": "def work():\n    file = new(); json.dump(DATA, file)\nit = threading.Thread(target=work); it.start(); it.join()",
+    "a daemon thread": "def work():\n    file = new(); json.dump(DATA, file); ready.set(); time.sleep(60)\n"
+    "ready = threading.Event(); threading.Thread(target=work, daemon=True).start(); ready.wait()",
+    "a cycle": "it = Cycle(); it.it = it; it.file = new(); json.dump(DATA, it.file); del it; gc.collect()",
+    "a cycle at the end": "it = Cycle(); it.it = it; it.file = new(); json.dump(DATA, it.file); del it",
+    "a wrapper": "json.dump(DATA, io.TextIOWrapper(new('wb')))",
+    "a wrapper and an exception": "try: json.dump([DATA, object()], io.TextIOWrapper(new('wb')))\nexcept TypeError: pass",
+    "a buffer": "io.BufferedWriter(new('wb')).write(json.dumps(DATA).encode())",
+    "warnings as errors": "import warnings\nwarnings.simplefilter('error')\njson.dump(DATA, new())",
+    "a forked child": "file = new(); json.dump(DATA, file)\nif os.fork() == 0: sys.exit()\nos.wait()",
+}
+
+
+def pythons():
+    """This Python, and the others of PATH."""
+    found = [sys.executable]
+    for minor in range(9, 20):
+        other = shutil.which(f"python3.{minor}")
+        if other and minor != sys.version_info[1] and subprocess.run([other, "-c", "import ctypes"], capture_output=True).returncode == 0:
+            found.append(other)
+    return found
+
+
+class Scripts(InFolder):
+    def run_with(self, python, code):
+        folder = os.path.dirname(os.path.dirname(agefile.__file__))
+        env = {**os.environ, "PYTHONPATH": folder, "PYTHONWARNINGS": ""}
+        return subprocess.run([python, "-c", code], env=env, capture_output=True, text=True, timeout=60)
+
+    def test_what_is_lost_is_said(self):
+        """Once, and without an option. Small files keep the old contents, larger ones are refused."""
+        for python in pythons():
+            for name, code in LOST.items():
+                for count in (100, 50000):
+                    old = self.got(self.made(b"old", "s.age"))
+                    with self.subTest(f"{name}, {count}, {python}"):
+                        done = self.run_with(python, HEAD.format(data=f"list(range({count}))") + code)
+                        self.assertEqual((done.returncode, done.stderr.count("RuntimeWarning: <agefile.Writer name='s.age'")), (0, 1), done.stderr)
+                        what = "was not written" if count == 100 else "is not whole"
+                        self.assertIn(what, done.stderr)
+                        if count == 100:
+                            self.assertEqual(self.got("s.age"), old)
+                        else:
+                            self.refused("s.age")
+
+    def test_each_loss_is_said(self):
+        for python in pythons():
+            done = self.run_with(python, HEAD.format(data=1) + "for _ in range(3): json.dump(DATA, new())")
+            self.assertEqual(done.stderr.count("RuntimeWarning"), 3, done.stderr)
+            self.assertEqual(done.stderr.count("<string>:9:"), 3, done.stderr)
+
+    def test_what_is_closed_is_not_mentioned(self):
+        for python in pythons():
+            for code in (
+                "with new() as file: json.dump(DATA, file)",
+                "file = new(); json.dump(DATA, file); file.close()",
+                "file = new(); atexit.register(file.close); json.dump(DATA, file)",
+                "BEFORE, file = True, new(); json.dump(DATA, file)",
+                "with io.TextIOWrapper(new('wb')) as file: json.dump(DATA, file)",
+                "json.dump(DATA, file := new()) or file.close()",
+            ):
+                done = self.run_with(python, HEAD.format(data="list(range(50000))") + code)
+                self.assertEqual((done.returncode, done.stderr), (0, ""), f"{code}, {python}")
+                with agefile.open("s.age", identities=KEY) as file:
+                    self.assertEqual(file.length, len(str(list(range(50000)))))
+        with warnings.catch_warnings():
+            warnings.simplefilter("error")
+            agefile.open("s.age", "wb", recipients=KEY).abort()
+            gc.collect()
+
+    def test_a_kill(self):
+        """Nothing can be said then, and no reader takes the file."""
+        for call in ("os._exit(0)", "os.kill(os.getpid(), 9)"):
+            done = self.run_with(sys.executable, HEAD.format(data="list(range(50000))") + f"file = new(); json.dump(DATA, file); {call}")
+            self.assertEqual(done.stderr, "")
+            self.refused("s.age")
+
+
+class Wrapped(InFolder):
+    """Objects that call `close` and know nothing of exceptions."""
+
+    KINDS = {
+        "contextlib.closing": lambda: contextlib.closing(agefile.open("w.age", "wb", recipients=KEY)),
+        "closing of text": lambda: contextlib.closing(agefile.open("w.age", "w", recipients=KEY)),
+        "TextIOWrapper": lambda: io.TextIOWrapper(agefile.open("w.age", "wb", recipients=KEY)),
+        "BufferedWriter": lambda: io.BufferedWriter(agefile.open("w.age", "wb", recipients=KEY)),
+        "a generator": lambda: Wrapped.generator(),
+        "a callback": lambda: Wrapped.stack(),
+        "gzip": lambda: Wrapped.in_gzip(),
+    }
+
+    @staticmethod
+    @contextlib.contextmanager
+    def generator():
+        file = agefile.open("w.age", "wb", recipients=KEY)
+        try:
+            yield file
+        finally:
+            file.close()
+
+    @staticmethod
+    @contextlib.contextmanager
+    def stack():
+        with contextlib.ExitStack() as stack:
+            file = agefile.open("w.age", "w", recipients=KEY)
+            stack.callback(file.close)
+            yield file
+
+    @staticmethod
+    @contextlib.contextmanager
+    def in_gzip():
+        with contextlib.closing(agefile.open("w.age", "wb", recipients=KEY)) as below, gzip.open(below, "wb") as file:
+            yield file
+
+    def put_into(self, file, data=text(200000)):
+        is_text = isinstance(file, io.TextIOBase)
+        file.write("x" * len(data) if is_text else data)
+
+    def check_whole(self, is_whole=True):
+        if is_whole:
+            found = agefile.decrypt(self.got("w.age"), identities=KEY)
+            self.assertEqual(len(gzip.decompress(found) if found[:2] == b"\x1f\x8b" else found), 200000)
+        else:
+            self.refused("w.age")
+
+    def test_an_exception(self):
+        for name, make in self.KINDS.items():
+            for kind in (RuntimeError, KeyboardInterrupt, SystemExit):
+                with self.subTest(f"{name} {kind}"), self.assertWarnsRegex(RuntimeWarning, f"'w.age'.* (is not whole|was not written): .*{kind.__name__}"):
+                    with self.assertRaises(kind), make() as file:
+                        self.put_into(file)
+                        raise kind
+                self.check_whole(False)
+
+    def test_no_exception(self):
+        """Files are whole that were opened and closed while the same exception was handled, or none,
+        or one more of which nothing came."""
+        def plainly(make):
+            with make() as file:
+                self.put_into(file)
+
+        def in_handler(make):
+            try:
+                raise KeyError
+            except KeyError:
+                plainly(make)
+
+        def in_two_handlers(make):
+            try:
+                in_handler(lambda: 1 / 0)
+            except ZeroDivisionError:
+                in_handler(make)
+
+        def with_a_handler_inside(make):
+            with make() as file:
+                with contextlib.suppress(KeyError):
+                    raise KeyError
+                self.put_into(file)
+
+        def opened_in_handler(make):
+            with contextlib.ExitStack() as stack:
+                try:
+                    raise KeyError
+                except KeyError:
+                    file = stack.enter_context(make())
+                self.put_into(file)
+
+        with warnings.catch_warnings():
+            warnings.simplefilter("error")
+            kinds = {**self.KINDS, "itself": lambda: agefile.open("w.age", "wb", recipients=KEY), "text": lambda: agefile.open("w.age", "w", recipients=KEY)}
+            for name, make in kinds.items():
+                for work in (plainly, in_handler, in_two_handlers, with_a_handler_inside, opened_in_handler):
+                    with self.subTest(f"{name} {work.__name__}"):
+                        work(make)
+                        self.check_whole()
+
+    def test_another_exception_in_a_handler(self):
+        for name, make in self.KINDS.items():
+            with self.subTest(name), self.assertWarnsRegex(RuntimeWarning, "ZeroDivisionError was handled"):
+                try:
+                    raise KeyError
+                except KeyError:
+                    with contextlib.suppress(ZeroDivisionError), make() as file:
+                        self.put_into(file)
+                        1 / 0
+            self.check_whole(False)
+
+    def test_the_same_exception_raised_again(self):
+        """Also the one that was being handled when the file was opened, unless by a bare `raise` in
+        its handler, which nothing tells from the handler's end."""
+        def again(error):
+            raise error
+
+        for name, make in self.KINDS.items():
+            with self.subTest(name), self.assertWarnsRegex(RuntimeWarning, "KeyError was handled"), self.assertRaises(KeyError):
+                try:
+                    raise KeyError
+                except KeyError as error:
+                    with make() as file:
+                        self.put_into(file)
+                        again(error)
+            self.check_whole(False)
+        with self.assertRaises(KeyError):
+            try:
+                raise KeyError
+            except KeyError:
+                with agefile.open("w.age", "wb", recipients=KEY) as file:
+                    self.put_into(file)
+                    raise
+        self.check_whole(False)
+
+    def test_nested(self):
+        """Each of two files, whichever of them is closed by hand."""
+        for first, second in ((contextlib.closing, lambda file: file), (lambda file: file, contextlib.closing)):
+            with warnings.catch_warnings(record=True), contextlib.suppress(KeyError):
+                with first(agefile.open("w.age", "wb", recipients=KEY)) as a, second(agefile.open("v.age", "wb", recipients=KEY)) as b:
+                    self.put_into(a), self.put_into(b)
+                    raise KeyError
+            self.refused("w.age"), self.refused("v.age")
+        with first(agefile.open("w.age", "wb", recipients=KEY)) as a, contextlib.suppress(KeyError):
+            with agefile.open("v.age", "wb", recipients=KEY) as b:
+                self.put_into(a), self.put_into(b)
+                raise KeyError
+        self.refused("v.age"), self.check_whole()
+
+    def test_generators(self):
+        """A `with` block that ends well within a handler of the caller's ends well."""
+        def work(mode):
+            with agefile.open("w.age", mode, recipients=KEY) as file:
+                yield
+                self.put_into(file)
+
+        with warnings.catch_warnings():
+            warnings.simplefilter("error")
+            for mode in ("wb", "w"):
+                it = work(mode)
+                next(it)
+                try:
+                    raise KeyError
+                except KeyError:
+                    next(it, None)
+                self.check_whole()
+
+    def test_other_threads(self):
+        """Another thread's exception is none of this file's."""
+        file = agefile.open("w.age", "wb", recipients=KEY)
+        self.put_into(file)
+        try:
+            raise KeyError
+        except KeyError:
+            in_time(file.close)
+        self.check_whole()
+
+    def test_tasks(self):
+        async def work(wait, kind):
+            with kind(agefile.open("w.age", "wb", recipients=KEY)) as file:
+                self.put_into(file)
+                await asyncio.sleep(wait)
+
+        async def cancelled(kind):
+            task = asyncio.ensure_future(work(60, kind))
+            await asyncio.sleep(0.01)
+            task.cancel()
+            await asyncio.gather(task, return_exceptions=True)
+
+        for kind in (contextlib.closing, lambda file: file):
+            asyncio.run(work(0, kind))
+            self.check_whole()
+            with self.assertWarnsRegex(RuntimeWarning, "is not whole: .*CancelledError"):
+                asyncio.run(cancelled(kind))
+            self.check_whole(False)
+
+    def test_the_exception_is_not_kept(self):
+        """A closed file holds no exception, whose frames hold much."""
+        try:
+            raise KeyError
+        except KeyError:
+            for end in ("close", "abort"):
+                file = agefile.open("w.age", "wb", recipients=KEY)
+                self.assertIsInstance(file._handled[0], KeyError)
+                getattr(file, end)()
+                self.assertEqual(file._handled, (None, None))
+
+
+def rows(raises):
+    """Rows of text, 200,000 bytes, or an exception after half of them."""
+    for number in range(5000):
+        if raises and number == 2500:
+            raise ArithmeticError
+        yield f"{number:039}\n"
+
+
+def in_tar(file, raises):
+    with tarfile.open(fileobj=file, mode="w") as archive:
+        for row in rows(raises):
+            archive.addfile(tarfile.TarInfo(row[:39]))
+
+
+def in_zip(file, raises):
+    with zipfile.ZipFile(file, "w") as archive, archive.open("rows", "w") as member:
+        for row in rows(raises):
+            member.write(row.encode())
+
+
+def by_log(file, raises):
+    logger = logging.Logger("rows")
+    logger.addHandler(logging.StreamHandler(file))
+    for row in rows(raises):
+        logger.info(row)
+
+
+def by_xml(file, raises):
+    root = ElementTree.Element("rows")
+    for row in rows(False):
+        ElementTree.SubElement(root, "row").text = row
+    root[2500].text = ArithmeticError if raises else "row"
+    try:
+        ElementTree.ElementTree(root).write(file)
+    except TypeError as error:
+        raise ArithmeticError from error
+
+
+class Unpickled:
+    def __reduce__(self):
+        raise ArithmeticError
+
+
+class Rows(io.RawIOBase):
+    """The rows as a binary file."""
+
+    def __init__(self, raises):
+        self._rows = rows(raises)
+
+    def read(self, size=-1):
+        return next(self._rows, "").encode()
+
+
+WAYS = {
+    "write": ("wb", lambda file, raises: [file.write(row.encode()) for row in rows(raises)]),
+    "writelines": ("wb", lambda file, raises: file.writelines(row.encode() for row in rows(raises))),
+    "text": ("w", lambda file, raises: file.writelines(rows(raises))),
+    "print": ("w", lambda file, raises: [print(row, file=file) for row in rows(raises)]),
+    "csv": ("w", lambda file, raises: csv.writer(file).writerows([row] for row in rows(raises))),
+    "json": ("w", lambda file, raises: json.dump({number: row for number, row in enumerate(rows(False))} | {"last": object() if raises else 0}, file, default=lambda _: 1 // 0)),
+    "pickle": ("wb", lambda file, raises: pickle.dump([*rows(False), Unpickled() if raises else 0], file)),
+    "copyfileobj": ("wb", lambda file, raises: shutil.copyfileobj(Rows(raises), file)),
+    "tar": ("wb", in_tar),
+    "zip": ("wb", in_zip),
+    "gzip": ("wb", lambda file, raises: in_gzip(file, raises)),
+    "logging": ("w", by_log),
+    "xml": ("wb", by_xml),
+}
+
+
+def in_gzip(file, raises):
+    with gzip.GzipFile(fileobj=file, mode="wb", compresslevel=0) as packed:
+        packed.writelines(row.encode() for row in rows(raises))
+
+
+class Ways(InFolder):
+    """What is on the disk after each fault: the old file, one that every reader refuses, or the new
+    one as it would be without a fault; and all but the last with an exception or a warning."""
+
+    def result(self, way, how, atomic, raises):
+        mode, write = WAYS[way]
+
+        def new():
+            return agefile.open("w.age", mode, recipients=KEY, atomic=atomic)
+
+        if how == "nobody closes":
+            write(new(), raises)
+        else:
+            with new() if how == "with" else contextlib.closing(new()) as file:
+                write(file, raises)
+
+    def outcome(self, way, how, atomic, raises, room=None):
+        """What is on the disk, and whether something was said."""
+        old = self.got(self.made(b"old", "w.age"))
+        limits = resource.getrlimit(resource.RLIMIT_FSIZE)
+        is_loud = False
+        with warnings.catch_warnings(record=True) as said, mock.patch("sys.stderr", io.StringIO()) as printed:
+            warnings.simplefilter("default")
+            warnings.simplefilter("ignore", ResourceWarning)
+            resource.setrlimit(resource.RLIMIT_FSIZE, (room or limits[0], limits[1]))
+            try:
+                self.result(way, how, atomic, raises)
+            except (ArithmeticError, OSError):
+                is_loud = True
+            finally:
+                resource.setrlimit(resource.RLIMIT_FSIZE, limits)
+                gc.collect()
+        # A logger prints the error of a write, and goes on.
+        is_loud = is_loud or bool(said or printed.getvalue())
+        found = self.got("w.age")
+        self.assertEqual(os.listdir(), ["w.age"])
+        if found == old:
+            return "old", is_loud
+        try:
+            return agefile.decrypt(found, identities=KEY), is_loud
+        except AgeError:
+            with self.assertRaises(AgeError):
+                agefile.open("w.age", identities=KEY)
+            return "refused", is_loud
+
+    def test_each_way(self):
+        for way in WAYS:
+            for atomic in (False, True):
+                lost = ("old",) if atomic else ("old", "refused")
+                whole, is_loud = self.outcome(way, "with", atomic, False)
+                self.assertGreater(len(whole), 190000)
+                self.assertFalse(is_loud, way)
+                self.assertEqual(len(self.outcome(way, "closing", atomic, False)[0]), len(whole))
+                for how in ("with", "closing", "nobody closes"):
+                    for raises, room in ((True, None), (False, 80000), (True, 80000), (False, None)):
+                        if (how == "nobody closes") or raises or room:
+                            with self.subTest(f"{way}, {how}, atomic={atomic}, raises={raises}, room={room}"):
+                                found, is_loud = self.outcome(way, how, atomic, raises, room)
+                                self.assertTrue(found in lost and is_loud, (found[:9], is_loud))
+
+
+if __name__ == "__main__":
+    unittest.main()

@@ -1,0 +1,653 @@
+"""New files: written chunk by chunk, replaced whole or kept, and what becomes of them when a write fails."""
+
+import asyncio
+import concurrent.futures
+import contextlib
+import errno
+import gc
+import gzip
+import io
+import os
+import random
+import signal
+import subprocess
+import sys
+import tempfile
+import threading
+import unittest
+import warnings
+from unittest import mock
+
+import agefile
+from agefile import AgeError, Key, Passphrase
+from agefile._writer import _Sealer
+from support import KEY, InFolder, damaged, in_threads, message, text
+
+
+class Writing(InFolder):
+    def test_sizes_and_pieces(self):
+        for length in (0, 1, 65535, 65536, 65537, 131072, 300000):
+            for piece in (1000, 65536, 300001):
+                with agefile.open("w.age", "wb", recipients=KEY) as file:
+                    for at in range(0, length, piece):
+                        file.write(memoryview(text(length))[at : at + piece])
+                    self.assertEqual(file.tell(), length)
+                with open("w.age", "rb") as whole:
+                    self.assertEqual(agefile.decrypt(whole.read(), identities=KEY), text(length))
+
+    def test_only_a_closed_file_is_whole(self):
+        for length in (0, 10, 65536, 200000):
+            file = agefile.open("o.age", "wb", recipients=KEY)
+            file.write(text(length))
+            file.flush()
+            self.refused("o.age")
+            file.close()
+            file.close()
+            with agefile.open("o.age", identities=KEY) as whole:
+                self.assertEqual(whole.read(), text(length))
+
+    def test_a_body_that_raises(self):
+        for mode, data in (("wb", text(200000)), ("wb", b""), ("w", "text" * 100000)):
+            with self.assertRaises(KeyError):
+                with agefile.open("e.age", mode, recipients=KEY) as file:
+                    file.write(data)
+                    raise KeyError
+            self.assertTrue(file.closed)
+            self.refused("e.age")
+
+    def test_a_body_that_ends_the_program(self):
+        """Nothing else says that the file is not whole."""
+        for mode, kind in (("wb", SystemExit), ("w", SystemExit), ("wb", GeneratorExit), ("wb", asyncio.CancelledError)):
+            for call, what in ((lambda file: file.flush(), "is not whole"), (lambda file: None, "was not written")):
+                with self.assertWarnsRegex(RuntimeWarning, f"'e.age'.* {what}: {kind.__name__}"):
+                    with self.assertRaises(kind), agefile.open("e.age", mode, recipients=KEY) as file:
+                        call(file)
+                        raise kind
+        with warnings.catch_warnings(), self.assertRaises(SystemExit):
+            warnings.simplefilter("error")
+            with agefile.open("e.age", "wb", recipients=KEY) as file:
+                file.close()
+                raise SystemExit
+
+    def test_marks_of_the_byte_order(self):
+        for encoding in ("utf-16", "UTF32", "utf-16-le", "utf-8-sig"):
+            with agefile.open("m.age", "w", recipients=KEY, encoding=encoding) as file:
+                file.write("one\n")
+                file.write("two\n")
+            self.assertEqual(agefile.decrypt(self.got("m.age"), identities=KEY), "one\ntwo\n".encode(encoding))
+
+    @unittest.skipIf(sys.version_info < (3, 10), "Python 3.9 has no such encoding")
+    def test_the_encoding_of_the_locale(self):
+        with agefile.open("l.age", "w", recipients=KEY, encoding="locale") as file:
+            self.assertEqual(file.encoding, io.TextIOWrapper(io.BytesIO(), "locale").encoding)
+
+    def test_an_old_file_is_kept(self):
+        """Until the header is known, and the first byte is due, a file keeps what it holds."""
+
+        class Kms:
+            def wrap(self, file_key):
+                raise ConnectionError("the service is down")
+
+        for mode in ("wb", "w"):
+            for error, words in (
+                (ConnectionError, {"recipients": [KEY, Kms()]}),
+                (AgeError, {"recipients": []}),
+                (AgeError, {"recipients": [KEY, Passphrase("x", work=1)]}),
+                (AgeError, {"recipients": Passphrase("", work=1)}),
+                (TypeError, {"recipients": "word"}),
+                (TypeError, {"recipients": [KEY, b"word"]}),
+                (TypeError, {}),
+                (TypeError, {"recipients": KEY, "identities": KEY}),
+                (LookupError, {"recipients": KEY, "encoding": "bogus"}),
+                (ValueError, {"recipients": KEY, "newline": "bogus"}),
+            ):
+                if mode == "wb" and {"encoding", "newline"} & set(words):
+                    error = ValueError
+                for atomic in (False, True):
+                    self.put(b"old", "o.age")
+                    with self.subTest(f"{mode} {words} {atomic}"), self.assertRaises(error):
+                        agefile.open("o.age", mode, atomic=atomic, **words)
+                    self.assertEqual((self.got("o.age"), os.listdir()), (b"old", ["o.age"]))
+        code = "import agefile, resource\nresource.setrlimit(resource.RLIMIT_AS, (1 << 28, 1 << 28))\n"
+        code += "agefile.open('o.age', 'wb', recipients=agefile.Passphrase('x'))"
+        done = subprocess.run([sys.executable, "-c", code], capture_output=True, text=True)
+        self.assertIn(message("OutOfMemory"), done.stderr)
+        self.assertEqual(self.got("o.age"), b"old")
+
+    def test_when_an_old_file_is_emptied(self):
+        for write, is_kept in (
+            (lambda file: None, True),
+            (lambda file: file.write(text(65536)), True),
+            (lambda file: file.write(text(65537)), False),
+            (lambda file: file.flush(), False),
+        ):
+            self.put(b"old", "o.age")
+            with contextlib.suppress(KeyError), agefile.open("o.age", "wb", recipients=KEY) as file:
+                write(file)
+                raise KeyError
+            self.assertEqual(self.got("o.age") == b"old", is_kept)
+            self.refused("o.age")
+            with agefile.open("o.age", "wb", recipients=KEY) as file:
+                write(file)
+                written = file.tell()
+            self.assertEqual(agefile.decrypt(self.got("o.age"), identities=KEY), text(65537)[:written])
+
+    def test_what_an_opener_opens_is_opened_last(self):
+        opened = []
+
+        def opener():
+            opened.append(open("o.age", "wb"))
+            return opened[-1]
+
+        with self.assertRaises(KeyError), agefile.open(opener, "wb", recipients=KEY) as file:
+            file.write(b"text")
+            raise KeyError
+        self.assertEqual(opened, [])
+        with agefile.open(opener, "w", recipients=KEY) as file:
+            file.write("text")
+        self.assertTrue(opened[0].closed)
+        self.assertEqual(agefile.decrypt(self.got("o.age"), identities=KEY), b"text")
+
+    def test_copies_of_paths(self):
+        """`copy` and `rewrap_copy` keep a sink until there is something to write, and then empty it."""
+        self.made(text(100000)), self.made(b"", "e.age")
+        self.put(damaged(self.got("a.age"), 0), "bad.age")
+        self.put(b"", "empty")
+        for error, call in (
+            (AgeError, lambda: agefile.copy("a.age", "old", identities=Key(bytes(32)))),
+            (AgeError, lambda: agefile.copy("bad.age", "old", identities=KEY)),
+            (AgeError, lambda: agefile.copy("a.age", "old", recipients=[])),
+            (FileNotFoundError, lambda: agefile.copy("absent", "old", recipients=KEY)),
+            (IsADirectoryError, lambda: agefile.copy(".", "old", recipients=KEY)),
+            (AgeError, lambda: agefile.rewrap_copy("a.age", "old", identities=Key(bytes(32)), recipients=KEY)),
+            (AgeError, lambda: agefile.rewrap_copy("a.age", "old", identities=KEY, recipients=[])),
+            (ValueError, lambda: agefile.copy("old", "old", recipients=KEY)),
+            (ValueError, lambda: agefile.copy("a.age", "./a.age", identities=KEY)),
+            (ValueError, lambda: agefile.rewrap_copy("a.age", "a.age", identities=KEY, recipients=KEY)),
+            (ValueError, lambda: agefile.copy(open("a.age", "rb"), "a.age", recipients=KEY)),
+            (ValueError, lambda: agefile.copy(agefile.open("a.age", identities=KEY), "a.age", recipients=KEY)),
+            (ValueError, lambda: agefile.copy("a.age", open("a.age", "r+b"), recipients=KEY)),
+            (ValueError, lambda: agefile.copy("a.age", os.open("a.age", os.O_RDWR), recipients=KEY)),
+            (ValueError, lambda: agefile.copy(tempfile._TemporaryFileWrapper(open("a.age", "rb"), "a.age", False), "a.age", recipients=KEY)),
+            (ValueError, lambda: agefile.rewrap_copy(open("a.age", "rb"), "a.age", identities=KEY, recipients=KEY)),
+            (ValueError, lambda: agefile.copy("a.age", "old", recipients=KEY, threads=0)),
+            (TypeError, lambda: agefile.copy("a.age", "old", recipients=KEY, threads="4")),
+        ):
+            self.put(b"old", "old")
+            before = self.got("a.age")
+            self.assertRaises(error, call)
+            self.assertEqual((self.got("old"), self.got("a.age")), (b"old", before))
+        agefile.copy("e.age", "old", identities=KEY)
+        self.assertEqual(self.got("old"), b"")
+        self.addCleanup(os.umask, os.umask(0o002))
+        agefile.copy("e.age", "new", identities=KEY)
+        agefile.copy("new", "new.age", recipients=KEY)
+        self.assertEqual([os.stat(name).st_mode & 0o777 for name in ("new", "new.age")], [0o600, 0o664])
+        self.put(bytes(1000000), "old")
+        agefile.copy("empty", "old", recipients=KEY)
+        self.assertEqual(agefile.decrypt(self.got("old"), identities=KEY), b"")
+
+    def test_small_writes(self):
+        """They are collected, in whatever kind of object they come, and an interrupt is a failure."""
+        choose, pieces = random.Random(2), []
+        with agefile.open("s.age", "wb", recipients=KEY) as file:
+            for kind in (bytes, bytearray, memoryview) * 3000:
+                piece = text(300)[: choose.choice((0, 1, 20, 300))]
+                pieces.append(piece)
+                self.assertEqual((file.write(kind(piece)), file.tell()), (len(piece), sum(map(len, pieces))))
+            for wrong in ("text", 5, None):
+                self.assertRaises(TypeError, file.write, wrong)
+        self.assertEqual(agefile.decrypt(self.got("s.age"), identities=KEY), b"".join(pieces))
+
+    def test_an_interrupt_within_a_write(self):
+        """After it, part of the data is there: the file never becomes whole, whoever catches it."""
+        def take(sealer, rest):
+            sealer._filled += 10
+            raise KeyboardInterrupt
+
+        for call in (lambda file: file.write(text(100000)), lambda file: file.write(b"text") and file.flush()):
+            file = agefile.open("s.age", "wb", recipients=KEY)
+            with mock.patch.object(_Sealer, "_take", take):
+                self.assertRaises(KeyboardInterrupt, call, file)
+            self.assertRaisesRegex(OSError, "an earlier write failed", file.write, text(100000))
+            self.assertRaisesRegex(OSError, "an earlier write failed", file.close)
+            self.assertRaisesRegex(ValueError, "closed file", file.write, b"text")
+            self.refused("s.age")
+
+    def test_threads_that_write(self):
+        """Each write is whole in the file, in some order, whoever closes it meanwhile."""
+        file = agefile.open("t.age", "wb", recipients=KEY)
+        numbers = iter(range(4))
+
+        def work():
+            row = bytes([next(numbers)]) * 20000
+            return [file.write(row) for _ in range(50)]
+
+        in_threads(work)
+        file.close()
+        plain = agefile.decrypt(self.got("t.age"), identities=KEY)
+        rows = [plain[at : at + 20000] for at in range(0, len(plain), 20000)]
+        self.assertEqual(sorted(rows), [bytes([number]) * 20000 for number in range(4) for _ in range(50)])
+
+    def test_a_thread_that_closes(self):
+        """What a write has returned is in the file; a write after the last chunk is refused."""
+        for length in (1, 3000):
+            file, started = agefile.open("t.age", "wb", recipients=KEY), threading.Event()
+
+            def work():
+                for count in range(10**7):
+                    started.set()
+                    try:
+                        file.write(bytes(length))
+                    except ValueError:
+                        return count
+
+            with concurrent.futures.ThreadPoolExecutor(1) as pool:
+                count = pool.submit(work)
+                started.wait()
+                file.close()
+            self.assertEqual(len(agefile.decrypt(self.got("t.age"), identities=KEY)), count.result() * length)
+
+    def test_what_no_buffer_may_do(self):
+        with agefile.open("b.age", "wb", recipients=KEY) as file:
+            file.write(b"text")
+            for call in (file.truncate, file.detach, lambda: file.seek(0), lambda: file.read(1)):
+                self.assertRaises(io.UnsupportedOperation, call)
+        self.assertEqual(agefile.decrypt(self.got("b.age"), identities=KEY), b"text")
+        file = agefile.open("b.age", "wb", recipients=KEY)
+        with self.assertWarnsRegex(RuntimeWarning, "was not written: it was not closed"):
+            file.raw.close()
+        self.assertEqual(agefile.decrypt(self.got("b.age"), identities=KEY), b"text")
+
+    def test_a_child_that_writes_little(self):
+        """What the buffer would take, and lose, is refused too."""
+        for mode, data in (("wb", b"text"), ("w", "text" * 5000)):
+            file = agefile.open("f.age", mode, recipients=KEY)
+            child = os.fork()
+            if child == 0:
+                try:
+                    file.write(data)
+                except OSError:
+                    os._exit(0)
+                os._exit(1)
+            self.assertEqual(os.waitpid(child, 0)[1], 0)
+            file.write(data)
+            file.close()
+            self.assertEqual(len(agefile.decrypt(self.got("f.age"), identities=KEY)), len(data))
+
+    def test_flush_reaches_the_file(self):
+        """`flush` empties the buffer of a caller's sink too."""
+        with open("s.age", "wb", 1 << 20) as below, agefile.open(below, "wb", recipients=KEY) as file:
+            file.write(text(200000))
+            file.flush()
+            self.assertGreater(os.path.getsize("s.age"), 3 * 65552)
+
+    def test_an_error_of_the_sink_that_closes(self):
+        """Such as that of an upload which is refused in the end."""
+        class Upload(io.BytesIO):
+            def close(self):
+                if not self.closed:
+                    super().close()
+                    raise ConnectionError("refused")
+
+        for mode, data in (("wb", b"text"), ("w", "text")):
+            file = agefile.open(lambda: Upload(), mode, recipients=KEY)
+            file.write(data)
+            self.assertRaises(ConnectionError, file.close)
+            self.assertTrue(file.closed)
+
+    def test_lines_and_encodings(self):
+        """Newlines are those asked for, and text is UTF-8 wherever the locale is not."""
+        for newline, expected in ((None, b"a\nb\n"), ("", b"a\nb\n"), ("\n", b"a\nb\n"), ("\r\n", b"a\r\nb\r\n")):
+            with agefile.open("l.age", "w", recipients=KEY, newline=newline) as file:
+                file.write("a\nb\n")
+            self.assertEqual(agefile.decrypt(self.got("l.age"), identities=KEY), expected)
+        self.made(b"a\r\nb\r\n", "l.age")
+        for newline, expected in ((None, "a\nb\n"), ("", "a\r\nb\r\n"), ("\n", "a\r\nb\r\n")):
+            with agefile.open("l.age", "r", identities=KEY, newline=newline) as file:
+                self.assertEqual(file.read(), expected)
+        code = "import agefile, sys; key = agefile.Key(bytes(range(32)))\n"
+        code += "with agefile.open('u.age', 'w', recipients=key) as file: file.write('\\u00fcber')\n"
+        code += "with agefile.open('u.age', 'r', identities=key) as file: assert file.read() == '\\u00fcber'"
+        env = {**os.environ, "PYTHONUTF8": "0", "LC_ALL": "C", "PYTHONCOERCECLOCALE": "0"}
+        subprocess.run([sys.executable, "-c", code], env=env, check=True)
+        self.assertEqual(agefile.decrypt(self.got("u.age"), identities=KEY), "über".encode())
+
+    def test_atomic_copies(self):
+        """The old file stays until the new one is whole; a file may be rewrapped in its place."""
+        def raises(*_):
+            raise KeyError
+
+        other = Key(bytes(32))
+        self.put(damaged(self.got(self.made(text(300000))), 3), "bad.age")
+        for error, call in (
+            (AgeError, lambda: agefile.copy("bad.age", "old", identities=KEY, atomic=True)),
+            (AgeError, lambda: agefile.copy("bad.age", "old", identities=KEY, atomic=True, threads=2)),
+            (AgeError, lambda: agefile.copy("bad.age", "bad.age", identities=KEY, atomic=True)),
+            (KeyError, lambda: agefile.copy("a.age", "old", recipients=KEY, atomic=True, progress=raises)),
+            (KeyError, lambda: agefile.rewrap_copy("a.age", "old", identities=KEY, recipients=other, atomic=True, progress=raises)),
+            (AgeError, lambda: agefile.rewrap_copy("a.age", "a.age", identities=other, recipients=KEY, atomic=True)),
+            (TypeError, lambda: agefile.copy("a.age", io.BytesIO(), identities=KEY, atomic=True)),
+            (TypeError, lambda: agefile.rewrap_copy("a.age", lambda: open("b", "wb"), identities=KEY, recipients=KEY, atomic=True)),
+        ):
+            self.put(b"old", "old")
+            before = [self.got(name) for name in ("a.age", "bad.age", "old")]
+            self.assertRaises(error, call)
+            self.assertEqual([self.got(name) for name in ("a.age", "bad.age", "old")], before)
+            self.assertEqual(sorted(os.listdir()), ["a.age", "bad.age", "old"])
+        os.chmod("a.age", 0o640)
+        self.assertIsNone(agefile.rewrap_copy("a.age", "a.age", identities=KEY, recipients=other, atomic=True))
+        self.assertEqual(os.stat("a.age").st_mode & 0o777, 0o640)
+        for name in ("new", "old"):
+            self.assertEqual(agefile.copy("a.age", name, identities=other, atomic=True), 300000)
+            self.assertEqual(self.got(name), text(300000))
+        self.assertEqual([os.stat(name).st_mode & 0o777 for name in ("new", "old")], [0o600, 0o644])
+        agefile.copy("new", "new", recipients=KEY, atomic=True)
+        self.assertEqual(agefile.decrypt(self.got("new"), identities=KEY), text(300000))
+        self.assertEqual(sorted(os.listdir()), ["a.age", "bad.age", "new", "old"])
+
+    def test_progress(self):
+        """It grows to the length of the source, which a pipe does not tell."""
+        class Plain:
+            def __init__(self, data):
+                self.read = io.BytesIO(data).read
+
+        for length in (0, 1, 65536, 300000, 5000000):
+            plain = text(length)
+            sealed = self.got(self.made(plain))
+            for threads in (1, 2):
+                for call, source in (
+                    (lambda source, **words: agefile.copy(source, io.BytesIO(), recipients=KEY, threads=threads, **words), plain),
+                    (lambda source, **words: agefile.copy(source, io.BytesIO(), identities=KEY, threads=threads, **words), sealed),
+                    (lambda source, **words: agefile.rewrap_copy(source, io.BytesIO(), identities=KEY, recipients=KEY, **words), sealed),
+                ):
+                    for kind in (io.BytesIO, lambda data: self.put(data, "source"), Plain):
+                        seen = []
+                        call(kind(source), progress=lambda *found: seen.append(found))
+                        counts, totals = zip(*seen)
+                        self.assertEqual((list(counts), counts[-1]), (sorted(set(counts)), len(source)))
+                        self.assertEqual(set(totals), {None if kind is Plain else len(source) or None})
+                        self.assertLessEqual(len(seen), len(source) // 65536 + 2)
+        read_end, write_end = os.pipe()
+        with open(write_end, "wb") as file:
+            file.write(b"text")
+        for source, total in ((read_end, None), (open("source", "rb"), os.path.getsize("source")), (agefile.open("a.age", identities=KEY), 5000000), (gzip.open(self.put(gzip.compress(b"text"), "gz")), None)):
+            seen = []
+            agefile.copy(source, io.BytesIO(), recipients=KEY, progress=lambda *found: seen.append(found))
+            self.assertEqual(seen[-1], (total or 4, total))
+
+    def test_atomic(self):
+        """The new file takes the old one's place, and its mode, when it is closed, and not before."""
+        for mode, data in (("wb", text(200000)), ("wb", b""), ("w", "text" * 100000)):
+            self.put(b"old", "o.age")
+            os.chmod("o.age", 0o640)
+            with agefile.open("o.age", mode, recipients=KEY, atomic=True) as file:
+                file.write(data)
+                file.flush()
+                self.assertEqual((self.got("o.age"), len(os.listdir())), (b"old", 2))
+            self.assertEqual(os.listdir(), ["o.age"])
+            self.assertEqual(os.stat("o.age").st_mode & 0o777, 0o640)
+            with agefile.open("o.age", mode.replace("w", "r"), identities=KEY) as file:
+                self.assertEqual(file.read(), data)
+
+    @unittest.skipIf(os.geteuid() != 0, "only root gives files away")
+    def test_atomic_and_the_owner(self):
+        self.put(b"old", "o.age")
+        os.chown("o.age", 1234, 5678)
+        with agefile.open("o.age", "wb", recipients=KEY, atomic=True):
+            pass
+        found = os.stat("o.age")
+        self.assertEqual((found.st_uid, found.st_gid), (1234, 5678))
+        # As in a container that does not map the owner.
+        with mock.patch("os.fchown", side_effect=OSError(errno.EINVAL, "no such owner")):
+            with agefile.open("o.age", "wb", recipients=KEY, atomic=True) as file:
+                file.write(b"text")
+        self.assertEqual(agefile.decrypt(self.got("o.age"), identities=KEY), b"text")
+
+    def test_atomic_that_fails(self):
+        """Where anything fails before the end the old file stays, and nothing stays beside it."""
+        def raises(file):
+            raise KeyError
+
+        def fails(*_):
+            raise OSError(errno.EIO, "failed")
+
+        def opens_no_folder(path, flags, **words):
+            return fails() if flags == os.O_RDONLY else os_open(path, flags, **words)
+
+        os_open = os.open
+
+        for name, work, patched in (
+            ("the body raises", raises, None),
+            ("it is aborted", lambda file: file.abort(), None),
+            ("fsync fails", lambda file: None, "os.fsync"),
+            ("replace fails", lambda file: None, "os.replace"),
+            ("the folder can't be opened", lambda file: None, "os.open"),
+        ):
+            self.put(b"old", "o.age")
+            how = opens_no_folder if patched == "os.open" else fails
+            patch = mock.patch(patched, how) if patched else contextlib.nullcontext()
+            with self.subTest(name), patch, contextlib.suppress(KeyError, OSError):
+                with agefile.open("o.age", "wb", recipients=KEY, atomic=True) as file:
+                    file.write(text(200000))
+                    work(file)
+            self.assertEqual((self.got("o.age"), os.listdir()), (b"old", ["o.age"]))
+        with self.assertWarns(RuntimeWarning):
+            agefile.open("o.age", "wb", recipients=KEY, atomic=True).write(b"text")
+            gc.collect()
+        self.assertEqual((self.got("o.age"), os.listdir()), (b"old", ["o.age"]))
+
+    def test_atomic_and_other_files(self):
+        self.addCleanup(os.umask, os.umask(0o027))
+        with agefile.open("n.age", "wb", recipients=KEY, atomic=True) as file:
+            pass
+        self.put(b"", "like")
+        self.assertEqual(os.stat("n.age").st_mode, os.stat("like").st_mode)
+        self.assertRaises(FileExistsError, agefile.open, "n.age", "xb", recipients=KEY, atomic=True)
+        file = agefile.open("x.age", "xb", recipients=KEY, atomic=True)
+        self.put(b"other", "x.age")
+        self.assertRaises(FileExistsError, file.close)
+        self.assertEqual(self.got("x.age"), b"other")
+        os.symlink("n.age", "link")
+        with agefile.open("link", "wb", recipients=KEY, atomic=True) as file:
+            file.write(b"text")
+        self.assertTrue(os.path.islink("link"))
+        self.assertEqual(agefile.decrypt(self.got("n.age"), identities=KEY), b"text")
+        self.assertRaises(ValueError, agefile.open, os.devnull, "wb", recipients=KEY, atomic=True)
+        for wrong in (io.BytesIO(), 1, lambda: io.BytesIO()):
+            self.assertRaises(TypeError, agefile.open, wrong, "wb", recipients=KEY, atomic=True)
+        self.assertRaises(TypeError, agefile.open, "n.age", "rb", identities=KEY, atomic=True)
+        self.assertEqual(sorted(os.listdir()), ["like", "link", "n.age", "x.age"])
+
+    def test_what_a_killed_process_left(self):
+        """It is named after the file, and the next that replaces the file removes it, unless it is
+        of a process that lives."""
+        self.put(b"old", "o.age")
+        for count in (1, 1):
+            child = os.fork()
+            if child == 0:
+                file = agefile.open("o.age", "wb", recipients=KEY, atomic=True)
+                file.write(text(200000))
+                os.kill(os.getpid(), signal.SIGKILL)
+            os.waitpid(child, 0)
+            self.assertEqual((self.got("o.age"), sorted(os.listdir())), (b"old", [".agefile-o.age-0", "o.age"]))
+        with agefile.open("o.age", "wb", recipients=KEY, atomic=True) as file:
+            with agefile.open("o.age", "wb", recipients=KEY, atomic=True) as other:
+                self.assertEqual(sorted(os.listdir()), [".agefile-o.age-0", ".agefile-o.age-1", "o.age"])
+                other.write(b"other")
+            file.write(b"text")
+        self.assertEqual((agefile.decrypt(self.got("o.age"), identities=KEY), os.listdir()), (b"text", ["o.age"]))
+        for name in ("ü" * 127, "a" * 255):
+            with agefile.open(name, "wb", recipients=KEY, atomic=True) as file:
+                file.write(b"text")
+            self.assertEqual(agefile.decrypt(self.got(name), identities=KEY), b"text")
+
+    def test_what_stands_beside(self):
+        """No file is waited for, followed or written that others put there."""
+        self.put(b"mine", "mine")
+        os.symlink("mine", ".agefile-o.age-0")
+        os.mkfifo(".agefile-o.age-1")
+        with agefile.open("o.age", "wb", recipients=KEY, atomic=True) as file:
+            file.write(b"text")
+        self.assertEqual(agefile.decrypt(self.got("o.age"), identities=KEY), b"text")
+        self.assertEqual((self.got("mine"), os.readlink(".agefile-o.age-0")), (b"mine", "mine"))
+        with self.assertRaises(FileNotFoundError) as caught:
+            agefile.open("absent/o.age", "wb", recipients=KEY, atomic=True)
+        self.assertEqual(caught.exception.filename, "absent/o.age")
+
+    def test_the_order_of_syncs(self):
+        """The new file is on the disk before it takes the place, and the folder's entry after it."""
+        noted, fsync, replace = [], os.fsync, os.replace
+
+        def note_sync(descriptor):
+            fsync(descriptor)
+            noted.append(os.path.basename(os.readlink(f"/proc/self/fd/{descriptor}")))
+
+        def note_replace(old, new):
+            replace(old, new)
+            noted.append("replace")
+
+        with mock.patch("os.fsync", note_sync), mock.patch("os.replace", note_replace):
+            with agefile.open("o.age", "wb", recipients=KEY, atomic=True) as file:
+                file.write(b"text")
+        self.assertEqual(noted, [".agefile-o.age-0", "replace", os.path.basename(os.getcwd())])
+
+    def test_atomic_and_fork(self):
+        """A child that ends removes nothing of its parent's, and puts nothing in its place."""
+        self.put(b"old", "o.age")
+        file = agefile.open("o.age", "wb", recipients=KEY, atomic=True)
+        file.write(text(100000))
+        child = os.fork()
+        if child == 0:
+            file.close()
+            os._exit(0)
+        os.waitpid(child, 0)
+        self.assertEqual((self.got("o.age"), len(os.listdir())), (b"old", 2))
+        file.close()
+        self.assertEqual(agefile.decrypt(self.got("o.age"), identities=KEY), text(100000))
+
+    def test_fork(self):
+        """A child writes nothing to the file of its parent, also when it closes it."""
+        for mode, data in (("wb", text(100000)), ("w", "text" * 30000)):
+            file = agefile.open("f.age", mode, recipients=KEY)
+            file.write(data)
+            file.flush()
+            child = os.fork()
+            if child == 0:
+                try:
+                    file.write(data)
+                    file.flush()
+                except OSError:
+                    file.close()
+                    os._exit(0)
+                os._exit(1)
+            self.assertEqual(os.waitpid(child, 0)[1], 0)
+            file.write(data)
+            file.close()
+            with agefile.open("f.age", mode.replace("w", "r"), identities=KEY) as whole:
+                self.assertEqual(whole.read(), data + data)
+
+    def test_fork_and_a_sink_with_a_buffer(self):
+        """A child that closes the file writes nothing of what its parent's buffer holds."""
+        def make():
+            return open("f.age", "wb", 1 << 20)
+
+        for below in (make(), make):
+            file = agefile.open(below, "wb", recipients=KEY)
+            file.write(text(200000))
+            child = os.fork()
+            if child == 0:
+                try:
+                    file.close()
+                    is_closed = file.closed
+                    del file
+                    gc.collect()
+                finally:
+                    os._exit(not is_closed)
+            self.assertEqual(os.waitpid(child, 0)[1], 0)
+            file.close()
+            if below is not make:
+                below.close()
+            self.assertEqual(agefile.decrypt(self.got("f.age"), identities=KEY), text(200000))
+
+    def test_text_that_is_not_written(self):
+        """An interrupt while text is written leaves no whole file without it."""
+        for atomic in (False, True):
+            for call in ("close", "flush"):
+                self.made(b"old", "o.age")
+                file = agefile.open("o.age", "w", recipients=KEY, atomic=atomic)
+                file.write("secret")
+                with mock.patch.object(agefile.Writer, "write", side_effect=KeyboardInterrupt):
+                    self.assertRaises(KeyboardInterrupt, getattr(file, call))
+                file.close()
+                self.assertEqual(os.listdir(), ["o.age"])
+                self.assertEqual(agefile.decrypt(self.got("o.age"), identities=KEY), b"old")
+        for kind, call in ((_Sealer, "_take"), (agefile.Writer, "write")):
+            file = agefile.open("o.age", "w", recipients=KEY)
+            file.write("secret")
+            error = type("Limit", (ValueError,), {})
+            with mock.patch.object(kind, call, side_effect=error):
+                self.assertRaises(error, file.write, "text" * 20000)
+            self.assertRaises(OSError, file.close)
+            self.assertEqual(agefile.decrypt(self.got("o.age"), identities=KEY), b"old")
+        with agefile.open("o.age", "w", recipients=KEY, encoding="ascii") as file:
+            self.assertRaises(UnicodeError, file.write, "ü")
+            self.assertRaises(TypeError, file.write, b"text")
+            file.write("text")
+        self.assertEqual(agefile.decrypt(self.got("o.age"), identities=KEY), b"text")
+
+    def test_a_source_in_memory_stays_there(self):
+        """`fileno` of a SpooledTemporaryFile would write it to the disk."""
+        with tempfile.SpooledTemporaryFile() as source:
+            source.write(b"text")
+            source.seek(0)
+            agefile.copy(source, "s.age", recipients=KEY)
+            self.assertFalse(source._rolled)
+        self.assertEqual(agefile.decrypt(self.got("s.age"), identities=KEY), b"text")
+
+    def test_a_sink_that_fails(self):
+        class Full(io.RawIOBase):
+            def __init__(self, room):
+                self.taken, self.room = bytearray(), room
+
+            def writable(self):
+                return True
+
+            def write(self, data):
+                if len(self.taken) + len(data) > self.room:
+                    raise OSError(28, "No space left on device")
+                self.taken += data[: max(len(data) // 2, 1)]
+                return max(len(data) // 2, 1)
+
+        whole = Full(1 << 20)
+        with agefile.open(whole, "wb", recipients=KEY) as file:
+            file.write(text(200000))
+        self.assertEqual(agefile.decrypt(whole.taken, identities=KEY), text(200000))
+        full = Full(100000)
+        file = agefile.open(full, "wb", recipients=KEY)
+        self.assertRaises(OSError, file.write, text(300000))
+        for call in (lambda: file.write(text(100000)), file.close):
+            self.assertRaisesRegex(OSError, "an earlier write failed", call)
+        self.assertTrue(file.closed)
+        with self.assertRaises(AgeError):
+            agefile.decrypt(full.taken, identities=KEY)
+        with self.assertRaisesRegex(OSError, "an earlier write failed"):
+            with agefile.open(Full(100000), "w", recipients=KEY) as file, contextlib.suppress(OSError):
+                file.write("text" * 75000)
+
+    def test_modes(self):
+        with agefile.open("x.age", "xb", recipients=KEY) as file:
+            self.assertTrue(file.writable() and not file.readable() and not file.seekable())
+        self.assertRaises(FileExistsError, agefile.open, "x.age", "x", recipients=KEY)
+        self.assertRaises(ValueError, file.write, b"")
+        with self.assertRaises(AgeError):
+            agefile.open("none.age", "wb", recipients=[])
+        below = io.BytesIO()
+        with agefile.open(below, "wb", recipients=KEY) as file:
+            file.write(b"text")
+        self.assertFalse(below.closed)
+        self.assertEqual(agefile.decrypt(below.getvalue(), identities=KEY), b"text")
+
+
+if __name__ == "__main__":
+    unittest.main()
