@@ -5,7 +5,7 @@
 // empty
 // file "met" shows that it came. The file that TRACE names gets a line for each call: its kind, the
 // file that it is about, and what it returned. A read of the character device /dev/urandom gives
-// the bytes of the file that URANDOM names.
+// the bytes of the file that URANDOM names. Where INODE is set, the number of each file is its size times this.
 #define _GNU_SOURCE
 #include <dlfcn.h>
 #include <errno.h>
@@ -126,7 +126,11 @@ int statx(int at, const char *path, int flags, unsigned mask, struct statx *foun
     static long calls;
     int (*next)(int, const char *, int, unsigned, struct statx *) =
         (int (*)(int, const char *, int, unsigned, struct statx *))real("statx");
-    return allowed("statx", &calls, 0) < 0 ? -1 : next(at, path, flags, mask, found);
+    int result = allowed("statx", &calls, 0) < 0 ? -1 : next(at, path, flags, mask, found);
+    const char *factor = getenv("INODE");
+    if (result == 0 && factor != NULL)
+        found->stx_ino = found->stx_size * strtoull(factor, NULL, 10);
+    return result;
 }
 
 off_t lseek(int file, off_t to, int from)

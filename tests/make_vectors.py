@@ -268,10 +268,12 @@ def scrypt_arguments():
     yield from files("scrypt_work_factor", TOO_HIGH, (
         (str(work), f"the work factor is {comment}", scrypt_lines(salt, str(work).encode())) for work, comment in (
             (23, "one more than the greatest that is usually accepted"), (31, "more than 30"), (64, "2^6"), (257, "2^8 + 1"),
-            (65537, "2^16 + 1"), (2**32 + 1, "2^32 + 1"), (2**64 + 1, "2^64 + 1"), (10**40, "10^40"),
+            (65537, "2^16 + 1"), (2**32 + 1, "2^32 + 1"), (2**64 + 1, "2^64 + 1"),
         )
     ))
-    yield from files("scrypt_work_factor", TOO_HIGH, [("60001_digits", "the work factor is 10^60000", scrypt_lines(salt, b"1" + b"0" * 60000))])
+    yield from files("scrypt_work_factor", TOO_HIGH, (
+        (f"{digits}_digits", f"the work factor is 10^{digits - 1}", scrypt_lines(salt, b"1" + b"0" * (digits - 1))) for digits in (40, 60001)
+    ))
     yield from files("scrypt_work_factor", WORK_TEXT, [("60000_zeros", "the work factor is 60,000 zeros", scrypt_lines(salt, b"0" * 60000))])
 
 
@@ -301,6 +303,7 @@ def scrypt_bodies():
     yield from files("scrypt_body", BODY_LENGTH, [("empty", "the body is empty", scrypt_lines(body=b""))])
     for name, comment, fault, lines in (
         ("arguments", "an argument is missing, and the salt and the body are malformed", ARG_COUNT, scrypt_lines(salt[1:], body=b"")),
+        ("argument_more", "there is an argument more, and all others and the body are malformed", ARG_COUNT, scrypt_lines(salt[1:], b"015", b"x", body=b"")),
         ("salt", "the salt, the work factor's text and the body are malformed", BAD_SALT, scrypt_lines(salt[1:], b"0", body=b"")),
         ("work_factor_text", "the work factor's text and the body are malformed", WORK_TEXT, scrypt_lines(salt, b"099", body=b"")),
         ("work_factor", "the work factor is too high and the body empty", TOO_HIGH, scrypt_lines(salt, b"99", body=b"")),
@@ -364,6 +367,7 @@ def malformed_keyed():
             ("argument_missing", "there is no salt", stanza_text([b"example.org/key"], body)),
             ("argument_more", "there is an argument more", key_lines(signs(SALT), b"1")),
             ("order_arguments", "an argument is missing and the body empty", stanza_text([b"example.org/key"], b"")),
+            ("order_argument_more", "there is an argument more, and the salt and the body are malformed", key_lines(b"A", b"x", body=b"")),
         )),
         (BAD_SALT, (
             *((f"salt_{name}", comment, key_lines(salt)) for name, comment, salt in bad_salts()),
@@ -446,6 +450,7 @@ def limits():
     start = VERSION + b"-> "
     for size, fault in ((LIMIT - 1, "HeaderTruncated"), (LIMIT, "HeaderTooLarge"), (LIMIT + 1, "HeaderTooLarge")):
         yield Case(f"header_line_{size}", f"a line without its end, {size:,} bytes from the start", start + b"a" * (size - len(start)), (fault,))
+    yield Case("header_line_no_arrow", "65,536 bytes from the start a line without an arrow and without its end", VERSION + b"A" * (LIMIT - len(VERSION)), ("HeaderTooLarge",))
     full = VERSION + b"-> a\n" + (b"A" * 64 + b"\n") * 1010
     yield Case("header_body", "a body without its end, 65,677 bytes from the start", full, ("HeaderTooLarge",))
 

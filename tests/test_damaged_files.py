@@ -1,30 +1,15 @@
-"""Decrypts files that were changed at each offset, and one with two stanzas that was cut at each.
-
-A row of a table is a first and a last offset, and what the program says at each of them. Nothing is
-written, since the damage is before the end of the only chunk."""
+"""Files of nothing that were cut or changed at each offset, files of two chunks that were cut at their edges, and what rewrap makes of such
+files. tests/test_library.py and tests/test_packages.py open those of `cases` by the libraries, as the test vectors."""
 
 import fixture
 import reference
-from fixture import KEY, PASSPHRASE, SALT, SEED
-from messages import message
-from program import ProgramCase, fault
+from fixture import KEY, SALT, SEED
+from make_vectors import BY_KEY, BY_PASSPHRASE, Case
+from program import ProgramCase, read, write
+from test_vectors import differences
+from testkit import Agep
 
-CUT_HEADER = message("HeaderTruncated")
-CUT_NONCE = message("NonceTruncated")
-CUT_CHUNK = message("ChunkShort", 0)
-NOT_AGE = message("NotAge")
-NO_MATCH = message("NoMatch")
-WRONG_KEY = message("WrongKey")
-BAD_MAC = message("BadMac")
-BAD_CHUNK = message("BadChunk", 0)
-
-
-def bad_line(number):
-    return message("BadLine", number)
-
-
-def malformed(why):
-    return message("Malformed", why)
+SALT_FAULT = "Malformed", "Salt"
 
 
 def with_another_stanza():
@@ -33,9 +18,9 @@ def with_another_stanza():
     return reference.ended(reference.VERSION + stanzas, SEED[:16]) + fixture.for_keys(b"", KEY)[156:]
 
 
-def changed(file, signs, at):
-    """The file with the byte at this offset changed: a base64 character of a body or a MAC to another
-    one, any other byte in its least bit."""
+def changed(file, at, *signs):
+    """The file with the byte at this offset changed: a base64 character of a body or a MAC, which begin at these, to
+    another one, and any other byte in its least bit."""
     if any(first <= at <= last for first, last in signs):
         return file[:at] + (b"E" if file[at : at + 1] == b"A" else b"A") + file[at + 1 :]
     return fixture.changed(file, at)
@@ -43,68 +28,85 @@ def changed(file, signs, at):
 
 def after_last_line(file, end, line):
     """Where the header's last LF is changed, the line goes on into the payload."""
-    return bad_line(line) if b"\n" in file[end + 1 :] else CUT_HEADER
+    return ("BadLine", line) if b"\n" in file[end + 1 :] else ("HeaderTruncated",)
 
 
-def keyed_rows(file, end, shift, line):
-    """Of a keyed file changed at each offset. The keyed stanza begins `shift` bytes and `line` lines
-    later than usual."""
+def cut_rows(header):
+    """Of a file of nothing that is cut in its header, its nonce of 16 bytes, or its tag."""
     return [
-        (22 + shift, 24 + shift, bad_line(2 + line)), (25 + shift, 40 + shift, NO_MATCH), (41 + shift, 61 + shift, WRONG_KEY),
-        (62 + shift, 62 + shift, malformed("Salt")), (63 + shift, 63 + shift, bad_line(2 + line)), (64 + shift, 106 + shift, WRONG_KEY),
-        (107 + shift, 107 + shift, bad_line(3 + line)), (108 + shift, 111 + shift, bad_line(4 + line)),
-        (112 + shift, 154 + shift, BAD_MAC), (end, end, after_last_line(file, end, 4 + line)), (156 + shift, 187 + shift, BAD_CHUNK),
+        (0, header - 1, "HeaderTruncated"), (header, header + 15, "NonceTruncated"), (header + 16, header + 31, "ChunkShort", 0),
+        (header + 32, header + 32, None),
     ]
 
 
+def keyed_rows(file, end, shift, line):
+    """Of a keyed file changed at each offset. The keyed stanza begins `shift` bytes and `line` lines later than usual."""
+    return [
+        (22 + shift, 24 + shift, "BadLine", 2 + line), (25 + shift, 40 + shift, "NoMatch"), (41 + shift, 61 + shift, "WrongKey"),
+        (62 + shift, 62 + shift, *SALT_FAULT), (63 + shift, 63 + shift, "BadLine", 2 + line), (64 + shift, 106 + shift, "WrongKey"),
+        (107 + shift, 107 + shift, "BadLine", 3 + line), (108 + shift, 111 + shift, "BadLine", 4 + line), (112 + shift, 154 + shift, "BadMac"),
+        (end, end, *after_last_line(file, end, 4 + line)), (156 + shift, 187 + shift, "BadChunk", 0),
+    ]
+
+
+def passphrase_rows(file):
+    """Of a passphrase's file changed at each offset."""
+    return [
+        (0, 21, "NotAge"), (22, 24, "BadLine", 2), (25, 31, "NoMatch"), (32, 52, "WrongKey"), (53, 53, *SALT_FAULT), (54, 54, "Malformed", "ArgCount"),
+        (55, 55, "Malformed", "WorkFactorText"), (56, 56, "WrongKey"), (57, 57, "BadLine", 2), (58, 100, "WrongKey"), (101, 101, "BadLine", 3),
+        (102, 105, "BadLine", 4), (106, 148, "BadMac"), (149, 149, *after_last_line(file, 149, 4)), (150, 181, "BadChunk", 0),
+    ]
+
+
+def tables():
+    """The name of a table, the secret, how many files it has, the file of each number, and its rows: a first and a last
+    number, and the fault of each. Nothing is released."""
+    of_pass, of_key, of_two = fixture.for_passphrase(b""), fixture.for_keys(b"", KEY), with_another_stanza()
+    for name, secret, file, header in ("passphrase", BY_PASSPHRASE, of_pass, 150), ("key", BY_KEY, of_key, 156), ("two", BY_KEY, of_two, 230):
+        yield f"{name}_cut", secret, header + 33, lambda at, file=file: file[:at], cut_rows(header)
+    yield "passphrase_changed", BY_PASSPHRASE, 182, lambda at: changed(of_pass, at, (58, 100), (106, 148)), passphrase_rows(of_pass)
+    yield "key_changed", BY_KEY, 188, lambda at: changed(of_key, at, (64, 106), (112, 154)), [(0, 21, "NotAge"), *keyed_rows(of_key, 155, 0, 0)]
+    another = [
+        (0, 21, "NotAge"), (22, 24, "BadLine", 2), (25, 28, "BadMac"), (29, 29, "BadLine", 2), (30, 93, "BadMac"), (94, 94, "BadLine", 3),
+        (95, 95, "BadLine", 4), *keyed_rows(of_two, 229, 74, 3),
+    ]
+    yield "two_changed", BY_KEY, 262, lambda at: changed(of_two, at, (30, 93), (138, 180), (186, 228)), another
+
+
+def cases():
+    """The files of the tables as test vectors, and those of two chunks."""
+    for name, secret, count, file_of, rows in tables():
+        for first, last, *fault in rows:
+            for at in range(first, last + 1):
+                yield Case(f"{name}_{at}", "", file_of(at), tuple(fault), secrets=secret)
+        assert [at for first, last, *_ in rows for at in range(first, last + 1)] == list(range(count)), name
+    plain = fixture.PLAIN[:65537]
+    file = fixture.for_passphrase(plain) + b"x"
+    for size, name, chunk in (
+        (182, "BadChunk", 0), (65717, "BadChunk", 0), (65718, "BadChunk", 0), (65719, "ChunkShort", 1), (65733, "ChunkShort", 1),
+        (65734, "EmptyFinal", 1), (65736, "BadChunk", 1),
+    ):
+        yield Case(f"two_chunks_{size}", "", file[:size], (name, chunk), plain[: 65536 * chunk])
+
+
 class DamagedFiles(ProgramCase):
-    def table(self, words, size, rows, text_at):
-        """Checks the rows, which are about each offset up to a size, once."""
-        self.assertEqual([at for first, last, _ in rows for at in range(first, last + 1)], list(range(size)))
-        for first, last, line in rows:
-            with self.subTest(f"{first} to {last}: {line or 'whole'}"):
-                came = {}
-                for at in range(first, last + 1):
-                    ran = self.run_agep(*words, input=text_at(at))
-                    if (ran.status, ran.err, ran.out) != ((1, fault(line).encode(), b"") if line else (0, b"", b"")):
-                        came[at] = (ran.status, ran.err, ran.out)
-                self.assertEqual(came, {})
+    def test_program(self):
+        """agep ends in the fault of each, and releases what comes before it."""
+        self.assertEqual(differences(Agep(), cases()), {})
 
-    def test_another_stanza_cut(self):
-        """A file of nothing with another stanza cut in its header, its nonce of 16 bytes, or its tag."""
-        file, header = with_another_stanza(), 230
-        self.assertEqual(len(file), header + 32)
-        rows = [
-            (0, header - 1, CUT_HEADER), (header, header + 15, CUT_NONCE), (header + 16, header + 31, CUT_CHUNK),
-            (header + 32, header + 32, None),
-        ]
-        self.table(["decrypt", "-k", "key"], len(file) + 1, rows, lambda at: file[:at])
-
-    def test_passphrase_changed(self):
-        """A passphrase's file changed at an offset."""
-        file = fixture.for_passphrase(b"", PASSPHRASE, 10)
-        rows = [
-            (0, 21, NOT_AGE), (22, 24, bad_line(2)), (25, 31, NO_MATCH), (32, 52, WRONG_KEY), (53, 53, malformed("Salt")),
-            (54, 54, malformed("ArgCount")), (55, 55, malformed("WorkFactorText")), (56, 56, WRONG_KEY), (57, 57, bad_line(2)),
-            (58, 100, WRONG_KEY), (101, 101, bad_line(3)), (102, 105, bad_line(4)), (106, 148, BAD_MAC),
-            (149, 149, after_last_line(file, 149, 4)), (150, 181, BAD_CHUNK),
-        ]
-        signs = [(58, 100), (106, 148)]
-        self.table(["decrypt", "-p", "pass", "-m", "22"], len(file), rows, lambda at: changed(file, signs, at))
-
-    def test_key_changed(self):
-        """A key's file changed at an offset."""
-        file = fixture.for_keys(b"", KEY)
-        rows = [(0, 21, NOT_AGE)] + keyed_rows(file, 155, 0, 0)
-        signs = [(64, 106), (112, 154)]
-        self.table(["decrypt", "-k", "key"], len(file), rows, lambda at: changed(file, signs, at))
-
-    def test_another_stanza_changed(self):
-        """A file with another stanza changed at an offset."""
-        file = with_another_stanza()
-        rows = [
-            (0, 21, NOT_AGE), (22, 24, bad_line(2)), (25, 28, BAD_MAC), (29, 29, bad_line(2)), (30, 93, BAD_MAC), (94, 94, bad_line(3)),
-            (95, 95, bad_line(4)),
-        ] + keyed_rows(file, 229, 74, 3)
-        signs = [(30, 93), (138, 180), (186, 228)]
-        self.table(["decrypt", "-k", "key"], len(file), rows, lambda at: changed(file, signs, at))
+    def test_rewrapped(self):
+        """rewrap copies the payload, whatever it is: both files end alike."""
+        nothing = read("empty_pass.age")
+        cuts = *((size, "NonceTruncated") for size in (150, 155, 165)), *((size, "ChunkShort: 0") for size in (166, 181))
+        for title, file, name, out in (
+            *((f"cut to {size} bytes", nothing[:size], name, b"") for size, name in cuts),
+            ("cut between two chunks", read("two_pass.age")[:-17], "BadChunk: 0", b""),
+            ("damaged in its second chunk", fixture.changed(read("plain_pass.age"), 70000), "BadChunk: 1", read("full")),
+            ("bytes behind its end", nothing + b"more\n", "BadChunk: 0", b""),
+        ):
+            with self.subTest(title):
+                write("cut", file)
+                self.line_says(name, "decrypt -p pass cut", out=out)
+                self.writes(b"", *"rewrap -p pass -K new.key -o made cut".split())
+                self.assert_bytes(read("made")[156:], file[150:], "the payload")
+                self.line_says(name, "decrypt -k new.key made", out=out)

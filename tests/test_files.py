@@ -4,7 +4,7 @@ tests/cli/files.console has an example of each."""
 import os
 
 from fixture import HELLO
-from program import BY_PASSPHRASE, OPENING, ProgramCase, read, write
+from program import BY_PASSPHRASE, OPENING, ProgramCase, preload, read, write
 
 WRITING = ("encrypt -k key hello", "range -k key 0 5 key.age", *(f"{command} key.age" for command in OPENING))
 
@@ -40,7 +40,7 @@ class Out(Files):
         other_pass, low = ([it.replace("-p pass", words) for it in by_passphrase] for words in ("-p other.pass", "-p pass -m 9"))
         for is_made, name, lines in (
             (True, "Read", each(("encrypt -k key", *OPENING), "folder")),
-            (True, "WrongKey", each((*other_key, "rewrap -k new.key -P new.pass"), "key.age") + each(other_pass, "pass.age")),
+            (True, "WrongKey", each((*other_key, "rewrap -k new.key -P new.pass"), "key.age") + each(other_pass, "pass.age", "empty_pass.age")),
             (True, "WrongKey", each(("range -p other.pass 0 5", "rewrap -p other.pass -P new.pass"), "pass.age")),
             (True, "NoMatch", each((*OPENING, "rewrap -k key -K new.key"), "pass.age")),
             (True, "Malformed: WorkFactorTooHigh", each(low, "pass.age")),
@@ -145,6 +145,15 @@ class OutIsRead(Files):
             ("Seed", "seed", "rewrap -p pass -K new.key -s seed -o seed pass.age"),
         ):
             self.refuses_out(role, out, line)
+
+    def test_numbers(self):
+        """Files are the same if all 64 bits of their numbers are, here their sizes times 2^32."""
+        env = {"LD_PRELOAD": preload("calls"), "INODE": str(2**32)}
+        write("made", b"old\n")
+        self.assert_ended(self.run_line("encrypt -k key -s seed -o made hello", env=env))
+        self.assert_file("made", read("key.age"))
+        write("made", b"hallo\n")
+        self.changes_nothing("OutputIsRead: Input, made", "encrypt -k key -s seed -o made hello", env=env)
 
     def test_standard_output(self):
         """Standard output that is appended to a file that is read."""

@@ -2,7 +2,7 @@
 
 import resource
 
-from fixture import PLAIN
+from fixture import KEY, SALT, SEED, for_keys, with_other_mac
 from messages import message
 from program import ProgramCase, fault, read, write
 
@@ -60,11 +60,21 @@ class Tables(ProgramCase):
                 header = header_in(read(file))
                 self.writes(header, "inspect", "-r", file)
                 self.writes(table(header), "inspect", input=read(file))
-        header = header_in(read("data/passphrase.age"))
-        self.writes(table(header, True), "inspect", "-f", "data/passphrase.key", "data/passphrase.age")
-        write("other", PLAIN[:16])
-        ran = self.run_agep("inspect", "-f", "other", "data/passphrase.age")
-        self.assert_ended(ran, 1, fault(message("BadMac")), table(header, False))
+
+    def test_checks(self):
+        """With the file key the last line says whether the MAC is right."""
+        own, keyed, age, age_key = SEED[:16], for_keys(b"", KEY), read("data/passphrase.age"), read("data/passphrase.key")
+        for is_right, title, file_key, file in (
+            (True, "a key's file", own, keyed), (True, "a file of age", age_key, age), (False, "the salt as the key", SALT, keyed),
+            (False, "the nonce as the key", SEED[16:32], keyed), (False, "another key", own, age), (False, "another MAC", age_key, with_other_mac(age)),
+            (False, "another argument", own, keyed.replace(b"uLw\n", b"uLg\n")),
+            (False, "zeros", bytes(16), header_of(f"-> scrypt {ZERO_SALT} 18\n{ZERO_MAC}\n")),
+        ):
+            with self.subTest(title):
+                write("made.key", file_key)
+                write("made", file)
+                ran = self.run_agep("inspect", "-f", "made.key", "made")
+                self.assert_ended(ran, int(not is_right), "" if is_right else fault(message("BadMac")), table(header_in(file), is_right))
 
     def test_great_headers(self):
         """Headers of many lines and of many arguments, up to the limit and beyond it."""

@@ -16,6 +16,7 @@ sys.path += [str(Path(__file__).resolve().parent.parent / "share/generate"), str
 import codes
 import header
 
+import test_damaged_files
 import test_vectors
 import testkit
 from messages import message
@@ -634,13 +635,14 @@ class WithTheProgram(unittest.TestCase):
 
 class Vectors(unittest.TestCase):
     def test_calls(self):
-        """Each call in Python and in C ends on the test vectors as they were made to."""
+        """Each call in Python and in C ends on the test vectors, and on damaged files, as they were made to."""
         ways = testkit.library_ways(prefix(), built("convert", "-O2"))
         if testkit.x25519() is None:
             print("skipped: test vectors for X25519: Python's package cryptography is missing")
         for way in ways["python"] + ways["c"]:
             with self.subTest(way.name):
                 self.assertEqual(test_vectors.differences(way), {})
+                self.assertEqual(test_vectors.differences(way, test_damaged_files.cases()), {})
 
 
 class Document(unittest.TestCase):

@@ -15,6 +15,9 @@ from pathlib import Path
 
 import fixture
 import stand_in
+import test_damaged_files
+import test_vectors
+import testkit
 from program import AGEP
 from program import version as last_release
 
@@ -511,6 +514,13 @@ class ForRust(unittest.TestCase):
                     self.assertEqual(back, plain)
                     done = subprocess.run([AGEP, "decrypt", "-k", "key"], input=made, capture_output=True, cwd=self.tree)
                     self.assertEqual((done.returncode, done.stdout, done.stderr), (0, plain, b""))
+
+    def test_vectors(self):
+        """Each way ends on the test vectors, and on damaged files, as they were made to."""
+        for way in (testkit.in_rust(self.converter(), kind) for kind in ("whole", "stream", "ranges", "threads")):
+            with self.subTest(way.name):
+                self.assertEqual(test_vectors.differences(way), {})
+                self.assertEqual(test_vectors.differences(way, test_damaged_files.cases()), {})
 
     def test_passphrases(self):
         """A passphrase's file of tests/reference.py opens, and age or agep opens the crate's."""

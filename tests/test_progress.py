@@ -14,7 +14,11 @@ from program import AGEP, ProgramCase, fault, read, write
 ERASE = "\r\x1b[K"
 MANY = b"".join(b"%d\n" % i for i in range(1, 100001))[:450000]
 KEY_FRONT = 172
-AMOUNT = r"\d+ [KM]iB"
+# The size in KiB, and the lines of a pipe and of a file: how much was read, how fast, and the
+# seconds that are left.
+SIZE = 439
+PIPE = r"agep: (\d+) KiB, (\d+) KiB/s"
+FILE = rf"agep: (\d+) KiB of {SIZE} KiB, (\d+) KiB/s, (\d+) s left"
 
 
 class Progress(ProgramCase):
@@ -59,21 +63,29 @@ class Progress(ProgramCase):
         drawn = said[: len(said) - len(ERASE + last)].split(ERASE)
         self.assertEqual(drawn[0], "")
         self.assertTrue(1 < len(drawn) <= 2 * took + 1, (drawn, took))
-        for each in drawn[1:]:
-            self.assertIsNotNone(re.fullmatch(line, each), each)
+        before = 0
+        for count, each in enumerate(drawn[1:], 1):
+            found = re.fullmatch(line, each)
+            self.assertIsNotNone(found, each)
+            done, rate, *left = map(int, found.groups())
+            self.assertTrue(before < done <= SIZE, each)
+            self.assertTrue(int(done / took) <= rate <= (done + 1) * 2 / count, (each, took))
+            for seconds in left:
+                self.assertTrue((SIZE - done - 1) // (rate + 1) <= seconds <= (SIZE - done + 1) // rate, each)
+            before = done
 
     def test_pipe(self):
         """Of a pipe it shows how much was read, and how fast."""
         pieces = [MANY[:131072], MANY[131072:262144], MANY[262144:393216], MANY[393216:]]
         status, _, said, took = self.at_terminal("encrypt", "-v", "-k", "key", "-s", "seed", pieces=pieces)
         self.assertEqual((status, read("out")), (0, read("many.age")))
-        self.assert_drawn(said, f"agep: {AMOUNT}, {AMOUNT}/s", took)
+        self.assert_drawn(said, PIPE, took)
 
     def test_file(self):
         """Of a file it shows the size, too, and the time that is left."""
         status, out, said, took = self.at_terminal("decrypt", "-v", "-k", "key", "many.age")
         self.assertEqual((status, out), (0, MANY))
-        self.assert_drawn(said, f"agep: {AMOUNT} of 439 KiB, {AMOUNT}/s, \\d+ s left", took)
+        self.assert_drawn(said, FILE, took)
 
     def test_fault(self):
         """It is gone before the message on a fault."""
@@ -82,7 +94,7 @@ class Progress(ProgramCase):
         more = "damaged: chunk 6, from byte 393216 of the plaintext on, is the last: the file may be cut short, or have bytes behind its end"
         last = fault(message("BadChunk", 6), more).replace("\n", "\r\n")
         self.assertEqual((status, out), (1, MANY[:393216]))
-        self.assert_drawn(said, f"agep: {AMOUNT} of 439 KiB, {AMOUNT}/s, \\d+ s left", took, last)
+        self.assert_drawn(said, FILE, took, last)
 
     def test_lost(self):
         """A line on lost chunks takes its place: of chunk 1 in the midst, and of chunk 4 in the end."""
@@ -95,7 +107,7 @@ class Progress(ProgramCase):
             before, line, after = said.partition(f"{ERASE}agep: {lost} of the plaintext\r\n")
             self.assertTrue(line, said)
             said = before + after
-        self.assert_drawn(said, f"agep: {AMOUNT} of 439 KiB, {AMOUNT}/s, \\d+ s left", took)
+        self.assert_drawn(said, FILE, took)
 
     def test_closed_output(self):
         """The terminal does not get the output if standard output is closed."""

@@ -394,9 +394,9 @@ def around(code, at):
 
 def sources():
     """The name and the code of each source, but for tests."""
-    for name in sorted(glob.glob(ROOT + "/crates/*/src/**/*.rt", recursive=True)):
-        if "/age_tests/" not in name and not re.search("/test", name):
-            yield os.path.relpath(name, ROOT), code_of(text_of(name))
+    for name in sorted(glob.glob("crates/*/src/**/*.rt", root_dir=ROOT, recursive=True)):
+        if not re.search("_tests/|/test", name):
+            yield name, code_of(text_of(f"{ROOT}/{name}"))
 
 
 class OutOfMemory(unittest.TestCase):
@@ -445,6 +445,19 @@ class OutOfMemory(unittest.TestCase):
                 with self.subTest(f"{name}: {found.group()}"):
                     is_good = is_pattern or self.is_of_a_call(code, found.start())
                     self.assertTrue(is_good, around(code, found.start())[:2])
+
+
+    # How much room a call asks for: a constant, a length, or a number that is named here. A list of
+    # values has no size.
+    SIZE = r"([A-Z_]+|[\w.]+\.len\(\)|len|spaces|range\.len|params\.work_len\(\))"
+    ROOM = rf"with_capacity\(alloc, {SIZE}(, \w+)?\)|vec!\[in [\w.()]+; (\w+; {SIZE}|[^;]+)\]"
+
+    def test_sizes(self):
+        """A call asks for as much room as it needs, and not for too much at one count of things alone."""
+        for name, code in sources():
+            for line in re.findall(".*(?:with_capacity|vec!).*", code):
+                with self.subTest(f"{name}: {line.strip()}"):
+                    self.assertRegex(line, self.ROOM)
 
 
 class FailedCalls(unittest.TestCase):

@@ -54,10 +54,10 @@ def expected(case, way):
     return testkit.Found(fault, word, case.text if fault is None or way.releases else b"")
 
 
-def differences(way):
+def differences(way, cases=None):
     """How vectors end in another way than they were made for."""
     found = {}
-    for case in make_vectors.cases():
+    for case in cases or make_vectors.cases():
         vector = testkit.parse(case.name, case.stored)
         if testkit.why_skipped(vector, way):
             continue

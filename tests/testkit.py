@@ -185,10 +185,13 @@ def secret_file(value):
 
 
 class Agep(InTurn):
-    name, releases, is_exact = "agep", True, True
+    """agep, or another program with its options and its lines, by the words before them."""
+
+    def __init__(self, name="agep", words=(program.AGEP, "decrypt"), releases=True, is_exact=True):
+        self.name, self.words, self.releases, self.is_exact = name, words, releases, is_exact
 
     def open_with(self, options, file):
-        done = subprocess.run([program.AGEP, "decrypt", *options], input=file, capture_output=True, timeout=60)
+        done = subprocess.run([*self.words, *options], input=file, capture_output=True, timeout=60)
         said = done.stderr.decode("utf-8", "replace")
         if done.returncode == 0 and not said:
             return Found(None, None, done.stdout)
@@ -197,6 +200,11 @@ class Agep(InTurn):
             if found := pattern.fullmatch(line[1]):
                 return Found(name, found[1] if found.groups() else None, done.stdout)
         return Found(f"status {done.returncode}", said, done.stdout)
+
+
+def in_rust(path, kind):
+    """A kind of call of tests/library/convert.rs, by the path of the program."""
+    return Agep(f"rust {kind}", (path, kind, "decrypt"), kind == "stream", kind != "ranges")
 
 
 class InC(InTurn):

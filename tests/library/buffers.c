@@ -79,55 +79,6 @@ static void great_buffers(void)
     release(text);
 }
 
-static void damage(void)
-{
-    size_t len = 140000;
-    made_file file = made(len);
-    uint8_t *text = text_of(len), *back = room(len);
-    agefile_report report;
-    for (size_t at = 0; at < file.len; at += at < file.front + 20 ? 1 : 1021) {
-        bool is_payload = at >= file.front - 16;
-        uint64_t chunk = at < file.front ? 0 : (at - file.front) / AGEFILE_SEALED_CHUNK;
-        file.bytes[at] ^= 1;
-        memset(back, 0xEE, len);
-        report = unset_report();
-        uint32_t code = agefile_decrypt_key(file.bytes, file.len, key, back, len, &report);
-        if (is_payload)
-            CHECK(code == AGEFILE_BAD_CHUNK && has_fields(&report, chunk * AGEFILE_TEXT_CHUNK, chunk, 0));
-        else
-            CHECK(code >= AGEFILE_NOT_AGE && code <= AGEFILE_BAD_MAC && report.len == 0);
-        CHECK(are_equal(back, text, report.len) && are_all(back + report.len, len - report.len, 0xEE));
-        file.bytes[at] ^= 1;
-    }
-    release(file.bytes);
-    release(text);
-    release(back);
-}
-
-static void truncation(void)
-{
-    size_t len = 131072;
-    made_file file = made(len);
-    uint8_t *text = text_of(len), *back = room(len);
-    agefile_report report;
-    for (size_t cut = 0; cut < file.len; cut += cut < file.front + 40 ? 1 : 509) {
-        uint8_t *part = copy_of(file.bytes, cut);
-        uint32_t code = agefile_decrypt_key(part, cut, key, back, len, &report);
-        uint64_t chunk = cut < file.front ? 0 : (cut - file.front) / AGEFILE_SEALED_CHUNK;
-        if (cut < file.front - 16)
-            CHECK(code == AGEFILE_HEADER_TRUNCATED && has_fields(&report, 0, 0, 0));
-        else if (cut < file.front)
-            CHECK(code == AGEFILE_NONCE_TRUNCATED && has_fields(&report, 0, 0, 0));
-        else
-            CHECK((code == AGEFILE_CHUNK_SHORT || code == AGEFILE_BAD_CHUNK || code == AGEFILE_EMPTY_FINAL) &&
-                  report.len == report.place * AGEFILE_TEXT_CHUNK && report.place <= chunk && are_equal(back, text, report.len));
-        release(part);
-    }
-    release(file.bytes);
-    release(text);
-    release(back);
-}
-
 static void work_factors(void)
 {
     uint8_t out[1000];
@@ -234,8 +185,6 @@ static const named_test tests[] = {
     {"whole files come back, under a key and a passphrase", whole_files},
     {"a buffer that is too small stays as it was", small_buffers},
     {"what lies behind the output stays as it was", great_buffers},
-    {"damage in the header, the nonce and each chunk", damage},
-    {"files that were cut", truncation},
     {"work factors out of range", work_factors},
     {"an empty passphrase makes no file", empty_passphrase},
     {"the sizes suffice, at their limits too", sizes_suffice},

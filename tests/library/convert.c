@@ -137,6 +137,9 @@ int main(int argc, char **argv)
     uint32_t code = strcmp(argv[1], "whole") == 0   ? is_encrypting ? encrypt_whole() : decrypt_whole()
                     : strcmp(argv[1], "steps") == 0 ? is_encrypting ? encrypt_steps() : decrypt_steps()
                                                     : decrypt_ranges();
+    // no byte that is not verified is left in the caller's buffer
+    if (!is_encrypting && output_len < input_len && !are_all(output + output_len, input_len - output_len, 0))
+        return 95;
     if (fwrite(output, 1, output_len, stdout) != output_len || fflush(stdout) != 0)
         return 96;
     if (code != AGEFILE_OK)

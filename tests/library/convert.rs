@@ -1,9 +1,10 @@
 //! Encrypts or decrypts standard input to standard output by one way of the crate for Rust, for comparisons with
 //! other programs:
 //!   convert (whole | stream | ranges | threads) (encrypt | decrypt) (-k | -p) SECRET_FILE
+//! After a fault it writes what came before, and ends with the line and the status of agep.
 
 use std::io::{self, Cursor, Read, Write};
-use std::{env, fs};
+use std::{env, fs, process};
 
 use agefile::{Identity, Key, Passphrase, RangeReader, Reader, Recipient, Writer};
 
@@ -22,15 +23,14 @@ fn encrypted(way: &str, plain: &[u8], recipient: &dyn Recipient) -> io::Result<V
     }
 }
 
-fn decrypted(way: &str, file: &[u8], identity: &dyn Identity) -> io::Result<Vec<u8>> {
-    let mut plain = Vec::new();
+fn decrypt_to(plain: &mut Vec<u8>, way: &str, file: &[u8], identity: &dyn Identity) -> io::Result<()> {
     match way {
-        "whole" => return Ok(agefile::decrypt(file, &[identity])?),
-        "threads" => return Ok(agefile::parallel::decrypt(file, &[identity], 3)?),
-        "ranges" => RangeReader::new(Cursor::new(file), &[identity])?.read_to_end(&mut plain)?,
-        _ => Reader::new(file, &[identity])?.read_to_end(&mut plain)?,
-    };
-    Ok(plain)
+        "whole" => *plain = agefile::decrypt(file, &[identity])?,
+        "threads" => *plain = agefile::parallel::decrypt(file, &[identity], 3)?,
+        "ranges" => drop(RangeReader::new(Cursor::new(file), &[identity])?.read_to_end(plain)?),
+        _ => drop(Reader::new(file, &[identity])?.read_to_end(plain)?),
+    }
+    Ok(())
 }
 
 fn main() -> io::Result<()> {
@@ -50,9 +50,15 @@ fn main() -> io::Result<()> {
     };
     let mut input = Vec::new();
     io::stdin().read_to_end(&mut input)?;
-    let output = match task.as_str() {
-        "encrypt" => encrypted(way, &input, recipient)?,
-        _ => decrypted(way, &input, identity)?,
+    let mut output = Vec::new();
+    let ended = match task.as_str() {
+        "encrypt" => encrypted(way, &input, recipient).map(|file| output = file),
+        _ => decrypt_to(&mut output, way, &input, identity),
     };
-    io::stdout().write_all(&output)
+    io::stdout().write_all(&output)?;
+    if let Err(error) = ended {
+        eprintln!("agep: {error}");
+        process::exit(1);
+    }
+    Ok(())
 }
