@@ -1,5 +1,6 @@
 """What bash, zsh and fish offer for the last word of a line of agep: the first two at a terminal."""
 
+import contextlib
 import itertools
 import os
 import pty
@@ -25,17 +26,18 @@ def at_terminal(shell, lines, folder):
     script = scratch() + "/script"
     write(script, f'{STARTS[shell]}\nagep() {{ printf "%s\\n" "$@" . >/dev/fd/{tell}; }}\n'.encode())
     words = ["timeout", "--foreground", "60", *shell.split(), "-i"]
-    environment = {**os.environ, "TERM": "dumb"}
+    environment = {**os.environ, "TERM": "dumb", "INPUTRC": "/dev/null"}
     with open(read) as answers, subprocess.Popen(
         words, stdin=other, stdout=other, stderr=other, cwd=folder, env=environment, pass_fds=[tell], start_new_session=True
-    ) as running:
+    ):
         os.close(tell)
         os.close(other)
         for line in [f". {script}; agep", *(f"{line}\x14" for line in lines)]:
             os.write(terminal, f"{line}\n".encode())
             yield [word.rstrip("\n") for word in itertools.takewhile(lambda word: word != ".\n", answers)]
-            os.read(terminal, 65536)
-        running.kill()
+            with contextlib.suppress(BlockingIOError):
+                os.read(terminal, 65536)
+        os.write(terminal, b"exit\n")
     os.close(terminal)
 
 
