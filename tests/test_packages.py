@@ -3,14 +3,19 @@ Python and Rust over the wheel and the tarball. Those of the program that choose
 package."""
 
 import functools
+import gzip
+import io
 import json
 import os
 import re
 import shutil
 import subprocess
 import sys
+import tarfile
 import tempfile
 import unittest
+import unittest.mock
+import zipfile
 from pathlib import Path
 
 import fixture
@@ -52,6 +57,55 @@ def run(*words, **options):
     if done.returncode != 0:
         raise AssertionError(f"{words}: status {done.returncode}\n{done.stdout}{done.stderr}")
     return done.stdout
+
+
+def members(package):
+    """The path, mode, owner and link of all that a package installs, and the content of its files."""
+    if package.suffix == ".whl":
+        with zipfile.ZipFile(package) as file:
+            for info in file.infolist():
+                yield info.filename, info.external_attr >> 16 & 0o7777, "root", "", file.read(info)
+        return
+    words = ("dpkg-deb", "--fsys-tarfile") if package.suffix == ".deb" else ("cat",)
+    data = subprocess.run([*words, package], capture_output=True, check=True).stdout
+    with tarfile.open(fileobj=io.BytesIO(data)) as file:
+        for member in file:
+            owner = "root" if (member.uid, member.gid) == (0, 0) else f"{member.uid}:{member.gid}"
+            content = file.extractfile(member).read() if member.isfile() else None
+            yield member.name.removeprefix("./"), member.mode, owner, member.linkname, content
+
+
+def listed():
+    """The lines of packaged.txt by package and path: mode, sign and what follows it. A star stands for the names of
+    the repository's files, and a later line for what another says of one of them."""
+    *_, text = (ROOT / "tests/packaged.txt").read_text().partition("\n\n")
+    for package, *lines in (part.strip().split("\n") for part in text.split("\n\n")):
+        rows = {}
+        for mode, path, sign, source in ((line.split(" ") + ["", ""])[:4] for line in lines):
+            for file in ROOT.glob(source) if "*" in path else [Path(path)]:
+                name = path.rpartition("/")[0] + f"/{file.name}" if "*" in path else path
+                rows[name] = (mode, sign, ROOT / source if "*" not in path else file)
+        yield package, rows
+
+
+# Instructions that a processor of the level x86-64 may lack, as objdump names them: those of AVX,
+# FMA, F16C, BMI, MOVBE and LZCNT, and of SSE3 to SSE4.2 with POPCNT.
+NEWER = re.compile(
+    r"\t(v[a-z]+\w*|andn|bextr|bls\w+|bzhi|mulx|p?dep|pext|rorx|sarx|shlx|shrx|movbe|lzcnt|popcnt|crc32\w*|cmpxchg16b|lddqu|mov(ddup|s[hl]dup)"
+    r"|h(add|sub)p[sd]|addsubp[sd]|pshufb|palignr|ph(add|sub)\w+|pmaddubsw|pmulhrsw|psign\w|pabs\w|p?blend\w+|dpp[sd]|extractps|insertps"
+    r"|mpsadbw|packusdw|pcmp(eqq|gtq|[ei]str[im])|p(extr|insr)[bdq]|phminposuw|p(max|min)(s[bd]|u[dw])|pmov[sz]x\w+|pmuldq|pmulld|ptest|round[ps][sd])\b"
+)
+
+
+def functions_of(file):
+    """The name of each function in a program or archive, for both builds the same, and its number of newer instructions."""
+    found = [["", 0]]
+    for line in run("objdump", "-d", "--no-show-raw-insn", file).splitlines():
+        if line.endswith(">:"):
+            found.append([line.split()[-1].replace("_v3_", "_"), 0])
+        elif NEWER.search(line):
+            found[-1][1] += 1
+    return found
 
 
 MODULES = ("build", "setuptools", "wheel")
@@ -128,6 +182,92 @@ class Packages(unittest.TestCase):
         ]
         self.assertEqual(sorted(path.name for path in self.dist.iterdir()), sorted(names))
 
+    def test_contents(self):
+        """Each file of each package is a line of packaged.txt: mode, owner, link and content. Folders have mode 755."""
+        self.maxDiff = None
+        for pattern, rows in listed():
+            found, contents, folders = {}, {}, set()
+            for path, mode, owner, link, content in members(self.one(pattern)):
+                if pattern.endswith((".crate", ".xz")):
+                    path = path.partition("/")[2]
+                path = path.replace(self.for_python, "VERSION")
+                if content is None and not link:
+                    folders.add((f"{mode:o}", owner))
+                else:
+                    found[path], contents[path] = (f"{mode:o}", owner, link), content
+            with self.subTest(pattern):
+                expected = {path: (mode, "root", after.name if sign == "->" else "") for path, (mode, sign, after) in rows.items()}
+                self.assertEqual(found, expected)
+                self.assertLessEqual(folders, {("755", "root")})
+            for path, (_, sign, source) in rows.items():
+                if sign in ("=", "~") and path in contents:
+                    with self.subTest(f"{pattern}: {path}"):
+                        self.assert_content(contents[path], source.read_bytes(), sign == "~")
+
+    def assert_content(self, content, source, has_version):
+        """Compares a file with its source. If it has the version, one line with it may be another."""
+        lines = (gzip.decompress(content) if content[:2] == b"\x1f\x8b" else content).split(b"\n")
+        if has_version:
+            (at,) = (at for at, line in enumerate(lines) if self.version.encode() in line)
+            lines[at] = source.split(b"\n")[at]
+        self.assertEqual(b"\n".join(lines), source)
+
+    def programs(self):
+        """Each program of the packages, and the build that /usr/bin/agep holds."""
+        for pattern in ("agep_*.deb", "agep-*.tar.xz"):
+            for path in self.unpacked(pattern).rglob("agep*"):
+                content = path.read_bytes() if path.is_file() else b""
+                if content[:4] == b"\x7fELF":
+                    yield pattern, path
+                if path.name == "agep" and b"\x7fELF" in content[1:]:
+                    held = path.with_name("held")
+                    held.write_bytes(content[content.index(b"\x7fELF", 1) :])
+                    held.chmod(0o755)
+                    yield pattern, held
+
+    def test_instructions(self):
+        """A build of the program for x86-64 has no instruction that a processor of this level may lack. In the
+        archives each function of the proved code stands for it and for x86-64-v3."""
+        for pattern, path in self.programs():
+            with self.subTest(f"{pattern}: {path.name}"):
+                count = sum(count for _, count in functions_of(path))
+                if path.name in ("agep-x86-64", "held"):
+                    self.assertEqual(count, 0)
+                elif path.name == "agep-x86-64-v3":
+                    self.assertGreater(count, 1000)
+        for pattern in ("libagefile-dev_*.deb", "agep-*.tar.xz"):
+            (archive,) = self.unpacked(pattern).rglob("libagefile.a")
+            with self.subTest(f"{pattern}: libagefile.a"):
+                newer, older = ({name for name, count in functions_of(archive) if (count > 0) == is_newer} for is_newer in (True, False))
+                self.assertGreater(len(newer), 30)
+                self.assertEqual(newer - older, set())
+
+    @needs("cc", "qemu-x86_64")
+    def test_old_processor(self):
+        """Every program and library runs on a processor without SSSE3, and the library on one with AVX2."""
+        (self.work / "key").write_bytes(fixture.KEY)
+        (self.work / "keyed").write_bytes(fixture.for_keys(fixture.PLAIN, fixture.KEY))
+        expected = (0, fixture.PLAIN)
+        for pattern, path in self.programs():
+            with self.subTest(f"{pattern}: {path.name}"):
+                done = self.on("qemu64", path, "decrypt", "-k", "key", "keyed")
+                # The build for x86-64-v3 alone refuses such a processor.
+                self.assertEqual((done.returncode, done.stdout), (127, b"") if path.name.endswith("-v3") else expected)
+        for pattern in ("libagefile*.deb", "agep-*.tar.xz", "*.whl"):
+            for path in self.unpacked(pattern).rglob("libagefile.[as]*"):
+                if path.is_symlink():
+                    continue
+                flags = (f"-I{ROOT}/bindings/c", f"-Wl,-rpath,{path.parent}")
+                run("cc", "-O2", "-o", self.work / "stream", ROOT / "bindings/c/examples/stream.c", path, *flags)
+                for processor in ("qemu64", "Haswell"):
+                    with self.subTest(f"{pattern}: {path.name} on {processor}"):
+                        done = self.on(processor, self.work / "stream", "key", input=(self.work / "keyed").read_bytes())
+                        self.assertEqual((done.returncode, done.stdout), expected)
+
+    def on(self, processor, *words, **options):
+        emulated = ["sh", "-c", 'ulimit -c 0; exec qemu-x86_64 -cpu "$@"', "sh", processor, *words]
+        return subprocess.run(emulated, cwd=self.work, capture_output=True, **options)
+
     @needs("lintian")
     def test_lintian(self):
         """It says nothing but what an override explains, and each override is used."""
@@ -187,8 +327,6 @@ class Packages(unittest.TestCase):
         self.assertEqual(run(alone, "help", "decrypt"), run(AGEP, "help", "decrypt").replace("agep decrypt", "copy decrypt"))
         refused = subprocess.run([agep, "decrypt"], input=b"hello", capture_output=True)
         self.assertEqual(refused.returncode, 1)
-        for name in ("bash-completion/completions/agep", "zsh/vendor-completions/_agep", "fish/vendor_completions.d/agep.fish"):
-            self.assertIn("agep", (root / "usr/share" / name).read_text())
 
     def test_builds_of_the_program(self):
         """Both programs hold both builds, one of which uses the registers of x86-64-v3, and run on older processors."""
@@ -522,6 +660,38 @@ class ForRust(unittest.TestCase):
                 self.assertEqual(test_vectors.differences(way), {})
                 self.assertEqual(test_vectors.differences(way, test_damaged_files.cases()), {})
 
+    def test_no_threads(self):
+        """Where the system starts no thread, which here would have a stack of 4 EiB, there is one."""
+        file = fixture.for_keys(fixture.PLAIN, fixture.KEY)
+        (self.tree / "key").write_bytes(fixture.KEY)
+        with unittest.mock.patch.dict(os.environ, {"RUST_MIN_STACK": str(1 << 62)}):
+            self.assertEqual(self.convert("threads", "decrypt", "-k", "key", file=file), fixture.PLAIN)
+            made = self.convert("threads", "encrypt", "-k", "key", file=fixture.PLAIN)
+        self.assertEqual(self.convert("whole", "decrypt", "-k", "key", file=made), fixture.PLAIN)
+
+    def test_no_library(self):
+        """Where the library is missing, the build's error names the package, the variable and the folder."""
+        environment = self.environment | {"AGEFILE_LIB_DIR": "/absent", "CARGO_TARGET_DIR": str(self.tree / "no library")}
+        done = subprocess.run(["cargo", "check", "--offline"], cwd=ROOT / "bindings/rust", env=environment, capture_output=True, text=True)
+        self.assertEqual(done.returncode, 101)
+        line = "  agefile: /absent has no libagefile.a: install the package libagefile-dev, or set AGEFILE_LIB_DIR to its folder\n"
+        self.assertIn(line, done.stderr)
+
+    def test_each_function_is_called(self):
+        """The tests of the crate call each public function: the compiler warns of each, if all are deprecated."""
+        tree = self.tree / "deprecated"
+        shutil.copytree(ROOT / "bindings/rust", tree, ignore=shutil.ignore_patterns("target"))
+        names = []
+        for path in tree.glob("src/*.rs"):
+            if path.name not in ("ffi.rs", "front.rs"):
+                names += re.findall(r"^ *pub fn (\w+)", path.read_text(), re.MULTILINE)
+                path.write_text(re.sub(r"^( *)(?=pub fn )", r"\1#[deprecated]\n\1", path.read_text(), flags=re.MULTILINE))
+        words = ["cargo", "check", "--offline", "--all-features", "--tests", "--message-format=short"]
+        said = subprocess.run(words, cwd=tree, env=self.environment, capture_output=True, text=True, check=True).stderr
+        called = set(re.findall(r"^tests/.*: use of deprecated [a-z ]* `(.*?)`", said, re.MULTILINE))
+        self.assertGreater(len(names), 25)
+        self.assertEqual(sorted(re.sub(r".*::", "", name) for name in called), sorted(names), called)
+
     def test_passphrases(self):
         """A passphrase's file of tests/reference.py opens, and age or agep opens the crate's."""
         (self.tree / "pass").write_bytes(fixture.PASSPHRASE)
@@ -538,7 +708,14 @@ class ForRust(unittest.TestCase):
             cwd=ROOT / "bindings/rust", env=self.environment)
 
     def test_documentation(self):
+        """It is made without a warning. Each public type has an example, which the tests run, or names one that has."""
         self.cargo("doc")
+        types = [
+            (documentation, name) for path in (ROOT / "bindings/rust/src").glob("*.rs") if path.name not in ("ffi.rs", "front.rs")
+            for documentation, name in re.findall(r"^((?:///.*\n)*)(?:#\[.*\n)*pub (?:struct|enum|trait) (\w+)", path.read_text(), re.MULTILINE)
+        ]
+        self.assertGreater(len(types), 12)
+        self.assertEqual([name for documentation, name in types if not re.search("```|has an example|have examples", documentation)], [])
 
     @needs("rustfmt")
     def test_layout(self):

@@ -1,78 +1,124 @@
-"""./agep where the toolchain is another one, or none: when the program is built anew."""
+"""./agep, ./install and ./package --build over a stand-in for the toolchain: when each builds anew what it is
+to run, install or pack, and for which processors."""
 
 import os
 import shutil
 import subprocess
 import unittest
-import unittest.mock
 
 from program import AGEP, ROOT, read, scratch, version, write
 
+# It notes what it is asked for, makes each file that is taken from it, and runs a script that tests
+# set.
+RT = """#!/bin/sh
+folder={}
+echo "${{PWD##*/}} $*" >>"$folder/asked"
+mkdir -p out
+touch out/agep.o out/libagefile.a
+if [ -f "$folder/meanwhile" ]; then sh "$folder/meanwhile"; fi
+"""
+LEVELS = ("x86-64", "x86-64-v3")
+PROGRAM = "agep run --cpu {} -- --version"
+LIBRARIES = [f"agefile lib --cpu {level}" for level in LEVELS]
+# What each script has the toolchain build, if the processor at hand is called x86-64-v9. The last
+# one fails at the link of what the stand-in makes.
+SCRIPTS = {
+    "agep --version": [PROGRAM.format("x86-64-v9")],
+    "install prefix": [PROGRAM.format("x86-64-v9")],
+    "package --build": sorted(LIBRARIES + [PROGRAM.format(level) for level in LEVELS]),
+    "install --library prefix": LIBRARIES,
+}
 
-class Toolchains(unittest.TestCase):
-    TOOLS = ["cat", "cp", "date", "dirname", "find", "head", "mktemp", "mv", "readlink", "rm", "sed", "sh", "touch"]
 
+class Builds(unittest.TestCase):
     def setUp(self):
-        """A tree with this program, and a toolchain whose rt makes nothing."""
+        self.addCleanup(os.chdir, "/")
+        self.make_tree()
+
+    def make_tree(self):
+        """A tree of scripts with this program, which no toolchain is known to have built."""
         self.folder = scratch()
         os.chdir(self.folder)
-        self.addCleanup(os.chdir, "/")
-        for name in ("tree/crates/agep/src", "tree/crates/agep/specs", "tree/crates/agep/proofs", "tree/crates/agep/out", "tree/share", "kit/bin", "tools"):
-            os.makedirs(name)
-        for name in ("agep", "crates.txt", "share/build.sh", "CHANGELOG.md", ".gitignore"):
-            shutil.copy(f"{ROOT}/{name}", f"tree/{name}")
+        for name in ("agep/src/deep", "agep/specs", "agep/proofs", "agep/out", "agefile/src"):
+            os.makedirs(f"tree/crates/{name}")
+        for name in ("agep", "install", "package", "crates.txt", "CHANGELOG.md", ".gitignore", "share", "bindings"):
+            shutil.copytree(f"{ROOT}/{name}", f"tree/{name}") if os.path.isdir(f"{ROOT}/{name}") else shutil.copy(f"{ROOT}/{name}", "tree")
         shutil.copy(AGEP, "tree/crates/agep/out/agep")
-        write("kit/bin/rt", f'#!/bin/sh\necho "$@" >>"{self.folder}/built"\n'.encode())
+        self.sources = [f"tree/crates/{name}" for name in ("agep/src/deep/a.rt", "agep/specs/A.antt", "agep/proofs/A.antt", "agefile/src/b.rt")]
+        for name in self.sources:
+            write(name, b"")
+        os.makedirs("kit/bin")
+        write("kit/bin/rt", RT.format(self.folder).encode())
         os.chmod("kit/bin/rt", 0o755)
-        for name in self.TOOLS:
-            os.symlink(shutil.which(name), f"tools/{name}")
-
-    def builds(self, *folders, commit=""):
-        """Runs ./agep with the tools of these folders; returns whether it had rt build the program. Its version is
-        followed by this text."""
-        write("built", b"")
-        path = ":".join(f"{self.folder}/{folder}" for folder in folders)
-        done = subprocess.run(["tree/agep", "--version"], env={**os.environ, "PATH": path}, stdin=subprocess.DEVNULL, capture_output=True)
-        self.assertEqual((done.returncode, done.stdout.decode()), (0, f"agep {version()}{commit}\n"), done.stderr.decode())
-        is_built = b"run " in read("built")
-        if not is_built:
-            self.assertEqual((done.stderr, read("built")), (b"", b""))
-        return is_built
-
-    def test_toolchains(self):
-        """It is built where it isn't known to be current, and runs without a toolchain."""
         write("kit/KIT-ID", b"kit one\n")
-        self.assertTrue(self.builds("kit/bin", "tools"), "no toolchain is known to have built it")
-        self.assertFalse(self.builds("kit/bin", "tools"), "it is current")
-        write("kit/KIT-ID", b"kit two\n")
-        self.assertFalse(self.builds("tools"), "there is no toolchain")
-        self.assertTrue(self.builds("kit/bin", "tools"), "the toolchain is another one")
+
+    def asked(self, script, path=None, commit="", **environment):
+        """What the toolchain is asked to build for a processor. The version is followed by this text."""
+        write("asked", b"")
+        path = path or f"{self.folder}/kit/bin:{os.environ['PATH']}"
+        environment = {**os.environ, "AGEP_CPU": "x86-64-v9", "PATH": path, **environment}
+        done = subprocess.run(f"tree/{script}".split(), env=environment, stdin=subprocess.DEVNULL, capture_output=True)
+        if script == "agep --version":
+            self.assertEqual((done.returncode, done.stdout.decode()), (0, f"agep {version()}{commit}\n"), done.stderr.decode())
+        return sorted(line for line in read("asked").decode().splitlines() if "--cpu" in line)
+
+    def test_sources(self):
+        """What is built is built again where a source is newer, came or went, and so is what a source changed
+        under, or what is for another processor."""
+        rows = [
+            ("nothing is built", "", True), ("all is current", "", False), ("crates.txt", "touch tree/crates.txt", True),
+            *((name, f"touch {name}", True) for name in self.sources),
+            ("a new source", ">tree/crates/agefile/src/new.rt", True), ("a source that went", "rm tree/crates/agefile/src/new.rt", True),
+            ("what is no source", "touch tree/install tree/crates/agep/README.md", False),
+            ("a source that changes meanwhile", f"echo touch $PWD/{self.sources[0]} >meanwhile; touch tree/crates.txt", True),
+            ("what it changed under", "rm meanwhile", True), ("all is current again", "", False),
+        ]
+        for script, every in SCRIPTS.items():
+            self.make_tree()
+            for title, change, is_built in rows:
+                with self.subTest(f"{script}: {title}"):
+                    subprocess.run(change, shell=True, check=True)
+                    self.assertEqual(self.asked(script), every if is_built else [])
+
+    def test_processors(self):
+        """The program is built for the processor that is named, and the packages for theirs, whatever is named."""
+        for script, level, is_built in (
+            ("agep --version", "x86-64-v2", True), ("install prefix", "x86-64-v2", False), ("install prefix", "x86-64-v4", True),
+            ("agep --version", "x86-64-v4", False), ("agep --version", "x86-64-v2", False),
+        ):
+            self.assertEqual(self.asked(script, AGEP_CPU=level), [PROGRAM.format(level)] * is_built, f"{script} for {level}")
+        self.assertEqual(self.asked("package --build", AGEP_CPU="x86-64-v2"), SCRIPTS["package --build"])
+        self.assertEqual(self.asked("agep --version", AGEP_CPU="x86-64-v2"), [], "the program of ./agep stays")
 
     def test_commit(self):
         """A build in a repository of git names the commit, and says whether the crates have changed since."""
-        os.symlink(shutil.which("git"), "tools/git")
         git = ["git", "-C", "tree", "-c", "user.name=Name", "-c", "user.email=name@host"]
-        for words in (["init", "-q"], ["add", "crates.txt"], ["commit", "-qm", "All"]):
+        for words in (["init", "-q"], ["add", "-A"], ["commit", "-qm", "All"]):
             subprocess.run([*git, *words], check=True)
         name = subprocess.check_output([*git, "rev-parse", "HEAD"], text=True)[:10]
-        write("kit/KIT-ID", b"kit one\n")
         write("tree/README.md", b"text")
-        self.assertTrue(self.builds("kit/bin", "tools", commit=f" (commit {name})"))
+        every = SCRIPTS["agep --version"]
+        self.assertEqual(self.asked("agep --version", commit=f" (commit {name})"), every)
         subprocess.run([*git, "commit", "-qm", "Empty", "--allow-empty"], check=True)
-        self.assertFalse(self.builds("kit/bin", "tools", commit=f" (commit {name})"), "no crate has changed")
+        self.assertEqual(self.asked("agep --version", commit=f" (commit {name})"), [], "no crate has changed")
         write("tree/crates.txt", b"text")
         name = subprocess.check_output([*git, "rev-parse", "HEAD"], text=True)[:10]
-        self.assertTrue(self.builds("kit/bin", "tools", commit=f" (commit {name}, changed)"))
+        self.assertEqual(self.asked("agep --version", commit=f" (commit {name}, changed)"), every)
 
-    def test_levels(self):
-        """A program that was built for a processor is not built for it once more."""
-        write("kit/KIT-ID", b"kit one\n")
-        with unittest.mock.patch.dict(os.environ, AGEP_CPU="x86-64-v2"):
-            self.assertTrue(self.builds("kit/bin", "tools"))
-        with unittest.mock.patch.dict(os.environ, AGEP_CPU="x86-64"):
-            self.assertTrue(self.builds("kit/bin", "tools"))
-        with unittest.mock.patch.dict(os.environ, AGEP_CPU="x86-64-v2"):
-            self.assertFalse(self.builds("kit/bin", "tools"))
-            self.assertEqual(read("tree/crates/agep/out/built")[:10], b"x86-64-v2\n")
-            write("tree/crates.txt", b"text")
-            self.assertTrue(self.builds("kit/bin", "tools"), "a source is newer")
+    def test_toolchains(self):
+        """Another toolchain builds anew; where there is none, what is there is run and installed."""
+        tools = f"{self.folder}/tools"
+        os.mkdir(tools)
+        for name in ("cat", "chmod", "cp", "dirname", "find", "head", "mkdir", "mv", "readlink", "sed", "sh"):
+            os.symlink(shutil.which(name), f"{tools}/{name}")
+        for script in ("agep --version", "install prefix"):
+            with self.subTest(script):
+                write("kit/KIT-ID", b"kit one\n")
+                self.asked(script)
+                write("kit/KIT-ID", b"kit two\n")
+                self.assertEqual(self.asked(script, path=tools), [])
+                self.assertEqual(self.asked(script), SCRIPTS[script])
+
+
+if __name__ == "__main__":
+    unittest.main()

@@ -8,8 +8,8 @@ import subprocess
 import unittest
 
 from program import AGEP, ROOT, ProgramCase, read, scratch, version, write
+from shells import offered
 
-COMPLETIONS = ROOT + "/share/completions"
 PAGE = ROOT + "/share/man/agep.1"
 
 
@@ -31,6 +31,31 @@ def options_of(*words):
 def section(heading):
     """The part of the manual page between this heading and the next."""
     return read(PAGE).decode().replace("\\-", "-").split(f"\n.SH {heading}\n")[1].split("\n.SH ")[0]
+
+
+def enter_examples():
+    """Enters a folder that has the files which examples name, beside a folder for programs."""
+    folder = scratch()
+    for name in ("bin", "work", "work/folder"):
+        os.mkdir(f"{folder}/{name}")
+    os.symlink(AGEP, folder + "/bin/agep")
+    os.chdir(folder + "/work")
+    for name, text in {
+        "passphrase": b"correct horse\n", "old": b"correct horse\n", "new": b"another horse\n", "passphrase.new": b"another horse\n",
+        "key": os.urandom(32), "recovery.key": os.urandom(32), "seed": os.urandom(48), "notes": b"notes\n", "folder/notes": b"notes\n",
+        "dump": b"dump\n", "disk": bytes(1200000),
+    }.items():
+        write(name, text)
+    write("filekey", read("seed")[:16])
+
+
+def run_example(line, *options, status=0):
+    """Runs a line in the folder, which ends so, and returns what it writes."""
+    env = {**os.environ, "PATH": f"../bin:{os.environ['PATH']}"}
+    done = subprocess.run(["bash", *options, "-c", line], env=env, stdin=subprocess.DEVNULL, capture_output=True, timeout=60)
+    if (done.returncode, done.stderr) != (status, b""):
+        raise AssertionError(f"{line}\nstatus {done.returncode}\n{done.stderr.decode()}")
+    return done.stdout
 
 
 class Helps(ProgramCase):
@@ -68,40 +93,22 @@ class Helps(ProgramCase):
 
     def test_examples(self):
         """The examples of help run, in a folder that has the files which they name."""
-        folder = scratch()
-        os.mkdir(folder + "/bin")
-        os.symlink(AGEP, folder + "/bin/agep")
-        os.mkdir(folder + "/work")
-        os.chdir(folder + "/work")
-
-        def run(line):
-            env = {**os.environ, "PATH": f"{folder}/bin:{os.environ['PATH']}"}
-            done = subprocess.run(["bash", "-o", "pipefail", "-c", line], env=env, stdin=subprocess.DEVNULL, capture_output=True, timeout=60)
-            self.assertEqual((done.returncode, done.stderr.decode()), (0, ""))
-
-        for name, text in {
-            "passphrase": b"correct horse\n", "old": b"correct horse\n", "new": b"another horse\n", "key": os.urandom(32),
-            "seed": os.urandom(48), "notes": b"notes\n", "dump": b"dump\n", "disk": bytes(1200000),
-        }.items():
-            write(name, text)
-        write("filekey", read("seed")[:16])
-        os.mkdir("folder")
-        shutil.copy("notes", "folder/")
+        enter_examples()
         for command in commands():
             for name in os.listdir("."):
                 if name.endswith(".age"):
                     os.remove(name)
             shutil.rmtree("x", ignore_errors=True)
             if command != "encrypt":
-                run("agep encrypt -p passphrase -s seed -o notes.age notes")
-                run("tar c folder | agep encrypt -p passphrase -w 10 -o folder.tar.age")
-                run("agep encrypt -p passphrase -w 10 -o disk.age disk && agep encrypt -k key -o keyed.age disk")
-                run(f"agep encrypt {'-p passphrase -w 10' if command == 'rewrap' else '-k key'} -o dump.age dump")
+                run_example("agep encrypt -p passphrase -s seed -o notes.age notes")
+                run_example("tar c folder | agep encrypt -p passphrase -w 10 -o folder.tar.age")
+                run_example("agep encrypt -p passphrase -w 10 -o disk.age disk && agep encrypt -k key -o keyed.age disk")
+                run_example(f"agep encrypt {'-p passphrase -w 10' if command == 'rewrap' else '-k key'} -o dump.age dump")
             for line in filter(None, help_of(command).split("\nExamples:\n")[1].split("\n")):
                 with self.subTest(line.strip()):
                     if "range -k" in line:
                         shutil.copy("keyed.age", "disk.age")
-                    run(line)
+                    run_example(line, "-o", "pipefail")
 
 
 class Manual(unittest.TestCase):
@@ -117,22 +124,34 @@ class Manual(unittest.TestCase):
             every = {word for words in [[]] + [[command] for command in commands()] for word in options_of(*words)}
             self.assertEqual(sorted(word for row in rows for word in row), sorted(every))
 
+    def enter_backups(self):
+        """Enters a folder for EXAMPLES that has files which earlier ones made."""
+        self.addCleanup(os.chdir, "/")
+        enter_examples()
+        run_example("agep encrypt -p passphrase -w 10 -o notes.age notes && agep encrypt -k key -o disk.age disk")
+        run_example("tar c folder | agep encrypt -k key -o folder.tar.age")
+
     def test_examples(self):
-        """Each example runs, in a folder that has the files which it names."""
-        folder = scratch()
-        os.makedirs(folder + "/work/folder")
-        os.symlink(AGEP, folder + "/agep")
-        os.chdir(folder + "/work")
-        for name, text in {"passphrase": b"old\n", "passphrase.new": b"new\n", "notes": b"notes\n", "recovery.key": bytes(32)}.items():
-            write(name, text)
-        first = "set -e; PATH=$0:$PATH; agep encrypt -w 10 -p passphrase -o notes.age notes; [ ! -e key ] || agep encrypt -k key -o disk.age notes\n"
-        groups = re.findall(r"^\.nf\n(.*?)^\.fi$", section("EXAMPLES"), re.MULTILINE | re.DOTALL)
-        self.assertEqual(len(groups), 6)
-        for group in groups:
-            with self.subTest(group):
-                done = subprocess.run(["bash", "-c", first + group, folder], stdin=subprocess.DEVNULL, capture_output=True, timeout=60)
-                self.assertEqual((done.returncode, done.stderr.decode()), (0, ""))
-        self.assertEqual(subprocess.run([AGEP, "decrypt", "-p", "passphrase.new", "notes.age"], capture_output=True).stdout, b"notes\n")
+        """Each of EXAMPLES runs in a plain shell. Its files open; after a tar that fails the old backup is there."""
+        secrets = ("-p passphrase", "-p passphrase.new", "-k key", "-k recovery.key")
+        opened = {"notes.age": "agep decrypt {} notes.age", "folder.tar.age": "agep decrypt {} folder.tar.age | tar xO folder/notes"}
+        blocks = re.findall(r"^\.nf\n(.*?)^\.fi$", section("EXAMPLES"), re.MULTILINE | re.DOTALL)
+        self.assertGreater(len(blocks), 5)
+        for block in blocks:
+            with self.subTest(block.split("\n")[0]):
+                self.enter_backups()
+                made = {name: read(name) for name in opened}
+                run_example(block)
+                for name in [name for name in opened if read(name) != made[name]]:
+                    texts = [run_example(f"({opened[name].format(secret)}) 2>/dev/null; true") for secret in secrets]
+                    self.assertIn(b"notes\n", texts, name)
+                if "tar c" in block:
+                    self.enter_backups()
+                    old = read("folder.tar.age")
+                    write("../bin/tar", b"#!/bin/sh\nhead -c 10240 /dev/zero\nexit 2\n")
+                    os.chmod("../bin/tar", 0o755)
+                    run_example(block, status=2)
+                    self.assertEqual(read("folder.tar.age"), old)
 
     @unittest.skipUnless(shutil.which("mandoc"), "mandoc is missing")
     def test_mandoc(self):
@@ -151,72 +170,54 @@ class Manual(unittest.TestCase):
 
 
 class Completions(unittest.TestCase):
-    @classmethod
-    def setUpClass(cls):
-        cls.folder = scratch()
-        write(cls.folder + "/some.age", b"")
+    """What each shell offers, by its own completion."""
 
-    def by_bash(self, *words):
-        """What bash offers after these words, the last of them begun."""
-        script = 'source "$1"; shift; COMP_WORDS=("$@"); COMP_CWORD=$(($# - 1)); _agep; printf "%s\\n" "${COMPREPLY[@]}"'
-        words = ["bash", "-c", script, "bash", COMPLETIONS + "/agep.bash", *words]
-        return sorted(subprocess.run(words, cwd=self.folder, capture_output=True, check=True).stdout.decode().split())
-
-    def by_fish(self, line):
-        """What fish offers after this line."""
-        if not shutil.which("fish"):
-            self.skipTest("fish is missing")
-        words = ["fish", "--no-config", "-c", f"source {COMPLETIONS}/agep.fish; complete -C '{line}'"]
-        done = subprocess.run(words, cwd=self.folder, capture_output=True, check=True)
-        return sorted(row.split("\t")[0] for row in done.stdout.decode().splitlines())
-
-    def zsh(self):
-        return read(COMPLETIONS + "/_agep").decode()
+    def assert_offered(self, rows, shells=("bash", "zsh", "fish")):
+        """Compares what the shells offer for the last word of lines, in a folder that has the file some.age."""
+        folder = scratch()
+        write(folder + "/some.age", b"")
+        for shell in shells:
+            with self.subTest(shell):
+                if not shutil.which(shell):
+                    self.skipTest(f"{shell} is missing")
+                self.assertEqual(offered(shell, list(rows), folder), {line: sorted(words) for line, words in rows.items()})
 
     def test_commands(self):
-        """Each shell is offered the commands."""
-        expected = sorted(commands())
-        with self.subTest("bash"):
-            self.assertEqual([word for word in self.by_bash("agep", "") if word != "help" and word[0] != "-"], expected)
-        with self.subTest("zsh, by its file"):
-            found = re.findall(r"^        '([a-z]*):", self.zsh(), re.MULTILINE)
-            self.assertEqual(sorted(set(found) - {"help"}), expected)
-        with self.subTest("fish"):
-            self.assertEqual(sorted(set(self.by_fish("agep ")) & {*expected}), expected)
+        """The commands, and for help too."""
+        every = [*commands(), "help"]
+        own = ["-V", "-h", "--help", "--version"]
+        self.assert_offered({"agep ": every + own, "agep help ": every, "agep e": ["encrypt"]}, ["bash"])
+        self.assert_offered({"agep ": every, "agep -": own, "agep help ": every, "agep e": ["encrypt"]}, ["zsh"])
+        self.assert_offered({"agep ": every, "agep -": own, "agep help ": commands(), "agep e": ["encrypt"]}, ["fish"])
 
     def test_options(self):
-        """Each shell is offered the options of a command."""
+        """Each option of each command, and after it a file where its value is one, and nothing where it is a number."""
+        options, values, short_joined, long_joined = {}, {}, {}, {}
         for command in commands():
-            expected = options_of(command)
-            self.assertTrue(expected)
-            with self.subTest(f"bash, {command}"):
-                self.assertEqual(self.by_bash("agep", command, "-"), expected)
-            with self.subTest(f"zsh, by its file, {command}"):
-                part = re.search(rf"^ *{command}\)$(.*?);;", self.zsh(), re.MULTILINE | re.DOTALL)[1]
-                found = re.findall(r"\{(-[a-zA-Z])\+?,(--[a-z-]+)=?\}", part)
-                self.assertEqual(sorted(word for row in found for word in row), expected)
-            with self.subTest(f"fish, {command}"):
-                self.assertEqual(self.by_fish(f"agep {command} -"), expected)
+            options[f"agep {command} -"] = options_of(command)
+            for short, long, value in re.findall(r"^ +(-[a-zA-Z]), (--[a-z-]+) <(\w+)>", help_of(command), re.MULTILINE):
+                file = ["some.age"] * (value != "N")
+                values |= {f"agep {command} {option} so": file for option in (short, long)}
+                short_joined[f"agep {command} {short}so"] = [short + name for name in file]
+                long_joined[f"agep {command} {long}=so"] = [f"{long}={name}" for name in file]
+        self.assertGreater(len(values), 50)
+        self.assert_offered(options | values)
+        self.assert_offered(long_joined, ["zsh", "fish"])
+        self.assert_offered(short_joined, ["zsh"])
 
-    def test_files(self):
-        """Files are offered where no option is."""
-        with self.subTest("bash, by its default"):
-            self.assertEqual(self.by_bash("agep", "decrypt", "so"), [])
-            self.assertRegex(read(COMPLETIONS + "/agep.bash").decode(), "(?m)^complete -o default -F _agep agep$")
-        with self.subTest("bash, no option after --"):
-            self.assertEqual(self.by_bash("agep", "decrypt", "--", "-"), [])
-            self.assertEqual(self.by_bash("agep", "encrypt", "-k", "key", "--", "-w", "-"), [])
-        for line in ("agep decrypt so", "agep decrypt -k so", "agep decrypt -o so"):
-            with self.subTest(f"fish, {line}"):
-                self.assertIn("some.age", self.by_fish(line))
+    def test_arguments(self):
+        """A file where IN is to follow, and no option behind --."""
+        lines = [f"agep {command}{' 0 1' * (command == 'range')} so" for command in commands()]
+        self.assert_offered({line: ["some.age"] for line in lines})
+        self.assert_offered({f"agep {words} -- -": [] for words in ("decrypt", "encrypt -k key")}, ["bash", "zsh"])
+        self.assert_offered({"agep range so": [], "agep range 0 so": []}, ["zsh"])
 
-    def test_zsh(self):
-        """zsh takes words joined to their options, and -k and -K more than once; it reads its file."""
-        with self.subTest("joined"):
-            self.assertNotRegex(self.zsh(), r"\{-[a-zA-Z],--[a-z-]+\}.*\]:")
-            self.assertEqual(len(re.findall(r"\)\*'\{-[kK]\+,--(?:new-)?key=\}", self.zsh())), 6)
-        with self.subTest("read"):
-            if not shutil.which("zsh"):
-                self.skipTest("zsh is missing")
-            done = subprocess.run(["zsh", "-n", COMPLETIONS + "/_agep"], capture_output=True)
-            self.assertEqual((done.returncode, done.stdout, done.stderr), (0, b"", b""))
+    def test_options_that_are_given(self):
+        """zsh offers -k and -K again, no other option, and none that excludes one that is given."""
+        rows = {}
+        for words, gone in {
+            "encrypt -k a": "-p --passphrase", "encrypt -p a": "-p --passphrase -k --key", "decrypt -k a -m 3": "-p --passphrase -m --max-work",
+            "rewrap -K a -v": "-P --new-pass -v --verbose", "inspect -r -f a": "-r --raw -f --file-key", "salvage -o a": "-o --output",
+        }.items():
+            rows[f"agep {words} -"] = {*options_of(words.split()[0])} - {*gone.split()}
+        self.assert_offered(rows, ["zsh"])

@@ -2,7 +2,8 @@
 //! that pkg-config knows, else from `/usr/local/lib`.
 
 use std::env;
-use std::process::Command;
+use std::path::Path;
+use std::process::{exit, Command};
 
 fn by_pkg_config() -> Option<String> {
     let found = Command::new("pkg-config").args(["--variable=libdir", "agefile"]).output().ok()?;
@@ -10,15 +11,25 @@ fn by_pkg_config() -> Option<String> {
     (found.status.success() && !folder.is_empty()).then_some(folder)
 }
 
+fn refuse(reason: &str) -> ! {
+    eprintln!("agefile: {reason}");
+    exit(1)
+}
+
 fn main() {
     println!("cargo:rerun-if-env-changed=AGEFILE_LIB_DIR");
     println!("cargo:rerun-if-env-changed=PKG_CONFIG_PATH");
     let target = |part: &str| env::var(format!("CARGO_CFG_TARGET_{part}")).unwrap_or_default();
     if (target("OS"), target("ARCH"), target("ENV")) != ("linux".into(), "x86_64".into(), "gnu".into()) {
-        panic!("libagefile is for Linux on x86-64 with the GNU C library alone");
+        refuse("the library is for Linux on x86-64 with the GNU C library alone");
     }
     let folder = env::var("AGEFILE_LIB_DIR").ok().or_else(by_pkg_config).unwrap_or("/usr/local/lib".into());
     println!("cargo:rerun-if-changed={folder}/libagefile.a");
+    if !Path::new(&folder).join("libagefile.a").is_file() {
+        refuse(&format!(
+            "{folder} has no libagefile.a: install the package libagefile-dev, or set AGEFILE_LIB_DIR to its folder"
+        ));
+    }
     println!("cargo:rustc-link-search=native={folder}");
     println!("cargo:rustc-link-lib=static=agefile");
 }

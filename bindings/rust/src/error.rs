@@ -6,6 +6,20 @@ use std::io;
 use crate::ffi::Report;
 
 /// Why a file or a call was refused. Chunks are counted from 0, header lines from 1.
+///
+/// ```
+/// # fn main() -> std::io::Result<()> {
+/// # let key = agefile::Key::new([7; 32]);
+/// let error = agefile::decrypt(b"hello", &[&key]).unwrap_err();
+/// assert_eq!((error, error.to_string().as_str()), (agefile::Error::NotAge, "not an age file"));
+///
+/// // Within an error of a stream:
+/// let error = agefile::Reader::new(&b"hello"[..], &[&key]).unwrap_err();
+/// let reason = error.get_ref().and_then(|reason| reason.downcast_ref());
+/// assert_eq!(reason, Some(&agefile::Error::NotAge));
+/// # Ok(())
+/// # }
+/// ```
 #[derive(Clone, Copy, Debug, PartialEq, Eq)]
 #[non_exhaustive]
 pub enum Error {
@@ -60,6 +74,17 @@ pub enum Error {
 }
 
 /// A part of a stanza.
+///
+/// ```
+/// # fn main() -> std::io::Result<()> {
+/// use agefile::{Error, Part, Passphrase};
+///
+/// let file = agefile::encrypt(b"text", &[&Passphrase::new("correct horse").with_work(2)])?;
+/// let error = agefile::decrypt(&file, &[&Passphrase::new("correct horse").with_max_work(1)]);
+/// assert_eq!(error, Err(Error::Malformed(Part::WorkFactorTooHigh)));
+/// # Ok(())
+/// # }
+/// ```
 #[derive(Clone, Copy, Debug, PartialEq, Eq)]
 #[non_exhaustive]
 pub enum Part {

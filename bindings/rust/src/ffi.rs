@@ -6,7 +6,6 @@ use crate::Error;
 
 pub const TEXT_CHUNK: usize = 65536;
 pub const SEALED_CHUNK: usize = 65552;
-pub const FRONT: usize = 65552;
 pub const TAG: usize = 16;
 pub const NONCE: usize = 16;
 

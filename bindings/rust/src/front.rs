@@ -2,10 +2,12 @@
 
 use std::io::{self, Read};
 
-use crate::ffi::{FRONT, NONCE};
+use crate::ffi::NONCE;
 use crate::header::{inspect, unlock};
 use crate::{Error, FileKey, Header, Identity};
 
+/// The most bytes read at once, which most headers fit.
+const PIECE: usize = 4096;
 /// The number of bytes added to those read, in the bound on how often they may be parsed.
 const MARGIN: usize = 4096;
 /// The length of a header's last line.
@@ -84,15 +86,14 @@ impl Front {
     }
 
     fn read_more(&mut self, source: &mut impl Read) -> io::Result<bool> {
-        let had = self.bytes.len();
-        self.bytes.resize(had + FRONT, 0);
-        let result = read_some(source, &mut self.bytes[had..]);
-        self.bytes.truncate(had + *result.as_ref().unwrap_or(&0));
-        Ok(result? > 0)
+        let mut piece = [0; PIECE];
+        let count = read_some(source, &mut piece)?;
+        self.bytes.extend_from_slice(&piece[..count]);
+        Ok(count > 0)
     }
 
     /// The file key, once an identity has found it.
-    pub fn file_key(&self) -> Result<&[u8; 16], Error> {
-        self.file_key.as_ref().map(|key| &key.0).ok_or(Error::NoMatch)
+    pub fn file_key(&self) -> Result<&FileKey, Error> {
+        self.file_key.as_ref().ok_or(Error::NoMatch)
     }
 }

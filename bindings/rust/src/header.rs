@@ -3,7 +3,7 @@
 use crate::ffi::{self, StanzaSummary};
 use crate::{Error, FileKey, Identity, Recipient};
 
-/// An entry of a header, which holds the file key for a recipient.
+/// An entry of a header, which holds the file key for a recipient. [`Recipient`] has an example.
 #[derive(Clone, Debug, PartialEq, Eq)]
 pub struct Stanza {
     /// The type, then the arguments.
@@ -13,6 +13,17 @@ pub struct Stanza {
 }
 
 /// The contents of a header. The MAC is not verified.
+///
+/// ```
+/// # fn main() -> std::io::Result<()> {
+/// # let passphrase = agefile::Passphrase::new("correct horse").with_work(2);
+/// let file = agefile::encrypt(b"text", &[&passphrase])?;
+/// let header = agefile::inspect(&file)?;
+/// assert!(file.starts_with(header.text()));
+/// assert_eq!(header.stanzas()[0].args[0], "scrypt");
+/// # Ok(())
+/// # }
+/// ```
 #[derive(Clone, Debug, PartialEq, Eq)]
 pub struct Header {
     text: Vec<u8>,

@@ -1,7 +1,7 @@
 //! Reads and writes age v1 encrypted files (`age-encryption.org/v1`).
 //!
 //! - [`encrypt`], [`decrypt`], [`rewrap`] and [`inspect`] work on bytes in memory.
-//! - [`Reader`] and [`Writer`] work on streams of any size, in constant memory.
+//! - [`Reader`], [`Writer`] and [`rewrap_copy`] work on streams of any size, in constant memory.
 //! - [`RangeReader`] reads any part of a plaintext, and opens only the chunks that it needs.
 //! - The module `parallel`, with the feature of that name, encrypts and decrypts bytes in memory on
 //!   several threads.
@@ -48,7 +48,7 @@ pub use header::{inspect, Header, Stanza};
 pub use range_reader::RangeReader;
 pub use reader::{Opening, Reader};
 pub use secret::{FileKey, Identity, Key, Passphrase, Recipient};
-pub use whole::{decrypt, encrypt, library_version, rewrap};
+pub use whole::{decrypt, encrypt, library_version, rewrap, rewrap_copy};
 pub use writer::{FinishError, Writer};
 
 /// The example of README.md, which the compiler checks.

@@ -46,7 +46,7 @@ impl<R: Read + Seek> RangeReader<R> {
         source.rewind()?;
         let mut front = Front::default();
         front.read(&mut source, identities)?;
-        let (ranges, last) = ffi::ranges_open(&front.bytes, file_len, front.file_key()?)?;
+        let (ranges, last) = ffi::ranges_open(&front.bytes, file_len, &front.file_key()?.0)?;
         let buf = vec![0; SEALED_CHUNK].into_boxed_slice();
         let mut reader = RangeReader { source, ranges, buf, number: None, text: 0..0, len: 0, position: 0 };
         let number = (last.place - reader.ranges.first) / SEALED_CHUNK as u64;

@@ -47,7 +47,7 @@ impl<R: Read> Opening<R> {
 
     /// Returns the reader of the plaintext, or an error unless [`Opening::read`] has returned `Ok`.
     pub fn finish(self) -> Result<Reader<R>, Error> {
-        let (payload, begin) = ffi::open(&self.front.bytes, self.front.file_key()?)?;
+        let (payload, begin) = ffi::open(&self.front.bytes, &self.front.file_key()?.0)?;
         let mut ahead = io::Cursor::new(self.front.bytes);
         ahead.set_position(begin as u64);
         let buf = vec![0; SEALED_CHUNK + 1].into_boxed_slice();
@@ -70,6 +70,18 @@ impl<R> fmt::Debug for Opening<R> {
 /// After an [`Error`] every such read returns it again. The error of a damaged or truncated chunk
 /// never has the kind `UnexpectedEof`, which `read_exact` returns at the end of the plaintext.
 /// After a failed read of the source, such as one that would block, reading can continue.
+///
+/// ```
+/// # fn main() -> std::io::Result<()> {
+/// # let key = agefile::Key::new([7; 32]);
+/// # let file = agefile::encrypt(b"one\ntwo\n", &[&key])?;
+/// let reader = agefile::Reader::new(&file[..], &[&key])?;
+/// for line in std::io::BufRead::lines(std::io::BufReader::new(reader)) {
+///     println!("{}", line?);
+/// }
+/// # Ok(())
+/// # }
+/// ```
 pub struct Reader<R> {
     source: R,
     payload: Payload,

@@ -9,7 +9,7 @@ use crate::Error;
 /// The size of a buffer for the stanza of a passphrase or a key.
 const STANZA_ROOM: usize = 128;
 
-/// The 16 bytes from which a file's keys are derived.
+/// The 16 bytes from which a file's keys are derived. [`Recipient`] and [`Identity`] have examples.
 #[derive(Clone, Copy, PartialEq, Eq)]
 pub struct FileKey(pub [u8; 16]);
 
@@ -43,6 +43,37 @@ pub trait Recipient {
 }
 
 /// An identity, which finds the file key of a file.
+///
+/// ```
+/// # fn main() -> std::io::Result<()> {
+/// use agefile::{Error, FileKey, Header, Identity, Key};
+///
+/// /// Keys by the name that a second stanza has for them.
+/// struct Ring(Vec<(String, Key)>);
+///
+/// impl Identity for Ring {
+///     fn unlock(&self, header: &Header) -> Result<Option<FileKey>, Error> {
+///         let name = header.stanzas().iter().find(|stanza| stanza.args[0] == "made-for").map(|stanza| &stanza.args[1]);
+///         let found = self.0.iter().find(|(known, _)| Some(known) == name);
+///         found.map_or(Ok(None), |(_, key)| key.unlock(header))
+///     }
+/// }
+///
+/// # struct Named<'a>(&'a Key);
+/// # impl agefile::Recipient for Named<'_> {
+/// #     fn wrap(&self, file_key: &FileKey) -> Result<Vec<agefile::Stanza>, Error> {
+/// #         let mut stanzas = self.0.wrap(file_key)?;
+/// #         stanzas.push(agefile::Stanza { args: vec!["made-for".into(), "alice".into()], body: vec![] });
+/// #         Ok(stanzas)
+/// #     }
+/// # }
+/// # let key = Key::new([7; 32]);
+/// # let file = agefile::encrypt(b"text", &[&Named(&key)])?;
+/// let ring = Ring(vec![("alice".into(), key)]);
+/// assert_eq!(agefile::decrypt(&file, &[&ring])?, b"text");
+/// # Ok(())
+/// # }
+/// ```
 pub trait Identity {
     /// Returns the file key that one of the header's stanzas holds, or `None` if no stanza is for
     /// this identity. The caller then checks the header's MAC under the key.
@@ -55,6 +86,15 @@ pub trait Identity {
 
 /// A passphrase, as a recipient and as an identity: any bytes. An empty passphrase can open files,
 /// but not make them ([`Error::EmptyPassphrase`]).
+///
+/// ```
+/// # fn main() -> std::io::Result<()> {
+/// let passphrase = agefile::Passphrase::new("correct horse").with_work(10);
+/// let file = agefile::encrypt(b"text", &[&passphrase])?;
+/// assert_eq!(agefile::decrypt(&file, &[&passphrase])?, b"text");
+/// # Ok(())
+/// # }
+/// ```
 #[derive(Clone)]
 pub struct Passphrase {
     text: Vec<u8>,
@@ -64,6 +104,15 @@ pub struct Passphrase {
 
 /// A secret key of 32 bytes, as a recipient and as an identity. Only `agep` and `libagefile` open
 /// files encrypted with it.
+///
+/// ```
+/// # fn main() -> std::io::Result<()> {
+/// let (mine, recovery) = (agefile::Key::new([7; 32]), agefile::Key::new([8; 32]));
+/// let file = agefile::encrypt(b"text", &[&mine, &recovery])?;
+/// assert_eq!(agefile::decrypt(&file, &[&recovery])?, b"text");
+/// # Ok(())
+/// # }
+/// ```
 #[derive(Clone)]
 pub struct Key([u8; 32]);
 

@@ -1,10 +1,11 @@
-//! Whole files in memory.
+//! Whole files.
 
-use std::io;
+use std::io::{self, Read, Write};
 
 use crate::ffi::{self, NONCE, SEALED_CHUNK, TAG, TEXT_CHUNK};
+use crate::front::Front;
 use crate::header::{header_of, inspect, stanzas_text, unlock};
-use crate::{Error, FileKey, Identity, Recipient};
+use crate::{Error, FileKey, Header, Identity, Recipient};
 
 /// Returns the version of the library, such as `(0, 4, 0)`.
 pub fn library_version() -> (u32, u32, u32) {
@@ -43,10 +44,45 @@ pub fn decrypt(file: &[u8], identities: &[&dyn Identity]) -> Result<Vec<u8>, Err
 /// verified.
 pub fn rewrap(file: &[u8], identities: &[&dyn Identity], recipients: &[&dyn Recipient]) -> Result<Vec<u8>, Error> {
     let old = inspect(file)?;
-    let file_key = unlock(&old, identities)?;
-    // Checks the old header's MAC, for which a nonce must follow.
+    let new = new_header(&old, &unlock(&old, identities)?, recipients)?;
+    Ok([&new, &file[old.text().len()..]].concat())
+}
+
+/// Replaces the header of an age file as [`rewrap`] does, from a source to a sink, in constant
+/// memory.
+///
+/// The new header is made before the first byte is written, so a wrong key or an error of a
+/// recipient leaves the sink unchanged. The new file is complete after `Ok`, which follows a flush of
+/// the sink.
+///
+/// ```
+/// # fn main() -> std::io::Result<()> {
+/// # let (old, new) = (agefile::Key::new([7; 32]), agefile::Key::new([8; 32]));
+/// # let file = agefile::encrypt(b"text", &[&old])?;
+/// let mut rewrapped = Vec::new();
+/// agefile::rewrap_copy(&file[..], &mut rewrapped, &[&old], &[&new])?;
+/// assert_eq!(agefile::decrypt(&rewrapped, &[&new])?, b"text");
+/// # Ok(())
+/// # }
+/// ```
+pub fn rewrap_copy(
+    mut source: impl Read,
+    mut sink: impl Write,
+    identities: &[&dyn Identity],
+    recipients: &[&dyn Recipient],
+) -> io::Result<()> {
+    let mut front = Front::default();
+    front.read(&mut source, identities)?;
+    let old = inspect(&front.bytes)?;
+    sink.write_all(&new_header(&old, front.file_key()?, recipients)?)?;
+    sink.write_all(&front.bytes[old.text().len()..])?;
+    io::copy(&mut source, &mut sink)?;
+    sink.flush()
+}
+
+/// The header for other recipients, under the file key of the old one, whose MAC is verified.
+fn new_header(old: &Header, file_key: &FileKey, recipients: &[&dyn Recipient]) -> Result<Vec<u8>, Error> {
+    // To verify the MAC, the library wants a nonce after the header.
     ffi::open(&[old.text(), &[0; NONCE]].concat(), &file_key.0)?;
-    let mut new = header_of(&stanzas_text(recipients, &file_key)?, &file_key)?;
-    new.extend_from_slice(&file[old.text().len()..]);
-    Ok(new)
+    header_of(&stanzas_text(recipients, file_key)?, file_key)
 }

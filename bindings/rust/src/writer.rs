@@ -9,6 +9,19 @@ use crate::{Error, FileKey, Recipient};
 
 /// Encrypts the bytes written to it, chunk by chunk, in constant memory. Only [`Writer::finish`]
 /// completes the file: without it, or after a failed write, every reader refuses the file.
+///
+/// ```
+/// # fn main() -> std::io::Result<()> {
+/// use std::io::Write;
+///
+/// # let key = agefile::Key::new([7; 32]);
+/// let mut writer = agefile::Writer::new(Vec::new(), &[&key])?;
+/// writeln!(writer, "one")?;
+/// let file = writer.finish()?;
+/// assert_eq!(agefile::decrypt(&file, &[&key])?, b"one\n");
+/// # Ok(())
+/// # }
+/// ```
 #[must_use = "a file is whole only after `finish`"]
 pub struct Writer<W> {
     sink: W,
@@ -86,6 +99,19 @@ impl<W> fmt::Debug for Writer<W> {
 }
 
 /// The error of a file that could not be completed, with its sink.
+///
+/// ```
+/// # fn main() -> std::io::Result<()> {
+/// # let key = agefile::Key::new([7; 32]);
+/// let mut room = [0; 180];
+/// let writer = agefile::Writer::new(&mut room[..], &[&key])?;
+/// let failed = writer.finish().unwrap_err();
+/// assert_eq!(failed.error().kind(), std::io::ErrorKind::WriteZero);
+/// let (_, rest) = failed.into_parts();
+/// assert!(rest.is_empty());
+/// # Ok(())
+/// # }
+/// ```
 pub struct FinishError<W> {
     error: io::Error,
     sink: W,

@@ -6,10 +6,10 @@ use std::cell::{Cell, RefCell};
 use std::io::{self, BufRead, Cursor, ErrorKind, Read, Seek, SeekFrom, Write};
 
 use agefile::{
-    decrypt, encrypt, inspect, rewrap, Error, FileKey, Header, Identity, Key, Opening, Part, Passphrase, RangeReader,
-    Reader, Recipient, Stanza, Writer,
+    decrypt, encrypt, inspect, library_version, rewrap, rewrap_copy, Error, FileKey, Header, Identity, Key, Opening,
+    Part, Passphrase, RangeReader, Reader, Recipient, Stanza, Writer,
 };
-use common::{fault, key, text};
+use common::{base64, fault, key, text};
 
 /// A file of `hello` for the empty passphrase, by `tests/reference.py` of this project.
 const EMPTY_PASSPHRASE: &[u8] = include_bytes!("empty_passphrase.age");
@@ -107,7 +107,7 @@ fn streams_and_whole_files_are_the_same_format() {
 #[test]
 fn threads_make_the_same_files() {
     for plain in SIZES.map(text).into_iter().chain([text(40 * 65536 + 3)]) {
-        for threads in [1, 2, 3, 8] {
+        for threads in [0, 1, 2, 3, 8, 1000] {
             let file = agefile::parallel::encrypt(&plain, &[&key()], threads).unwrap();
             assert_eq!(decrypt(&file, &[&key()]).unwrap(), plain);
             assert_eq!(agefile::parallel::decrypt(&file, &[&key()], threads).unwrap(), plain);
@@ -144,6 +144,17 @@ fn great_header_is_listed_in_a_tenth_of_a_second() {
     });
     let least = times.min().unwrap();
     assert!(least < 100_000_000, "{least} ns");
+}
+
+#[test]
+fn great_header_may_come_in_single_bytes() {
+    let stanzas = [b"-> a ", &[b'x'; 16000][..], b"\n\n"].concat().repeat(4);
+    let header = [b"age-encryption.org/v1\n", &stanzas[..], b"--- "].concat();
+    let began = processor_time();
+    let failed = Reader::new(Few(&header, 1), &[&key()]).unwrap_err();
+    assert_eq!(fault(failed), Error::HeaderTruncated);
+    let taken = processor_time() - began;
+    assert!(taken < 1_000_000_000, "{taken} ns");
 }
 
 #[test]
@@ -474,13 +485,89 @@ fn sink_that_takes_few_bytes_has_them_all_flushed() {
 }
 
 #[test]
+fn flush_reaches_the_sink() {
+    let mut writer = Writer::new(io::BufWriter::new(Sink { at_a_time: 1000, ..Sink::default() }), &[&key()]).unwrap();
+    writer.write_all(&text(70000)).unwrap();
+    writer.flush().unwrap();
+    let buffered = writer.finish().unwrap();
+    assert_eq!(buffered.get_ref().flushes, 2);
+    let mut writer = Writer::new(Sink { at_a_time: 1000, flush_fails: true, ..Sink::default() }, &[&key()]).unwrap();
+    assert_eq!(writer.flush().unwrap_err().kind(), ErrorKind::TimedOut);
+}
+
+#[test]
 fn sink_that_takes_nothing_or_fails_to_flush() {
     let refused = Writer::new(Sink::default(), &[&key()]).unwrap_err();
     assert_eq!(refused.kind(), ErrorKind::WriteZero);
     let mut writer = Writer::new(Sink { at_a_time: 1000, flush_fails: true, ..Sink::default() }, &[&key()]).unwrap();
     writer.write_all(b"text").unwrap();
-    let (error, sink) = writer.finish().unwrap_err().into_parts();
+    let failed = writer.finish().unwrap_err();
+    assert_eq!((failed.error().kind(), failed.to_string()), (ErrorKind::TimedOut, failed.error().to_string()));
+    let (error, sink) = failed.into_parts();
     assert_eq!((error.kind(), sink.flushed), (ErrorKind::TimedOut, sink.bytes.len()));
+}
+
+/// A source that fails after these bytes.
+struct Failing<'a>(&'a [u8]);
+
+impl Read for Failing<'_> {
+    fn read(&mut self, out: &mut [u8]) -> io::Result<usize> {
+        match self.0 {
+            [] => Err(ErrorKind::TimedOut.into()),
+            _ => self.0.read(out),
+        }
+    }
+}
+
+#[test]
+fn copy_under_a_new_header_is_what_rewrap_makes() {
+    let other = Key::new([8; 32]);
+    for plain in SIZES.map(text) {
+        let old = encrypt(&plain, &[&key()]).unwrap();
+        let header_len = inspect(&old).unwrap().text().len();
+        for at_a_time in [1, 1000, usize::MAX] {
+            let mut sink = Sink { at_a_time, ..Sink::default() };
+            rewrap_copy(Interrupted(&old, false), &mut sink, &[&key()], &[&other, &key()]).unwrap();
+            assert_eq!((sink.flushes, sink.flushed), (1, sink.bytes.len()));
+            assert_eq!(decrypt(&sink.bytes, &[&other]).unwrap(), plain);
+            let new_len = inspect(&sink.bytes).unwrap().text().len();
+            assert!(sink.bytes[new_len..] == old[header_len..]);
+        }
+        let mut cut = Vec::new();
+        let failed = rewrap_copy(Failing(&old[..old.len() - 1]), &mut cut, &[&key()], &[&other]).unwrap_err();
+        assert_eq!(failed.kind(), ErrorKind::TimedOut);
+        assert!(decrypt(&cut, &[&other]).is_err());
+    }
+}
+
+#[test]
+fn copy_under_a_new_header_writes_nothing_before_it_is_known() {
+    let old = encrypt(b"text", &[&key()]).unwrap();
+    let (wrong, none): (&dyn Identity, &dyn Identity) = (&Key::new([8; 32]), &passphrase());
+    type Row<'a> = (&'a [u8], &'a dyn Identity, &'a [&'a dyn Recipient], Error);
+    let rows: [Row; 7] = [
+        (&old, wrong, &[&key()], Error::WrongKey),
+        (&old, none, &[&key()], Error::NoMatch),
+        (&old, &Wrong, &[&key()], Error::BadMac),
+        (&old, &key(), &[], Error::NoRecipients),
+        (&old, &key(), &[&key(), &passphrase()], Error::MixedPassphrase),
+        (&old[..60], &key(), &[&key()], Error::HeaderTruncated),
+        (b"hello", &key(), &[&key()], Error::NotAge),
+    ];
+    for (file, identity, recipients, error) in rows {
+        let mut sink = Sink { at_a_time: 1000, ..Sink::default() };
+        assert_eq!(fault(rewrap_copy(file, &mut sink, &[identity], recipients).unwrap_err()), error);
+        assert_eq!((sink.bytes.len(), sink.flushes), (0, 0));
+    }
+    let mut sink = Sink { at_a_time: 1000, flush_fails: true, ..Sink::default() };
+    assert_eq!(rewrap_copy(&old[..], &mut sink, &[&key()], &[&key()]).unwrap_err().kind(), ErrorKind::TimedOut);
+}
+
+#[test]
+fn sources_come_back() {
+    let file = encrypt(b"text", &[&key()]).unwrap();
+    assert_eq!(Reader::new(&file[..], &[&key()]).unwrap().into_inner(), b"");
+    assert_eq!(RangeReader::new(Cursor::new(&file), &[&key()]).unwrap().into_inner().get_ref(), &&file);
 }
 
 #[test]
@@ -516,6 +603,9 @@ fn headers_are_shown() {
     assert_eq!((header.text().len(), header.stanzas().len()), (150, 1));
     assert_eq!((header.stanzas()[0].args[0].as_str(), header.stanzas()[0].args[2].as_str()), ("scrypt", "10"));
     assert_eq!(header.stanzas()[0].body.len(), 32);
+    let Some(line) = header.text().rsplit(|byte| *byte == b'\n').nth(1) else { panic!("a header has lines") };
+    assert_eq!(line, [b"--- ", base64(header.mac()).as_bytes()].concat());
+    assert!(library_version() >= (0, 4, 0));
 }
 
 /// A caller's own: the file key stands in the stanza as it is.
@@ -534,78 +624,6 @@ impl Identity for Plain {
         let mine = header.stanzas().iter().find(|stanza| stanza.args[0] == "plain");
         Ok(mine.map(|stanza| FileKey(stanza.body[..].try_into().unwrap())))
     }
-}
-
-/// A key's recipient, which notes the file keys.
-struct Noting<'a>(&'a RefCell<Vec<FileKey>>);
-
-impl Recipient for Noting<'_> {
-    fn wrap(&self, file_key: &FileKey) -> Result<Vec<Stanza>, Error> {
-        self.0.borrow_mut().push(*file_key);
-        key().wrap(file_key)
-    }
-}
-
-/// The base64 of some bytes without padding.
-fn base64(bytes: &[u8]) -> Vec<u8> {
-    const DIGITS: &[u8; 64] = b"ABCDEFGHIJKLMNOPQRSTUVWXYZabcdefghijklmnopqrstuvwxyz0123456789+/";
-    let bit = |at: usize| bytes.get(at / 8).map_or(0, |byte| byte >> (7 - at % 8) & 1) as usize;
-    let digit = |first: usize| (first..first + 6).fold(0, |digit, at| digit << 1 | bit(at));
-    (0..bytes.len() * 8).step_by(6).map(|first| DIGITS[digit(first)]).collect()
-}
-
-fn has(bytes: &[u8], part: &[u8]) -> bool {
-    bytes.windows(part.len()).any(|window| window == part)
-}
-
-/// Whether each byte differs somewhere among these.
-fn all_vary<T: AsRef<[u8]>>(rows: &[T]) -> bool {
-    let first = rows[0].as_ref();
-    (0..first.len()).all(|at| rows.iter().any(|row| row.as_ref()[at] != first[at]))
-}
-
-/// Each way of making a file for one recipient.
-fn files_for(recipient: &dyn Recipient) -> Vec<Vec<u8>> {
-    let mut files = vec![encrypt(b"text", &[recipient]).unwrap(), streamed(b"text", recipient, 10)];
-    #[cfg(feature = "parallel")]
-    files.push(agefile::parallel::encrypt(b"text", &[recipient], 2).unwrap());
-    files.push(rewrap(&files[0], &[&key()], &[recipient]).unwrap());
-    files
-}
-
-#[test]
-fn keys_nonces_and_salts_are_fresh_and_no_file_key_is_seen() {
-    let noted = RefCell::new(Vec::new());
-    let made: Vec<Vec<Vec<u8>>> = (0..64).map(|_| files_for(&Noting(&noted))).collect();
-    let ways = made[0].len();
-    let mut keys = noted.into_inner().into_iter();
-    let keys: Vec<Vec<[u8; 16]>> = made.iter().map(|_| keys.by_ref().take(ways).map(|key| key.0).collect()).collect();
-    for way in 0..ways {
-        let (mut nonces, mut salts) = (Vec::new(), Vec::new());
-        for (files, keys) in made.iter().zip(&keys) {
-            let (file, file_key) = (&files[way], &keys[way]);
-            assert!(!has(file, file_key) && !has(file, &base64(file_key)));
-            let header = inspect(file).unwrap();
-            nonces.push(file[header.text().len()..][..16].to_vec());
-            salts.push(header.stanzas()[0].args[1].clone());
-        }
-        let keys: Vec<[u8; 16]> = keys.iter().map(|keys| keys[way]).collect();
-        assert!(all_vary(&keys) && all_vary(&nonces) && all_vary(&salts), "way {way}");
-    }
-    // A header for other recipients keeps file key and nonce, and has another salt.
-    for (files, keys) in made.iter().zip(&keys) {
-        let (old, new) = (inspect(&files[0]).unwrap(), inspect(&files[ways - 1]).unwrap());
-        assert_eq!(keys[0], keys[ways - 1]);
-        assert_ne!(old.stanzas()[0].args[1], new.stanzas()[0].args[1]);
-        assert_eq!(files[0][old.text().len()..], files[ways - 1][new.text().len()..]);
-    }
-}
-
-#[test]
-fn salts_of_passphrases_are_fresh() {
-    let salt = || inspect(&encrypt(b"", &[&passphrase()]).unwrap()).unwrap().stanzas()[0].args[1].clone();
-    let salts: Vec<String> = (0..64).map(|_| salt()).collect();
-    assert!(all_vary(&salts));
 }
 
 #[test]
