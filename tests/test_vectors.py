@@ -13,6 +13,7 @@ import testkit
 from messages import TEXTS, message
 from program import TESTS, ProgramCase, fault, read, scratch, write
 from test_headers import header_in
+from test_salvage import saved
 
 README = read(f"{TESTS}/vectors/README.md").decode()
 GO = "/usr/share/gocode"
@@ -66,26 +67,6 @@ def differences(way, cases=None):
         if difference := testkit.differs(vector, ended, way) or (way.is_exact and ended != wanted and f"{ended} is not {wanted}"):
             found[case.name] = difference
     return found
-
-
-def saved(payload):
-    """What salvage writes and says of a payload: a piece opens exactly if it was made as a chunk of its number."""
-    pieces = [payload[at : at + testkit.SEALED] for at in range(16, len(payload), testkit.SEALED)] or [b""]
-    made = make_vectors.MADE if payload[:16] == make_vectors.NONCE else {}
-    text, runs = b"", []
-    for i, piece in enumerate(pieces):
-        opened, is_last = made.get((i, piece), (None, None))
-        start, text = len(text), text + (bytes(max(len(piece) - 16, 0)) if opened is None else opened)
-        if opened is None and len(text) > start:
-            before = runs.pop() if runs and runs[-1][1] == i - 1 else (i, i, start, start)
-            runs.append((before[0], i, before[2], len(text)))
-    lines = [
-        f"chunk{f's {first} to {last} are' if first < last else f' {first} is'} lost: bytes {start} to {end - 1} of the plaintext"
-        for first, last, start, end in runs
-    ]
-    if is_last is False or (is_last is None and len(piece) <= 16):
-        lines.append(f"the file is cut short after byte {len(text)}")
-    return text, lines
 
 
 class Made(unittest.TestCase):

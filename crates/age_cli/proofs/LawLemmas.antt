@@ -1,5 +1,5 @@
 -- What a job that is done has written, where input and output are known.
-use Rattle.std.proofs.Common.{◌≡◌, ◌≤◌, ◌∙◌, ◌++◌, ℕ, ap, arith, inl, inr, length, subst, sym, List, None, Some, Result, Ok, Err}
+use Rattle.std.proofs.Common.{◌≡◌, ◌≤◌, ◌⊎◌, ◌∙◌, ◌++◌, ℕ, ap, arith, cond, false, inl, inr, length, refl, subst, sym, true, List, None, Some, Result, Ok, Err}
 use Rattle.std.specs.Prelude.{⊤, ◌↔◌, Bool, Option}
 use Rattle.std.specs.Io.KnownBytes.{Appends, Keeps}
 use Rattle.age_header.specs.Device.{Bytes, Known, move_of}
@@ -8,15 +8,19 @@ use Rattle.age_header.specs.Verdict.{HeaderVerdict}
 use Rattle.age_header.specs.declared.file_key.FileKey.{FileKey}
 use Rattle.age_recipient.specs.Choice.{choice}
 use Rattle.age_stream.specs.declared.done.Done.{Done}
-use Rattle.age_stream.specs.Reading.{whole}
-use Rattle.age_stream.specs.Salvage.{LossesMoved}
+use Rattle.age_stream.specs.declared.salvaged.Salvaged.{Salvaged}
+use Rattle.age_stream.specs.Reading.{Reading, whole}
+use Rattle.age_stream.specs.Salvage.{LossesMoved, is_whole}
 use Rattle.age_file.specs.declared.fault.Fault.{Fault}
+use Rattle.age_file.specs.declared.fault.Fault.TheVariants.{BadChunk}
 use Rattle.age_file.specs.declared.limits.Fresh.{Fresh}
 use Rattle.age_file.specs.AgeFile.{AgeFile, Bounds}
 use Rattle.age_file.specs.Decrypt.{DecryptsText}
 use Rattle.age_file.specs.NewFile.{EncryptsText, Gathering}
 use Rattle.age_file.specs.Rewrap.{RewrapsText, Rewrapped}
+use Rattle.age_file.specs.Salvage.{SalvagesText, SavesFile}
 use Rattle.age_file.specs.Verdict.{Answering, IsVerdict, finding}
+use Rattle.age_file.proofs.SalvageLaws.{saved_exactly, saved_whole}
 use Rattle.age_job.specs.declared.job.Command.TheVariants as command
 use Rattle.age_job.specs.declared.job.Job.{Job}
 use Rattle.age_job.specs.declared.secret.Secret.{Secret}
@@ -29,7 +33,7 @@ use Rattle.age_words.proofs.PipedLemmas.{piped}
 use Rattle.age_cli.proofs.ProgramLemmas.{alone}
 use Rattle.age_cli.specs.Program.{Finishes, FinishesWords, word_limits}
 use Rattle.age_commands.specs.Secret.{answers_of, gathering_of, limits_of}
-use Rattle.age_commands.specs.Task.{OfKnown, Performs, without_counts}
+use Rattle.age_commands.specs.Task.{OfKnown, Performs, if_whole, without_counts}
 
 -- the output ends with what was appended
 grown : (xs more : Bytes) (taken new : Known) → Appends (Some xs) taken more → Keeps taken new → new ≡ Some (xs ++ more)
@@ -46,6 +50,9 @@ abbrev pub OkIsAgeFile : Type 0
 OkIsAgeFile = (limits : Bounds) (answers : Answering) (b plain : Bytes) → IsVerdict limits answers b (whole plain)
     ↔ ((stanzas : List StanzaParts) × (k : FileKey) × AgeFile limits k stanzas plain b
     × (choice (answers stanzas) ≡ Ok k))
+
+abbrev pub SomeVerdict : Type 0
+SomeVerdict = (limits : Bounds) (answers : Answering) (b : Bytes) → (v : Reading Fault) × IsVerdict limits answers b v
 
 abbrev pub Gained : (limits : Bounds) (b xs : Bytes) (new : Known) → Type 0
 Gained limits b xs new = (stanzas : List StanzaParts) × (k : FileKey) × (plain : Bytes)
@@ -68,11 +75,41 @@ decrypted law limits answers b xs taken new (Err fault) work is d ends = absurd 
 decrypted law limits answers b xs taken new (Ok counts) work is d ends =
     decrypted_whole law limits answers b xs taken new counts d.2 (ended taken new ends).1
 
-pub done_decrypt : OkIsAgeFile → (job : Job) (b xs : Bytes) (new : Known) → job.command ≡ command.Decrypt
+if_ok : (b : Bool) (fault : Fault) → ◌≡◌ {A = Result ⊤ Fault} (cond b (Ok tt) (Err fault)) (Ok tt) → b ≡ true
+if_ok true fault e = refl
+if_ok false fault e = absurd (cc)
+
+saved_all : OkIsAgeFile → SomeVerdict → (limits : Bounds) (answers : Answering) (b xs : Bytes) (taken new : Known)
+    (lost : LossesMoved) (s : Salvaged) → is_whole s ≡ true
+    → SavesFile limits answers b (move_of (Some xs) taken) lost (Ok s) → Keeps taken new → Gained limits b xs new
+saved_all law some limits answers b xs taken new lost s all saves keeps =
+    let (verdict, judged) = some limits answers b in
+    let none = (saved_exactly limits answers b verdict (move_of (Some xs) taken) lost s judged saves).0 all in
+    let reads = subst (λ f. IsVerdict limits answers b (record { plaintext = verdict.plaintext; fault = f }))
+    none judged in
+    let found = (law limits answers b verdict.plaintext).0 reads in
+    let took = (saved_whole limits answers b verdict.plaintext (move_of (Some xs) taken) lost s reads saves).0 in
+    (found.0, found.1, verdict.plaintext, found.2, grown xs verdict.plaintext taken new took keeps)
+
+salvaged : OkIsAgeFile → SomeVerdict → (limits : Bounds) (answers : Answering) (b xs : Bytes) (taken new : Known)
+    (lost : LossesMoved) (done : Result Salvaged Fault) (work : Result ⊤ Fault) → work ≡ if_whole done
+    → OfKnown (Some b) (λ x. SalvagesText limits answers x (move_of (Some xs) taken) lost done)
+    → Ends taken new work (Ok tt) → Gained limits b xs new
+salvaged law some limits answers b xs taken new lost (Err fault) work is d ends =
+    absurd (cc (is, (ended taken new ends).0))
+salvaged law some limits answers b xs taken new lost (Ok s) work is d ends =
+    let all = if_ok (is_whole s) (BadChunk s.chunks) (sym is ∙ (ended taken new ends).0) in
+    saved_all law some limits answers b xs taken new lost s all d.2 (ended taken new ends).1
+
+pub done_decrypt : OkIsAgeFile → SomeVerdict → (job : Job) (b xs : Bytes) (new : Known)
+    → (job.command ≡ command.Decrypt) ⊎ (job.command ≡ command.Salvage)
     → Finishes job (Some b) (move_of (Some xs) new) → Gained (limits_of job) b xs new
-done_decrypt law job b xs new one (task.Decrypt secret, is, (taken, work, (lost, (done, same, d)), quiet, ends)) =
+done_decrypt law some job b xs new one (task.Decrypt secret, is, (taken, work, (lost, (done, same, d)), quiet, ends)) =
     decrypted law (limits_of job) (answers_of secret job.max_work) b xs taken new done work same d ends
-done_decrypt law job b xs new one (task, is, w) = absurd (cc (one, is.0))
+done_decrypt law some job b xs new one (task.Salvage secret, is, (taken, work, (lost, (done, same, d)), quiet, ends)) =
+    salvaged law some (limits_of job) (answers_of secret job.max_work) b xs taken new lost done work same d ends
+done_decrypt law some job b xs new (inl one) (task, is, w) = absurd (cc (one, is.0))
+done_decrypt law some job b xs new (inr one) (task, is, w) = absurd (cc (one, is.0))
 
 -- the output gained an age file of the input
 abbrev pub Made : (limits : Bounds) (plain xs : Bytes) (new : Known) → Type 0
@@ -164,12 +201,17 @@ done_range job from xs new one (task.Range secret, is, (taken, work, (lost, r), 
 done_range job from xs new one (task, is, w) = absurd (cc (one, is.0))
 
 -- the same from the words
-pub words_decrypt : OkIsAgeFile → {F : Type 0} {remaining contents : F → Known} (words : List Bytes) (b xs : Bytes)
-    (new : Known) → IsPiped command.Decrypt words
+pub words_decrypt : OkIsAgeFile → SomeVerdict → {F : Type 0} {remaining contents : F → Known} (words : List Bytes)
+    (b xs : Bytes) (new : Known) → IsPiped command.Decrypt words ⊎ IsPiped command.Salvage words
     → FinishesWords F remaining contents words (Some b) (move_of (Some xs) new) → Gained (word_limits words) b xs new
-words_decrypt law {F} {remaining} {contents} words b xs new pipe (job, makes, done) =
+words_decrypt law some {F} {remaining} {contents} words b xs new (inl pipe) (job, makes, done) =
     let p = piped command.Decrypt words job pipe makes in
-    rw p.max_header at (done_decrypt law job b xs new p.is (alone F remaining contents job p.input p.output done))
+    rw p.max_header at
+    (done_decrypt law some job b xs new (inl p.is) (alone F remaining contents job p.input p.output done))
+words_decrypt law some {F} {remaining} {contents} words b xs new (inr pipe) (job, makes, done) =
+    let p = piped command.Salvage words job pipe makes in
+    rw p.max_header at
+    (done_decrypt law some job b xs new (inr p.is) (alone F remaining contents job p.input p.output done))
 
 pub words_encrypt : {F : Type 0} {remaining contents : F → Known} (words : List Bytes) (plain xs : Bytes) (new : Known)
     → IsPiped command.Encrypt words → FinishesWords F remaining contents words (Some plain) (move_of (Some xs) new)

@@ -1,7 +1,7 @@
 //! The meaning of status 0, about the definitions alone: laws that are the contract of a function
 //! that does nothing.
 
-ghost use Rattle.std.specs.Prelude.{◌≡◌, ◌≤◌, ◌++◌, List, Ok, Option, Some, length};
+ghost use Rattle.std.specs.Prelude.{◌≡◌, ◌≤◌, ◌⊎◌, ◌++◌, List, Ok, Option, Some, length};
 ghost use Rattle.age_header.specs.Device.{Bytes, Known, move_of};
 ghost use Rattle.age_header.specs.Header.{HeaderParts, StanzaParts};
 ghost use Rattle.age_header.specs.Verdict.{HeaderVerdict};
@@ -21,16 +21,17 @@ use std::io::{Read, Write};
 use std::rt::Files;
 
 /// What a job of `run_job` that ended with status 0 did, if the contents of its input and output
-/// are known. `decrypt`: the input is an age file, and the output gained its whole plaintext and
-/// nothing else. `encrypt`: the output gained an age file of the input and nothing else. `rewrap`:
-/// it gained the input with another header. `inspect`: it gained the header at the start of the
-/// input, as its text with `-r`, else as a table. `range`: it gained at most as many bytes as the
-/// job requests. Of `salvage` the law says nothing.
+/// are known. `decrypt` and `salvage`: the input is an age file, and the output gained its whole
+/// plaintext and nothing else. `encrypt`: the output gained an age file of the input and nothing
+/// else. `rewrap`: it gained the input with another header. `inspect`: it gained the header at the
+/// start of the input, as its text with `-r`, else as a table. `range`: it gained at most as many
+/// bytes as the job requests.
 ///
 /// The same holds for the words of a `run` that ended with status 0, if they name no file. (A
 /// `range` names one.)
 pub fn done_jobs<F: Files>()
-    ensures decrypt { (job : Job) (b xs : Bytes) (new : Known) → job.command ≡ Command.Decrypt
+    ensures decrypt { (job : Job) (b xs : Bytes) (new : Known)
+        → (job.command ≡ Command.Decrypt) ⊎ (job.command ≡ Command.Salvage)
         → Finishes job (Some b) (move_of (Some xs) new)
         → (stanzas : List StanzaParts) × (k : FileKey) × (plain : Bytes)
         × AgeFile (limits_of job) k stanzas plain b × (new ≡ Some (xs ++ plain)) }
@@ -39,7 +40,7 @@ pub fn done_jobs<F: Files>()
         → (stanzas : List StanzaParts) × (k : FileKey) × (b : Bytes)
         × AgeFile (limits_of job) k stanzas plain b × (new ≡ Some (xs ++ b)) }
     ensures decrypt_words { (words : List Bytes) (b xs : Bytes) (new : Known)
-        → IsPiped Command.Decrypt words
+        → IsPiped Command.Decrypt words ⊎ IsPiped Command.Salvage words
         → FinishesWords F.File ⟦<F::File as Read>⟧.remaining ⟦<F::File as Write>⟧.contents words
         (Some b) (move_of (Some xs) new)
         → (stanzas : List StanzaParts) × (k : FileKey) × (plain : Bytes)

@@ -2,7 +2,7 @@
 
 use crate::program::say;
 use age_commands::Report;
-use age_file::{Losses, Lost, LostRun, join_lost};
+use age_file::{CHUNK_SIZE, Losses, Lost, LostRun, Salvaged, Saved, TAG_SIZE, join_lost};
 use age_job::ERASE;
 use std::alloc::Global;
 use std::fmt;
@@ -55,6 +55,22 @@ impl<'a, E: Write> LossLines<'a, E> {
         );
     }
 
+    /// Prints why a chunk that is marked as the last may not be.
+    fn early(&mut self, chunk: u128, saved: &Salvaged) {
+        match saved.last {
+            Saved::Early => self.print(&format_args!(
+                "chunk {chunk} is empty: only an empty plaintext ends with an empty chunk"
+            )),
+            Saved::Nothing if !saved.is_cut() => self.print(&format_args!(
+                "there are up to {TAG_SIZE} bytes behind chunk {chunk}, which is the last"
+            )),
+            _ => self.print(&format_args!(
+                "chunk {chunk} is marked as the last, and more follows: bytes behind the end, \
+                 or another file"
+            )),
+        }
+    }
+
     /// Prints the last run.
     pub(crate) fn end(&mut self) {
         if let Some(run) = self.run {
@@ -80,8 +96,28 @@ impl<'a, E: Write> Losses for LossLines<'a, E> {
 }
 
 impl<'a, E: Write> Report for LossLines<'a, E> {
-    fn cut(&mut self, bytes: u128) {
+    fn damaged(&mut self, saved: &Salvaged) {
         self.end();
-        self.print(&format_args!("the file is cut short after byte {bytes}"));
+        let Salvaged {
+            bytes,
+            chunks,
+            early,
+            last,
+            ..
+        } = *saved;
+        if let Some(early) = early {
+            self.early(early, saved);
+        }
+        if saved.is_cut() {
+            self.print(&format_args!(
+                "the file is cut short: the plaintext from byte {bytes} on is missing"
+            ));
+        } else if early.is_none() && last == Saved::Zeros {
+            let last = chunks.saturating_sub(1);
+            let len = bytes.saturating_sub(1) % CHUNK_SIZE as u128 + 1 + TAG_SIZE as u128;
+            self.print(&format_args!(
+                "the file ends after {len} bytes of chunk {last}: more may be missing"
+            ));
+        }
     }
 }

@@ -16,16 +16,15 @@ use std::alloc::Global;
 
 /// A receiver of the reports of `salvage`.
 pub trait Report: Losses {
-    /// Receives that the file counts as cut short (`Salvaged::is_cut`), after this many bytes of
-    /// the plaintext.
-    fn cut(&mut self, bytes: u128)
+    /// Receives what was saved of a file that is not whole, after its lost chunks.
+    fn damaged(&mut self, saved: &Salvaged)
         // The lost chunks reported so far are unchanged.
         ensures { Self.lost self.new ≡ Self.lost self.old };
 }
 
 /// Saves what is left of the source to the sink with the identity of this secret. Reports each lost
-/// chunk, and at the end whether the file is cut short. If not everything is saved, the fault is
-/// `BadChunk` with the number of pieces; the reports say more.
+/// chunk. If the result is not whole, reports it too; the fault is then `BadChunk` with the number
+/// of pieces.
 pub(crate) fn salvage_all<S: Source, W: Sink, L: Report>(
     alloc: Global,
     job: &Job,
@@ -46,9 +45,7 @@ pub(crate) fn salvage_all<S: Source, W: Sink, L: Report>(
     match salvage(alloc, job, secret, input, out, report) {
         Ok(saved) if saved.is_whole() => Ok(()),
         Ok(saved) => {
-            if saved.is_cut() {
-                report.cut(saved.bytes);
-            }
+            report.damaged(&saved);
             Err(Fault::BadChunk(saved.chunks))
         }
         Err(fault) => Err(fault),

@@ -10,6 +10,6 @@ pub mod OwnLabels
 mod PayloadLemmas
 mod RangeLemmas
 mod RewrapLemmas
-mod SalvageLaws
+pub mod SalvageLaws
 mod SalvageLemmas
 mod SlicedLemmas

@@ -1,5 +1,6 @@
 -- What is saved of a file, and the verdict on it.
-use Rattle.std.proofs.Common.{refl, true, nat_eq, ◌≡◌, ◌⊎◌, ◌∙◌, ◌++◌, [], length, take, drop, sym, ap, subst, List, inl, inr, arith, Result, Ok, Err}
+use Rattle.std.proofs.Common.{refl, true, ◌≡◌, ◌↔◌, ◌⊎◌, ◌∙◌, ◌++◌, ◌≤◌, [], length, take, drop, sym, ap, subst, List, inl, inr, arith, None, Result, Ok, Err}
+use Rattle.std.specs.Prelude.{option_map}
 use Rattle.std.proofs.lemmas.Bool.{lt-ltb}
 use Rattle.std.proofs.lemmas.List.{take_all}
 use Rattle.age_header.specs.declared.fault.HeaderFault.{HeaderFault}
@@ -11,8 +12,8 @@ use Rattle.age_stream.specs.declared.fault.StreamFault.{StreamFault}
 use Rattle.age_stream.specs.declared.fault.StreamFault.TheVariants as stream
 use Rattle.age_stream.specs.declared.salvaged.Salvaged.{Salvaged}
 use Rattle.age_stream.specs.Reading.{Reading, payload_reading, stop, whole}
-use Rattle.age_stream.specs.Salvage.{IsOfPieces, Part, Reports, Saves, SavesParts, SavesPayload, LossesMoved, losses, is_whole, is_whole_to, payload_parts, salvaged_text}
-use Rattle.age_stream.proofs.SalvageReading.{payload_plaintext, payload_whole}
+use Rattle.age_stream.specs.Salvage.{IsOfPieces, Part, Reports, Saves, SavesParts, SavesPayload, LossesMoved, losses, is_whole, payload_parts, salvaged_text}
+use Rattle.age_stream.proofs.SalvageReading.{payload_exactly, payload_plaintext, payload_whole}
 use Rattle.age_file.specs.declared.fault.Fault.{Fault}
 use Rattle.age_file.specs.declared.fault.Fault.TheVariants.{OutOfMemory}
 use Rattle.age_file.specs.AgeFile.{Bounds}
@@ -20,7 +21,7 @@ use Rattle.age_file.specs.Device.{IsLate}
 use Rattle.age_file.specs.Salvage.{SavesAfter, SavesFile, SavesUnder}
 use Rattle.age_file.specs.Verdict.{Answering, IsVerdict, header_fault, reading_after, parts_of, reading_under, stream_fault, header_key, with_file_fault}
 use Rattle.age_file.proofs.DecryptLemmas.{err_err}
-use Rattle.age_file.proofs.FileLemmas.{with_file_fault_whole}
+use Rattle.age_file.proofs.FileLemmas.{no_stream_fault, with_file_fault_whole}
 
 err_ok : (f : Fault) (s : Salvaged) → ◌≡◌ {A = Result Salvaged Fault} (Ok s) (Err f) → ⊥
 err_ok f s e = cc
@@ -41,6 +42,7 @@ record SavedOf (limits : Bounds) (v : Reading Fault) (sink : Moved) (lost : Loss
   pub key : FileKey
   pub rest : Bytes
   pub reads : v ≡ with_file_fault (payload_reading key limits.max_chunks rest)
+  pub long : 16 ≤ length rest
   pub saves : SavesParts limits.max_chunks (payload_parts key rest) sink lost (Ok s)
 
 saved_of : (limits : Bounds) (answers : Answering) (b : Bytes) (v : Reading Fault) (sink : Moved) (lost : LossesMoved)
@@ -56,6 +58,7 @@ saved_of limits answers b v sink lost s i f = go f.header (same_header limits an
       key = k;
       rest = rest;
       reads = is;
+      long = h.0;
       saves = subst (λ x. SavesParts limits.max_chunks (payload_parts k rest) sink lost (Ok x)) (sym (ok_ok s t e)) h.1;
     }
 
@@ -86,7 +89,7 @@ saved_plaintext limits answers b v sink lost s i f =
 
 pub saved_whole : (limits : Bounds) (answers : Answering) (b plain : Bytes) (sink : Moved) (lost : LossesMoved)
     (s : Salvaged) → IsVerdict limits answers b (whole plain) → SavesFile limits answers b sink lost (Ok s)
-    → Took sink plain × Reports lost [] × (is_whole s ≡ true)
+    → Took sink plain × Reports lost []
 saved_whole limits answers b plain sink lost s i f =
     let o = saved_of limits answers b (whole plain) sink lost s i f in
     let ps : List Part = payload_parts o.key o.rest in
@@ -94,8 +97,18 @@ saved_whole limits answers b plain sink lost s i f =
     let w = written ps sink lost o.saves.1 in (
       subst (Took sink) a.is w.0,
       subst (Reports lost) (a.none 0) w.1,
-      ap is_whole o.saves.2 ∙ ap (λ l. is_whole_to l (length (losses 0 0 ps))) a.ends
-          ∙ ap (λ x. nat_eq (length x) 0) (a.none 0),
+    )
+
+pub saved_exactly : (limits : Bounds) (answers : Answering) (b : Bytes) (v : Reading Fault) (sink : Moved)
+    (lost : LossesMoved) (s : Salvaged) → IsVerdict limits answers b v → SavesFile limits answers b sink lost (Ok s)
+    → (is_whole s ≡ true) ↔ (v.fault ≡ None)
+saved_exactly limits answers b v sink lost s i f =
+    let o = saved_of limits answers b v sink lost s i f in
+    let law = payload_exactly o.key o.rest limits.max_chunks in
+    let fault = ap (λ (r : Reading Fault). r.fault) o.reads in
+    let reading = payload_reading o.key limits.max_chunks o.rest in (
+      λ is. fault ∙ ap (option_map stream_fault) (law.1 (o.long, o.saves.0, ap is_whole (sym o.saves.2) ∙ is)),
+      λ none. ap is_whole o.saves.2 ∙ (law.0 (no_stream_fault reading.fault (sym fault ∙ none))).2,
     )
 
 -- a fault of a payload of which something may have been saved is late

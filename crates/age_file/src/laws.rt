@@ -88,17 +88,22 @@ pub fn rewrap_keeps()
         → IsVerdict limits old b v ↔ IsVerdict limits new c v }
 {}
 
-/// Salvaging a whole file is decrypting it. If salvaging any other file returns Ok, what it writes
-/// begins with what decrypting writes before its fault.
+/// Salvaging a file is whole exactly if decrypting it returns no fault, and then writes the same.
+/// If salvaging any other file returns Ok, what it writes begins with what decrypting writes before
+/// its fault.
 pub fn salvage_is_verdict()
     // On Ok, if the verdict is a plaintext without fault, that plaintext was written.
     ensures whole { (limits : Bounds) (answers : Answering) (b plain : Bytes) (sink : Moved)
         (lost : LossesMoved) (s : Salvaged) → IsVerdict limits answers b (whole plain)
         → SavesFile limits answers b sink lost (Ok s) → Took sink plain }
-    // Then no chunk is reported, and the result says that everything is saved.
+    // Then no chunk is reported.
     ensures none { (limits : Bounds) (answers : Answering) (b plain : Bytes) (sink : Moved)
         (lost : LossesMoved) (s : Salvaged) → IsVerdict limits answers b (whole plain)
-        → SavesFile limits answers b sink lost (Ok s) → Reports lost [] × (is_whole s ≡ true) }
+        → SavesFile limits answers b sink lost (Ok s) → Reports lost [] }
+    // On Ok the result is whole exactly if the verdict has no fault.
+    ensures exactly { (limits : Bounds) (answers : Answering) (b : Bytes) (v : Reading Fault)
+        (sink : Moved) (lost : LossesMoved) (s : Salvaged) → IsVerdict limits answers b v
+        → SavesFile limits answers b sink lost (Ok s) → (is_whole s ≡ true) ↔ (v.fault ≡ None) }
     // A fault before anything was written is the verdict's, or out of memory.
     ensures fault { (limits : Bounds) (answers : Answering) (b : Bytes) (v : Reading Fault)
         (sink : Moved) (lost : LossesMoved) (fault : Fault) → IsVerdict limits answers b v

@@ -22,8 +22,8 @@ use std::alloc::Global;
 /// chunk that does not, which it reports to `losses`.
 ///
 /// Each chunk that was saved is genuine, and stands where it stood in its plaintext. The plaintext
-/// as a whole can be genuine only if no chunk was lost and the last piece is the last chunk. That
-/// is not enough: `decrypt` may still refuse the file.
+/// as a whole is genuine exactly if the result is whole (`Salvaged::is_whole`): exactly then
+/// `decrypt` of the same bytes finds no fault.
 ///
 /// # Errors
 /// Those of `decrypt` up to `NonceTruncated`: nothing was written. `TooManyChunks` if there are

@@ -1,6 +1,6 @@
 -- The parts of pieces that are saved one after another.
-use Rattle.std.proofs.Common.{◌≡◌, ◌⊎◌, ◌∙◌, ◌++◌, ◌∷◌, ◌+◌, ◌-◌, ◌*◌, ◌<◌, ◌≤◌, ℕ, List, [], length, take, drop, ap, sym, subst, arith, append_assoc, append-nil, length-append, refl, Bool, not, inl, inr, None, Some, Result, Ok, Err, nat_le, cond, min, suc}
-use Rattle.std.specs.Prelude.{IfErr, IfOk}
+use Rattle.std.proofs.Common.{◌≡◌, ◌⊎◌, ◌∙◌, ◌++◌, ◌∷◌, ◌+◌, ◌-◌, ◌*◌, ◌<◌, ◌≤◌, ℕ, List, [], length, take, drop, ap, sym, subst, arith, append_assoc, append-nil, length-append, refl, Bool, not, inl, inr, None, Some, Result, Ok, Err, nat_le, min, suc}
+use Rattle.std.specs.Prelude.{IfErr, IfOk, Option}
 use Rattle.std.specs.Io.KnownBytes.{Appends, IsAtEnd}
 use Rattle.std.proofs.KnownBytes.{Appends-trans, Appends-nil}
 use Rattle.std.proofs.lemmas.Bool.{le-leb, lt-leb, cases_lt}
@@ -11,12 +11,12 @@ use Rattle.age_header.proofs.DeviceLemmas.{done_part, gave_more, gave_none, gave
 use Rattle.age_stream.specs.declared.salvaged.Lost.{Lost}
 use Rattle.age_stream.specs.declared.salvaged.Salvaged.{Salvaged}
 use Rattle.age_stream.specs.declared.salvaged.Saved.{Saved}
-use Rattle.age_stream.specs.declared.salvaged.Saved.TheVariants.{Nothing, Zeros, Chunk, LastChunk}
+use Rattle.age_stream.specs.declared.salvaged.Saved.TheVariants.{Nothing, Zeros, Chunk, Early, LastChunk}
 use Rattle.age_cipher.proofs.OpeningLemmas.{length-sealed_text, opened_is}
 use Rattle.age_stream.specs.Opening.{EndsAt, GivesNonce}
 use Rattle.age_stream.specs.Payload.{chunk_nonce, payload_key, pieces}
 use Rattle.age_stream.specs.Reading.{piece_opening}
-use Rattle.age_stream.specs.Salvage.{EndsSaving, KnownLosses, Part, ReadsAhead, Reports, Salvages, SavesParts, SavesPayload, first_part, last_saved, loss, losses, lost_part, opening_or, part, parts, payload_parts, salvaged_text, summary, losses_of, with_part}
+use Rattle.age_stream.specs.Salvage.{EndsSaving, KnownLosses, Part, ReadsAhead, Reports, Salvages, SavesParts, SavesPayload, early_after, first_part, in_place, last_saved, latest_early, loss, losses, lost_part, opening_or, out_of_place, part, parts, payload_parts, salvaged_text, summary, losses_of, with_part}
 use Rattle.age_stream.proofs.CuttingLemmas.{cut_last}
 use Rattle.age_stream.proofs.OpeningLemmas.{take_most}
 use Rattle.age_stream.proofs.ReadingLemmas.{cut_some, cut_step, is_end_cut}
@@ -34,15 +34,17 @@ opened_short key nonce c short = go (opened_text key nonce [] c) refl
         absurd (omega arith)
 
 pub part-opened : (key : Bytes) (i : ℕ) (last : Bool) (c t : Bytes) → piece_opening key i last c ≡ Some t
-    → part key i last c ≡ record { text = t; saved = cond last LastChunk Chunk }
+    → part key i last c ≡ record { text = t; saved = in_place i last (length c) }
 part-opened key i last c t is =
-    ap (λ x. opening_or last x (opening_or (not last) (piece_opening key i (not last) c) (lost_part c))) is
+    ap (λ x. opening_or (in_place i last (length c)) x (opening_or (out_of_place last)
+    (piece_opening key i (not last) c) (lost_part c))) is
 
-part_lost : (key : Bytes) (i : ℕ) (last : Bool) (c : Bytes) → piece_opening key i last c ≡ None
+pub part_lost : (key : Bytes) (i : ℕ) (last : Bool) (c : Bytes) → piece_opening key i last c ≡ None
     → piece_opening key i (not last) c ≡ None → part key i last c ≡ lost_part c
 part_lost key i last c none other =
-    ap (λ x. opening_or last x (opening_or (not last) (piece_opening key i (not last) c) (lost_part c))) none
-    ∙ ap (λ x. opening_or (not last) x (lost_part c)) other
+    ap (λ x. opening_or (in_place i last (length c)) x (opening_or (out_of_place last)
+    (piece_opening key i (not last) c) (lost_part c))) none
+    ∙ ap (λ x. opening_or (out_of_place last) x (lost_part c)) other
 
 pub part_short : (key : Bytes) (i : ℕ) (last : Bool) (c : Bytes) (end : ℕ) (bytes : Bytes) → length c ≡ end → end < 16
     → part key i last c ≡ record { text = take (end - 16) bytes; saved = Nothing }
@@ -123,6 +125,15 @@ last_snoc [] y = refl
 last_snoc (x ∷ []) y = refl
 last_snoc (x ∷ z ∷ xs) y = last_snoc (z ∷ xs) y
 
+pub early_snoc : (i : ℕ) (before : Option ℕ) (xs : List Part) (y : Part)
+    → latest_early i before (xs ++ y ∷ []) ≡ early_after y.saved (i + length xs) (latest_early i before xs)
+early_snoc i before [] y =
+    let none : i ≡ i + 0 = omega arith in ap (λ k. early_after y.saved k before) none
+early_snoc i before (x ∷ xs) y =
+    let count : i + 1 + length xs ≡ i + length (x ∷ xs) = omega arith in
+    let mid : Option ℕ = early_after x.saved i before in
+    early_snoc (i + 1) mid xs y ∙ ap (λ k. early_after y.saved k (latest_early (i + 1) mid xs)) count
+
 -- ---- what was reported
 
 pub reports_none : (a : KnownLosses) → Reports (losses_of a a) []
@@ -193,14 +204,16 @@ pub record Salvaging (key : Bytes) (s : Salvaged) (ahead : Bytes) (from now : Se
   pub bytes : s.bytes ≡ length (salvaged_text done)
   pub chunks : s.chunks ≡ length done
   pub lost : s.lost ≡ length (losses 0 0 done)
+  pub early : s.early ≡ latest_early 0 None done
   pub full : s.bytes ≡ chunk_size * s.chunks
   pub lost_bound : s.lost ≤ s.chunks
   pub read : length given ≡ sealed_chunk_size * s.chunks + length ahead
   pub short : length ahead ≤ 1
 
 pub salvaging_none : {key : Bytes} {s : Salvaged} {ahead : Bytes} {from : Seen} {old : Known} {before : KnownLosses}
-    → s.bytes ≡ 0 → s.chunks ≡ 0 → s.lost ≡ 0 → ahead ≡ [] → Salvaging key s ahead from from old old before before
-salvaging_none {key} {ahead} {from} {old} {before} bytes chunks lost none = record {
+    → s.bytes ≡ 0 → s.chunks ≡ 0 → s.lost ≡ 0 → s.early ≡ None → ahead ≡ []
+    → Salvaging key s ahead from from old old before before
+salvaging_none {key} {ahead} {from} {old} {before} bytes chunks lost early none = record {
   done = [];
   given = [];
   gave = gave_none;
@@ -211,6 +224,7 @@ salvaging_none {key} {ahead} {from} {old} {before} bytes chunks lost none = reco
   bytes = bytes;
   chunks = chunks;
   lost = lost;
+  early = early;
   full = omega arith;
   lost_bound = omega arith;
   read = omega (arith, ap length none);
@@ -220,6 +234,7 @@ salvaging_none {key} {ahead} {from} {old} {before} bytes chunks lost none = reco
 loss_len : (s : Saved) (lost : Lost) → length (loss s lost) ≤ 1
 loss_len Zeros lost = omega arith
 loss_len Chunk lost = omega arith
+loss_len Early lost = omega arith
 loss_len LastChunk lost = omega arith
 loss_len Nothing lost = omega arith
 
@@ -232,9 +247,9 @@ losses_next done s y bytes chunks = losses_snoc 0 0 done y ∙ ap (λ t. losses 
 
 -- the summary of the parts so far and one more
 snoc_summary : (done : List Part) (s : Salvaged) (y : Part) → s.bytes ≡ length (salvaged_text done)
-    → s.chunks ≡ length done → s.lost ≡ length (losses 0 0 done)
+    → s.chunks ≡ length done → s.lost ≡ length (losses 0 0 done) → s.early ≡ latest_early 0 None done
     → with_part s (length y.text) y.saved ≡ summary (done ++ y ∷ [])
-snoc_summary done s y bytes chunks lost =
+snoc_summary done s y bytes chunks lost early =
     let one : List Lost = loss y.saved (record { chunk = s.chunks; start = s.bytes; len = length y.text }) in
     let text : length (salvaged_text (done ++ y ∷ [])) ≡ length (salvaged_text done) + length y.text =
     ap length (salvaged_snoc done y) ∙ length-append (salvaged_text done) y.text in
@@ -245,6 +260,10 @@ snoc_summary done s y bytes chunks lost =
     let b : s.bytes + length y.text ≡ length (salvaged_text (done ++ y ∷ [])) = omega arith in
     let n : s.chunks + 1 ≡ length (done ++ y ∷ []) = omega (arith, length-append done (y ∷ [])) in
     let m : s.lost + length one ≡ length (losses 0 0 (done ++ y ∷ [])) = omega arith in
+    let zero : length done ≡ 0 + length done = omega arith in
+    let mark : early_after y.saved s.chunks s.early ≡ latest_early 0 None (done ++ y ∷ []) =
+    ap (λ k. early_after y.saved k s.early) (chunks ∙ zero) ∙ ap (early_after y.saved (0 + length done)) early
+    ∙ sym (early_snoc 0 None done y) in
     let last = last_snoc done y in
     cc
 
@@ -353,7 +372,7 @@ module _ {key : Bytes} {s : Salvaged} {held : Bytes} {n : ℕ} {buf : Bytes} {fr
           (reports_then before said after (losses 0 0 o.done) (loss y.saved _) o.reported lost)
 
       summed : t ≡ summary (o.done ++ y ∷ [])
-      summed = rw (sum, ← wide) (snoc_summary o.done s y o.bytes o.chunks o.lost)
+      summed = rw (sum, ← wide) (snoc_summary o.done s y o.bytes o.chunks o.lost o.early)
 
       -- the last piece was saved
       pub saves_last : {max : ℕ} → n ≤ sealed_chunk_size → s.chunks < max → OfGiven (flow from next)
@@ -392,6 +411,7 @@ module _ {key : Bytes} {s : Salvaged} {held : Bytes} {n : ℕ} {buf : Bytes} {fr
             bytes = ap (λ (x : Salvaged). x.bytes) summed;
             chunks = ap (λ (x : Salvaged). x.chunks) summed;
             lost = ap (λ (x : Salvaged). x.lost) summed;
+            early = ap (λ (x : Salvaged). x.early) summed;
             full = omega (arith, o.full, whole, bytes, up);
             lost_bound = omega (
               arith,

@@ -1,26 +1,40 @@
 -- What a reading gives is saved.
-use Rattle.std.proofs.Common.{◌≡◌, ◌∙◌, ◌++◌, ◌∷◌, ◌+◌, ◌-◌, ◌<◌, ℕ, List, [], length, take, drop, ap, sym, arith, append_assoc, refl, subst, inl, inr, Bool, true, false, None, Ok, cond, suc}
-use Rattle.std.proofs.lemmas.Bool.{cases_lt, le-ltb, lt-ltb}
+use Rattle.std.proofs.Common.{nat_le, ◌≡◌, ◌↔◌, ◌⊎◌, ◌∙◌, ◌++◌, ◌∷◌, ◌+◌, ◌-◌, ◌<◌, ◌≤◌, ◌&&◌, ℕ, List, [], length, take, drop, ap, sym, arith, append_assoc, refl, subst, inl, inr, Bool, true, false, not, Option, None, Some, Ok, cond, suc, nat_lt, nat_eq}
+use Rattle.std.proofs.lemmas.Bool.{cases_lt, le-ltb, lt-ltb, lt-leb}
+use Rattle.std.proofs.lemmas.Bool.Decides.{nat_tests}
 use Rattle.std.proofs.lemmas.List.{take_all}
-use Rattle.age_stream.specs.Words.{Bytes, FileKey, StreamFault, sealed_chunk_size}
-use Rattle.age_cipher.proofs.OpeningLemmas.{opened_is}
-use Rattle.age_stream.specs.declared.salvaged.Saved.TheVariants.{Chunk, LastChunk}
+use Rattle.age_stream.specs.Words.{Bytes, FileKey, Known, StreamFault, sealed_chunk_size}
+use Rattle.age_cipher.proofs.OpeningLemmas.{length-sealed_text, opened_is}
+use Rattle.age_stream.specs.declared.salvaged.Saved.{Saved}
+use Rattle.age_stream.specs.declared.salvaged.Saved.TheVariants.{Chunk, Early, LastChunk, Nothing, Zeros}
 use Rattle.age_stream.specs.Payload.{chunk_nonce, is_end, payload_key, pieces}
-use Rattle.age_stream.specs.Reading.{Reading, first_fault, plaintext_of, outcome, outcomes, payload_reading, reading_from, whole}
-use Rattle.age_stream.specs.Salvage.{Part, last_saved, losses, part, parts, payload_parts, salvaged_text}
-use Rattle.age_stream.proofs.PayloadLemmas.{outcome_opens, result_cases}
+use Rattle.age_stream.specs.Reading.{Reading, first_fault, plaintext_of, outcome, outcomes, payload_reading, piece_opening, reading_from, whole}
+use Rattle.age_stream.specs.Salvage.{Part, early_after, in_place, is_whole, is_whole_to, last_saved, latest_early, losses, lost_part, opening_or, out_of_place, part, parts, payload_parts, salvaged_text, summary}
+use Rattle.age_stream.proofs.CuttingLemmas.{AtMost, cut_at_most}
+use Rattle.age_stream.proofs.PayloadLemmas.{opens_outcome, outcome_opens, result_cases}
 use Rattle.age_stream.proofs.ReadingLemmas.{cut_some}
-use Rattle.age_stream.proofs.SalvageLemmas.{part-opened}
+use Rattle.age_stream.proofs.SalvageLemmas.{length-parts, part-opened, part_lost}
 
 abbrev text_part : Bool → Bytes → Part
 text_part last text = record { text = text; saved = cond last LastChunk Chunk }
+
+-- a piece with a text, or the first, is in its place
+placed : (i : ℕ) (last : Bool) (len : ℕ) → (last ≡ true → 0 < i → 16 < len)
+    → in_place i last len ≡ cond last LastChunk Chunk
+placed i false len some = refl
+placed i true len some =
+    let not_empty : (nat_lt 0 i && nat_eq len 16) ≡ false = grind (arith, nat_tests, some refl) in
+    rw not_empty refl
 
 -- a piece that a reading opens is saved
 opened-part : (key : Bytes) (max i : ℕ) (last : Bool) (c t : Bytes) → outcome key max i last c ≡ Ok t
     → part key i last c ≡ text_part last t
 opened-part key max i last c t h =
     let o = outcome_opens key max i last c t h in
+    let len = ap length o.sealed_so ∙ length-sealed_text key (chunk_nonce i last) [] t in
     part-opened key i last c t ((opened_is key (chunk_nonce i last) [] c t).1 (sym o.sealed_so))
+    ∙ ap (λ s. record { text = t; saved = s })
+    (placed i last (length c) (λ l pos. omega (arith, len, o.some l pos)))
 
 -- what is saved begins with the text before the first fault
 pub plaintext_saved : (key : Bytes) (max i : ℕ) (cs : List Bytes)
@@ -39,18 +53,22 @@ plaintext_saved key max i (c ∷ cs) = elim (result_cases (outcome key max i (is
 ]
 
 -- all of these parts are texts of a reading without fault, and the last is the last chunk
-pub record AllSaved (i : ℕ) (ps : List Part) (text : Bytes) : Type 0 where
+pub record AllSaved (max i : ℕ) (ps : List Part) (text : Bytes) : Type 0 where
   pub is : salvaged_text ps ≡ text
   pub none : (at : ℕ) → losses i at ps ≡ []
+  pub early : latest_early i None ps ≡ None
   pub ends : last_saved ps ≡ LastChunk
+  pub within : i + length ps ≤ max
 
 pub all_saved : (key : Bytes) (max i : ℕ) (c : Bytes) (cs : List Bytes)
     → first_fault (outcomes key max i (c ∷ cs)) ≡ None
-    → AllSaved i (parts key i (c ∷ cs)) (plaintext_of (outcomes key max i (c ∷ cs)))
+    → AllSaved max i (parts key i (c ∷ cs)) (plaintext_of (outcomes key max i (c ∷ cs)))
 all_saved key max i c [] e = elim (result_cases (outcome key max i true c)) [
   | inr (f, is) ↦ let fault = rw is at e in absurd (cc)
   | inl (t, is) ↦
-      rw (is, opened-part key max i true c t is) (record { is = refl; none = λ at. refl; ends = refl })
+      let o = outcome_opens key max i true c t is in
+      rw (is, opened-part key max i true c t is)
+      (record { is = refl; none = λ at. refl; early = refl; ends = refl; within = omega (arith, o.within) })
 ]
 all_saved key max i c (d ∷ ds) e = elim (result_cases (outcome key max i false c)) [
   | inr (f, is) ↦ let fault = rw is at e in absurd (cc)
@@ -59,8 +77,96 @@ all_saved key max i c (d ∷ ds) e = elim (result_cases (outcome key max i false
       rw (is, opened-part key max i false c t is) (record {
         is = ap (λ x. t ++ x) all.is;
         none = λ at. all.none (at + length t);
+        early = all.early;
         ends = all.ends;
+        within = omega (arith, all.within);
       })
+]
+
+-- ---- parts that are all in their places
+
+-- once there is an early chunk, there is a latest one
+after_some : (s : Saved) (i j : ℕ) → (k : ℕ) × (early_after s i (Some j) ≡ Some k)
+after_some Early i j = (i, refl)
+after_some Chunk i j = (j, refl)
+after_some LastChunk i j = (j, refl)
+after_some Zeros i j = (j, refl)
+after_some Nothing i j = (j, refl)
+
+early_stays : (i j : ℕ) (ps : List Part) → latest_early i (Some j) ps ≡ None → ⊥
+early_stays i j [] e = cc
+early_stays i j (p ∷ ps) e = let (k, is) = after_some p.saved i j in early_stays (i + 1) k ps (rw is at e)
+
+zeros_lost : (i at : ℕ) (c : Bytes) (ps : List Part) → 16 < length c → losses i at (lost_part c ∷ ps) ≡ [] → ⊥
+zeros_lost i at c ps lt e = let some = rw (lt-leb (length c) 16 lt) at e in cc
+
+-- what a piece is
+part_cases : (key : Bytes) (i : ℕ) (last : Bool) (c : Bytes)
+    → ((t : Bytes) × (piece_opening key i last c ≡ Some t))
+    ⊎ ((part key i last c).saved ≡ out_of_place last) ⊎ (part key i last c ≡ lost_part c)
+part_cases key i last c = go (piece_opening key i last c) refl
+  where
+    other : (o : Known) → piece_opening key i (not last) c ≡ o → piece_opening key i last c ≡ None
+        → ((part key i last c).saved ≡ out_of_place last) ⊎ (part key i last c ≡ lost_part c)
+    other None e none = inr (part_lost key i last c none e)
+    other (Some t) e none = inl (rw (none, e) refl)
+
+    go : (o : Known) → piece_opening key i last c ≡ o → ((t : Bytes) × (piece_opening key i last c ≡ Some t))
+        ⊎ ((part key i last c).saved ≡ out_of_place last) ⊎ (part key i last c ≡ lost_part c)
+    go None e = inr (other (piece_opening key i (not last) c) refl e)
+    go (Some t) e = inl (t, e)
+
+some_text : (i len : ℕ) → in_place i true len ≡ LastChunk → 0 < i → 16 ≤ len → 16 < len
+some_text i len is pos ge = go (nat_lt 0 i && nat_eq len 16) refl
+  where
+    go : (b : Bool) → (nat_lt 0 i && nat_eq len 16) ≡ b → 16 < len
+    go true e = let early = rw e at is in absurd (cc)
+    go false e = grind (arith, nat_tests, e, pos, ge)
+
+-- a piece in its place has no fault
+place_reads : (key : Bytes) (max i : ℕ) (last : Bool) (c t : Bytes) → i < max → piece_opening key i last c ≡ Some t
+    → (last ≡ true → in_place i last (length c) ≡ LastChunk) → outcome key max i last c ≡ Ok t
+place_reads key max i last c t within is place =
+    let so : c ≡ _ = sym ((opened_is key (chunk_nonce i last) [] c t).0 is) in
+    let len = ap length so ∙ length-sealed_text key (chunk_nonce i last) [] t in
+    opens_outcome key max i last c t (record {
+      within = within;
+      sealed_so = so;
+      some = λ l pos.
+          let text = some_text i (length c) (rw l at (place l)) pos (omega (arith, len)) in omega (arith, len, text);
+    })
+
+pub all_read : (key : Bytes) (max i at : ℕ) (c : Bytes) (cs : List Bytes) → AtMost sealed_chunk_size (c ∷ cs)
+    → i + length (c ∷ cs) ≤ max → losses i at (parts key i (c ∷ cs)) ≡ []
+    → latest_early i None (parts key i (c ∷ cs)) ≡ None → last_saved (parts key i (c ∷ cs)) ≡ LastChunk
+    → first_fault (outcomes key max i (c ∷ cs)) ≡ None
+all_read key max i at c [] full within none early ends = elim (part_cases key i true c) [
+  | inl (t, is) ↦
+      let place = ap (λ (p : Part). p.saved) (sym (part-opened key i true c t is)) ∙ ends in
+      rw (place_reads key max i true c t (omega (arith, within)) is (λ l. place)) refl
+  | inr (inl is) ↦ let no : Chunk ≡ LastChunk = sym is ∙ ends in absurd (cc)
+  | inr (inr is) ↦ absurd (lost_last c (ap (λ (p : Part). p.saved) (sym is) ∙ ends))
+]
+  where
+    lost_last : (piece : Bytes) → (lost_part piece).saved ≡ LastChunk → ⊥
+    lost_last piece e = go (nat_le (length piece) 16) refl
+      where
+        go : (b : Bool) → nat_le (length piece) 16 ≡ b → ⊥
+        go true is = let no = rw is at e in cc
+        go false is = let no = rw is at e in cc
+all_read key max i at c (d ∷ ds) full within none early ends = elim (part_cases key i false c) [
+  | inl (t, is) ↦
+      let same = part-opened key i false c t is in
+      let more = all_read key max (i + 1) (at + length t) d ds full.1 (omega (arith, within)) (rw same at none)
+      (rw same at early) ends in
+      rw (place_reads key max i false c t (omega (arith, within)) is (λ l. absurd (cc))) more
+  | inr (inl is) ↦
+      let rest : List Part = parts key (i + 1) (d ∷ ds) in
+      let stays = subst (λ s. latest_early (i + 1) (early_after s i None) rest ≡ None) is early in
+      absurd (early_stays (i + 1) i rest stays)
+  | inr (inr is) ↦
+      let rest : List Part = parts key (i + 1) (d ∷ ds) in
+      absurd (zeros_lost i at c rest (omega (arith, full.0)) (subst (λ p. losses i at (p ∷ rest) ≡ []) is none))
 ]
 
 -- ---- a payload
@@ -77,14 +183,14 @@ payload_plaintext k text max = elim (cases_lt (length text) 16) [
 ]
 
 pub payload_whole : (k : FileKey) (text plain : Bytes) (max : ℕ) → payload_reading k max text ≡ whole plain
-    → AllSaved 0 (payload_parts k text) plain
+    → AllSaved max 0 (payload_parts k text) plain
 payload_whole k text plain max is = elim (cases_lt (length text) 16) [
   | inl lt ↦ let fault = ap (λ (r : Reading StreamFault). r.fault) (rw (lt-ltb (length text) 16 lt) at is) in absurd
       (cc)
   | inr ge ↦
       let e : reading_from (payload_key k (take 16 text)) max 0 (drop 16 text) ≡ whole plain =
       rw (le-ltb (length text) 16 ge) at is in
-      subst (AllSaved 0 (payload_parts k text)) (ap (λ (r : Reading StreamFault). r.plaintext) e)
+      subst (AllSaved max 0 (payload_parts k text)) (ap (λ (r : Reading StreamFault). r.plaintext) e)
       (some (pieces (drop 16 text)) (cut_some sealed_chunk_size [] (drop 16 text))
       (ap (λ (r : Reading StreamFault). r.fault) e))
 ]
@@ -93,6 +199,59 @@ payload_whole k text plain max is = elim (cases_lt (length text) 16) [
     key = payload_key k (take 16 text)
 
     some : (cs : List Bytes) → 0 < length cs → first_fault (outcomes key max 0 cs) ≡ None
-        → AllSaved 0 (parts key 0 cs) (plaintext_of (outcomes key max 0 cs))
+        → AllSaved max 0 (parts key 0 cs) (plaintext_of (outcomes key max 0 cs))
     some [] pos e = absurd (omega arith)
     some (c ∷ cs) pos e = all_saved key max 0 c cs e
+
+whole_to : (last : Saved) (lost : ℕ) (early : Option ℕ) → is_whole_to last lost early ≡ true
+    → (last ≡ LastChunk) × (lost ≡ 0) × (early ≡ None)
+whole_to LastChunk lost None e = (refl, grind (arith, nat_tests, e), refl)
+whole_to LastChunk lost (Some i) e = absurd (cc)
+whole_to Chunk lost early e = absurd (cc)
+whole_to Early lost early e = absurd (cc)
+whole_to Zeros lost early e = absurd (cc)
+whole_to Nothing lost early e = absurd (cc)
+
+no_losses : {A : Type 0} (xs : List A) → length xs ≡ 0 → xs ≡ []
+no_losses [] e = refl
+no_losses (x ∷ xs) e = absurd (omega (arith, e))
+
+pub payload_exactly : (k : FileKey) (text : Bytes) (max : ℕ) → ((payload_reading k max text).fault ≡ None)
+    ↔ ((16 ≤ length text) × (length (payload_parts k text) ≤ max)
+    × (is_whole (summary (payload_parts k text)) ≡ true))
+payload_exactly k text max = (reads, saves)
+  where
+    key : Bytes
+    key = payload_key k (take 16 text)
+
+    ps : List Part
+    ps = payload_parts k text
+
+    r : Reading StreamFault
+    r = payload_reading k max text
+
+    reads : r.fault ≡ None → (16 ≤ length text) × (length ps ≤ max) × (is_whole (summary ps) ≡ true)
+    reads e = elim (cases_lt (length text) 16) [
+      | inl lt ↦ let fault = rw (lt-ltb (length text) 16 lt) at e in absurd (cc)
+      | inr ge ↦
+          let a = payload_whole k text r.plaintext max (ap (λ f. record { plaintext = r.plaintext; fault = f }) e) in (
+            ge,
+            omega (arith, a.within),
+            ap (λ l. is_whole_to l (length (losses 0 0 ps)) (latest_early 0 None ps)) a.ends
+                ∙ ap (λ xs. is_whole_to LastChunk (length xs) (latest_early 0 None ps)) (a.none 0)
+                ∙ ap (λ x. is_whole_to LastChunk 0 x) a.early,
+          )
+    ]
+
+    some : (cs : List Bytes) → 0 < length cs → AtMost sealed_chunk_size cs → length (parts key 0 cs) ≤ max
+        → (last_saved (parts key 0 cs) ≡ LastChunk) × (length (losses 0 0 (parts key 0 cs)) ≡ 0)
+        × (latest_early 0 None (parts key 0 cs) ≡ None) → first_fault (outcomes key max 0 cs) ≡ None
+    some [] pos full within w = absurd (omega arith)
+    some (c ∷ cs) pos full within w =
+        all_read key max 0 0 c cs full (omega (arith, within, length-parts key 0 (c ∷ cs)))
+        (no_losses (losses 0 0 (parts key 0 (c ∷ cs))) w.1) w.2 w.0
+
+    saves : (16 ≤ length text) × (length ps ≤ max) × (is_whole (summary ps) ≡ true) → r.fault ≡ None
+    saves (ge, within, is) = rw (le-ltb (length text) 16 ge) (some (pieces (drop 16 text))
+        (cut_some sealed_chunk_size [] (drop 16 text)) (cut_at_most sealed_chunk_size (drop 16 text) (omega arith))
+        within (whole_to (last_saved ps) (length (losses 0 0 ps)) (latest_early 0 None ps) is))

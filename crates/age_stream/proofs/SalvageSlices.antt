@@ -6,9 +6,10 @@ use Rattle.std.proofs.lemmas.List.{length-append, length-replicate, get_or_appen
 use Rattle.std.proofs.lemmas.List.Sums.{sum_by-cons}
 use Rattle.age_stream.specs.Words.{Bytes, Known, FileKey, chunk_size, sealed_chunk_size}
 use Rattle.age_cipher.proofs.OpeningLemmas.{length-sealed_text, opened_is}
+use Rattle.age_stream.specs.declared.salvaged.Saved.{Saved}
 use Rattle.age_stream.specs.Payload.{chunk_nonce, is_end, payload_key, pieces}
 use Rattle.age_stream.specs.Reading.{piece_opening}
-use Rattle.age_stream.specs.Salvage.{Part, lost_part, opening_or, part, parts, payload_parts, salvaged_text}
+use Rattle.age_stream.specs.Salvage.{Part, in_place, lost_part, opening_or, out_of_place, part, parts, payload_parts, salvaged_text}
 use Rattle.age_stream.specs.Slice.{IsSlice, opening, openings}
 use Rattle.age_stream.proofs.CuttingLemmas.{AtMost, cut_at_most}
 use Rattle.age_stream.proofs.SalvageLemmas.{part-opened}
@@ -22,18 +23,20 @@ opened_has_len key i last c t is =
     omega arith
 
 -- an opening has as many bytes as the piece, less the tag's, and so has what stands for it
-or_len : (key : Bytes) (i : ℕ) (last : Bool) (c : Bytes) (other : Part) → length other.text ≡ length c - 16
-    → length (opening_or last (piece_opening key i last c) other).text ≡ length c - 16
-or_len key i last c other same = go (piece_opening key i last c) refl
+or_len : (key : Bytes) (i : ℕ) (last : Bool) (c : Bytes) (saved : Saved) (other : Part)
+    → length other.text ≡ length c - 16
+    → length (opening_or saved (piece_opening key i last c) other).text ≡ length c - 16
+or_len key i last c saved other same = go (piece_opening key i last c) refl
   where
-    go : (o : Known) → piece_opening key i last c ≡ o → length (opening_or last o other).text ≡ length c - 16
+    go : (o : Known) → piece_opening key i last c ≡ o → length (opening_or saved o other).text ≡ length c - 16
     go None e = same
     go (Some t) e = opened_has_len key i last c t e
 
 pub part_len : (key : Bytes) (i : ℕ) (last : Bool) (c : Bytes) → length (part key i last c).text ≡ length c - 16
 part_len key i last c =
-    or_len key i last c (opening_or (not last) (piece_opening key i (not last) c) (lost_part c))
-    (or_len key i (not last) c (lost_part c) (length-replicate (length c - 16) 0))
+    or_len key i last c (in_place i last (length c))
+    (opening_or (out_of_place last) (piece_opening key i (not last) c) (lost_part c))
+    (or_len key i (not last) c (out_of_place last) (lost_part c) (length-replicate (length c - 16) 0))
 
 pub salvaged_len : (key : Bytes) (i : ℕ) (cs : List Bytes)
     → length (salvaged_text (parts key i cs)) ≡ sum_by (λ piece. length piece - 16) cs

@@ -1,12 +1,12 @@
 -- Saving what is left of a payload if some chunks do not open.
-use Rattle.std.specs.Prelude.{ℕ, ◌+◌, ◌-◌, ◌≡◌, ◌≤◌, ◌<◌, ⊤, List, [], ◌∷◌, ◌++◌, Bool, true, false, not, length, map, take, drop, replicate, nat_eq, nat_le, IfSome, Option, Some, None, Result, Ok, Err, if◌then◌else◌}
+use Rattle.std.specs.Prelude.{ℕ, ◌+◌, ◌-◌, ◌≡◌, ◌≤◌, ◌<◌, ◌&&◌, ⊤, List, [], ◌∷◌, ◌++◌, Bool, true, false, not, length, map, take, drop, replicate, nat_eq, nat_le, nat_lt, IfSome, Option, Some, None, Result, Ok, Err, if◌then◌else◌}
 use Rattle.std.specs.Io.KnownBytes.{IsAtEnd}
 use Rattle.std.specs.List.{concat}
 use Rattle.age_stream.specs.Words.{Bytes, Key, Flow, Gave, Moved, OfGiven, Took, FileKey, StreamFault, NonceTruncated, TooManyChunks, Read, Write, Memory, chunk_buf_size, nonce_size, sealed_chunk_size, tag_size}
 use Rattle.age_stream.specs.declared.salvaged.Lost.{Lost}
 use Rattle.age_stream.specs.declared.salvaged.Salvaged.{Salvaged}
 use Rattle.age_stream.specs.declared.salvaged.Saved.{Saved}
-use Rattle.age_stream.specs.declared.salvaged.Saved.TheVariants.{Chunk, LastChunk, Zeros, Nothing}
+use Rattle.age_stream.specs.declared.salvaged.Saved.TheVariants.{Chunk, LastChunk, Early, Zeros, Nothing}
 use Rattle.age_stream.specs.Opening.{EndsAt}
 use Rattle.age_stream.specs.Payload.{is_end, payload_key, pieces}
 use Rattle.age_stream.specs.Reading.{piece_opening}
@@ -24,17 +24,26 @@ lost_part piece = record {
 }
 
 -- the text of a piece that opens, or else another part
-abbrev pub opening_or : (last : Bool) (opening : Option Bytes) (other : Part) → Part
-opening_or last (Some text) other =
-    record { text = text; saved = if last then LastChunk else Chunk }
-opening_or last None other = other
+abbrev pub opening_or : (saved : Saved) (opening : Option Bytes) (other : Part) → Part
+opening_or saved (Some text) other = record { text = text; saved = saved }
+opening_or saved None other = other
 
--- Piece i as the chunk of its position; if that fails, with the other value of the last-chunk byte
--- in the nonce; if that fails too, zeros.
+-- a piece of `len` bytes that opens as the chunk of its position; only chunk 0 may be the last and
+-- empty
+abbrev pub in_place : (i : ℕ) (last : Bool) (len : ℕ) → Saved
+in_place i false len = Chunk
+in_place i true len = if nat_lt 0 i && nat_eq len tag_size then Early else LastChunk
+
+-- a piece that opens with the other value of the last-chunk byte in the nonce
+abbrev pub out_of_place : (last : Bool) → Saved
+out_of_place last = if last then Chunk else Early
+
+-- Piece i as the chunk of its position; if that fails, with the other value of the last-chunk byte;
+-- if that fails too, zeros.
 abbrev pub part : (key : Key) (i : ℕ) (last : Bool) (piece : Bytes) → Part
 part key i last piece =
-    opening_or last (piece_opening key i last piece)
-    (opening_or (not last) (piece_opening key i (not last) piece) (lost_part piece))
+    opening_or (in_place i last (length piece)) (piece_opening key i last piece)
+    (opening_or (out_of_place last) (piece_opening key i (not last) piece) (lost_part piece))
 
 -- the parts of these pieces, with numbers from i on
 abbrev pub parts : (key : Key) (i : ℕ) (pieces : List Bytes) → List Part
@@ -68,30 +77,45 @@ last_saved [] = Nothing
 last_saved (p ∷ []) = p.saved
 last_saved (p ∷ q ∷ more) = last_saved (q ∷ more)
 
--- the number of bytes, of pieces and of lost chunks, and what was saved of the last piece
+-- the latest early chunk, if chunk i comes after those before
+abbrev pub early_after : (saved : Saved) (i : ℕ) (before : Option ℕ) → Option ℕ
+early_after Early i before = Some i
+early_after _ i before = before
+
+-- the same if the first part is chunk i
+abbrev pub latest_early : (i : ℕ) (before : Option ℕ) (parts : List Part) → Option ℕ
+latest_early i before [] = before
+latest_early i before (p ∷ more) = latest_early (i + 1) (early_after p.saved i before) more
+
+-- the number of bytes, of pieces and of lost chunks, the latest early chunk, and what was saved of
+-- the last piece
 abbrev pub summary : (parts : List Part) → Salvaged
 summary parts = record {
   bytes = length (salvaged_text parts);
   chunks = length parts;
   lost = length (losses 0 0 parts);
+  early = latest_early 0 None parts;
   last = last_saved parts;
 }
 
--- The last piece opens as a chunk that is not the last, or has no text and does not open: the
--- payload is cut short, or has bytes after its last chunk.
-abbrev pub is_cut : (last : Saved) → Bool
-is_cut Chunk = true
-is_cut Nothing = true
-is_cut _ = false
+-- The last piece opens as a chunk that is not the last; or it has no text and does not open, and
+-- the chunk before it is not early.
+abbrev pub is_cut_to : (last : Saved) (early : Option ℕ) (chunks : ℕ) → Bool
+is_cut_to Chunk early chunks = true
+is_cut_to Nothing None chunks = true
+is_cut_to Nothing (Some i) chunks = nat_lt i (chunks - 2)
+is_cut_to _ early chunks = false
 
--- No chunk is lost, and the last piece is the last chunk. A payload may have a fault all the same:
--- an earlier piece may also open as the last chunk, or the last chunk may be empty after others.
-abbrev pub is_whole_to : (last : Saved) (lost : ℕ) → Bool
-is_whole_to LastChunk lost = nat_eq lost 0
-is_whole_to _ lost = false
+abbrev pub is_cut : (s : Salvaged) → Bool
+is_cut s = is_cut_to s.last s.early s.chunks
+
+-- no chunk is lost or early, and the last piece is the last chunk
+abbrev pub is_whole_to : (last : Saved) (lost : ℕ) (early : Option ℕ) → Bool
+is_whole_to LastChunk lost None = nat_eq lost 0
+is_whole_to _ lost early = false
 
 abbrev pub is_whole : (s : Salvaged) → Bool
-is_whole s = is_whole_to s.last s.lost
+is_whole s = is_whole_to s.last s.lost s.early
 
 -- the chunks reported as lost so far, if they are known
 abbrev pub KnownLosses : Type 0
@@ -177,6 +201,7 @@ with_part s len saved = record {
   bytes = s.bytes + len;
   chunks = s.chunks + 1;
   lost = s.lost + length (loss saved (record { chunk = s.chunks; start = s.bytes; len = len }));
+  early = early_after saved s.chunks s.early;
   last = saved;
 }
 

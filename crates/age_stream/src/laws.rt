@@ -1,13 +1,12 @@
 //! Laws: facts about the definitions alone, each the contract of a function that does nothing.
 
-ghost use Rattle.std.specs.Prelude.{◌≡◌, ◌↔◌, ◌<◌, ◌≤◌, ◌++◌, ℕ, List, [], Ok, drop, length, take};
+ghost use Rattle.std.specs.Prelude.{◌≡◌, ◌↔◌, ◌<◌, ◌≤◌, ◌++◌, ℕ, List, None, Ok, drop, length, take, true};
 ghost use Rattle.age_kdf.specs.Bytes.{Bytes};
 ghost use Rattle.age_header.specs.declared.file_key.FileKey.{FileKey};
 ghost use Rattle.age_stream.specs.Cutting.{cut, IsCut};
 ghost use Rattle.age_stream.specs.Payload.{chunks, payload, payload_key, pieces};
 ghost use Rattle.age_stream.specs.Reading.{payload_reading, whole};
-ghost use Rattle.age_stream.specs.Salvage.{last_saved, losses, payload_parts, salvaged_text};
-ghost use Rattle.age_stream.specs.declared.salvaged.Saved.TheVariants.{LastChunk};
+ghost use Rattle.age_stream.specs.Salvage.{is_whole, payload_parts, salvaged_text, summary};
 ghost use Rattle.age_stream.specs.Slice.{IsSlice, plain_len, range_outcome};
 ghost use Rattle.age_stream.specs.Sizes.{nonce_size};
 
@@ -51,14 +50,12 @@ pub fn salvage_is_reading()
     ensures whole { (file_key : FileKey) (text plain : Bytes) (max : ℕ)
         → payload_reading file_key max text ≡ whole plain
         → salvaged_text (payload_parts file_key text) ≡ plain }
-    // Then no chunk is lost.
-    ensures none { (file_key : FileKey) (text plain : Bytes) (max : ℕ)
-        → payload_reading file_key max text ≡ whole plain
-        → losses 0 0 (payload_parts file_key text) ≡ [] }
-    // Then the last piece is the last chunk.
-    ensures last { (file_key : FileKey) (text plain : Bytes) (max : ℕ)
-        → payload_reading file_key max text ≡ whole plain
-        → last_saved (payload_parts file_key text) ≡ LastChunk }
+    // A reading has no fault exactly if there is a whole nonce, the number of chunks is within the
+    // limit, and the payload is saved whole.
+    ensures exactly { (file_key : FileKey) (text : Bytes) (max : ℕ)
+        → ((payload_reading file_key max text).fault ≡ None) ↔ ((nonce_size ≤ length text)
+        × (length (payload_parts file_key text) ≤ max)
+        × (is_whole (summary (payload_parts file_key text)) ≡ true)) }
     // Of any payload, the saved text of as many pieces as chunks are allowed begins with the text
     // before the first fault.
     ensures plaintext { (file_key : FileKey) (text : Bytes) (max : ℕ)

@@ -9,6 +9,9 @@ pub enum Saved {
     Chunk,
     /// The last chunk.
     LastChunk,
+    /// A chunk that is marked as the last and may not be: more follows, or it is empty and others
+    /// stand before it.
+    Early,
     /// The piece opens neither as the last chunk nor as another: zeros stand in its place.
     Zeros,
     /// The same of a piece without text: it has no more bytes than a tag, 16.
@@ -35,30 +38,34 @@ pub struct Salvaged {
     pub chunks: u128,
     /// The number of lost chunks.
     pub lost: u128,
+    /// The number of the latest early chunk.
+    pub early: Option<u128>,
     /// What was saved of the last piece.
     pub last: Saved,
 }
 
 impl Salvaged {
-    /// Whether no chunk is lost and the last piece is the last chunk.
+    /// Whether no chunk is lost or early and the last piece is the last chunk: exactly then a
+    /// reader finds no fault.
     pub fn is_whole(&self) -> bool
         ensures { result ≡ is_whole self.now }
     {
-        match self.last {
-            Saved::LastChunk => self.lost == 0,
+        match (self.last, self.early) {
+            (Saved::LastChunk, None) => self.lost == 0,
             _ => false,
         }
     }
 
-    /// Whether the last piece opens as a chunk that is not the last, or has no text and does not
-    /// open. The payload is then cut short, or has bytes after its last chunk. If zeros stand for
-    /// the last piece, that is unknown, and the result is false.
+    /// Whether the payload is cut short. A last piece that has no text and does not open is the
+    /// start of a chunk that was cut, but after an early chunk it is bytes behind the end. If zeros
+    /// stand for the last piece, nobody knows, and the result is false.
     pub fn is_cut(&self) -> bool
-        ensures { result ≡ is_cut self.now.last }
+        ensures { result ≡ is_cut self.now }
     {
-        match self.last {
-            Saved::Chunk | Saved::Nothing => true,
-            Saved::LastChunk | Saved::Zeros => false,
+        match (self.last, self.early) {
+            (Saved::Chunk, _) | (Saved::Nothing, None) => true,
+            (Saved::Nothing, Some(early)) => early < self.chunks.saturating_sub(2),
+            _ => false,
         }
     }
 }

@@ -6,7 +6,7 @@ ghost use Rattle.age_header.specs.Filling.{Filled};
 ghost use Rattle.age_stream.specs.Counts.{is_read, is_write};
 ghost use Rattle.age_stream.specs.Opening.{EndsAt};
 ghost use Rattle.age_stream.specs.Payload.{pieces};
-ghost use Rattle.age_stream.specs.Salvage.{EndsSaving, IsOfPieces, ReadsAhead, Reports, Salvages, SavesParts, first_part, loss, part, parts, losses_by, with_part};
+ghost use Rattle.age_stream.specs.Salvage.{EndsSaving, IsOfPieces, ReadsAhead, Reports, Salvages, SavesParts, first_part, in_place, loss, part, parts, losses_by, with_part};
 ghost use Rattle.age_stream.specs.Sizes.{chunk_size, sealed_chunk_size, most_chunks, tag_size, chunk_buf_size};
 
 use crate::buffer::ChunkBuf;
@@ -23,8 +23,7 @@ use std::alloc::Global;
 /// `losses`. A chunk may open as the last or as another, wherever it stands.
 ///
 /// Each chunk that was saved is genuine, and stands where it stood in its plaintext. The plaintext
-/// as a whole can be genuine only if no chunk was lost and the last piece is the last chunk. That
-/// is not enough: a reader may still refuse the payload.
+/// as a whole is genuine exactly if the result is whole (`Salvaged::is_whole`).
 ///
 /// # Errors
 /// `Memory` if the allocation was refused: nothing was read. `NonceTruncated` if the source returns
@@ -90,6 +89,7 @@ fn save_pieces<S: Source, W: Sink, L: Losses>(
         bytes: 0,
         chunks: 0,
         lost: 0,
+        early: None,
         last: Saved::Nothing,
     };
     let mut ahead = 0;
@@ -164,10 +164,10 @@ fn save_piece(key: &[u8; 32], i: u128, last: bool, bytes: &mut [u8], end: usize)
         return Saved::Nothing;
     }
     if open_prefix(key, &chunk_nonce(i, last), bytes, end) {
-        return if last { Saved::LastChunk } else { Saved::Chunk };
+        return in_place(i, last, end);
     }
     if open_prefix(key, &chunk_nonce(i, !last), bytes, end) {
-        return if last { Saved::Chunk } else { Saved::LastChunk };
+        return if last { Saved::Chunk } else { Saved::Early };
     }
     let (text, _) = bytes.split_at_mut(end - TAG_SIZE);
     text.fill(0);
@@ -178,7 +178,20 @@ fn save_piece(key: &[u8; 32], i: u128, last: bool, bytes: &mut [u8], end: usize)
     }
 }
 
-/// Counts one part more, and reports a lost chunk.
+/// What a piece of `len` bytes is that opens as the chunk of its position.
+fn in_place(i: u128, last: bool, len: usize) -> Saved
+    ensures { result ≡ in_place i last len }
+{
+    if !last {
+        Saved::Chunk
+    } else if i > 0 && len == TAG_SIZE {
+        Saved::Early
+    } else {
+        Saved::LastChunk
+    }
+}
+
+/// Counts one part more, reports a lost chunk, and notes an early one.
 fn note<L: Losses>(done: &mut Salvaged, losses: &mut L, len: usize, saved: Saved)
     requires bytes { done.old.bytes + len < 2 ^ 128 }
     requires chunks { done.old.chunks + 1 < 2 ^ 128 }
@@ -188,13 +201,17 @@ fn note<L: Losses>(done: &mut Salvaged, losses: &mut L, len: usize, saved: Saved
         (loss saved (record { chunk = done.old.chunks; start = done.old.bytes; len = len })) }
     ensures silent { done.new.lost ≡ 0 → losses.new ≡ losses.old }
 {
-    if let Saved::Zeros = saved {
-        losses.lose(Lost {
-            chunk: done.chunks,
-            start: done.bytes,
-            len,
-        });
-        done.lost += 1;
+    match saved {
+        Saved::Zeros => {
+            losses.lose(Lost {
+                chunk: done.chunks,
+                start: done.bytes,
+                len,
+            });
+            done.lost += 1;
+        }
+        Saved::Early => done.early = Some(done.chunks),
+        _ => {}
     }
     done.bytes += len as u128;
     done.chunks += 1;

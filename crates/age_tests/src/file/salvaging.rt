@@ -37,6 +37,12 @@ const FIRST_AS_LAST: Piece = (
     b"\xa9\x14\xea\xc4\xcc\x44\x82\xc3\xd3\x39\x35\xa5\x28\x58\xa3\x0c",
 );
 
+/// An empty second chunk that is the last.
+const EMPTY_LAST: Piece = (
+    0,
+    b"\x3c\x40\x93\x80\x8b\x7a\xa9\x9c\x47\x9f\x3f\x33\x8f\x00\xdc\x6d",
+);
+
 /// The second chunk without its first byte.
 const SECOND_REST: Piece = (
     65_535,
@@ -149,14 +155,27 @@ fn expect_text(rt: &impl Abort, text: &[u8], texts: &[[u8; 32]; 3], losses: &[Lo
     }
 }
 
-/// Checks what is saved of the file of these pieces, and what is reported.
+/// Checks what is saved of the file of these pieces, none of which is early, and what is reported.
 fn expect(
+    rt: &impl Abort,
+    alloc: Global,
+    pieces: &[Piece],
+    texts: &[[u8; 32]; 3],
+    end: (usize, u128, Saved),
+    losses: &[Lost],
+) {
+    expect_early(rt, alloc, pieces, texts, end, losses, None);
+}
+
+/// The same with the latest early chunk.
+fn expect_early(
     rt: &impl Abort,
     alloc: Global,
     pieces: &[Piece],
     texts: &[[u8; 32]; 3],
     (bytes, chunks, last): (usize, u128, Saved),
     losses: &[Lost],
+    early: Option<u128>,
 ) {
     let file = file_of(rt, alloc, pieces);
     let mut sink = MemSink::new(Vec::new(alloc));
@@ -166,6 +185,7 @@ fn expect(
         bytes: bytes as u128,
         chunks,
         lost: losses.len() as u128,
+        early,
         last,
     };
     assert_eq!(rt; answer, Ok(saved));
@@ -241,17 +261,22 @@ fn chunk_at_another_place_is_lost(rt: HostRuntime) {
     expect(&rt, alloc, &[FIRST, FIRST, THIRD], &TEXTS, all, &second);
 }
 
-/// A chunk that is the last stands before others, or before a few bytes.
+/// A chunk that is the last stands before others, or before a few bytes; or it is empty, and others
+/// stand before it.
 #[test]
-fn last_chunk_before_others_is_saved(rt: HostRuntime) {
+fn early_last_chunk_is_saved(rt: HostRuntime) {
     let alloc = rt.alloc();
     let mut texts = TEXTS;
     texts[0] = FIRST_AS_LAST_TEXT;
     let all = (131_078, 3, Saved::LastChunk);
     let pieces = [FIRST_AS_LAST, SECOND, THIRD];
-    expect(&rt, alloc, &pieces, &texts, all, &[]);
+    expect_early(&rt, alloc, &pieces, &texts, all, &[], Some(0));
     let one = (65_536, 2, Saved::Nothing);
-    expect(&rt, alloc, &[FIRST_AS_LAST, BYTE], &texts, one, &[]);
+    let pieces = [FIRST_AS_LAST, BYTE];
+    expect_early(&rt, alloc, &pieces, &texts, one, &[], Some(0));
+    let empty = (65_536, 2, Saved::Early);
+    let pieces = [FIRST, EMPTY_LAST];
+    expect_early(&rt, alloc, &pieces, &TEXTS, empty, &[], Some(1));
     let all = (131_079, 3, Saved::Zeros);
     let pieces = [FIRST, SECOND, THIRD, BYTE];
     expect(&rt, alloc, &pieces, &TEXTS, all, &[lost(2, 7)]);

@@ -1,0 +1,107 @@
+"""What salvage writes and says of small files, by a model without a cipher: a piece opens exactly if it was made as a chunk of
+its number."""
+
+import itertools
+
+from fixture import HELLO, changed
+from make_vectors import KEYED, MADE, NONCE, age_file, chunk, filled
+from program import ProgramCase, fault
+from testkit import SEALED
+
+HEADER = age_file(KEYED, b"")
+
+
+def lost_lines(losses):
+    """The lines on lost chunks, given by the number, the first and the last byte of each."""
+    runs = []
+    for i, start, end in losses:
+        if runs and runs[-1][1] == i - 1:
+            runs[-1][1:] = i, runs[-1][2], end
+        else:
+            runs.append([i, i, start, end])
+    for first, last, start, end in runs:
+        chunks = f"chunk {first} is" if first == last else f"chunks {first} to {last} are"
+        yield f"{chunks} lost: bytes {start} to {end} of the plaintext"
+
+
+def saved(payload):
+    """What salvage writes and says of a payload."""
+    pieces = [payload[at : at + SEALED] for at in range(16, len(payload), SEALED)] or [b""]
+    made = MADE if payload[:16] == NONCE else {}
+    text, losses, early = b"", [], None
+    for i, piece in enumerate(pieces):
+        opened, is_last = made.get((i, piece), (bytes(max(len(piece) - 16, 0)), None))
+        if is_last is None and opened:
+            losses.append((i, len(text), len(text) + len(opened) - 1))
+        if is_last and (i + 1 < len(pieces) or (i > 0 and not opened)):
+            early = i
+        text += opened
+    is_rest = is_last is None and not opened
+    is_behind = is_rest and early is not None and early == i - 1
+    lines = list(lost_lines(losses))
+    if early == i:
+        lines.append(f"chunk {early} is empty: only an empty plaintext ends with an empty chunk")
+    elif is_behind:
+        lines.append(f"there are up to 16 bytes behind chunk {early}, which is the last")
+    elif early is not None:
+        lines.append(f"chunk {early} is marked as the last, and more follows: bytes behind the end, or another file")
+    if is_last is False or (is_rest and not is_behind):
+        lines.append(f"the file is cut short: the plaintext from byte {len(text)} on is missing")
+    elif is_last is None and opened and early is None:
+        lines.append(f"the file ends after {len(piece)} bytes of chunk {i}: more may be missing")
+    return text, lines
+
+
+class Payloads(ProgramCase):
+    def assert_saved(self, payload):
+        """Bytes and lines are the model's, and the status is 0 exactly if that of decrypt is."""
+        text, lines = saved(payload)
+        ran = self.run_agep("salvage", "-k", "key", input=HEADER + payload)
+        self.assert_ended(ran, 1 if lines else 0, "".join(map(fault, lines)), text)
+        self.assertEqual(self.run_agep("decrypt", "-k", "key", input=HEADER + payload).status, ran.status)
+
+    def assert_all(self, payloads):
+        for name, payload in payloads:
+            with self.subTest(name):
+                self.assert_saved(payload)
+
+    def test_arrangements(self):
+        """Chunks in every order, some twice or left out, of several files with one file key, and every kind of end."""
+        full = {
+            "chunk 0": filled(0, False), "chunk 1": filled(1, False), "last 0": filled(0, True), "last 1": filled(1, True),
+            "damaged": bytes(SEALED),
+        }
+        short = chunk(1, True, HELLO)
+        ends = {
+            "": b"", "last 0": chunk(0, True, HELLO), "last 1": short, "last 2": chunk(2, True, HELLO),
+            "empty 0": chunk(0, True, b""), "empty 1": chunk(1, True, b""), "empty 2": chunk(2, True, b""),
+            "not last": chunk(1, False, HELLO), "1 byte": b"\n", "16 bytes": short[:16], "17 bytes": short[:17],
+            "cut": short[:-1], "too long": short + b"\n", "zeros": bytes(512),
+        }
+        self.assert_all(
+            (" + ".join((*names, end)), NONCE + b"".join(full[name] for name in names) + ends[end])
+            for count in range(4) for names in itertools.product(full, repeat=count) for end in ends
+        )
+
+    def test_edges(self):
+        """A file of three chunks, cut or with bytes behind its end, near each place where a piece ends."""
+        whole = NONCE + filled(0, False) + filled(1, False) + chunk(2, True, HELLO)
+        near = [16 + i * SEALED + by for i in range(3) for by in range(-18, 19)]
+        self.assert_all((f"cut at {at}", whole[:at]) for at in near if 16 <= at < len(whole))
+        self.assert_all((f"{more} bytes behind", whole + b"\n" * more) for more in range(1, 40))
+
+    def test_bytes(self):
+        """A file of one chunk: cut anywhere, each of its bytes changed, and bytes behind its end."""
+        whole = NONCE + chunk(0, True, HELLO)
+        self.assert_all((f"cut at {at}", whole[:at]) for at in range(16, len(whole)))
+        self.assert_all((f"byte {at} changed", changed(whole, at)) for at in range(len(whole)))
+        self.assert_all((f"{more} bytes behind", whole + bytes(more)) for more in range(1, 40))
+
+    def test_headers(self):
+        """The same of its header and nonce: the fault is that of decrypt."""
+        file = HEADER + NONCE + chunk(0, True, HELLO)
+        cuts = [(f"cut at {at}", file[:at]) for at in range(len(HEADER) + 16)]
+        for name, bad in cuts + [(f"byte {at} changed", changed(file, at)) for at in range(len(HEADER))]:
+            with self.subTest(name):
+                opened = self.run_agep("decrypt", "-k", "key", input=bad)
+                self.assert_ended(self.run_agep("salvage", "-k", "key", input=bad), 1, opened.err, b"")
