@@ -179,7 +179,7 @@ class Dialect(unittest.TestCase):
         "openings|(an|the|its) opening (?!a|the)": "plaintext of a chunk", "the lost": "lost chunks", "what salvage misses": "lost chunks",
         "in the place of": "in place of", "no age file": "not an age file", "each other|one another": "name both",
         "(a|each) try": "attempt", "greatest": "largest", "at hand": "this machine's", "the gate": "the tests", "anew": "again",
-        "planted|edits": "bugs that tests must find", "hints?": "second line", "also (after|if|when|where)": "even",
+        "planted|edits": "bugs that tests must find", "also (after|if|when|where)": "even",
         "(is|are|was) no (key|number|file|chunk|passphrase|recipient)": "is not a",
         "what is (printed|written|read)": "the output", "as the last one|as another": "as the last chunk",
     }
