@@ -1,6 +1,8 @@
 """Terminals, pipes whose reader is gone, signals, another /dev/urandom, and what the system is asked."""
 
+import itertools
 import os
+import pty
 import re
 import shutil
 import signal
@@ -12,6 +14,7 @@ import fixture
 from fixture import HELLO, KEY, PLAIN
 from messages import message
 from program import AGEP, ProgramCase, fault, read, write
+from test_progress import ERASE, drained
 
 
 def tool(name):
@@ -88,6 +91,84 @@ class Interrupted(ProgramCase):
                     self.assertEqual(process.wait(), -signal.SIGTERM)
                 self.assert_file("made", read("yesterday"))
                 self.assertEqual(os.stat("made").st_mtime, 10**9)
+
+
+class ClosedStreams(ProgramCase):
+    """A standard stream that is closed stays closed: no file gets its number."""
+
+    def run_closed(self, words, closed, is_terminal):
+        """Runs the program with these streams closed and standard error at a terminal or in a pipe. Returns its
+        status, its output, and what standard error got."""
+        controller, terminal = pty.openpty() if is_terminal else os.pipe()
+        line = " ".join(f"{number}{'<' if number == 0 else '>'}&-" for number in closed)
+        with open("key.age", "rb") as stdin:
+            done = subprocess.run(
+                ["bash", "-c", f'exec "$0" {words} {line}', AGEP], stdin=stdin, stdout=subprocess.PIPE, stderr=terminal, timeout=60
+            )
+        os.close(terminal)
+        return done.returncode, done.stdout, drained(controller).decode().replace("\r\n", "\n")
+
+    def test_each(self):
+        """Each of the eight combinations, with and without -v, at a terminal and without."""
+        closed = "Bad file descriptor"
+        saved = "chunk 0 is lost: bytes 0 to 5 of the plaintext"
+        for streams in itertools.chain.from_iterable(itertools.combinations(range(3), count) for count in range(4)):
+            reads = 0 not in streams, "reading standard input: " + ("Is a directory" if {1, 2} & set(streams) else closed)
+            for words, needs, out, line in (
+                ("decrypt -k key key.age", 1, HELLO, None), ("decrypt -k key", 1, HELLO, None), ("encrypt -k key -s seed hello", 1, read("key.age"), None),
+                ("decrypt -k key -o made key.age", None, b"", None), ("encrypt -k key -s seed -o made hello", None, b"", None),
+                ("salvage -k key -o made damaged.age", None, b"", saved), ("inspect -r key.age", 1, read("key.age")[:156], None),
+            ):
+                for option in ("", " -v"):
+                    for is_terminal in (False, True):
+                        with self.subTest(f"{words}{option}, {streams} closed, {'at a terminal' if is_terminal else 'in a pipe'}"):
+                            status, more = int(line is not None), None
+                            if words == "decrypt -k key" and not reads[0]:
+                                status, line, more, out = 1, message("Read"), reads[1], b""
+                            elif needs in streams:
+                                status, line, more, out = 1, message("Write"), f"writing standard output: {closed}", b""
+                            said = "" if 2 in streams or line is None else fault(line, more if option else None)
+                            if line == saved and said and option and is_terminal:
+                                said = ERASE + said
+                            self.assertEqual(self.run_closed(words + option, streams, is_terminal), (status, out, said))
+                            if " -o made " in words:
+                                self.assert_file("made", {"d": HELLO, "e": read("key.age"), "s": bytes(6)}[words[0]])
+                                os.remove("made")
+
+    def test_by_name(self):
+        """No file is standard output or standard error by a name, either."""
+        for streams, name in ((1,), "/dev/stdout"), ((2,), "/dev/stderr"), ((1, 2), "/dev/fd/1"), ((0, 1, 2), "/dev/fd/2"):
+            with self.subTest(f"-o {name}, {streams} closed"):
+                line = "" if 2 in streams else fault(message("CannotCreate", name))
+                self.assertEqual(self.run_closed(f"decrypt -k key -o {name} key.age", streams, False), (1, b"", line))
+
+    def test_no_folder(self):
+        """Where no folder opens in the place of the stream nothing is done."""
+        if os.geteuid() != 0:
+            self.skipTest("it takes the rights to change the root")
+        os.makedirs("root/d")
+        shutil.copy(AGEP, "root/agep")
+        for library in re.findall(r"/\S+", subprocess.run(["ldd", AGEP], capture_output=True, text=True).stdout):
+            os.makedirs("root" + os.path.dirname(library), exist_ok=True)
+            shutil.copy(library, "root" + library)
+        for name in ("key", "damaged.age"):
+            shutil.copy(name, "root")
+            os.chmod("root/" + name, 0o644)
+        os.chmod("root/d", 0o777)
+        os.chmod(self.folder, 0o755)
+        for mode, line, status, made in (
+            (0o755, "2>&-", 1, bytes(6)), (0o711, "2>&-", 1, None), (0o711, ">&- 2>&-", 1, None), (0o711, "", 1, bytes(6)),
+            (0o711, "<&-", 1, bytes(6)),
+        ):
+            with self.subTest(f"mode {mode:o}, {line}"):
+                os.chmod("root", mode)
+                words = f"/agep salvage -k key -o d/out damaged.age {line}"
+                script = f"import os; os.chroot('root'); os.chdir('/'); os.setgid(65534); os.setuid(65534); os.execv('/agep', {words.split(' ')[:7]!r})"
+                ran = subprocess.run(["bash", "-c", f'exec python3 -c "$0" {line}', script], capture_output=True, timeout=60)
+                self.assertEqual(ran.returncode, status, ran.stderr)
+                self.assertEqual(read("root/d/out") if os.path.exists("root/d/out") else None, made)
+                if made:
+                    os.remove("root/d/out")
 
 
 class DefaultSeed(ProgramCase):

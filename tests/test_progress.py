@@ -21,6 +21,18 @@ PIPE = r"agep: (\d+) KiB, (\d+) KiB/s"
 FILE = rf"agep: (\d+) KiB of {SIZE} KiB, (\d+) KiB/s, (\d+) s left"
 
 
+def drained(controller):
+    """What a terminal or a pipe got until its last user has gone."""
+    said = b""
+    try:
+        while more := os.read(controller, 65536):
+            said += more
+    except OSError:
+        pass
+    os.close(controller)
+    return said
+
+
 class Progress(ProgramCase):
     def setUp(self):
         super().setUp()
@@ -45,17 +57,11 @@ class Progress(ProgramCase):
         while not pieces and (more := done.stdout.read1(65536)):
             out += more
             time.sleep(0.6)
-        status, said = done.wait(timeout=60), b""
+        status = done.wait(timeout=60)
         took = time.monotonic() - start
         if not pieces:
             done.stdout.close()
-        try:
-            while more := os.read(controller, 65536):
-                said += more
-        except OSError:
-            pass
-        os.close(controller)
-        return status, out, said.decode(), took
+        return status, out, drained(controller).decode(), took
 
     def assert_drawn(self, said, line, took, last=""):
         """Whether the line was drawn, at most twice a second, and erased before what came last."""
@@ -122,14 +128,7 @@ class Progress(ProgramCase):
                     line = ["bash", "-c", f'"$0" {words} >&-', AGEP]
                     status = subprocess.run(line, stdin=file, stderr=terminal, timeout=60).returncode
                 os.close(terminal)
-                said = b""
-                try:
-                    while more := os.read(controller, 65536):
-                        said += more
-                except OSError:
-                    pass
-                os.close(controller)
-                self.assertEqual((status, said.decode()), (1, last))
+                self.assertEqual((status, drained(controller).decode()), (1, last))
 
     def test_none(self):
         """Nothing is shown without -v, or of a small file."""

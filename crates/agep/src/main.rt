@@ -7,8 +7,9 @@
 ghost use Rattle.std.specs.Prelude.{◌≤◌};
 
 use std::fs::File;
+use std::os::fd::AsRawFd;
 use std::process::ExitCode;
-use std::{env, fs, io};
+use std::{env, io};
 
 fn main(rt: HostRuntime) -> ExitCode {
     let status = match words(&rt) {
@@ -26,7 +27,12 @@ fn words(rt: &HostRuntime) -> io::Result<Vec<String>> {
 fn run(rt: &HostRuntime, owned: &[String]) -> u8
     ensures { result ≤ 2 }
 {
-    let _held = hold_streams(rt);
+    let Some(_held) = hold_streams(rt) else {
+        let _ = eprintln!(rt;
+            "agep: a standard stream is closed, and no folder opens in its place"
+        );
+        return 1;
+    };
     let mut words: Vec<&str> = Vec::new(rt.alloc());
     for word in owned {
         if words.push(word.as_str()).is_err() {
@@ -43,23 +49,41 @@ fn run(rt: &HostRuntime, owned: &[String]) -> u8
 }
 
 /// If standard output or standard error is closed, opens folders on the numbers of the closed
-/// streams. Otherwise a file opened later could get such a number, and what is written to the
-/// stream would go into that file. A folder can be neither read nor written. Standard input needs
-/// none: a file that gets its number before it is read is open for writing only.
-fn hold_streams(rt: &HostRuntime) -> [Option<File>; 3] {
-    if is_open(rt, "/proc/self/fd/1") && is_open(rt, "/proc/self/fd/2") {
-        return [None, None, None];
+/// streams, or returns `None` if no folder opens. Otherwise a file opened later could get such a
+/// number, and what is written to the stream would go into that file. A folder can be neither read
+/// nor written, under its number or under `/dev/stdout`. Standard input needs none: a file that
+/// gets its number before it is read is open for writing only.
+fn hold_streams(rt: &HostRuntime) -> Option<[Option<File>; 3]> {
+    if are_open(rt) {
+        return Some([None, None, None]);
     }
-    [open_folder(rt), open_folder(rt), open_folder(rt)]
+    Some([
+        Some(open_folder(rt)?),
+        Some(open_folder(rt)?),
+        Some(open_folder(rt)?),
+    ])
 }
 
-/// Whether this stream is open, named by its path in `/proc`.
-fn is_open(rt: &HostRuntime, stream: &str) -> bool {
-    fs::metadata(rt, stream).is_ok()
+/// Whether standard output and standard error are open: the ends of a pipe get the lowest numbers
+/// that are free.
+fn are_open(rt: &HostRuntime) -> bool {
+    match io::pipe(rt) {
+        Ok((reader, writer)) => {
+            let (lower, upper) = (reader.as_raw_fd(), writer.as_raw_fd());
+            lower > 2 || (lower == 0 && upper > 2)
+        }
+        Err(_) => false,
+    }
 }
 
+/// Opens a folder that may be read.
 fn open_folder(rt: &HostRuntime) -> Option<File> {
-    File::open(rt, "/").ok()
+    for name in ["/", ".", "/dev"] {
+        if let Ok(folder) = File::open(rt, name) {
+            return Some(folder);
+        }
+    }
+    None
 }
 
 /// Prints why the arguments cannot be read. A failed write changes nothing: the status says enough.
