@@ -5,6 +5,7 @@ import fixture
 import reference
 from fixture import KEY, SALT, SEED
 from make_vectors import BY_KEY, BY_PASSPHRASE, Case
+from messages import message
 from program import ProgramCase, read, write
 from test_vectors import differences
 from testkit import Agep
@@ -74,12 +75,17 @@ def tables():
 
 
 def cases():
-    """The files of the tables as test vectors, and those of two chunks."""
+    """The files of the tables, and those of two chunks, as test vectors."""
     for name, secret, count, file_of, rows in tables():
         for first, last, *fault in rows:
             for at in range(first, last + 1):
                 yield Case(f"{name}_{at}", "", file_of(at), tuple(fault), secrets=secret)
         assert [at for first, last, *_ in rows for at in range(first, last + 1)] == list(range(count)), name
+    yield from two_chunks()
+
+
+def two_chunks():
+    """A file of two chunks that is cut at their edges, or has a byte behind its end."""
     plain = fixture.PLAIN[:65537]
     file = fixture.for_passphrase(plain) + b"x"
     for size, name, chunk in (
@@ -93,6 +99,13 @@ class DamagedFiles(ProgramCase):
     def test_program(self):
         """agep ends in the fault of each, and releases what comes before it."""
         self.assertEqual(differences(Agep(), cases()), {})
+
+    def test_out(self):
+        """OUT has the chunks before the fault."""
+        for case in two_chunks():
+            with self.subTest(case.name):
+                self.says(message(*case.fault), *"decrypt -p pass -o back".split(), input=case.file)
+                self.assert_file("back", case.text)
 
     def test_rewrapped(self):
         """rewrap copies the payload, whatever it is: both files end alike."""

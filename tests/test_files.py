@@ -159,12 +159,16 @@ class OutIsRead(Files):
         """Standard output that is appended to a file that is read."""
         write("keyed", read("key.age"))
         write("plain.in", HELLO)
-        write("own.key", read("key"))
+        for name in ("key", "file.key", "pass", "seed"):
+            write(f"own.{name}", read(name))
         own = [it.replace("-k key", "-k own.key") for it in OPENING]
         for role, line in (
             ("Input", "encrypt -k key plain.in >>plain.in"),
             ("Input", "encrypt -k key <plain.in >>plain.in"),
             ("Key", "encrypt -k own.key hello >>own.key"),
+            ("FileKey", "inspect -f own.file.key keyed >>own.file.key"),
+            ("Passphrase", "decrypt -p own.pass pass.age >>own.pass"),
+            ("Seed", "encrypt -k key -s own.seed hello >>own.seed"),
             *(("Input", f"{it} keyed >>keyed") for it in ("inspect", "inspect -r", "rewrap -k key -K new.key", *OPENING)),
             *(("Key", f"{it} keyed >>own.key") for it in own),
         ):

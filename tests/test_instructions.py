@@ -6,20 +6,24 @@ import shutil
 import subprocess
 import unittest
 
+import fixture
+from fixture import KEY
 from program import AGEP, ProgramCase, read, write
 
 # By the level that the program was built for. A limit is a tenth above what was counted; the
 # toolchain may move it.
 CHUNK = {"x86-64-v2": 1_040_000, "x86-64-v3": 348_000}
+# The header of a key's file, and the nonce behind it.
+FRONT = 172
 # Of scrypt's turns for each KiB of its memory.
 KIB = {"x86-64-v2": 12_700, "x86-64-v3": 10_200}
 
 
-def counted(*words):
+def counted(*words, status=0):
     """The instructions of a run."""
     tool = ["valgrind", "--tool=callgrind", "--callgrind-out-file=/dev/null"]
     done = subprocess.run([*tool, AGEP, *words], stdin=subprocess.DEVNULL, stdout=subprocess.DEVNULL, stderr=subprocess.PIPE)
-    if done.returncode != 0:
+    if done.returncode != status:
         raise AssertionError(done.stderr.decode())
     return int(re.search(rb"Collected : (\d+)", done.stderr)[1])
 
@@ -40,6 +44,27 @@ class Instructions(ProgramCase):
                 one, two = (counted(*(words % name).split()) for name in ("one", "two"))
                 self.assertLessEqual(two - one, CHUNK[self.level])
                 self.assertGreater(two - one, 65536)
+
+    def test_short_text(self):
+        """400 bytes go through the lanes: beside 128, two blocks in turn, they cost less than three blocks more."""
+        counts = []
+        for size in (64, 128, 400):
+            write("short", bytes(size))
+            write("short.age", fixture.for_keys(bytes(size), KEY))
+            counts.append([counted(*words.split()) for words in ("encrypt -k key -s seed short", "decrypt -k key short.age")])
+        for one, two, many in zip(*counts):
+            self.assertLess(many - two, 3 * (two - one))
+
+    def test_lost_chunk(self):
+        """A lost chunk is tried twice, with either flag. What a try costs, decrypt shows; zeros cost less than one."""
+        counts = []
+        for size, command in ((1, "decrypt"), (65536, "decrypt"), (65536, "salvage"), (131072, "salvage")):
+            file = fixture.for_keys(bytes(size), KEY)
+            write("lost.age", file[:FRONT] + bytes(len(file) - FRONT))
+            counts.append(counted(command, "-k", "key", "lost.age", status=1))
+        short, full, one, two = counts
+        self.assertLess(two - one, 3 * (full - short))
+        self.assertGreater(two - one, full - short)
 
     def test_scrypt(self):
         """What work factor 10 costs beside 9: 512 KiB more."""

@@ -44,7 +44,7 @@ class Sizes(ProgramCase):
             plain = PLAIN[:size]
             by_passphrase = fixture.for_passphrase(plain), ("-p", "pass"), PASSPHRASE_HEADER
             by_key = fixture.for_keys(plain, KEY), ("-k", "key"), KEY_HEADER
-            new_passphrase = fixture.for_passphrase(plain, b"p2", 12), ("-P", "new.pass", "-w", "12"), PASSPHRASE_HEADER
+            new_passphrase = fixture.for_passphrase(plain, b"p2", 10), ("-P", "new.pass", "-w", "10"), PASSPHRASE_HEADER
             new_key = fixture.for_keys(plain, NEW_KEY), ("-K", "new.key"), KEY_HEADER
             for old, secret, header in (by_passphrase, by_key):
                 for new, options, new_header in (new_passphrase, new_key):

@@ -1,0 +1,84 @@
+//! A writer with a buffer, under `run`.
+
+use age_cli::run;
+use std::io;
+use std::io::{ErrorKind, IsTerminal, Write};
+use std::process::Abort;
+use std::rt::Files;
+use std::time::Clock;
+
+/// A header of one stanza, and one that ends within its version line.
+const HEADER: &[u8] =
+    b"age-encryption.org/v1\n-> a\n\n--- AAAAAAAAAAAAAAAAAAAAAAAAAAAAAAAAAAAAAAAAAAA\n";
+
+const CUT: &[u8] = b"age-enc";
+
+/// Keeps what it takes, and how much of it was there at each flush. Refuses each flush, or none.
+#[derive(Drop)]
+struct Buffered {
+    taken: Vec<u8>,
+    flushed: Vec<usize>,
+    refuses: bool,
+}
+
+impl Write for Buffered {
+    fn write(&mut self, piece: &[u8]) -> io::Result<usize> {
+        self.taken.write(piece)
+    }
+
+    fn flush(&mut self) -> io::Result<()> {
+        if self.refuses || self.flushed.push(self.taken.len()).is_err() {
+            return Err(io::Error::from(ErrorKind::Other));
+        }
+        Ok(())
+    }
+}
+
+impl IsTerminal for Buffered {
+    fn is_terminal(&self) -> bool {
+        false
+    }
+}
+
+/// Runs these words on an input. The output has this many bytes, which were there at its only
+/// flush; if each flush is refused, the line of a failed write is the only one.
+fn expect_flushed<F: Files + Clock + AllocGlobal + Abort>(
+    rt: &F,
+    words: &[&str],
+    input: &[u8],
+    (status, len): (u8, Option<usize>),
+) {
+    for refuses in [false, true] {
+        let alloc = rt.alloc();
+        let mut out = Buffered {
+            taken: Vec::new(alloc),
+            flushed: Vec::new(alloc),
+            refuses,
+        };
+        let mut err = Buffered {
+            taken: Vec::new(alloc),
+            flushed: Vec::new(alloc),
+            refuses: false,
+        };
+        let mut input = input;
+        let ended = run(rt, words, &mut input, &mut out, &mut err);
+        if let Some(len) = len {
+            assert_eq!(rt; out.taken.len(), len);
+        }
+        if refuses {
+            assert_eq!(rt; ended, 1);
+            assert_eq!(rt; err.taken.as_slice(), b"agep: write failed\n".as_slice());
+        } else {
+            assert_eq!(rt; ended, status);
+            assert_eq!(rt; out.flushed.as_slice(), [out.taken.len()].as_slice());
+        }
+    }
+}
+
+#[test]
+fn output_is_flushed_once_at_its_end(rt: HostRuntime) {
+    let raw = ["agep", "inspect", "-r"];
+    expect_flushed(&rt, &raw, HEADER, (0, Some(HEADER.len())));
+    expect_flushed(&rt, &raw, CUT, (1, Some(0)));
+    expect_flushed(&rt, &["agep", "--help"], b"", (0, None));
+}
