@@ -144,13 +144,13 @@ class Packages(unittest.TestCase):
             self.assertEqual((self.work / deb.name).read_bytes(), deb.read_bytes(), deb.name)
 
     def test_documents(self):
-        """The links of each document lead somewhere in its package, and the licence is in each."""
-        packages = ("agep_*.deb", 5), ("agep-*.tar.xz", 5), ("libagefile-dev*.deb", 0), ("python3-agefile*.deb", 1), ("*.crate", 1), ("*.whl", 0)
-        for name, pages in packages:
+        """The links of each page lead somewhere in its package, and the licence is in each."""
+        whole = ("agep_*.deb", 5), ("agep-*.tar.xz", 5), ("libagefile-dev*.deb", 5)
+        for name, pages in *whole, ("python3-agefile*.deb", 1), ("*.crate", 1), ("*.whl", 0):
             with self.subTest(name):
                 tree = self.unpacked(name)
                 texts = {path: path.read_text() for path in [*tree.rglob("*.md"), *tree.rglob("METADATA")]}
-                targets = [path.parent / link for path, text in texts.items() for link in re.findall(r"\]\(([^)#:]+)", text)]
+                targets = [path.parent / link for path, text in texts.items() for link in re.findall(r"\]\((?!https?:)([^)#]+)", text)]
                 self.assertEqual([path for path in targets if not path.exists()], [])
                 self.assertEqual(len([path for path in texts if path.name == "README.md"]), pages)
                 licence = "Permission is hereby granted, free of charge, to any person obtaining a copy"
