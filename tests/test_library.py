@@ -668,9 +668,9 @@ class Document(unittest.TestCase):
         (work() / "pass.line").write_bytes((work() / "pass").read_bytes() + b"\n")
         environment = os.environ | {"PKG_CONFIG_PATH": f"{prefix()}/lib/pkgconfig", "LD_LIBRARY_PATH": f"{prefix()}/lib"}
         for line in lines:
-            if "pkg-config" in line and shutil.which("pkg-config") is None:
-                continue
             with self.subTest(line):
+                if "pkg-config" in line and shutil.which("pkg-config") is None:
+                    self.skipTest("pkg-config missing")
                 line = line.replace("/usr/local", str(prefix())).replace("cc ", "cc -Wall -Wextra -Werror ", 1)
                 run("bash", "-c", line, cwd=work(), env=environment, status=0)
                 for name in ("pass", "pass.line"):

@@ -223,7 +223,7 @@ class Release(Case):
 
     def test_release(self):
         """The gate runs over the commit of the heading, which is tagged. The sums are signed, and a fresh
-        clone makes the same packages, by the commands of docs/PACKAGES.md."""
+        clone makes the same packages, by the commands of docs/PACKAGES.md, and so does an archive."""
         done = self.run_here(self.tree / "release", "80.9.2", "key", "release", cwd=self.work)
         self.assertEqual(done.returncode, 0, done.stdout + done.stderr)
         self.assertIn("\n+ cmp dist/SHA256SUMS ", done.stderr)
@@ -236,6 +236,11 @@ class Release(Case):
         self.assertEqual([name for name in names if "SUMS" in name], ["SHA256SUMS", "SHA256SUMS.sig"])
         self.assertEqual([name for name in names if "SUMS" not in name and not re.search(r"[-_]80\.9\.2[-_.]", name)], [])
         self.refused("release: 80.9.2 is not above 80.9.2", *self.release())
+        archive = self.work / "archive"
+        archive.mkdir()
+        self.right("sh", "-c", f"git archive 80.9.2 | tar -xC {archive}")
+        self.right("./package", cwd=archive)
+        self.assertEqual((archive / "dist/SHA256SUMS").read_text(), (self.folder / "SHA256SUMS").read_text())
 
     def test_gate(self):
         """After a gate that failed nothing is packed, and all is as before, so that a second try comes as far."""

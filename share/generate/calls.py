@@ -150,13 +150,13 @@ def _layout(name, fields):
     return [(f"sizeof(agefile_{snake(name)})", (at + greatest - 1) // greatest * greatest), *rows]
 
 
-def grown(root, file, pattern, rows):
-    """The lines of a file that only grows, and one for each name that it lacks. A name keeps its number."""
-    kept = re.findall(pattern, (root / file).read_text(), re.M)
-    known = dict(kept)
+def grown(root, region, rows):
+    """A part of the layout, which only grows: its lines, and one for each name that it lacks. A name keeps its number."""
+    kept = (root / LAYOUT).read_text().partition(f"generated: {region}\n")[2].partition(f"# end of {region}\n")[0]
+    known = dict(line.rsplit(" ", 1) for line in kept.splitlines())
     for name, number in rows:
         if known.setdefault(name, str(number)) != str(number):
-            sys.exit(f"{file}: {name} is {known[name]} there, and now {number}")
+            sys.exit(f"{LAYOUT}: {name} is {known[name]} there, and now {number}")
     return "".join(f"{name} {number}\n" for name, number in known.items())
 
 
@@ -181,5 +181,5 @@ def texts(root):
         "signatures": "".join(f'    "{e.name}": ({", ".join(map(_parameter_in_python, e.parameters))}),\n' for e in called),
         "structs": "\n\n" + "\n\n".join(_struct_in_python(name, fields[name]) for name in fields) + "\n\n",
         "names": _symbols(root, [e.name for e in every]),
-        "layout": grown(root, LAYOUT, r"^((?:sizeof|offsetof).*\)) (\d+)$", layout),
+        "layout": grown(root, "layout", layout),
     }

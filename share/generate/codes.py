@@ -110,7 +110,7 @@ def texts(root):
         "texts of errors": lines(lambda f: f'            Error::{f.name}{holds[f.held][2]} => write!(f, "{f.shown(f.held)}"),\n', rust),
         "details of parts": lines(lambda p: f"            {p.code} => Part::{named[p]},\n", details),
         "texts of parts": lines(lambda p: f'            Part::{named[p]} => "{p.text}",\n', details),
-        "numbers": calls.grown(root, calls.LAYOUT, r"^(AGEFILE_\w+) (\d+)$(?=[\s\S]*^# end of numbers)", [(f"AGEFILE_{f.constant}", f.code) for f in every]),
+        "numbers": calls.grown(root, "numbers", [(f"AGEFILE_{f.constant}", f.code) for f in every]),
         "codes of the library": "| Code in C | What it stands for |\n|---|---|\n"
         + lines(lambda f: f"| {f.code} | {f.text} |\n" * bool(f.code), sorted(own_codes)),
     }
