@@ -168,35 +168,39 @@ class Packages(unittest.TestCase):
         ]
         self.assertEqual(sorted(path.name for path in self.dist.iterdir()), sorted(names))
 
+    def installed(self, pattern):
+        """The mode, owner and link of each file of a package, and its content; the mode and owner of each folder."""
+        files, folders = {}, set()
+        for path, mode, owner, link, content in members(self.one(pattern)):
+            if pattern.endswith((".crate", ".xz")):
+                path = path.partition("/")[2]
+            if content is None and not link:
+                folders.add((f"{mode:o}", owner))
+            else:
+                files[path.replace(self.for_python, "VERSION")] = (f"{mode:o}", owner, link), content
+        return files, folders
+
     def test_contents(self):
         """Each file of each package is a line of packaged.txt: mode, owner, link and content. Folders have mode 755."""
         self.maxDiff = None
         for pattern, rows in listed():
-            found, contents, folders = {}, {}, set()
-            for path, mode, owner, link, content in members(self.one(pattern)):
-                if pattern.endswith((".crate", ".xz")):
-                    path = path.partition("/")[2]
-                path = path.replace(self.for_python, "VERSION")
-                if content is None and not link:
-                    folders.add((f"{mode:o}", owner))
-                else:
-                    found[path], contents[path] = (f"{mode:o}", owner, link), content
+            files, folders = self.installed(pattern)
+            expected = {path: (mode, "root", after.name if sign == "->" else "") for path, (mode, sign, after) in rows.items()}
+            sources = {path: (sign, after) for path, (_, sign, after) in rows.items() if sign in ("=", "~")}
             with self.subTest(pattern):
-                expected = {path: (mode, "root", after.name if sign == "->" else "") for path, (mode, sign, after) in rows.items()}
-                self.assertEqual(found, expected)
+                self.assertEqual({path: facts for path, (facts, _) in files.items()}, expected)
                 self.assertLessEqual(folders, {("755", "root")})
-            for path, (_, sign, source) in rows.items():
-                if sign in ("=", "~") and path in contents:
-                    with self.subTest(f"{pattern}: {path}"):
-                        self.assert_content(contents[path], source.read_bytes(), sign == "~")
+                for path, (sign, source) in sources.items():
+                    self.assert_content(path, files[path][1], source, sign == "~")
 
-    def assert_content(self, content, source, has_version):
-        """Compares a file with its source. If it has the version, one line with it may be another."""
-        lines = (gzip.decompress(content) if content[:2] == b"\x1f\x8b" else content).split(b"\n")
+    def assert_content(self, path, content, source, has_version):
+        """Compares a file with its source, but for the first line with the version, if it has one."""
+        lines = (gzip.decompress(content) if path.endswith(".gz") else content).split(b"\n")
+        expected = source.read_bytes().split(b"\n")
         if has_version:
-            (at,) = (at for at, line in enumerate(lines) if self.version.encode() in line)
-            lines[at] = source.split(b"\n")[at]
-        self.assertEqual(b"\n".join(lines), source)
+            at = [self.version.encode() in line for line in lines].index(True)
+            expected[at] = lines[at]
+        self.assertEqual(lines, expected, path)
 
     def programs(self):
         """Each program of the packages, and the build that /usr/bin/agep holds."""
