@@ -72,6 +72,12 @@ def in_a_namespace(script):
 WITHOUT_PROC = in_a_namespace("mount -t tmpfs none /proc")
 
 
+def as_a_user():
+    """The words that run a command as a user who is not root, where the system has namespaces of users."""
+    words = ("unshare", "--map-user=1000", "--map-group=1000")
+    return words if subprocess.run([*words, "true"], capture_output=True).returncode == 0 else ()
+
+
 def can_mount():
     return subprocess.run([*WITHOUT_PROC, "true"], capture_output=True).returncode == 0
 
@@ -88,7 +94,7 @@ class Packages(unittest.TestCase):
         cls.for_debian, cls.for_python = (cls.version.replace("-dev", between) for between in ("~dev", ".dev"))
         cls.for_python = cls.for_python.replace(".dev.", ".dev")
         other = os.environ | ENVIRONMENT | {"TMPDIR": str(cls.work / "other folder")}
-        run(ROOT / "package", cls.work / "other folder/again", umask=0o077, env=other)
+        run(*as_a_user(), ROOT / "package", cls.work / "other folder/again", umask=0o077, env=other)
 
     def one(self, pattern):
         (found,) = self.dist.glob(pattern)
@@ -103,7 +109,8 @@ class Packages(unittest.TestCase):
         return root
 
     def test_the_same_bytes_again(self):
-        """Packing the same builds in another folder. This does not show that a build makes its bytes again."""
+        """Packing the same builds in another folder, as another user. This does not show that a build makes its bytes
+        again."""
         sums = [(folder / "SHA256SUMS").read_text() for folder in (self.dist, self.work / "other folder/again")]
         self.assertEqual(sums[0], sums[1])
         run("sha256sum", "-c", "SHA256SUMS", cwd=self.dist)
