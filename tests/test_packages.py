@@ -245,6 +245,15 @@ class Packages(unittest.TestCase):
                 self.assertIn(licence, "".join(path.read_text() for path in [*tree.rglob("LICENSE"), *tree.rglob("copyright")]))
                 self.assertEqual({path.name for path in tree.rglob("*.md")} >= {"USE.md", "CHANGELOG.md"}, pages == 2)
 
+    def test_relations(self):
+        """What each Debian package depends on: the C library of docs/PACKAGES.md, and the library of its own version."""
+        expected = {
+            "agep": "libc6 (>= 2.34)", "libagefile1": "libc6 (>= 2.14)", "libagefile-dev": f"libagefile1 (= {self.for_debian})",
+            "python3-agefile": f"libagefile1 (>= {self.for_debian}), python3:any",
+        }
+        found = {name: run("dpkg-deb", "-f", self.one(f"{name}_*.deb"), "Depends").strip() for name in expected}
+        self.assertEqual(found, expected)
+
     @needs("dpkg")
     def test_installed_and_removed(self):
         root = Path(tempfile.mkdtemp(dir=self.work))
@@ -289,7 +298,7 @@ class Packages(unittest.TestCase):
         self.assertEqual(max(glibc(path) for path in files), GLIBC)
         (facts,) = self.unpacked("*.whl").glob("*.dist-info")
         self.assertIn("Root-Is-Purelib: false\nTag: py3-none-manylinux_2_17_x86_64\n", (facts / "WHEEL").read_text())
-        self.assertRegex((facts / "METADATA").read_text(), r"\nRequires-Dist: fsspec .*; extra == 'fsspec'\n")
+        self.assertRegex((facts / "METADATA").read_text(), r"\nRequires-Python: >=3\.9\n(.*\n)*Requires-Dist: fsspec .*; extra == 'fsspec'\n")
 
     @needs("cc", "pkg-config")
     def test_a_program_in_c(self):
@@ -617,13 +626,26 @@ class ForRust(unittest.TestCase):
             made = self.convert("threads", "encrypt", "-k", "key", file=fixture.PLAIN)
         self.assertEqual(self.convert("whole", "decrypt", "-k", "key", file=made), fixture.PLAIN)
 
-    def test_no_library(self):
-        """Where the library is missing, the build's error names the package, the variable and the folder."""
-        environment = self.environment | {"AGEFILE_LIB_DIR": "/absent", "CARGO_TARGET_DIR": str(self.tree / "no library")}
-        done = subprocess.run(["cargo", "check", "--offline"], cwd=ROOT / "bindings/rust", env=environment, capture_output=True, text=True)
-        self.assertEqual(done.returncode, 101)
-        line = "  agefile: /absent has no libagefile.a: install the package libagefile-dev, or set AGEFILE_LIB_DIR to its folder\n"
-        self.assertIn(line, done.stderr)
+    def test_folder_of_the_library(self):
+        """It is the one that AGEFILE_LIB_DIR names, else the one that pkg-config knows, else /usr/local/lib. If it has
+        no library, the build's error names it, the package and the variable."""
+        (self.tree / "link").symlink_to("lib")
+        own, first, second = (str(self.tree / name) for name in ("lib", "lib/pkgconfig", "link/pkgconfig"))
+        # Each variable changes alone once, after a build that ends well.
+        rows = [
+            ({"AGEFILE_LIB_DIR": own}, own), ({"PKG_CONFIG_PATH": first}, f"{first}/../../lib"), ({"PKG_CONFIG_PATH": second}, f"{second}/../../lib"),
+            ({"PKG_CONFIG_PATH": second, "AGEFILE_LIB_DIR": "/absent"}, "/absent"), ({"PKG_CONFIG_LIBDIR": "/absent"}, "/usr/local/lib"),
+        ]
+        for variables, folder in rows:
+            with self.subTest(variables):
+                environment = {name: text for name, text in self.environment.items() if name != "AGEFILE_LIB_DIR"} | variables
+                words = ["cargo", "check", "--offline", "--message-format=json"]
+                done = subprocess.run(words, cwd=ROOT / "bindings/rust", env=environment, capture_output=True, text=True)
+                error = f"agefile: {folder} has no libagefile.a: install the package libagefile-dev, or set AGEFILE_LIB_DIR to its folder\n"
+                if Path(folder, "libagefile.a").exists():
+                    self.assertIn(f'"native={folder}"', done.stdout)
+                else:
+                    self.assertIn(error, done.stderr)
 
     def test_each_function_is_called(self):
         """The tests of the crate call each public function: the compiler warns of each, if all are deprecated."""
