@@ -146,6 +146,7 @@ class Packages(unittest.TestCase):
             with self.subTest(pattern):
                 self.assertEqual({path: facts for path, (facts, _) in files.items()}, expected)
                 self.assertLessEqual(folders, {("755", "root")})
+                self.assertEqual([path for path, (_, content) in files.items() if str(ROOT).encode() in (content or b"")], [], "has a path of here")
                 for path, (sign, source) in sources.items():
                     self.assert_content(path, files[path][1], source, sign == "~")
 
