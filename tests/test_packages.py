@@ -4,22 +4,20 @@ package."""
 
 import functools
 import gzip
-import io
 import json
 import os
 import re
 import shutil
 import subprocess
 import sys
-import tarfile
 import tempfile
 import unittest
 import unittest.mock
-import zipfile
 from pathlib import Path
 
 import fixture
 import stand_in
+from packaged import functions_of, listed, members
 import test_damaged_files
 import test_vectors
 import testkit
@@ -59,55 +57,6 @@ def run(*words, **options):
     return done.stdout
 
 
-def members(package):
-    """The path, mode, owner and link of all that a package installs, and the content of its files."""
-    if package.suffix == ".whl":
-        with zipfile.ZipFile(package) as file:
-            for info in file.infolist():
-                yield info.filename, info.external_attr >> 16 & 0o7777, "root", "", file.read(info)
-        return
-    words = ("dpkg-deb", "--fsys-tarfile") if package.suffix == ".deb" else ("cat",)
-    data = subprocess.run([*words, package], capture_output=True, check=True).stdout
-    with tarfile.open(fileobj=io.BytesIO(data)) as file:
-        for member in file:
-            owner = "root" if (member.uid, member.gid) == (0, 0) else f"{member.uid}:{member.gid}"
-            content = file.extractfile(member).read() if member.isfile() else None
-            yield member.name.removeprefix("./"), member.mode, owner, member.linkname, content
-
-
-def listed():
-    """The lines of packaged.txt by package and path: mode, sign and what follows it. A star stands for the names of
-    the repository's files, and a later line for what another says of one of them."""
-    *_, text = (ROOT / "tests/packaged.txt").read_text().partition("\n\n")
-    for package, *lines in (part.strip().split("\n") for part in text.split("\n\n")):
-        rows = {}
-        for mode, path, sign, source in ((line.split(" ") + ["", ""])[:4] for line in lines):
-            for file in ROOT.glob(source) if "*" in path else [Path(path)]:
-                name = path.rpartition("/")[0] + f"/{file.name}" if "*" in path else path
-                rows[name] = (mode, sign, ROOT / source if "*" not in path else file)
-        yield package, rows
-
-
-# Instructions that a processor of the level x86-64 may lack, as objdump names them: those of AVX,
-# FMA, F16C, BMI, MOVBE and LZCNT, and of SSE3 to SSE4.2 with POPCNT.
-NEWER = re.compile(
-    r"\t(v[a-z]+\w*|andn|bextr|bls\w+|bzhi|mulx|p?dep|pext|rorx|sarx|shlx|shrx|movbe|lzcnt|popcnt|crc32\w*|cmpxchg16b|lddqu|mov(ddup|s[hl]dup)"
-    r"|h(add|sub)p[sd]|addsubp[sd]|pshufb|palignr|ph(add|sub)\w+|pmaddubsw|pmulhrsw|psign\w|pabs\w|p?blend\w+|dpp[sd]|extractps|insertps"
-    r"|mpsadbw|packusdw|pcmp(eqq|gtq|[ei]str[im])|p(extr|insr)[bdq]|phminposuw|p(max|min)(s[bd]|u[dw])|pmov[sz]x\w+|pmuldq|pmulld|ptest|round[ps][sd])\b"
-)
-
-
-def functions_of(file):
-    """The name of each function in a program or archive, for both builds the same, and its number of newer instructions."""
-    found = [["", 0]]
-    for line in run("objdump", "-d", "--no-show-raw-insn", file).splitlines():
-        if line.endswith(">:"):
-            found.append([line.split()[-1].replace("_v3_", "_"), 0])
-        elif NEWER.search(line):
-            found[-1][1] += 1
-    return found
-
-
 MODULES = ("build", "setuptools", "wheel")
 
 
@@ -137,6 +86,12 @@ def in_a_namespace(script):
 WITHOUT_PROC = in_a_namespace("mount -t tmpfs none /proc")
 
 
+def as_a_user():
+    """The words that run a command as a user who is not root, where the system has namespaces of users."""
+    words = ("unshare", "--map-user=1000", "--map-group=1000")
+    return words if subprocess.run([*words, "true"], capture_output=True).returncode == 0 else ()
+
+
 def can_mount():
     return subprocess.run([*WITHOUT_PROC, "true"], capture_output=True).returncode == 0
 
@@ -153,7 +108,7 @@ class Packages(unittest.TestCase):
         cls.for_debian, cls.for_python = (cls.version.replace("-dev", between) for between in ("~dev", ".dev"))
         cls.for_python = cls.for_python.replace(".dev.", ".dev")
         other = os.environ | ENVIRONMENT | {"TMPDIR": str(cls.work / "other folder")}
-        run(ROOT / "package", cls.work / "other folder/again", umask=0o077, env=other)
+        run(*as_a_user(), ROOT / "package", cls.work / "other folder/again", umask=0o077, env=other)
 
     def one(self, pattern):
         (found,) = self.dist.glob(pattern)
@@ -168,7 +123,8 @@ class Packages(unittest.TestCase):
         return root
 
     def test_the_same_bytes_again(self):
-        """Packing the same builds in another folder. This does not show that a build makes its bytes again."""
+        """Packing the same builds in another folder, as another user. This does not show that a build makes its bytes
+        again."""
         sums = [(folder / "SHA256SUMS").read_text() for folder in (self.dist, self.work / "other folder/again")]
         self.assertEqual(sums[0], sums[1])
         run("sha256sum", "-c", "SHA256SUMS", cwd=self.dist)
@@ -182,35 +138,40 @@ class Packages(unittest.TestCase):
         ]
         self.assertEqual(sorted(path.name for path in self.dist.iterdir()), sorted(names))
 
+    def installed(self, pattern):
+        """The mode, owner and link of each file of a package, and its content; the mode and owner of each folder."""
+        files, folders = {}, set()
+        for path, mode, owner, link, content in members(self.one(pattern)):
+            if pattern.endswith((".crate", ".xz")):
+                path = path.partition("/")[2]
+            if content is None and not link:
+                folders.add((f"{mode:o}", owner))
+            else:
+                files[path.replace(self.for_python, "VERSION")] = (f"{mode:o}", owner, link), content
+        return files, folders
+
     def test_contents(self):
         """Each file of each package is a line of packaged.txt: mode, owner, link and content. Folders have mode 755."""
         self.maxDiff = None
         for pattern, rows in listed():
-            found, contents, folders = {}, {}, set()
-            for path, mode, owner, link, content in members(self.one(pattern)):
-                if pattern.endswith((".crate", ".xz")):
-                    path = path.partition("/")[2]
-                path = path.replace(self.for_python, "VERSION")
-                if content is None and not link:
-                    folders.add((f"{mode:o}", owner))
-                else:
-                    found[path], contents[path] = (f"{mode:o}", owner, link), content
+            files, folders = self.installed(pattern)
+            expected = {path: (mode, "root", after.name if sign == "->" else "") for path, (mode, sign, after) in rows.items()}
+            sources = {path: (sign, after) for path, (_, sign, after) in rows.items() if sign in ("=", "~")}
             with self.subTest(pattern):
-                expected = {path: (mode, "root", after.name if sign == "->" else "") for path, (mode, sign, after) in rows.items()}
-                self.assertEqual(found, expected)
+                self.assertEqual({path: facts for path, (facts, _) in files.items()}, expected)
                 self.assertLessEqual(folders, {("755", "root")})
-            for path, (_, sign, source) in rows.items():
-                if sign in ("=", "~") and path in contents:
-                    with self.subTest(f"{pattern}: {path}"):
-                        self.assert_content(contents[path], source.read_bytes(), sign == "~")
+                self.assertEqual([path for path, (_, content) in files.items() if str(ROOT).encode() in (content or b"")], [], "has a path of here")
+                for path, (sign, source) in sources.items():
+                    self.assert_content(path, files[path][1], source, sign == "~")
 
-    def assert_content(self, content, source, has_version):
-        """Compares a file with its source. If it has the version, one line with it may be another."""
-        lines = (gzip.decompress(content) if content[:2] == b"\x1f\x8b" else content).split(b"\n")
+    def assert_content(self, path, content, source, has_version):
+        """Compares a file with its source, but for the first line with the version, if it has one."""
+        lines = (gzip.decompress(content) if path.endswith(".gz") else content).split(b"\n")
+        expected = source.read_bytes().split(b"\n")
         if has_version:
-            (at,) = (at for at, line in enumerate(lines) if self.version.encode() in line)
-            lines[at] = source.split(b"\n")[at]
-        self.assertEqual(b"\n".join(lines), source)
+            at = [self.version.encode() in line for line in lines].index(True)
+            expected[at] = lines[at]
+        self.assertEqual(lines, expected, path)
 
     def programs(self):
         """Each program of the packages, and the build that /usr/bin/agep holds."""
@@ -300,6 +261,15 @@ class Packages(unittest.TestCase):
                 self.assertIn(licence, "".join(path.read_text() for path in [*tree.rglob("LICENSE"), *tree.rglob("copyright")]))
                 self.assertEqual({path.name for path in tree.rglob("*.md")} >= {"USE.md", "CHANGELOG.md"}, pages == 5)
 
+    def test_relations(self):
+        """What each Debian package depends on: the C library of docs/PACKAGES.md, and the library of its own version."""
+        expected = {
+            "agep": "libc6 (>= 2.34)", "libagefile1": "libc6 (>= 2.14)", "libagefile-dev": f"libagefile1 (= {self.for_debian})",
+            "python3-agefile": f"libagefile1 (>= {self.for_debian}), python3:any",
+        }
+        found = {name: run("dpkg-deb", "-f", self.one(f"{name}_*.deb"), "Depends").strip() for name in expected}
+        self.assertEqual(found, expected)
+
     @needs("dpkg")
     def test_installed_and_removed(self):
         root = Path(tempfile.mkdtemp(dir=self.work))
@@ -363,7 +333,7 @@ class Packages(unittest.TestCase):
         self.assertEqual(max(glibc(path) for path in files), GLIBC)
         (facts,) = self.unpacked("*.whl").glob("*.dist-info")
         self.assertIn("Root-Is-Purelib: false\nTag: py3-none-manylinux_2_17_x86_64\n", (facts / "WHEEL").read_text())
-        self.assertRegex((facts / "METADATA").read_text(), r"\nRequires-Dist: fsspec .*; extra == 'fsspec'\n")
+        self.assertRegex((facts / "METADATA").read_text(), r"\nRequires-Python: >=3\.9\n(.*\n)*Requires-Dist: fsspec .*; extra == 'fsspec'\n")
 
     @needs("cc", "pkg-config")
     def test_a_program_in_c(self):
@@ -669,13 +639,26 @@ class ForRust(unittest.TestCase):
             made = self.convert("threads", "encrypt", "-k", "key", file=fixture.PLAIN)
         self.assertEqual(self.convert("whole", "decrypt", "-k", "key", file=made), fixture.PLAIN)
 
-    def test_no_library(self):
-        """Where the library is missing, the build's error names the package, the variable and the folder."""
-        environment = self.environment | {"AGEFILE_LIB_DIR": "/absent", "CARGO_TARGET_DIR": str(self.tree / "no library")}
-        done = subprocess.run(["cargo", "check", "--offline"], cwd=ROOT / "bindings/rust", env=environment, capture_output=True, text=True)
-        self.assertEqual(done.returncode, 101)
-        line = "  agefile: /absent has no libagefile.a: install the package libagefile-dev, or set AGEFILE_LIB_DIR to its folder\n"
-        self.assertIn(line, done.stderr)
+    def test_folder_of_the_library(self):
+        """It is the one that AGEFILE_LIB_DIR names, else the one that pkg-config knows, else /usr/local/lib. If it has
+        no library, the build's error names it, the package and the variable."""
+        (self.tree / "link").symlink_to("lib")
+        own, first, second = (str(self.tree / name) for name in ("lib", "lib/pkgconfig", "link/pkgconfig"))
+        # Each variable changes alone once, after a build that ends well.
+        rows = [
+            ({"AGEFILE_LIB_DIR": own}, own), ({"PKG_CONFIG_PATH": first}, f"{first}/../../lib"), ({"PKG_CONFIG_PATH": second}, f"{second}/../../lib"),
+            ({"PKG_CONFIG_PATH": second, "AGEFILE_LIB_DIR": "/absent"}, "/absent"), ({"PKG_CONFIG_LIBDIR": "/absent"}, "/usr/local/lib"),
+        ]
+        for variables, folder in rows:
+            with self.subTest(variables):
+                environment = {name: text for name, text in self.environment.items() if name != "AGEFILE_LIB_DIR"} | variables
+                words = ["cargo", "check", "--offline", "--message-format=json"]
+                done = subprocess.run(words, cwd=ROOT / "bindings/rust", env=environment, capture_output=True, text=True)
+                error = f"agefile: {folder} has no libagefile.a: install the package libagefile-dev, or set AGEFILE_LIB_DIR to its folder\n"
+                if Path(folder, "libagefile.a").exists():
+                    self.assertIn(f'"native={folder}"', done.stdout)
+                else:
+                    self.assertIn(error, done.stderr)
 
     def test_each_function_is_called(self):
         """The tests of the crate call each public function: the compiler warns of each, if all are deprecated."""

@@ -1,6 +1,7 @@
 """./agep, ./install and ./package --build over a stand-in for the toolchain: when each builds anew what it is
 to run, install or pack, and for which processors."""
 
+import functools
 import os
 import shutil
 import subprocess
@@ -51,12 +52,12 @@ class Builds(unittest.TestCase):
         write("kit/bin/rt", RT.format(self.folder).encode())
         os.chmod("kit/bin/rt", 0o755)
         write("kit/KIT-ID", b"kit one\n")
+        self.environment = {**os.environ, "AGEP_CPU": "x86-64-v9", "PATH": f"{self.folder}/kit/bin:{os.environ['PATH']}"}
 
-    def asked(self, script, path=None, commit="", **environment):
+    def asked(self, script, commit="", **environment):
         """What the toolchain is asked to build for a processor. The version is followed by this text."""
         write("asked", b"")
-        path = path or f"{self.folder}/kit/bin:{os.environ['PATH']}"
-        environment = {**os.environ, "AGEP_CPU": "x86-64-v9", "PATH": path, **environment}
+        environment = {**self.environment, **environment}
         done = subprocess.run(f"tree/{script}".split(), env=environment, stdin=subprocess.DEVNULL, capture_output=True)
         if script == "agep --version":
             self.assertEqual((done.returncode, done.stdout.decode()), (0, f"agep {version()}{commit}\n"), done.stderr.decode())
@@ -105,6 +106,16 @@ class Builds(unittest.TestCase):
         name = subprocess.check_output([*git, "rev-parse", "HEAD"], text=True)[:10]
         self.assertEqual(self.asked("agep --version", commit=f" (commit {name}, changed)"), every)
 
+    def test_words(self):
+        """./agep passes its words, standard input and folder to the program, and returns its status."""
+        self.asked("agep --version")
+        write("some file", b"text")
+        for words in (["inspect", "some file"], ["inspect", "no  such*file"], ["inspect"], ["inspect", ""], ["inspect", "--", "-r"], []):
+            with self.subTest(words):
+                run = functools.partial(subprocess.run, input=b"input", capture_output=True, env=self.environment)
+                here, program = run(["tree/agep", *words]), run([AGEP, *words])
+                self.assertEqual((here.returncode, here.stdout, here.stderr), (program.returncode, program.stdout, program.stderr))
+
     def test_toolchains(self):
         """Another toolchain builds anew; where there is none, what is there is run and installed."""
         tools = f"{self.folder}/tools"
@@ -116,7 +127,7 @@ class Builds(unittest.TestCase):
                 write("kit/KIT-ID", b"kit one\n")
                 self.asked(script)
                 write("kit/KIT-ID", b"kit two\n")
-                self.assertEqual(self.asked(script, path=tools), [])
+                self.assertEqual(self.asked(script, PATH=tools), [])
                 self.assertEqual(self.asked(script), SCRIPTS[script])
 
 

@@ -54,7 +54,7 @@ extern "C" fn getrandom(buf: *mut u8, len: usize, _flags: u32) -> isize {
 /// Makes a file of `text` or `hello` for these recipients.
 type Way = fn(&[&dyn Recipient], &mut Vec<u8>) -> io::Result<()>;
 
-/// Each way to make a file, and how many of its parts, after the salts, are random.
+/// Each way to make a file, and its number of random parts before the salts: file key and nonce.
 const WAYS: &[(&str, usize, Way)] = &[
     ("encrypt", 2, |recipients, out| out.write_all(&encrypt(b"text", recipients)?)),
     ("Writer", 2, |recipients, out| {
