@@ -192,7 +192,8 @@ def _has_path(descriptor: int, path: str) -> bool:
 def _remove_unlocked(path: str) -> None:
     """Removes a file that no process has locked."""
     with contextlib.suppress(OSError):
-        flags = os.O_RDONLY | os.O_NOFOLLOW | os.O_NONBLOCK | os.O_CLOEXEC
+        # Over NFS only a file that may be written can be locked.
+        flags = os.O_RDWR | os.O_NOFOLLOW | os.O_NONBLOCK | os.O_CLOEXEC
         with io.FileIO(os.open(path, flags)) as file:
             fcntl.flock(file.fileno(), fcntl.LOCK_EX | fcntl.LOCK_NB)
             if _has_path(file.fileno(), path):
