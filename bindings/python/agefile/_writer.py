@@ -120,6 +120,9 @@ class _Sealer(io.RawIOBase):
     def truncate(self, size: int | None = None, /) -> int:
         """Seals the last chunk, which completes the file, and closes it."""
         with self._lock:
+            if self.closed:
+                # By another thread, which had the lock of the buffer before.
+                return self._total
             try:
                 self._check_usable()
                 self._seal(True)

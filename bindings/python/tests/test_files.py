@@ -23,7 +23,7 @@ from unittest import mock
 
 import agefile
 from agefile import AgeError, Code, Key, Passphrase
-from support import KEY, InFolder, damaged, in_threads, in_time, message, text
+from support import KEY, InFolder, damaged, in_threads, message, text
 
 
 class PathThatWrites:

@@ -4,7 +4,6 @@ import array
 import contextlib
 import copy
 import functools
-import gc
 import io
 import itertools
 import mmap

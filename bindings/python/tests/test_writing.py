@@ -248,6 +248,14 @@ class Writing(InFolder):
                 file.close()
             self.assertEqual(len(agefile.decrypt(self.got("t.age"), identities=KEY)), count.result() * length)
 
+    def test_threads_that_close(self):
+        """One of them completes the file; the others find it closed."""
+        for _ in range(20):
+            file = agefile.open("t.age", "wb", recipients=KEY)
+            file.write(text(100000))
+            in_threads(file.close)
+            self.assertEqual(agefile.decrypt(self.got("t.age"), identities=KEY), text(100000))
+
     def test_what_no_buffer_may_do(self):
         with agefile.open("b.age", "wb", recipients=KEY) as file:
             file.write(b"text")
