@@ -36,7 +36,7 @@ class _Sealer(io.RawIOBase):
         # The exception that is being handled, and its traceback, which is another if it is raised
         # again from elsewhere.
         self.handled: tuple[Any, Any] = sys.exc_info()[1:]
-        self._place = _caller()
+        self._place, self._is_told = _caller(), False
 
     def __repr__(self) -> str:
         return f"<agefile.Writer name={self.name!r} mode={self.mode!r}>"
@@ -147,8 +147,9 @@ class _Sealer(io.RawIOBase):
                     self._sink.close()
 
     def warn(self, why: str) -> None:
-        """Warns at the line that opened the file."""
-        if self.is_parent():
+        """Warns once, at the line that opened the file."""
+        if self.is_parent() and not self._is_told:
+            self._is_told = True
             is_old = self._front or hasattr(self._sink, "replace_old")
             text = f"{self!r} {'was not written' if is_old else 'is not whole'}: {why}"
             warnings.warn_explicit(text, RuntimeWarning, *self._place)
@@ -307,6 +308,7 @@ class _AtEnd:
     def __del__(self) -> None:
         for writer in list(_writers):
             if not writer.closed:
+                # A lock may be held by a thread that never runs again, so nothing is aborted.
                 writer.raw.warn("it was not closed before the program ended")
 
 

@@ -319,9 +319,9 @@ class Wrapped(InFolder):
         except KeyError:
             for end in ("close", "abort"):
                 file = agefile.open("w.age", "wb", recipients=KEY)
-                self.assertIsInstance(file._handled[0], KeyError)
+                self.assertIsInstance(file.raw.handled[0], KeyError)
                 getattr(file, end)()
-                self.assertEqual(file._handled, (None, None))
+                self.assertEqual(file.raw.handled, (None, None))
 
 
 if __name__ == "__main__":
