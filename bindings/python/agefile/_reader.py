@@ -101,7 +101,7 @@ class _Chunks:
         self._number, self._len = before, self.length - before * lib.TEXT_CHUNK
 
     def _read(self, number: int) -> int:
-        """Reads a sealed chunk over the one kept, and returns its length."""
+        """Reads a sealed chunk into the room of the one that was kept, and returns its length."""
         self._number = -1
         at, room = number * lib.SEALED_CHUNK, self._chunk.view
         if self._sealed_len - at < lib.SEALED_CHUNK:
@@ -112,7 +112,7 @@ class _Chunks:
         return length
 
     def _piece(self, at: int) -> memoryview:
-        """The text from this byte, which is before the end, to the end of its chunk."""
+        """The text from this byte, which must not be at the end, to the end of its chunk."""
         number, start = divmod(at, lib.TEXT_CHUNK)
         if number != self._number:
             length = self._read(number)
@@ -141,8 +141,8 @@ class _Chunks:
 
 class _Plaintext(io.RawIOBase):
     """A plaintext as a raw file, whose reads may be short. A read ends before a bad chunk, and
-    raises its error if fewer than `least` bytes come before it. `least` is 1, or 0 under a buffer,
-    which would lose the bytes that it has read."""
+    raises its error if fewer than `least` bytes come before it. `least` is 1, or 0 under a buffer:
+    an exception would make the buffer lose bytes that it has read."""
 
     def __init__(self, chunks: _Chunks, least: int) -> None:
         self.chunks, self._least, self.position = chunks, least, 0
