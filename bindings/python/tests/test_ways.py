@@ -270,6 +270,7 @@ TEXT = {
     "sqlite3, dump": by_sqlite,
 }
 if numpy is not None:
+    BYTES["numpy.save, numbers"] = lambda file, fault: [numpy.save(file, numpy.arange(20000)), fault.kind and fault.strike()]
     BYTES["numpy.save"] = lambda file, fault: numpy.save(file, numpy.array(fault.objects(), dtype=object))
     BYTES["numpy.savez"] = lambda file, fault: numpy.savez(file, a=numpy.array(ROWS), b=numpy.array([fault.value()], dtype=object))
     BYTES["numpy.savetxt"] = lambda file, fault: numpy.savetxt(file, numpy.array(fault.objects(), dtype=object), fmt="%s")
