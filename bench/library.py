@@ -152,6 +152,36 @@ def headers(environment):
     return subprocess.check_output([sys.executable, "-c", code], env=environment, text=True).strip()
 
 
+# Each call in microseconds: rows of 20 bytes that are written one by one, and read as lines.
+ROWS = """
+import agefile, gzip, sys, time
+KEY, COUNT = agefile.Key(bytes(32)), 500000
+
+def took(work):
+    began = time.process_time()
+    work()
+    return f"{(time.process_time() - began) / COUNT * 1e6:.2f}"
+
+def write(file, row):
+    for _ in range(COUNT):
+        file.write(row)
+    file.close()
+
+def read(file):
+    assert sum(1 for _ in file) == COUNT
+
+OPEN = lambda mode: agefile.open("rows.age", mode, **({"recipients": KEY} if "w" in mode else {"identities": KEY}))
+for title, mode, opened in (
+    ("agefile", "b", OPEN),
+    ("agefile, text", "", OPEN),
+    ("gzip -1", "b", lambda mode: gzip.open("rows.gz", mode, 1)),
+    ("not encrypted", "b", lambda mode: open("rows", mode)),
+):
+    row = b"x" * 19 + b"\\n" if mode else "x" * 19 + "\\n"
+    print(f"| {title} | {took(lambda: write(opened('w' + mode), row))} | {took(lambda: read(opened('r' + mode)))} |")
+"""
+
+
 def main():
     parser = argparse.ArgumentParser(description=__doc__.splitlines()[0])
     parser.add_argument("prefix", type=Path)
@@ -175,6 +205,8 @@ def main():
                     found[title] = tuple(map(min, found[title], measured(words, folder, environment)))
             for title, (clock, cpu, memory) in found.items():
                 print(f"| {work}: {title} | {clock:.2f} | {cpu:.2f} | {cpu / found['agep'][1]:.2f} | {memory:.0f} |")
+        print(f"\n| Python {sys.version.split()[0]}, rows of 20 bytes | `write`, us | a line, us |\n|---|---|---|")
+        print(subprocess.check_output([sys.executable, "-c", ROWS], cwd=folder, env=environment, text=True), end="")
     print(f"\ninspect of 10,911 stanzas in Python: {headers(environment)}; load {os.getloadavg()[0]:.1f} at the end")
 
 

@@ -544,8 +544,14 @@ class ForPython(unittest.TestCase):
     def test_errors(self):
         self.run_tests("test_errors.py")
 
+    def test_written_files(self):
+        self.run_tests("test_writing.py")
+
     def test_unclosed_files(self):
         self.run_tests("test_unclosed.py")
+
+    def test_ways_of_writing(self):
+        self.run_tests("test_ways.py")
 
     def test_damaged_files(self):
         self.run_tests("test_damage.py")

@@ -176,14 +176,7 @@ class AgeChangedError(AgeError, OSError):
     and has been cut or has grown.
     """
 
-    def __init__(
-        self,
-        code: int = Code.CHUNK_SHORT,
-        place: int = 0,
-        detail: int = 0,
-        filename: Any = None,
-        hint: str | None = None,
-    ) -> None:
-        super().__init__(code, place, detail, filename, hint)
+    def __init__(self, code: int = Code.CHUNK_SHORT, *rest: Any) -> None:
+        super().__init__(code, *rest)
         what = "was cut while it was" if code == Code.CHUNK_SHORT else "has grown since it was"
-        self.args = (f"the file {what} open: {_text(code, place, detail)}",)
+        self.args = (f"the file {what} open: {self.args[0]}",)

@@ -118,9 +118,9 @@ class Output(io.FileIO):
 
 
 class Replacement(io.FileIO):
-    """A new file beside the file of a path. `replace_old` moves it to the path; closed before that,
-    it is removed. It is locked: the next file beside the path removes one that is not, because a
-    process that was killed has left it."""
+    """A new file beside the file of a path. `replace_old` moves it to the path; `close` removes it
+    if that was not called. It is locked while it is open: one that is not locked was left by a
+    process that was killed, and is removed by the next file for the same path."""
 
     def __init__(self, path: Any, mode: str, permissions: int) -> None:
         self._target = os.path.realpath(os.fsdecode(path))
@@ -192,7 +192,8 @@ def _has_path(descriptor: int, path: str) -> bool:
 def _remove_unlocked(path: str) -> None:
     """Removes a file that no process has locked."""
     with contextlib.suppress(OSError):
-        flags = os.O_RDONLY | os.O_NOFOLLOW | os.O_NONBLOCK | os.O_CLOEXEC
+        # Over NFS only a file that may be written can be locked.
+        flags = os.O_RDWR | os.O_NOFOLLOW | os.O_NONBLOCK | os.O_CLOEXEC
         with io.FileIO(os.open(path, flags)) as file:
             fcntl.flock(file.fileno(), fcntl.LOCK_EX | fcntl.LOCK_NB)
             if _has_path(file.fileno(), path):
@@ -202,7 +203,7 @@ def _remove_unlocked(path: str) -> None:
 def created(
     file: Any, mode: str, atomic: bool = False, closefd: bool = True, permissions: int = 0o666
 ) -> Any:
-    """The file to write. That of a path keeps its contents for now."""
+    """Opens the file to write. The file of a path keeps its contents for now."""
     if is_path(file):
         return (Replacement if atomic else Output)(file, mode, permissions)
     return opened(file, mode, closefd)
@@ -242,7 +243,7 @@ def check_atomic(file: Any, atomic: bool) -> None:
 def writing(
     file: Any, source: BinaryIO, permissions: int = 0o666, atomic: bool = False
 ) -> Iterator[Any]:
-    """The same for a file to write, which must not be the source, unless it is replaced."""
+    """Does the same for a file to write, which must not be the source unless it is replaced."""
     if is_open(file, "write"):
         _refuse_source(file, source)
         yield file

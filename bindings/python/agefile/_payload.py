@@ -80,7 +80,7 @@ def open_payload(front: bytes, file_key: bytes) -> tuple[int, lib.Payload]:
 
 
 def open_source(source: BinaryIO, identities: Identities) -> tuple[bytes, lib.Payload]:
-    """The bytes of its chunks read so far, and the payload of a source for reading."""
+    """Unlocks a source. Returns the bytes of its chunks read so far, and the payload for reading."""
     front = Front(source)
     header = front.header()
     file_key = unlock(bytes(front.bytes[: header.length]), identities)
@@ -111,7 +111,7 @@ SEALING = _Step(lib.TEXT_CHUNK, lib.SEALED_CHUNK, "seal_next", "part_seal_next")
 
 
 def one_by_one(step: _Step, payload: lib.Payload, source: BinaryIO, sink: Any) -> int:
-    """Seals or opens a source to its end, chunk by chunk. Returns the bytes of the result."""
+    """Seals or opens a source to its end, chunk by chunk. Returns the length of the result."""
     chunk, ahead = Chunk(), Chunk()
     convert = lib.for_chunks(step.one, payload)
     length, total = read_into(source, chunk.view[: step.take]), 0
@@ -136,7 +136,7 @@ class _Batch:
         lib.check("take_part", ctypes.byref(payload), PART, ctypes.byref(self.part))
 
     def run(self) -> tuple[int, AgeError | None]:
-        """Processes the chunks. Returns how many are done, and the error of the next one."""
+        """Processes the chunks. Returns how many are done, and the error that the next one met."""
         convert = lib.for_chunks(self.step.of_part, self.part)
         for index in range(PART):
             try:
@@ -164,7 +164,7 @@ def _read_batch(step: _Step, source: BinaryIO, room: Chunk) -> int:
 
 
 class _Joined:
-    """The chunks of the batch read last, then the rest of the source."""
+    """A source of the chunks of the batch that was read last, with which the source ended."""
 
     def __init__(self, step: _Step, room: Chunk, length: int) -> None:
         whole = [room.view[at : at + step.take] for at in range(0, len(room.room), lib.SEALED_CHUNK)]
@@ -184,7 +184,7 @@ class _Joined:
 
 
 def on_threads(step: _Step, payload: lib.Payload, source: BinaryIO, sink: Any, threads: int) -> int:
-    """The same on several threads, in order, with two batches of chunks in memory for each."""
+    """Does the same on several threads. For each thread two batches of chunks are in memory."""
     total, waiting = 0, collections.deque[tuple[_Batch, Any]]()
     spare: list[Chunk] = []
 

@@ -8,6 +8,7 @@ import io
 import os
 import stat
 import threading
+from collections.abc import Iterator
 from typing import Any, BinaryIO, TypeVar
 
 from . import _library as lib
@@ -100,7 +101,7 @@ class _Chunks:
         self._number, self._len = before, self.length - before * lib.TEXT_CHUNK
 
     def _read(self, number: int) -> int:
-        """Reads a sealed chunk over the one kept, and returns its length."""
+        """Reads a sealed chunk into the room of the one that was kept, and returns its length."""
         self._number = -1
         at, room = number * lib.SEALED_CHUNK, self._chunk.view
         if self._sealed_len - at < lib.SEALED_CHUNK:
@@ -111,7 +112,7 @@ class _Chunks:
         return length
 
     def _piece(self, at: int) -> memoryview:
-        """The text from this byte, which is before the end, to the end of its chunk."""
+        """The text from this byte, which must not be at the end, to the end of its chunk."""
         number, start = divmod(at, lib.TEXT_CHUNK)
         if number != self._number:
             length = self._read(number)
@@ -140,8 +141,8 @@ class _Chunks:
 
 class _Plaintext(io.RawIOBase):
     """A plaintext as a raw file, whose reads may be short. A read ends before a bad chunk, and
-    raises its error if fewer than `least` bytes come before it. `least` is 1, or 0 under a buffer,
-    which would lose the bytes that it has read."""
+    raises its error if fewer than `least` bytes come before it. `least` is 1, or 0 under a buffer:
+    an exception would make the buffer lose bytes that it has read."""
 
     def __init__(self, chunks: _Chunks, least: int) -> None:
         self.chunks, self._least, self.position = chunks, least, 0
@@ -218,7 +219,7 @@ class Reader(io.BufferedIOBase):
         self._chunks, self.name, self.raw = chunks, chunks.name, _Plaintext(chunks, 1)
         self._below = _Plaintext(chunks, 0)
         self._buffer = io.BufferedReader(self._below, lib.TEXT_CHUNK)
-        self._next_line, self._errors = self._buffer.readline, chunks.errors
+        self._errors = chunks.errors
         # Within a call no other thread may move the position.
         self._lock = threading.RLock()
 
@@ -282,17 +283,21 @@ class Reader(io.BufferedIOBase):
             return self._buffer.peek(size) or self._or_error(b"", 0)
 
     def readline(self, size: int | None = -1, /) -> bytes:
-        # One call of the buffer needs no other lock. Nothing may be added here: lines are short.
+        # One call of the buffer needs no other lock.
         line = self._buffer.readline(size)
         return self._or_error(line, len(line)) if self._errors else line
 
-    def __next__(self) -> bytes:
-        line = self._next_line()
-        if line and not self._errors:
-            return line
-        if self._or_error(line, len(line)):
-            return line
-        raise StopIteration
+    def __iter__(self) -> Iterator[bytes]:
+        super().__iter__()
+        read, errors = self._buffer.readline, self._errors
+
+        def readline() -> bytes:
+            line = read()
+            return self._or_error(line, len(line)) if errors else line
+
+        # Lines are short, so this saves what can be saved: it takes two thirds of the time of calls
+        # of the method above. Unlike a generator it raises the error of a bad chunk each time.
+        return iter(readline, b"")
 
     def readlines(self, hint: int | None = -1, /) -> list[bytes]:
         with self._lock:

@@ -80,8 +80,8 @@ class _Secret:
 
 
 def _interruptible(work: _Call) -> _Call:
-    """Runs scrypt on a thread of its own if the main thread calls it: Ctrl-C, which a call of the
-    library holds back, then ends the wait for it, and not the thread, at once."""
+    """Makes the main thread wait while another one runs scrypt. Ctrl-C, which a call of the library
+    would hold back, ends that wait at once. The other thread runs on until scrypt is done."""
 
     @functools.wraps(work)
     def run(*arguments: Any) -> Any:

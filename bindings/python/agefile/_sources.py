@@ -14,7 +14,7 @@ Progress = Callable[[int, Optional[int]], object]
 
 
 def flat(data: Any) -> memoryview:
-    """The bytes of an object. A view with a zero in its shape cannot be cast."""
+    """A view of the bytes of an object, also of one with a zero in its shape."""
     with memoryview(data) as view:
         return view.cast("B") if view.nbytes else memoryview(bytearray())
 

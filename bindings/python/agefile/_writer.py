@@ -36,7 +36,7 @@ class _Sealer(io.RawIOBase):
         # The exception that is being handled, and its traceback, which is another if it is raised
         # again from elsewhere.
         self.handled: tuple[Any, Any] = sys.exc_info()[1:]
-        self._place = _caller()
+        self._place, self._is_told = _caller(), False
 
     def __repr__(self) -> str:
         return f"<agefile.Writer name={self.name!r} mode={self.mode!r}>"
@@ -120,6 +120,9 @@ class _Sealer(io.RawIOBase):
     def truncate(self, size: int | None = None, /) -> int:
         """Seals the last chunk, which completes the file, and closes it."""
         with self._lock:
+            if self.closed:
+                # By another thread, which had the lock of the buffer before.
+                return self._total
             try:
                 self._check_usable()
                 self._seal(True)
@@ -144,8 +147,9 @@ class _Sealer(io.RawIOBase):
                     self._sink.close()
 
     def warn(self, why: str) -> None:
-        """Warns at the line that opened the file."""
-        if self.is_parent():
+        """Warns once, at the line that opened the file."""
+        if self.is_parent() and not self._is_told:
+            self._is_told = True
             is_old = self._front or hasattr(self._sink, "replace_old")
             text = f"{self!r} {'was not written' if is_old else 'is not whole'}: {why}"
             warnings.warn_explicit(text, RuntimeWarning, *self._place)
@@ -165,12 +169,11 @@ class _Sealer(io.RawIOBase):
             self.lose("it was not closed")
 
     def _dealloc_warn(self, _: Any) -> None:
-        """Called if a TextIOWrapper or BufferedWriter over the Writer was not closed, before its
-        finalizer calls `close`."""
+        """Called by the finalizer of the Writer's buffer before it flushes."""
         self.close()
 
 
-class Writer(io.BufferedWriter):
+class Writer(io.BufferedIOBase):
     """The plaintext of a new age file, as a binary file to write.
 
     Each full chunk is sealed and written, the last chunk when the file is closed. The header is
@@ -187,18 +190,36 @@ class Writer(io.BufferedWriter):
     raw: _Sealer
 
     def __init__(self, file: Any, mode: str, recipients: Recipients, atomic: bool) -> None:
-        super().__init__(_Sealer(file, mode, recipients, atomic), lib.TEXT_CHUNK)
+        self.raw = _Sealer(file, mode, recipients, atomic)
+        self.name, self.mode = self.raw.name, self.raw.mode
+        # This has a BufferedWriter and is none, because numpy asks such for a descriptor.
+        self._buffer = io.BufferedWriter(self.raw, lib.TEXT_CHUNK)
+        self._write = self._buffer.write
         _writers.add(self)
 
     def __repr__(self) -> str:
         return repr(self.raw)
+
+    @property
+    def closed(self) -> bool:
+        return self.raw.closed
+
+    def write(self, data: Any, /) -> int:
+        # Nothing may be added here: programs write few bytes at a time.
+        return self._write(data)
+
+    def tell(self) -> int:
+        return self._buffer.tell()
+
+    def writable(self) -> bool:
+        return self._buffer.writable()
 
     def flush(self) -> None:
         """Writes the header, and flushes the sealed chunks. The bytes of a chunk that is not full
         stay in the buffer. Writes nothing while an exception is handled that makes `close` an
         `abort`, so an existing file keeps its contents."""
         if self.raw.writable() and self.raw.is_parent() and self.raw.new_exception() is None:
-            super().flush()
+            self._buffer.flush()
         self.raw.flush()
 
     def close(self) -> None:
@@ -211,19 +232,13 @@ class Writer(io.BufferedWriter):
         try:
             if not self.closed and self.raw.is_parent():
                 # Under the lock of the buffer, so that no other thread's write is lost.
-                super().truncate()
+                self._buffer.truncate()
         finally:
             self.raw.abort()
 
     def abort(self) -> None:
         """Closes the file without its last chunk, so that every reader refuses it."""
         self.raw.abort()
-
-    def truncate(self, size: int | None = None, /) -> int:
-        raise io.UnsupportedOperation("truncate")
-
-    def detach(self) -> io.RawIOBase:
-        raise io.UnsupportedOperation("detach")
 
     def __exit__(self, kind: type[BaseException] | None, *rest: Any) -> None:
         if kind is None:
@@ -236,15 +251,20 @@ class Writer(io.BufferedWriter):
             # Nothing else would report SystemExit, GeneratorExit and cancelled tasks.
             self.raw.lose(kind.__name__)
 
+    def _dealloc_warn(self, _: Any) -> None:
+        """Called if a TextIOWrapper or BufferedWriter over this object was not closed, before its
+        finalizer calls `close`."""
+        self.raw.close()
+
     def __del__(self) -> None:
-        if self.raw is not None:
+        if hasattr(self, "raw"):
             self.raw.close()
 
 
 class TextWriter(io.TextIOWrapper):
     """A text file over a Writer, complete under the same conditions."""
 
-    buffer: Writer
+    buffer: Writer  # type: ignore[assignment]
 
     def write(self, text: str, /) -> int:
         try:
@@ -292,7 +312,7 @@ def _refuse_in_child() -> None:
 
     for writer in list(_writers):
         # The buffer would take a few bytes, and lose them.
-        setattr(writer, "write", write)
+        writer._write = write
 
 
 os.register_at_fork(after_in_child=_refuse_in_child)
@@ -304,6 +324,7 @@ class _AtEnd:
     def __del__(self) -> None:
         for writer in list(_writers):
             if not writer.closed:
+                # A lock may be held by a thread that never runs again, so nothing is aborted.
                 writer.raw.warn("it was not closed before the program ended")
 
 

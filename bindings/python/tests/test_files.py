@@ -23,7 +23,7 @@ from unittest import mock
 
 import agefile
 from agefile import AgeError, Code, Key, Passphrase
-from support import KEY, InFolder, damaged, in_threads, in_time, message, text
+from support import KEY, InFolder, damaged, in_threads, message, text
 
 
 class PathThatWrites:
@@ -311,15 +311,18 @@ class Reading(InFolder):
 
             works = iter((read_lines, read_on))
             in_threads(lambda: next(works)(), 2)
-            # The line that the bad chunk cuts is never handed out in part.
-            file.seek(0)
-            found = []
-            with self.assertRaises(AgeError):
-                for line in file:
-                    found.append(line)
-                    # An error of another thread's read that came meanwhile.
-                    file.raw.chunks.errors[0] = AgeError(Code.BAD_CHUNK)
-            self.assertEqual((found, file.tell()), (lines[:before], 1000 * before))
+            # The line that the bad chunk cuts is never handed out in part, nor taken for the end.
+            for is_iterator in (True, False):
+                file.seek(0)
+                found, it = [], iter(file) if is_iterator else file
+                for _ in range(3):
+                    with self.assertRaises(AgeError):
+                        while True:
+                            found.append(next(it))
+                            # An error of another thread's read that came meanwhile.
+                            file.raw.chunks.errors[0] = AgeError(Code.BAD_CHUNK)
+                self.assertEqual((found, file.tell()), (lines[:before], 1000 * before))
+        self.assertRaises(ValueError, iter, file)
 
     def test_a_bad_chunk_beside_a_thread_that_seeks(self):
         """The other thread goes to the end. The short result before the chunk is still an error."""

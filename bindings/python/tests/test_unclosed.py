@@ -4,27 +4,18 @@ Python on PATH, where finalizers and the end of the program matter."""
 
 import asyncio
 import contextlib
-import csv
 import gc
 import gzip
 import io
 import json
-import logging
 import os
-import pickle
-import resource
 import shutil
 import subprocess
 import sys
-import tarfile
 import unittest
 import warnings
-import zipfile
-from unittest import mock
-from xml.etree import ElementTree
 
 import agefile
-from agefile import AgeError
 from support import KEY, InFolder, in_time, text
 
 HEAD = """
@@ -328,145 +319,9 @@ class Wrapped(InFolder):
         except KeyError:
             for end in ("close", "abort"):
                 file = agefile.open("w.age", "wb", recipients=KEY)
-                self.assertIsInstance(file._handled[0], KeyError)
+                self.assertIsInstance(file.raw.handled[0], KeyError)
                 getattr(file, end)()
-                self.assertEqual(file._handled, (None, None))
-
-
-def rows(raises):
-    """Rows of text, 200,000 bytes, or an exception after half of them."""
-    for number in range(5000):
-        if raises and number == 2500:
-            raise ArithmeticError
-        yield f"{number:039}\n"
-
-
-def in_tar(file, raises):
-    with tarfile.open(fileobj=file, mode="w") as archive:
-        for row in rows(raises):
-            archive.addfile(tarfile.TarInfo(row[:39]))
-
-
-def in_zip(file, raises):
-    with zipfile.ZipFile(file, "w") as archive, archive.open("rows", "w") as member:
-        for row in rows(raises):
-            member.write(row.encode())
-
-
-def by_log(file, raises):
-    logger = logging.Logger("rows")
-    logger.addHandler(logging.StreamHandler(file))
-    for row in rows(raises):
-        logger.info(row)
-
-
-def by_xml(file, raises):
-    root = ElementTree.Element("rows")
-    for row in rows(False):
-        ElementTree.SubElement(root, "row").text = row
-    root[2500].text = ArithmeticError if raises else "row"
-    try:
-        ElementTree.ElementTree(root).write(file)
-    except TypeError as error:
-        raise ArithmeticError from error
-
-
-class Unpickled:
-    def __reduce__(self):
-        raise ArithmeticError
-
-
-class Rows(io.RawIOBase):
-    """The rows as a binary file."""
-
-    def __init__(self, raises):
-        self._rows = rows(raises)
-
-    def read(self, size=-1):
-        return next(self._rows, "").encode()
-
-
-WAYS = {
-    "write": ("wb", lambda file, raises: [file.write(row.encode()) for row in rows(raises)]),
-    "writelines": ("wb", lambda file, raises: file.writelines(row.encode() for row in rows(raises))),
-    "text": ("w", lambda file, raises: file.writelines(rows(raises))),
-    "print": ("w", lambda file, raises: [print(row, file=file) for row in rows(raises)]),
-    "csv": ("w", lambda file, raises: csv.writer(file).writerows([row] for row in rows(raises))),
-    "json": ("w", lambda file, raises: json.dump({number: row for number, row in enumerate(rows(False))} | {"last": object() if raises else 0}, file, default=lambda _: 1 // 0)),
-    "pickle": ("wb", lambda file, raises: pickle.dump([*rows(False), Unpickled() if raises else 0], file)),
-    "copyfileobj": ("wb", lambda file, raises: shutil.copyfileobj(Rows(raises), file)),
-    "tar": ("wb", in_tar),
-    "zip": ("wb", in_zip),
-    "gzip": ("wb", lambda file, raises: in_gzip(file, raises)),
-    "logging": ("w", by_log),
-    "xml": ("wb", by_xml),
-}
-
-
-def in_gzip(file, raises):
-    with gzip.GzipFile(fileobj=file, mode="wb", compresslevel=0) as packed:
-        packed.writelines(row.encode() for row in rows(raises))
-
-
-class Ways(InFolder):
-    """What is on the disk after each fault: the old file, one that every reader refuses, or the new
-    one as it would be without a fault; and all but the last with an exception or a warning."""
-
-    def result(self, way, how, atomic, raises):
-        mode, write = WAYS[way]
-
-        def new():
-            return agefile.open("w.age", mode, recipients=KEY, atomic=atomic)
-
-        if how == "nobody closes":
-            write(new(), raises)
-        else:
-            with new() if how == "with" else contextlib.closing(new()) as file:
-                write(file, raises)
-
-    def outcome(self, way, how, atomic, raises, room=None):
-        """What is on the disk, and whether something was said."""
-        old = self.got(self.made(b"old", "w.age"))
-        limits = resource.getrlimit(resource.RLIMIT_FSIZE)
-        is_loud = False
-        with warnings.catch_warnings(record=True) as said, mock.patch("sys.stderr", io.StringIO()) as printed:
-            warnings.simplefilter("default")
-            warnings.simplefilter("ignore", ResourceWarning)
-            resource.setrlimit(resource.RLIMIT_FSIZE, (room or limits[0], limits[1]))
-            try:
-                self.result(way, how, atomic, raises)
-            except (ArithmeticError, OSError):
-                is_loud = True
-            finally:
-                resource.setrlimit(resource.RLIMIT_FSIZE, limits)
-                gc.collect()
-        # A logger prints the error of a write, and goes on.
-        is_loud = is_loud or bool(said or printed.getvalue())
-        found = self.got("w.age")
-        self.assertEqual(os.listdir(), ["w.age"])
-        if found == old:
-            return "old", is_loud
-        try:
-            return agefile.decrypt(found, identities=KEY), is_loud
-        except AgeError:
-            with self.assertRaises(AgeError):
-                agefile.open("w.age", identities=KEY)
-            return "refused", is_loud
-
-    def test_each_way(self):
-        for way in WAYS:
-            for atomic in (False, True):
-                lost = ("old",) if atomic else ("old", "refused")
-                whole, is_loud = self.outcome(way, "with", atomic, False)
-                self.assertGreater(len(whole), 190000)
-                self.assertFalse(is_loud, way)
-                self.assertEqual(len(self.outcome(way, "closing", atomic, False)[0]), len(whole))
-                for how in ("with", "closing", "nobody closes"):
-                    for raises, room in ((True, None), (False, 80000), (True, 80000), (False, None)):
-                        if (how == "nobody closes") or raises or room:
-                            with self.subTest(f"{way}, {how}, atomic={atomic}, raises={raises}, room={room}"):
-                                found, is_loud = self.outcome(way, how, atomic, raises, room)
-                                self.assertTrue(found in lost and is_loud, (found[:9], is_loud))
+                self.assertEqual(file.raw.handled, (None, None))
 
 
 if __name__ == "__main__":

@@ -4,7 +4,6 @@ import array
 import contextlib
 import copy
 import functools
-import gc
 import io
 import itertools
 import mmap
@@ -132,10 +131,14 @@ class Round(unittest.TestCase):
         file = bytearray(agefile.encrypt(bytes(200 * 65536), recipients=KEY))
         file[1000] ^= 1
         for threads in (1, 2):
-            with self.assertRaises(AgeError) as caught:
+            kept = None
+            try:
                 agefile.decrypt(file, identities=KEY, threads=threads)
+            except AgeError as error:
+                # assertRaises would clear the frames.
+                kept = error
             file += b"more"
-            for frame, _ in traceback.walk_tb(caught.exception.__traceback__):
+            for frame, _ in traceback.walk_tb(kept.__traceback__):
                 for view in [value for value in frame.f_locals.values() if isinstance(value, memoryview)]:
                     with contextlib.suppress(ValueError):
                         self.assertIsNot(view.obj, file)

@@ -248,6 +248,14 @@ class Writing(InFolder):
                 file.close()
             self.assertEqual(len(agefile.decrypt(self.got("t.age"), identities=KEY)), count.result() * length)
 
+    def test_threads_that_close(self):
+        """One of them completes the file; the others find it closed."""
+        for _ in range(20):
+            file = agefile.open("t.age", "wb", recipients=KEY)
+            file.write(text(100000))
+            in_threads(file.close)
+            self.assertEqual(agefile.decrypt(self.got("t.age"), identities=KEY), text(100000))
+
     def test_what_no_buffer_may_do(self):
         with agefile.open("b.age", "wb", recipients=KEY) as file:
             file.write(b"text")
@@ -398,11 +406,14 @@ class Writing(InFolder):
             pass
         found = os.stat("o.age")
         self.assertEqual((found.st_uid, found.st_gid), (1234, 5678))
-        # As in a container that does not map the owner.
-        with mock.patch("os.fchown", side_effect=OSError(errno.EINVAL, "no such owner")):
-            with agefile.open("o.age", "wb", recipients=KEY, atomic=True) as file:
-                file.write(b"text")
-        self.assertEqual(agefile.decrypt(self.got("o.age"), identities=KEY), b"text")
+        # As in a container that does not map the owner: the mode stays.
+        for mode in (0o600, 0o664):
+            os.chmod("o.age", mode)
+            with mock.patch("os.fchown", side_effect=OSError(errno.EINVAL, "no such owner")):
+                with agefile.open("o.age", "wb", recipients=KEY, atomic=True) as file:
+                    file.write(b"text")
+            self.assertEqual(agefile.decrypt(self.got("o.age"), identities=KEY), b"text")
+            self.assertEqual(os.stat("o.age").st_mode & 0o777, mode)
 
     def test_atomic_that_fails(self):
         """Where anything fails before the end the old file stays, and nothing stays beside it."""
