@@ -139,7 +139,7 @@ class Packages(unittest.TestCase):
             with self.subTest(name):
                 tree = self.unpacked(name)
                 texts = {path: path.read_text() for path in [*tree.rglob("*.md"), *tree.rglob("METADATA")]}
-                targets = [path.parent / link for path, text in texts.items() for link in re.findall(r"\]\(([^)#:]+)", text)]
+                targets = [path.parent / link for path, text in texts.items() for link in re.findall(r"\]\((?!https?:)([^)#]+)", text)]
                 self.assertEqual([path for path in targets if not path.exists()], [])
                 self.assertEqual(len([path for path in texts if path.name == "README.md"]), pages)
                 licence = "Permission is hereby granted, free of charge, to any person obtaining a copy"
