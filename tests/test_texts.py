@@ -117,23 +117,6 @@ class Manual(unittest.TestCase):
             every = {word for words in [[]] + [[command] for command in commands()] for word in options_of(*words)}
             self.assertEqual(sorted(word for row in rows for word in row), sorted(every))
 
-    def test_examples(self):
-        """Each example runs, in a folder that has the files which it names."""
-        folder = scratch()
-        os.makedirs(folder + "/work/folder")
-        os.symlink(AGEP, folder + "/agep")
-        os.chdir(folder + "/work")
-        for name, text in {"passphrase": b"old\n", "passphrase.new": b"new\n", "notes": b"notes\n", "recovery.key": bytes(32)}.items():
-            write(name, text)
-        first = "set -e; PATH=$0:$PATH; agep encrypt -w 10 -p passphrase -o notes.age notes; [ ! -e key ] || agep encrypt -k key -o disk.age notes\n"
-        groups = re.findall(r"^\.nf\n(.*?)^\.fi$", section("EXAMPLES"), re.MULTILINE | re.DOTALL)
-        self.assertEqual(len(groups), 6)
-        for group in groups:
-            with self.subTest(group):
-                done = subprocess.run(["bash", "-c", first + group, folder], stdin=subprocess.DEVNULL, capture_output=True, timeout=60)
-                self.assertEqual((done.returncode, done.stderr.decode()), (0, ""))
-        self.assertEqual(subprocess.run([AGEP, "decrypt", "-p", "passphrase.new", "notes.age"], capture_output=True).stdout, b"notes\n")
-
     @unittest.skipUnless(shutil.which("mandoc"), "mandoc is missing")
     def test_mandoc(self):
         """mandoc renders it without a warning."""

@@ -3,9 +3,8 @@
 
 usage: tests/library/random_calls.py DRIVER [COUNT [SEED]]
 
-DRIVER is tests/library/driver.c, linked with the library and -pthread
--Wl,--wrap=malloc,--wrap=realloc,--wrap=free. Files, headers, structs, lengths and numbers are right or
-wrong in many ways; structs come from earlier calls, or are random. Each buffer lies at the end
+DRIVER is tests/library/driver.c, built with the library. Files, headers, structs, lengths and numbers are
+right or wrong in many ways; structs come from earlier calls, or are random. Each buffer lies at the end
 or at the start of its pages, shifted by up to 15 bytes. Some calls are made with each allocation refused
 in turn, some on eight threads at once. Prints how many calls returned which code; with a difference it
 prints the call, and the status is 1.
