@@ -127,10 +127,10 @@ class Documents(unittest.TestCase):
                     self.assertIn(anchor, {"", *anchors(text_of(target) if anchor else "")})
 
     def test_paths(self):
-        """Each path that a page names is in the repository, or in a crate."""
+        """Each path that a page names is in the repository, in a crate, or where packages put their documents."""
         for page in sorted(glob.glob(ROOT + "/*.md") + glob.glob(ROOT + "/*/*.md")):
             names = set(re.findall(r"`((?:crates|tests|docs|share|bindings|bench|specs|src|proofs|must-fail)/[\w./*-]+)`", text_of(page)))
-            names = [name for name in sorted(names - {"share/man", "share/signers"}) if "NAME" not in name and "CRATE" not in name]
+            names = [name for name in sorted(names - {"share/man", "share/signers"}) if not re.search("NAME|CRATE|^share/doc/", name)]
             missing = [name for name in names if not glob.glob(f"{ROOT}/{name}") and not glob.glob(f"{ROOT}/crates/*/{name}")]
             self.assertEqual(missing, [], os.path.basename(page))
 
