@@ -294,7 +294,7 @@ class Packages(unittest.TestCase):
         self.assertEqual(run(agep, "decrypt", "-p", self.work / "pass", SECRET), "hello\n")
         alone = shutil.copy(agep, self.work / "copy")
         self.assertEqual(run(alone, "decrypt", "-p", self.work / "pass", SECRET), "hello\n")
-        self.assertEqual(run(alone, "help", "decrypt"), run(AGEP, "help", "decrypt").replace("agep decrypt", "copy decrypt"))
+        self.assertEqual(run(agep, "help", "decrypt"), run(AGEP, "help", "decrypt"))
         refused = subprocess.run([agep, "decrypt"], input=b"hello", capture_output=True)
         self.assertEqual(refused.returncode, 1)
 
