@@ -107,7 +107,10 @@ class Packages(unittest.TestCase):
         cls.version = run(ROOT / "package", "--version").strip()
         cls.for_debian, cls.for_python = (cls.version.replace("-dev", between) for between in ("~dev", ".dev"))
         cls.for_python = cls.for_python.replace(".dev.", ".dev")
-        other = os.environ | ENVIRONMENT | {"TMPDIR": str(cls.work / "other folder")}
+        (cls.work / "other folder/.gitconfig").write_text("[core]\nautocrlf = true\n")
+        (cls.work / "other folder/.pydistutils.cfg").write_text("[bdist_wheel]\nuniversal = 1\n")
+        other = os.environ | ENVIRONMENT | {name: str(cls.work / "other folder") for name in ("TMPDIR", "HOME")}
+        other |= {name: os.environ.get(name, f"{Path.home()}/.{name[:-5].lower()}") for name in ("CARGO_HOME", "RUSTUP_HOME")}
         run(*as_a_user(), ROOT / "package", cls.work / "other folder/again", umask=0o077, env=other)
 
     def one(self, pattern):
@@ -123,8 +126,8 @@ class Packages(unittest.TestCase):
         return root
 
     def test_the_same_bytes_again(self):
-        """Packing the same builds in another folder, as another user. This does not show that a build makes its bytes
-        again."""
+        """Packing the same builds in another folder, as another user with another home. This does not show that a build
+        makes its bytes again."""
         sums = [(folder / "SHA256SUMS").read_text() for folder in (self.dist, self.work / "other folder/again")]
         self.assertEqual(sums[0], sums[1])
         run("sha256sum", "-c", "SHA256SUMS", cwd=self.dist)
