@@ -16,6 +16,7 @@ import shutil
 import subprocess
 import tempfile
 import threading
+import time
 import traceback
 import unittest
 import warnings
@@ -273,19 +274,27 @@ class Reading(InFolder):
         """The file and its `raw` share one chunk: neither takes that of the other for its own."""
         plain = text(300000)
         with agefile.open(self.made(plain), identities=KEY) as file:
+            read = file.raw.chunks._read
+
+            def slow_read(number):
+                length = read(number)
+                time.sleep(0.002)
+                return length
+
             def by_file():
-                for at in range(0, 250000, 500):
+                for at in range(0, 250000, 5000):
                     file.seek(at)
                     self.assertEqual(file.read(100) == plain[at : at + 100], True)
 
             def by_raw():
-                for at in range(250000, 0, -500):
+                for at in range(250000, 0, -5000):
                     file.raw.seek(at)
                     found = file.raw.read(100)
                     self.assertEqual((plain.startswith(found, at), len(found) > 0), (True, True))
 
-            works = iter((by_file, by_raw) * 2)
-            in_threads(lambda: next(works)(), 2)
+            works = iter((by_file, by_raw))
+            with mock.patch.object(file.raw.chunks, "_read", slow_read):
+                in_threads(lambda: next(works)(), 2)
 
     def test_lines_beside_a_bad_chunk(self):
         """A thread that reads lines gets its own errors, and not those of another's reads."""
