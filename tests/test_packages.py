@@ -303,13 +303,14 @@ class Packages(unittest.TestCase):
 
     def test_builds_of_the_program(self):
         """Both programs hold both builds, one of which uses the registers of x86-64-v3, and run on older processors."""
-        (self.work / "pass").write_text("correct horse\n")
+        (self.work / "key").write_bytes(fixture.KEY)
+        (self.work / "keyed").write_bytes(fixture.for_keys(b"text", fixture.KEY))
         for path in (self.unpacked("agep_*.deb") / "usr/bin/agep", *self.unpacked("agep-*.tar.xz").glob("*/bin/agep-static")):
             with self.subTest(path.name):
                 self.assertGreater(run("objdump", "-d", path).count("%ymm"), 1000)
                 for processor in ("Nehalem", "Haswell") if shutil.which("qemu-x86_64") else ():
-                    words = ("qemu-x86_64", "-cpu", processor, path, "decrypt", "-p", self.work / "pass", SECRET)
-                    self.assertEqual(run(*words), "hello\n", processor)
+                    words = ("qemu-x86_64", "-cpu", processor, path, "decrypt", "-k", "key", "keyed")
+                    self.assertEqual(run(*words, cwd=self.work), "text", processor)
 
     def test_limit_of_a_file_size(self):
         """A write above it fails, where the program that ./agep runs would end by a signal."""
