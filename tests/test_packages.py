@@ -177,28 +177,21 @@ class Packages(unittest.TestCase):
         self.assertEqual(lines, expected, path)
 
     def programs(self):
-        """Each program of the packages, and the build that /usr/bin/agep holds."""
-        for pattern in ("agep_*.deb", "agep-*.tar.xz"):
-            for path in self.unpacked(pattern).rglob("agep*"):
-                content = path.read_bytes() if path.is_file() else b""
-                if content[:4] == b"\x7fELF":
-                    yield pattern, path
-                if path.name == "agep" and b"\x7fELF" in content[1:]:
-                    held = path.with_name("held")
-                    held.write_bytes(content[content.index(b"\x7fELF", 1) :])
-                    held.chmod(0o755)
-                    yield pattern, held
+        """Each program of the packages."""
+        for pattern, names in ("agep_*.deb", "usr/bin/*"), ("agep-*.tar.xz", "*/bin/*"):
+            for path in self.unpacked(pattern).glob(names):
+                yield pattern, path
 
     def test_instructions(self):
-        """A build of the program for x86-64 has no instruction that a processor of this level may lack. In the
-        archives each function of the proved code stands for it and for x86-64-v3."""
-        for pattern, path in self.programs():
-            with self.subTest(f"{pattern}: {path.name}"):
+        """The build of the program for x86-64, which the packages link, has no instruction that a processor of this
+        level may lack, and the one for x86-64-v3 has, as the programs have. In the archives each function of the
+        proved code stands for both."""
+        objects = [(level, ROOT / f"crates/agep/out/agep-{level}.o") for level in ("x86-64", "x86-64-v3")]
+        for name, path in *objects, *self.programs():
+            with self.subTest(f"{name}: {path.name}"):
                 count = sum(count for _, count in functions_of(path))
-                if path.name in ("agep-x86-64", "held"):
-                    self.assertEqual(count, 0)
-                elif path.name == "agep-x86-64-v3":
-                    self.assertGreater(count, 1000)
+                self.assertEqual(count > 1000, name != "x86-64")
+                self.assertTrue(count == 0 or count > 1000, count)
         for pattern in ("libagefile-dev_*.deb", "agep-*.tar.xz"):
             (archive,) = self.unpacked(pattern).rglob("libagefile.a")
             with self.subTest(f"{pattern}: libagefile.a"):
@@ -214,9 +207,9 @@ class Packages(unittest.TestCase):
         expected = (0, fixture.PLAIN)
         for pattern, path in self.programs():
             with self.subTest(f"{pattern}: {path.name}"):
-                done = self.on("qemu64", path, "decrypt", "-k", "key", "keyed")
-                # The build for x86-64-v3 alone refuses such a processor.
-                self.assertEqual((done.returncode, done.stdout), (127, b"") if path.name.endswith("-v3") else expected)
+                for processor in ("qemu64", "Haswell"):
+                    done = self.on(processor, path, "decrypt", "-k", "key", "keyed")
+                    self.assertEqual((done.returncode, done.stdout), expected, processor)
         for pattern in ("libagefile*.deb", "agep-*.tar.xz", "*.whl"):
             for path in self.unpacked(pattern).rglob("libagefile.[as]*"):
                 if path.is_symlink():
@@ -300,17 +293,6 @@ class Packages(unittest.TestCase):
         self.assertEqual(run(agep, "help", "decrypt"), run(AGEP, "help", "decrypt"))
         refused = subprocess.run([agep, "decrypt"], input=b"hello", capture_output=True)
         self.assertEqual(refused.returncode, 1)
-
-    def test_builds_of_the_program(self):
-        """Both programs hold both builds, one of which uses the registers of x86-64-v3, and run on older processors."""
-        (self.work / "key").write_bytes(fixture.KEY)
-        (self.work / "keyed").write_bytes(fixture.for_keys(b"text", fixture.KEY))
-        for path in (self.unpacked("agep_*.deb") / "usr/bin/agep", *self.unpacked("agep-*.tar.xz").glob("*/bin/agep-static")):
-            with self.subTest(path.name):
-                self.assertGreater(run("objdump", "-d", path).count("%ymm"), 1000)
-                for processor in ("Nehalem", "Haswell") if shutil.which("qemu-x86_64") else ():
-                    words = ("qemu-x86_64", "-cpu", processor, path, "decrypt", "-k", "key", "keyed")
-                    self.assertEqual(run(*words, cwd=self.work), "text", processor)
 
     def test_limit_of_a_file_size(self):
         """A write above it fails, where the program that ./agep runs would end by a signal."""
