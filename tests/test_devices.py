@@ -111,7 +111,7 @@ class ClosedStreams(ProgramCase):
     def test_each(self):
         """Each of the eight combinations, with and without -v, at a terminal and without."""
         closed = "Bad file descriptor"
-        saved = "chunk 0 is lost: bytes 0 to 5 of the plaintext"
+        saved = "chunk 0 is lost: bytes 0 to 5 of the plaintext", "the file ends after 22 bytes of chunk 0: more may be missing"
         for streams in itertools.chain.from_iterable(itertools.combinations(range(3), count) for count in range(4)):
             reads = 0 not in streams, "reading standard input: " + ("Is a directory" if {1, 2} & set(streams) else closed)
             for words, needs, out, line in (
@@ -127,9 +127,13 @@ class ClosedStreams(ProgramCase):
                                 status, line, more, out = 1, message("Read"), reads[1], b""
                             elif needs in streams:
                                 status, line, more, out = 1, message("Write"), f"writing standard output: {closed}", b""
-                            said = "" if 2 in streams or line is None else fault(line, more if option else None)
-                            if line == saved and said and option and is_terminal:
-                                said = ERASE + said
+                            erase = ERASE if option and is_terminal else ""
+                            if 2 in streams or line is None:
+                                said = ""
+                            elif line == saved:
+                                said = "".join(erase + fault(text, None) for text in saved)
+                            else:
+                                said = fault(line, more if option else None)
                             self.assertEqual(self.run_closed(words + option, streams, is_terminal), (status, out, said))
                             if " -o made " in words:
                                 self.assert_file("made", {"d": HELLO, "e": read("key.age"), "s": bytes(6)}[words[0]])
