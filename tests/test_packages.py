@@ -238,7 +238,7 @@ class Packages(unittest.TestCase):
         words = ("dpkg-buildpackage", "-b", "-us", "-uc", "-d")
         without = stand_in.tools_but(self.work / "tools", "rt")
         done = subprocess.run(words, cwd=tree, env=without, capture_output=True, text=True)
-        self.assertIn("package: to build the packages, the command rt of the Rattle toolchain is needed\n", done.stderr)
+        self.assertIn("package: building the packages needs the Rattle toolchain, the command rt\n", done.stderr)
         run(*words, cwd=tree, env=stand_in.toolchain(self.work / "kit"))
         for deb in self.dist.glob("*.deb"):
             self.assertEqual((self.work / deb.name).read_bytes(), deb.read_bytes(), deb.name)

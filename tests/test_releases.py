@@ -147,7 +147,7 @@ class Versions(Case):
         (self.tree / ".git").rename(self.work / ".git")
         done = self.run_here("./package", "--version")
         self.assertEqual((done.returncode, done.stdout), (1, ""))
-        self.assertIn("package: no commit of git tells the version: ", done.stderr)
+        self.assertIn("package: git cannot tell the version: ", done.stderr)
 
 
 @needs("xz")
@@ -180,14 +180,14 @@ class Folder(Case):
         self.assertEqual([(self.dist / name).read_text() for name in others], others)
 
         (self.dist / "SHA256SUMS").unlink()
-        self.refused(f"package: {self.dist} has another {made}", "./package", self.dist)
+        self.refused(f"package: {self.dist} already has a {made}, which no earlier run made", "./package", self.dist)
         self.assertEqual(self.names(), {*others, made})
 
     def test_sums_of_others(self):
         """Nothing is removed where SHA256SUMS names what is no package, or is signed."""
         self.put("debian.iso")
         (self.dist / "SHA256SUMS").write_text(f"{'0' * 64}  debian.iso\n")
-        line = f"package: SHA256SUMS in {self.dist} is of others: it names debian.iso"
+        line = f"package: SHA256SUMS in {self.dist} was not written by this script: it names debian.iso"
         self.refused(line, "./package", self.dist)
         (self.dist / "SHA256SUMS").write_text("")
         self.put("SHA256SUMS.sig")
@@ -235,7 +235,7 @@ class Release(Case):
         names = sorted(path.name for path in self.folder.iterdir())
         self.assertEqual([name for name in names if "SUMS" in name], ["SHA256SUMS", "SHA256SUMS.sig"])
         self.assertEqual([name for name in names if "SUMS" not in name and not re.search(r"[-_]80\.9\.2[-_.]", name)], [])
-        self.refused("release: 80.9.2 is not above 80.9.2", *self.release())
+        self.refused("release: 80.9.2 is not newer than 80.9.2", *self.release())
         archive = self.work / "archive"
         archive.mkdir()
         self.right("sh", "-c", f"git archive 80.9.2 | tar -xC {archive}")
@@ -245,7 +245,7 @@ class Release(Case):
     def test_gate(self):
         """After a gate that failed nothing is packed, and all is as before, so that a second try comes as far."""
         self.write("../wrong", "")
-        lines = ["release: the gate failed", "release: the commit, the tag and the packages are taken away again"]
+        lines = ["release: the gate failed", "release: removed the commit, the tag and the packages again"]
         for tries in (1, 2):
             done = self.run_here(*self.release())
             self.assertEqual((done.returncode, done.stderr.splitlines()[-2:]), (1, lines))
@@ -268,7 +268,7 @@ class Release(Case):
         self.before = self.commit()
         done = self.run_here(*self.release())
         made = self.git("rev-parse", "HEAD^")
-        self.assertEqual(done.stderr.splitlines()[-1], f"release: take the commit {made} away: the repository has changed since")
+        self.assertEqual(done.stderr.splitlines()[-1], f"release: remove the commit {made} by hand: the repository has changed since")
         self.assertEqual((done.returncode, self.git("log", "-1", "--format=%s")), (1, "Other"))
 
     def assert_as_before(self):
@@ -281,28 +281,28 @@ class Release(Case):
         usage = "usage: ./release VERSION KEY FOLDER"
         self.assertEqual(self.right("./release", "--help"), f"{usage}\n")
         self.refused(usage, "./release", "80.9.2", status=2)
-        self.refused("release: 1.2 is no version like 1.2.3", *self.release("1.2"))
-        self.refused("release: 0.0.9 is not above " + LAST, *self.release("0.0.9"))
+        self.refused("release: 1.2 is not a version such as 1.2.3", *self.release("1.2"))
+        self.refused("release: 0.0.9 is not newer than " + LAST, *self.release("0.0.9"))
         self.write("README.md", "text")
-        self.refused("release: there are local changes", *self.release())
+        self.refused("release: the repository has local changes", *self.release())
         self.git("reset", "-q", "--hard")
         self.folder.mkdir()
         (self.folder / "file").touch()
         self.refused(f"release: {self.folder} is not empty", *self.release())
         self.assertEqual((self.git("rev-parse", "HEAD")[:10], self.git("tag")), (self.before, ""))
-        self.refused("release: /absent is no SSH key", "./release", "80.9.2", "/absent", self.folder / "new")
+        self.refused("release: /absent is not a private SSH key", "./release", "80.9.2", "/absent", self.folder / "new")
         self.git("tag", "80.9.2")
-        self.refused("release: the tag 80.9.2 is there", *self.release())
+        self.refused("release: the tag 80.9.2 already exists", *self.release())
         self.git("tag", "-d", "80.9.2")
         self.write("share/project", "# This.example\nMaintainer: A <a@b.example>\nHomepage: https://c.example.org/\nVcs-Git: https://d.example/e\n")
         self.commit()
         self.refused("release: share/project still names a host in .example: Maintainer Vcs-Git", *self.release())
         self.write("share/signers", "")
         self.commit()
-        self.refused(f"release: share/signers lacks this key; first commit there the line: {self.signer}", *self.release())
+        self.refused(f"release: share/signers lacks this key; first add this line to it, and commit that: {self.signer}", *self.release())
         self.write("CHANGELOG.md", RELEASED)
         self.commit()
-        self.refused("release: CHANGELOG.md has nothing that is unreleased", *self.release())
+        self.refused("release: the first heading of CHANGELOG.md is not Unreleased", *self.release())
 
 
 if __name__ == "__main__":
