@@ -41,8 +41,8 @@ SEALING = {
     "Python, copy": "agefile.copy(open(name, 'rb', 0), SINK, recipients=KEY)",
     "Python, copy, threads=4": "agefile.copy(open(name, 'rb', 0), SINK, recipients=KEY, threads=4)",
 }
-# The time of a Python row is that of the call alone, without the start of the interpreter and, if the
-# call takes bytes, without reading the file into memory.
+# The time of a Python row is that of the call alone, without the start of the interpreter and, if
+# the call takes bytes, without reading the file into memory.
 SCRIPT = """import agefile, shutil, sys, time
 KEY, name = agefile.Key(open('key', 'rb').read()), sys.argv[1]
 SINK, data = open('/dev/null', 'wb', 0), open(name, 'rb').read() if {takes_data} else None

@@ -1,11 +1,11 @@
 #!/usr/bin/env python3
-"""Makes the test vectors in a folder, which must not be there, by tests/reference.py alone, and prints the
-SHA-256 of all: tests/vectors/README.md says what they are.
+"""Makes the test vectors in a folder, which must not exist, with tests/reference.py alone, and prints the
+SHA-256 of all of them. tests/vectors/README.md describes them.
 
 usage: tests/make_vectors.py FOLDER
 
-Each is made with the fault of docs/FORMAT.md that opening it ends in, and the plaintext that may be
-released before: what is expected follows from these.
+Each vector is made together with the fault of docs/FORMAT.md that opening it returns, and the plaintext that
+may be released before the fault. The expected result follows from these two.
 """
 
 import base64
@@ -29,7 +29,7 @@ from testkit import EXPECT
 FILE_KEY, NONCE = SEED[:16], SEED[16:32]
 CHUNK, LIMIT = 65536, 65536
 PAYLOAD_KEY = hkdf(FILE_KEY, NONCE, b"payload")
-# Of more bytes than these the file is compressed.
+# Files larger than this are compressed.
 PLAIN_SIZE = 1000
 
 # The X25519 secrets of an identity and of a stanza's share, and the identity's text (BIP 173).
@@ -47,9 +47,9 @@ BY_X25519 = (("identity", X_IDENTITY),)
 
 
 class Case(NamedTuple):
-    """A vector: its fault with the number or the part that it names, or (None,); the text that is released;
-    and the chunk behind it, if that opens only under the flag that its place does not have. A reader that
-    tries both flags releases that too."""
+    """A vector: its fault with the number or the part that the fault names, or (None,); the text that is
+    released; and the chunk after that text, if it opens only under the wrong flag for its position. A reader
+    that tries both flags releases that chunk, too."""
 
     name: str
     comment: str
@@ -62,7 +62,7 @@ class Case(NamedTuple):
 
     @property
     def head(self):
-        """The vector's own lines, before the empty one."""
+        """The lines of the vector, before the empty line."""
         expect = EXPECT[self.fault[0]]
         fields = [("expect", expect)]
         if expect in ("success", "payload failure"):
@@ -74,13 +74,13 @@ class Case(NamedTuple):
 
     @property
     def stored(self):
-        """The vector's own bytes."""
+        """The bytes of the vector."""
         return self.head + b"\n" + (zlib.compress(self.file, 9) if len(self.file) > PLAIN_SIZE else self.file)
 
 
-# Lines of headers, each of a stanza or more.
+# Lines of headers, each with one or more stanzas.
 def scrypt_lines(*arguments, body=None):
-    """A passphrase's stanza with other arguments behind its type, or another body."""
+    """A passphrase stanza with other arguments after its type, or another body."""
     right, wrap_key = passphrase_stanza(PASSPHRASE, 1, SALT)
     return stanza_text([right[0], *(arguments or right[1:])], sealed(wrap_key, bytes(12), FILE_KEY) if body is None else body)
 
@@ -99,7 +99,8 @@ SCRYPT, KEYED, X = scrypt_lines(), key_lines(), x25519_lines()
 GREASE = stanza_text([b"fZ%-grease", b"?", b"~!"], bytes(range(100)))
 
 
-# The text of each chunk that was made, and whether it is the last, by its number and its bytes.
+# For each chunk that was made, by its number and its bytes: its text, and whether it is the last
+# one.
 MADE = {}
 
 
@@ -112,7 +113,7 @@ def chunk(number, is_last, text):
 
 @functools.lru_cache
 def filler(number, is_last, size=CHUNK):
-    """The text of a chunk whose ciphertext is zeros, so that it is stored in a few bytes."""
+    """The text of a chunk whose ciphertext is zeros, so that the file compresses to a few bytes."""
     return chunk(number, is_last, bytes(size))[:-16]
 
 
@@ -121,7 +122,7 @@ def filled(number, is_last, size=CHUNK):
 
 
 def plain_and_chunks(size):
-    """A plaintext of this size, and its sealed chunks."""
+    """A plaintext of this size and its sealed chunks."""
     sizes = [min(CHUNK, size - at) for at in range(0, size, CHUNK)] or [0]
     places = [(i, i == len(sizes) - 1, length) for i, length in enumerate(sizes)]
     return b"".join(filler(*place) for place in places), [filled(*place) for place in places]
@@ -143,7 +144,7 @@ EMPTY = HEADER + NONCE + chunk(0, True, b"")
 
 
 def files(prefix, fault, rows, secrets=BY_PASSPHRASE):
-    """Files that end alike: the rows are their names, comments and lines."""
+    """Files with the same result: the rows are their names, comments and lines."""
     for name, comment, lines in rows:
         yield Case(f"{prefix}_{name}", comment, age_file(lines), fault, HELLO if fault == OPENS else b"", secrets)
 
@@ -278,7 +279,7 @@ def scrypt_arguments():
 
 
 def bad_salts():
-    """Salts of a stanza that are malformed."""
+    """Malformed salts of a stanza."""
     salt = signs(SALT)
     return (
         ("short", "the salt has 15 bytes", signs(SALT[1:])), ("long", "the salt has 17 bytes", signs(SALT + b"\0")),
@@ -289,7 +290,7 @@ def bad_salts():
 
 
 def not_canonical(text):
-    """The base64 text with another last character, which has the same bytes."""
+    """The base64 text with another last character that decodes to the same bytes."""
     return text[:-1] + bytes([text[-1] + 1])
 
 
@@ -435,7 +436,7 @@ def x25519_files():
 
 
 def limits():
-    """Headers of a size around the limit of this project, and of great counts."""
+    """Headers of sizes around the limit of this project, and with many stanzas, lines or arguments."""
     for kind, lines, secrets in (("key", KEYED, BY_KEY), ("x25519", X, BY_X25519)):
         rest = LIMIT - len(age_file(lines, b"")) - len(b"-> \n\n")
         for size in (LIMIT, LIMIT + 1):
@@ -462,8 +463,8 @@ def sizes():
 
 
 def payloads(rows):
-    """Damaged payloads: the rows are their names, comments, faults, chunks of the faults, the sealed chunks,
-    and where it is released too the text of the chunk at fault. The chunks before it are released."""
+    """Damaged payloads: the rows are their names, comments, faults, the chunks of the faults, the sealed
+    chunks and, if a reader may release it, the text of the faulty chunk. The chunks before it are released."""
     for name, comment, fault, number, chunks, *more in rows:
         text = b"".join(filler(i, False) for i in range(number))
         yield Case(f"payload_{name}", comment, age_file(SCRYPT, NONCE + b"".join(chunks)), (fault, number), text, more=b"".join(more))
@@ -520,7 +521,7 @@ def flags_and_counters():
 
 
 def ends():
-    """Bytes behind the last chunk, and a file of two chunks that is cut."""
+    """Bytes after the last chunk, and a file of two chunks that is cut."""
     for name, comment, size in (
         ("short", "a last chunk that is not full", 6), ("full", "a full last chunk", CHUNK), ("second", "a second chunk that is not full", CHUNK + 6),
         ("second_full", "a second chunk that is full", 2 * CHUNK),
@@ -538,7 +539,7 @@ def ends():
 
 
 def cuts():
-    """A file of nothing that is cut at each offset."""
+    """The file of an empty plaintext, cut at each offset."""
     for size in range(len(EMPTY)):
         fault = ("HeaderTruncated",) if size < len(HEADER) else ("NonceTruncated",) if size < len(HEADER) + 16 else ("ChunkShort", 0)
         yield Case(f"cut_{size:03}", f"a file of {len(EMPTY)} bytes cut to {size}", EMPTY[:size], fault)
@@ -559,13 +560,13 @@ GROUPS = (
 
 @functools.cache
 def cases():
-    """All vectors, by their names."""
+    """All vectors by name."""
     return sorted((case for group in GROUPS for case in group()), key=lambda case: case.name)
 
 
 def sum_of_all():
-    """The SHA-256 of the names, lines and files of all vectors. No file is compressed, since another zlib
-    may compress it to other bytes."""
+    """The SHA-256 of the names, lines and files of all vectors. The files are not compressed, because another
+    zlib may compress them differently."""
     total = hashlib.sha256()
     for case in cases():
         total.update(b"%b\n%b\n%d\n%b" % (case.name.encode(), case.head, len(case.file), case.file))
@@ -573,7 +574,7 @@ def sum_of_all():
 
 
 def make(folder):
-    """Makes the vectors in a folder, which must not be there."""
+    """Makes the vectors in a folder, which must not exist."""
     os.makedirs(folder)
     for case in cases():
         write(f"{folder}/{case.name}", case.stored)
