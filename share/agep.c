@@ -1,5 +1,5 @@
-/* The program agep of a package: contains the proved program twice, and calls the build that fits the
- * processor. The main of each build is named after its level. This file is not proved. */
+/* The program agep of a package: contains the proved program twice, and calls the build that fits
+ * the processor. The main of each build is named after its level. This file is not proved. */
 #include <signal.h>
 #include <stdbool.h>
 #include <stdio.h>
@@ -8,8 +8,8 @@
 int main_x86_64(int argc, char **argv, char **environment);
 int main_x86_64_v3(int argc, char **argv, char **environment);
 
-/* Answers --version, as the only argument, with the version of the package and the level of the build,
- * because a build knows neither. */
+/* Answers --version, as the only argument, with the version of the package and the level of the
+ * build, because a build knows neither. */
 static int say_version(const char *level)
 {
     if (printf("agep %s (%s)\n", AGEP_VERSION, level) > 0 && fflush(stdout) == 0)
