@@ -162,7 +162,9 @@ class Documents(unittest.TestCase):
 def prose(name):
     """What users read of a file: of code only docstrings, doc comments or texts, and no code blocks or names."""
     text = text_of(f"{ROOT}/{name}")
-    if name.endswith(".py"):
+    if name.endswith(".h"):
+        text = re.sub(r"\n \* ?", "\n", "\n".join(re.findall(r"/\*.*?\*/", text, re.DOTALL)))
+    elif name.endswith(".py"):
         kinds = ast.Module, ast.ClassDef, ast.FunctionDef
         text = "\n".join(ast.get_docstring(node) or "" for node in ast.walk(ast.parse(text)) if isinstance(node, kinds))
     elif name.endswith(".rs"):
@@ -183,9 +185,10 @@ class Dialect(unittest.TestCase):
         "planted|edits": "bugs that tests must find", "also (after|if|when|where)": "even",
         "(is|are|was) no (key|number|file|chunk|passphrase|recipient)": "is not a",
         "what is (printed|written|read)": "the output", "as the last one|as another": "as the last chunk",
+        "behind": "after", "the same of": "the same for",
     }
-    PAGES = ("README.md", "docs/USE.md", "docs/C.md", "share/man/agep.1", "bindings/*/README.md", "bindings/python/agefile/*.py",
-             "bindings/rust/src/*.rs", "crates/age_words/src/texts.rt", "crates/age_words/src/options.rt")
+    PAGES = ("README.md", "SECURITY.md", "docs/USE.md", "docs/C.md", "share/man/agep.1", "bindings/c/agefile.h", "bindings/*/README.md",
+             "bindings/python/agefile/*.py", "bindings/rust/src/*.rs", "crates/age_words/src/texts.rt", "crates/age_words/src/options.rt")
 
     def test_words(self):
         found = [os.path.relpath(name, ROOT) for page in self.PAGES for name in sorted(glob.glob(f"{ROOT}/{page}"))]
