@@ -3,16 +3,7 @@
 
 usage: tests/testkit FOLDER [agep | python | c]..
 
-A vector begins with lines `key: value`. After an empty line come the bytes of the age file:
-
-    expect      the result of opening the file: one of the keys of FAULTS, or armor failure
-    payload     the SHA-256 of all plaintext that may be released, even before a payload failure
-    file key    the file key, in hex
-    passphrase  a passphrase; may occur several times
-    identity    an identity; may occur several times. `example.org/key HEX` is a key of this project
-    armored     yes: the bytes are ASCII armor, which to this project is not an age file
-    compressed  zlib: the bytes are compressed
-    comment     what the vector is about
+tests/vectors/README.md describes the form. A program refuses ASCII armor as not an age file.
 
 A program skips vectors with an identity that it lacks. The skipped ones are listed before the last line,
 which is 'N passed, M failed'.
