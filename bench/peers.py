@@ -49,7 +49,7 @@ class Command:
 
     def __init__(self, *words, source="/dev/null", out="/dev/null", held="", files=1, user=False):
         self.words = [str(word) for word in words]
-        self.words[0] = shutil.which(self.words[0]) or sys.exit(f"there is no {words[0]}")
+        self.words[0] = shutil.which(self.words[0]) or sys.exit(f"{words[0]} is missing")
         self.source, self.out, self.files, self.user = source, out, files, user
         self.environment = os.environ | ({"OPENSSL_ia32cap": held} if held else {})
 

@@ -157,7 +157,7 @@ def versions():
         ("leading_mark", "a byte order mark comes before the version line", b"\xef\xbb\xbf" + VERSION),
         ("trailing_space", "the version line ends with a space", b"age-encryption.org/v1 \n"),
         ("uppercase", "the version line is in capitals", VERSION.upper()),
-        ("without_lf", "the version line goes on into the first stanza", VERSION[:-1]),
+        ("without_lf", "the version line continues into the first stanza", VERSION[:-1]),
     ):
         yield Case(f"version_{name}", comment, ended(version + SCRYPT, FILE_KEY) + PAYLOAD, ("NotAge",))
 
@@ -181,7 +181,7 @@ def argument_lines():
         ("no_arrow", "an argument line begins with its type", b"a\n"),
         ("no_space", "no space follows the arrow", b"->a\n"),
         ("indented", "a space comes before the arrow", b" -> a\n"),
-        ("empty_line", "an empty line stands before the first stanza", b"\n-> a\n"),
+        ("empty_line", "an empty line comes before the first stanza", b"\n-> a\n"),
     ):
         yield from files("arguments", ("BadLine", 2), [(name, comment, line + body)])
         if name in ("no_arguments", "trailing_space", "no_arrow"):
@@ -206,7 +206,7 @@ def body_lines():
         ("two_short_lines", "a body has two short lines", b"AAAA\nAAAA\n", 4),
         ("two_empty_lines", "an empty line follows an empty body", b"\n\n", 4),
         ("short_line_first", "a full line follows a short one", b"AAAA\n" + zeros + b"\n", 4),
-        ("full_line_not_canonical", "the pad bits of a short line behind a full one are not zero", zeros + b"AB\n", 4),
+        ("full_line_not_canonical", "the pad bits of a short line after a full one are not zero", zeros + b"AB\n", 4),
         ("missing", "a stanza has no body line", b"", 3),
     ):
         yield from files("body", ("BadLine", line), [(name, comment, b"-> a\n" + body)])
@@ -224,7 +224,7 @@ def end_lines():
         ("trailing_space", "a space follows the MAC", b" " + mac + b" "),
         ("second_argument", "the end line has a second argument", b" " + mac + b" a"),
         ("cr", "the end line ends with CR LF", b" " + mac + b"\r"),
-        ("missing", "the end line has three dashes alone", b""),
+        ("missing", "the end line has only three dashes", b""),
         ("four_dashes", "the end line begins with four dashes", b"- " + mac),
     ):
         yield Case(f"mac_{name}", comment, start + end + b"\n" + PAYLOAD, ("BadLine", 4))
@@ -235,8 +235,8 @@ def macs():
     key = hkdf(FILE_KEY, b"", b"header")
     for name, comment, mac in (
         ("zeros", "the MAC is zeros", bytes(32)),
-        ("of_the_space", "the MAC is also of the space behind the dashes", hmac.digest(key, text + b" ", "sha256")),
-        ("without_the_dashes", "the MAC is not of the dashes", hmac.digest(key, text[:-3], "sha256")),
+        ("of_the_space", "the MAC also covers the space after the dashes", hmac.digest(key, text + b" ", "sha256")),
+        ("without_the_dashes", "the MAC does not cover the dashes", hmac.digest(key, text[:-3], "sha256")),
         ("of_the_file_key", "the key of the MAC is the file key", hmac.digest(FILE_KEY, text, "sha256")),
         ("of_another_file_key", "the key of the MAC comes from another file key", hmac.digest(hkdf(NONCE, b"", b"header"), text, "sha256")),
     ):
@@ -256,8 +256,8 @@ def macs():
 def scrypt_arguments():
     salt, body = signs(SALT), sealed(bytes(32), bytes(12), FILE_KEY)
     yield from files("scrypt_argument", ARG_COUNT, (
-        ("missing", "there is no work factor", scrypt_lines(salt)), ("more", "there is an argument more", scrypt_lines(salt, b"1", b"1")),
-        ("none", "there are neither salt nor work factor", stanza_text([b"scrypt"], body)),
+        ("missing", "there is no work factor", scrypt_lines(salt)), ("more", "there is one argument too many", scrypt_lines(salt, b"1", b"1")),
+        ("none", "there is neither a salt nor a work factor", stanza_text([b"scrypt"], body)),
     ))
     yield from files("scrypt_salt", BAD_SALT, ((name, comment, scrypt_lines(other, b"1")) for name, comment, other in bad_salts()))
     yield from files("scrypt_work_factor", WORK_TEXT, (
@@ -268,7 +268,7 @@ def scrypt_arguments():
     ))
     yield from files("scrypt_work_factor", TOO_HIGH, (
         (str(work), f"the work factor is {comment}", scrypt_lines(salt, str(work).encode())) for work, comment in (
-            (23, "one more than the greatest that is usually accepted"), (31, "more than 30"), (64, "2^6"), (257, "2^8 + 1"),
+            (23, "one more than the usual maximum"), (31, "more than 30"), (64, "2^6"), (257, "2^8 + 1"),
             (65537, "2^16 + 1"), (2**32 + 1, "2^32 + 1"), (2**64 + 1, "2^64 + 1"),
         )
     ))
@@ -304,7 +304,7 @@ def scrypt_bodies():
     yield from files("scrypt_body", BODY_LENGTH, [("empty", "the body is empty", scrypt_lines(body=b""))])
     for name, comment, fault, lines in (
         ("arguments", "an argument is missing, and the salt and the body are malformed", ARG_COUNT, scrypt_lines(salt[1:], body=b"")),
-        ("argument_more", "there is an argument more, and all others and the body are malformed", ARG_COUNT, scrypt_lines(salt[1:], b"015", b"x", body=b"")),
+        ("argument_more", "there is one argument too many, and all others and the body are malformed", ARG_COUNT, scrypt_lines(salt[1:], b"015", b"x", body=b"")),
         ("salt", "the salt, the work factor's text and the body are malformed", BAD_SALT, scrypt_lines(salt[1:], b"0", body=b"")),
         ("work_factor_text", "the work factor's text and the body are malformed", WORK_TEXT, scrypt_lines(salt, b"099", body=b"")),
         ("work_factor", "the work factor is too high and the body empty", TOO_HIGH, scrypt_lines(salt, b"99", body=b"")),
@@ -323,8 +323,8 @@ def scrypt_files():
         ("passphrase", "the passphrase is another one", wrapped(passphrase_stanza(PASSPHRASE[:-1], 1, SALT), FILE_KEY)),
         ("tag", "the last byte of the body's tag is changed", scrypt_lines(body=changed(body, -1))),
         ("ciphertext", "the first byte of the body is changed", scrypt_lines(body=changed(body, 0))),
-        ("work_factor", "the work factor is not the one of the body", scrypt_lines(salt, b"2")),
-        ("salt", "the salt is not the one of the body", scrypt_lines(signs(NONCE), b"1")),
+        ("work_factor", "the work factor is not that of the body", scrypt_lines(salt, b"2")),
+        ("salt", "the salt is not that of the body", scrypt_lines(signs(NONCE), b"1")),
         ("label", "scrypt's salt has no label", scrypt_lines(body=sealed(without_label, bytes(12), FILE_KEY))),
         ("nonce", "the nonce of the body is 1", scrypt_lines(body=sealed(wrap_key, bytes(11) + b"\1", FILE_KEY))),
     ))
@@ -343,7 +343,7 @@ def passphrases():
     for name, comment, passphrase in (
         ("empty", "the passphrase is empty", ""), ("space", "the passphrase begins and ends with a space", " correct horse "),
         ("colon", "the passphrase has a colon and a space", "expect: no match"), ("utf_8", "the passphrase is not ASCII", "pässwörd ☃ 🦆"),
-        ("nfd", "letters of the passphrase are decomposed, which makes another one", "pa\u0308sswo\u0308rd ☃ 🦆"),
+        ("nfd", "letters of the passphrase are decomposed, so it is another passphrase", "pa\u0308sswo\u0308rd ☃ 🦆"),
         ("cr", "the passphrase ends with CR", "correct horse\r"),
         ("64", "the passphrase fills a block of SHA-256", longest[:64]), ("65", "the passphrase is a byte longer than a block of SHA-256", longest),
     ):
@@ -366,9 +366,9 @@ def malformed_keyed():
     for fault, rows in (
         (ARG_COUNT, (
             ("argument_missing", "there is no salt", stanza_text([b"example.org/key"], body)),
-            ("argument_more", "there is an argument more", key_lines(signs(SALT), b"1")),
+            ("argument_more", "there is one argument too many", key_lines(signs(SALT), b"1")),
             ("order_arguments", "an argument is missing and the body empty", stanza_text([b"example.org/key"], b"")),
-            ("order_argument_more", "there is an argument more, and the salt and the body are malformed", key_lines(b"A", b"x", body=b"")),
+            ("order_argument_more", "there is one argument too many, and the salt and the body are malformed", key_lines(b"A", b"x", body=b"")),
         )),
         (BAD_SALT, (
             *((f"salt_{name}", comment, key_lines(salt)) for name, comment, salt in bad_salts()),
@@ -389,10 +389,10 @@ def keyed():
     yield from files("key_wrong", WRONG_KEY, (
         ("key", "the key is another one", other), ("of_two", "both stanzas are for other keys", other + key_lines(key=third)),
         ("tag", "the last byte of the body's tag is changed", key_lines(body=changed(body, -1))),
-        ("salt", "the salt is not the one of the body", key_lines(signs(NONCE))),
+        ("salt", "the salt is not that of the body", key_lines(signs(NONCE))),
     ), BY_KEY)
     yield from files("key", OPENS, (
-        ("first", "the key's stanza is the first of two", KEYED + other), ("twice", "the same stanza stands twice", KEYED * 2),
+        ("first", "the key's stanza is the first of two", KEYED + other), ("twice", "the same stanza occurs twice", KEYED * 2),
         ("malformed_behind", "a malformed stanza follows one that opens", KEYED + key_lines(body=b"")), *among_others(KEYED, other, X),
     ), BY_KEY)
     yield from files("key", OPENS, [("second_of_two_keys", "the second of two keys opens the file", KEYED)], (key_identity(OTHER_KEY), *BY_KEY))
@@ -405,7 +405,7 @@ def among_others(lines, other, foreign):
     return (
         ("alone", "the stanza is alone", lines), ("second", "the stanza is the second of two", other + lines),
         ("behind_another_kind", "the stanza follows one of the other kind", foreign + lines),
-        ("grease", "stanzas of other types come before, between and behind", GREASE + other + GREASE + lines + GREASE),
+        ("grease", "stanzas of other types come before, between and after", GREASE + other + GREASE + lines + GREASE),
         ("behind_48_bytes", "a body of 48 bytes ends with an empty line", stanza_text([b"a"], bytes(48)) + lines),
         ("behind_96_bytes", "a body of 96 bytes ends with an empty line", stanza_text([b"a"], bytes(96)) + lines),
         ("behind_each_argument_byte", "an argument has all bytes from 33 to 126", stanza_text([b"a", bytes(range(33, 127))], b"") + lines),
@@ -423,7 +423,7 @@ def x25519_files():
         )),
         (("Malformed",), (
             ("argument_missing", "there is no share", stanza_text([b"X25519"], body)),
-            ("argument_more", "there is an argument more", x25519_lines(signs(share), b"1")),
+            ("argument_more", "there is one argument too many", x25519_lines(signs(share), b"1")),
             ("share_short", "the share has 31 bytes", x25519_lines(signs(share[1:]))),
             ("share_long", "the share has 33 bytes", x25519_lines(signs(share + b"\0"))),
             ("share_not_canonical", "the pad bits of the share are not zero", x25519_lines(not_canonical(signs(share)))),
@@ -487,7 +487,7 @@ def damaged_chunks():
         ("tag_third", "the tag of the third chunk is changed", "BadChunk", 2, [FIRST, SECOND, changed(THIRD, -1)]),
         ("another_key", "the payload's key comes from the nonce twice", "BadChunk", 0, [sealed_chunk(key, 0, True, HELLO)]),
         ("swapped", "the first two of three chunks are swapped", "BadChunk", 0, [SECOND, FIRST, THIRD]),
-        ("repeated", "the first chunk stands twice", "BadChunk", 1, [FIRST, FIRST, LAST]),
+        ("repeated", "the first chunk occurs twice", "BadChunk", 1, [FIRST, FIRST, LAST]),
         ("removed_all", "no chunk follows the nonce", "ChunkShort", 0, []),
         ("removed_first", "the first chunk is missing", "BadChunk", 0, [LAST]),
         ("removed_second", "the second of three chunks is missing", "BadChunk", 1, [FIRST, THIRD]),
@@ -516,7 +516,7 @@ def flags_and_counters():
         ("counter_from_1", "the first chunk is counted as 1", "BadChunk", 0, [chunk(1, True, HELLO)]),
         ("counter_stays", "the second chunk is counted as 0", "BadChunk", 1, [FIRST, filled(0, True, 100)]),
         ("counter_skips", "the second chunk is counted as 2", "BadChunk", 1, [FIRST, filled(2, True, 100)]),
-        ("counter_little_endian", "the counter begins with its least byte", "BadChunk", 1, [FIRST, filled(1 << 80, True, 100)]),
+        ("counter_little_endian", "the counter begins with its lowest byte", "BadChunk", 1, [FIRST, filled(1 << 80, True, 100)]),
     ))
 
 
@@ -582,7 +582,7 @@ def make(folder):
 
 def main():
     if len(sys.argv) != 2 or os.path.lexists(sys.argv[1]):
-        sys.exit("usage: tests/make_vectors.py FOLDER     a folder that is not there")
+        sys.exit("usage: tests/make_vectors.py FOLDER     a folder that does not exist")
     make(sys.argv[1])
     print(f"{len(cases())} vectors, {sum_of_all()}")
 

@@ -16,7 +16,7 @@ def parts(file, secret):
     version, stanza, body, mac, rest = file.split(b"\n", 4)
     arrow, kind, salt, *work = stanza.split(b" ")
     if version != b"age-encryption.org/v1" or arrow != b"->" or not mac.startswith(b"--- "):
-        raise AssertionError("no file of one stanza")
+        raise AssertionError("not a file with one stanza")
     salt, body = decoded(salt), decoded(body)
     if kind == b"scrypt":
         wrap_key = hashlib.scrypt(

@@ -84,7 +84,7 @@ def preload(name):
         try:
             subprocess.run(words, check=True)
         except FileNotFoundError:
-            raise AssertionError("there is no C compiler, without which no call is refused or fails") from None
+            raise AssertionError("without a C compiler, no call can be refused or made to fail") from None
         libraries[name] = made
     return libraries[name]
 

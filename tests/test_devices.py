@@ -149,7 +149,7 @@ class ClosedStreams(ProgramCase):
     def test_no_folder(self):
         """If no folder can be opened in place of the stream, nothing is done."""
         if os.geteuid() != 0:
-            self.skipTest("it takes the rights to change the root")
+            self.skipTest("this needs the right to change the root")
         os.makedirs("root/d")
         shutil.copy(AGEP, "root/agep")
         for library in re.findall(r"/\S+", subprocess.run(["ldd", AGEP], capture_output=True, text=True).stdout):
@@ -191,7 +191,7 @@ class DefaultSeed(ProgramCase):
         tool("unshare")
         allowed = subprocess.run(["unshare", "-m", "mount", "--bind", "/dev/null", "/dev/urandom"], stderr=subprocess.DEVNULL)
         if allowed.returncode != 0:
-            self.skipTest("it takes rights to mount")
+            self.skipTest("this needs the right to mount")
         for words in ("encrypt -k key hello", "rewrap -k key -K other.key key.age"):
             with self.subTest(words):
                 line, more = message("CannotOpen", "/dev/urandom"), "seed file /dev/urandom: no device, so its bytes may be the same again"
@@ -210,7 +210,7 @@ class SameInode(ProgramCase):
         words = ["unshare", "-m", "bash", "-ec", script, "bash", AGEP]
         done = subprocess.run(words, stdin=subprocess.DEVNULL, capture_output=True, timeout=60)
         if b"mount: " in done.stderr or b"unshare: " in done.stderr:
-            self.skipTest("it takes rights to mount")
+            self.skipTest("this needs the right to mount")
         return done.returncode, done.stdout.decode(), done.stderr.decode()
 
     def test_two_devices(self):
@@ -258,7 +258,7 @@ class SystemCalls(ProgramCase):
         """The sizes of the reads and writes of a run, by kind and descriptor."""
         tool("strace")
         if subprocess.run(["strace", "-o", "trace", "true"], capture_output=True).returncode != 0:
-            self.skipTest("strace may not trace")
+            self.skipTest("strace is not allowed to trace")
         done = subprocess.run(
             ["strace", "-o", "trace", "-e", f"trace={calls}", AGEP, *words], stdin=input, capture_output=True, timeout=60
         )

@@ -59,7 +59,7 @@ def needs(*tools):
 
 def setUpModule():
     if shutil.which("cc") is None or shutil.which("objcopy") is None:
-        raise unittest.SkipTest("there is no C compiler, or no objcopy")
+        raise unittest.SkipTest("a C compiler or objcopy is missing")
 
 
 @functools.cache
@@ -141,7 +141,7 @@ def sanitizers():
     words = ("-fsanitize=address,undefined", "-fno-sanitize-recover=all")
     done = run("cc", *words, "-x", "c", "-o", work() / "empty_sanitized", "-", input=b"int main(void) { return 0; }")
     if done.returncode != 0:
-        print("skipped: sanitizers, which this C compiler lacks")
+        print("skipped: sanitizers: this C compiler lacks them")
     return words if done.returncode == 0 else ()
 
 
@@ -564,7 +564,7 @@ class WithTheProgram(unittest.TestCase):
             ("key", "keep", "same", "OUT is IN"),
             ("key", "keep", "key", "OUT is KEY_FILE"),
             ("key.other", "keep", "pass", f"{message('WrongKey')} (0)"),
-            ("key", "/dev/null", "pass", "IN is no file that can be read at offsets"),
+            ("key", "/dev/null", "pass", "IN cannot be read at offsets"),
             ("key", "/proc/cpuinfo", "made", "IN is longer than its size"),
         ):
             with self.subTest(line):

@@ -286,7 +286,7 @@ def differs(vector, found, way):
     """How the result differs from the expected one, or None."""
     expect = "header failure" if vector.is_armored else vector.expect
     if EXPECT.get(found.fault) != expect or (vector.is_armored and found.fault != "NotAge"):
-        return f"{'no age file' if vector.is_armored else expect} was expected, not {found.fault or 'success'} {found.word or ''}"
+        return f"{'not an age file' if vector.is_armored else expect} was expected, not {found.fault or 'success'} {found.word or ''}"
     if expect == "success" or (expect == "payload failure" and vector.payload and way.releases):
         texts = [found.text] if expect == "success" else [found.text, found.text + next_chunk(vector, len(found.text))]
         sums = [hashlib.sha256(text).hexdigest() for text in texts]

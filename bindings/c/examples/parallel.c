@@ -138,7 +138,7 @@ int main(int argc, char **argv)
     if (count < 1 || count > MOST_THREADS || fread(key, 1, sizeof key, file) != 32)
         return fputs("usage: parallel [-e] KEY_FILE N IN OUT\n", stderr), 2;
     if ((in = open(words[2], O_RDONLY)) < 0 || fstat(in, &source) != 0 || !S_ISREG(source.st_mode))
-        return fail("IN is no file that can be read at offsets"), 1;
+        return fail("IN cannot be read at offsets"), 1;
     rest.left = (uint64_t)source.st_size;
     bool is_well = start(&rest, key) && open_out(words[3], &source, fileno(file)) && write_at(front, rest.to, 0);
     uint64_t full = rest.is_sealing ? AGEFILE_TEXT_CHUNK : AGEFILE_SEALED_CHUNK;

@@ -34,7 +34,7 @@ class PathThatWrites:
         return "path.age"
 
     def write(self, data):
-        raise AssertionError("a path is no open file")
+        raise AssertionError("a path is not an open file")
 
 
 class FileWithPath(io.FileIO):
