@@ -1,5 +1,5 @@
-"""./agep, ./install and ./package --build over a stand-in for the toolchain: when each builds anew what it is
-to run, install or pack, and for which processors."""
+"""./agep, ./install and ./package --build with a stand-in for the toolchain: when each of them builds again,
+and for which processors."""
 
 import functools
 import os
@@ -9,8 +9,8 @@ import unittest
 
 from program import AGEP, ROOT, read, scratch, version, write
 
-# It notes what it is asked for, makes each file that is taken from it, and runs a script that tests
-# set.
+# It logs its calls, makes each file that the scripts take from it, and runs a script that a test
+# sets.
 RT = """#!/bin/sh
 folder={}
 echo "${{PWD##*/}} $*" >>"$folder/asked"
@@ -21,8 +21,8 @@ if [ -f "$folder/meanwhile" ]; then sh "$folder/meanwhile"; fi
 LEVELS = ("x86-64", "x86-64-v3")
 PROGRAM = "agep run --cpu {} -- --version"
 LIBRARIES = [f"agefile lib --cpu {level}" for level in LEVELS]
-# What each script has the toolchain build, if the processor at hand is called x86-64-v9. The last
-# one fails at the link of what the stand-in makes.
+# What each script has the toolchain build if AGEP_CPU is x86-64-v9. The last one fails when it
+# links the files of the stand-in.
 SCRIPTS = {
     "agep --version": [PROGRAM.format("x86-64-v9")],
     "install prefix": [PROGRAM.format("x86-64-v9")],
@@ -37,7 +37,7 @@ class Builds(unittest.TestCase):
         self.make_tree()
 
     def make_tree(self):
-        """A tree of scripts with this program, which no toolchain is known to have built."""
+        """A tree of the scripts with this program, which has no mark of a toolchain."""
         self.folder = scratch()
         os.chdir(self.folder)
         for name in ("agep/src/deep", "agep/specs", "agep/proofs", "agep/out", "agefile/src"):
@@ -55,7 +55,7 @@ class Builds(unittest.TestCase):
         self.environment = {**os.environ, "AGEP_CPU": "x86-64-v9", "PATH": f"{self.folder}/kit/bin:{os.environ['PATH']}"}
 
     def asked(self, script, commit="", **environment):
-        """What the toolchain is asked to build for a processor. The version is followed by this text."""
+        """What the toolchain is asked to build for a processor. This text follows the version."""
         write("asked", b"")
         environment = {**self.environment, **environment}
         done = subprocess.run(f"tree/{script}".split(), env=environment, stdin=subprocess.DEVNULL, capture_output=True)
@@ -64,8 +64,8 @@ class Builds(unittest.TestCase):
         return sorted(line for line in read("asked").decode().splitlines() if "--cpu" in line)
 
     def test_sources(self):
-        """What is built is built again where a source is newer, came or went, and so is what a source changed
-        under, or what is for another processor."""
+        """A build is repeated if a source is newer, was added or removed, or changed during the build, and if
+        it was for another processor."""
         rows = [
             ("nothing is built", "", True), ("all is current", "", False), ("crates.txt", "touch tree/crates.txt", True),
             *((name, f"touch {name}", True) for name in self.sources),
@@ -82,7 +82,7 @@ class Builds(unittest.TestCase):
                     self.assertEqual(self.asked(script), every if is_built else [])
 
     def test_processors(self):
-        """The program is built for the processor that is named, and the packages for theirs, whatever is named."""
+        """The program is built for the processor that AGEP_CPU names, and the packages always for theirs."""
         for script, level, is_built in (
             ("agep --version", "x86-64-v2", True), ("install prefix", "x86-64-v2", False), ("install prefix", "x86-64-v4", True),
             ("agep --version", "x86-64-v4", False), ("agep --version", "x86-64-v2", False),
@@ -92,7 +92,7 @@ class Builds(unittest.TestCase):
         self.assertEqual(self.asked("agep --version", AGEP_CPU="x86-64-v2"), [], "the program of ./agep stays")
 
     def test_commit(self):
-        """A build in a repository of git names the commit, and says whether the crates have changed since."""
+        """A build in a git repository names the commit, and says whether the crates have changed since."""
         git = ["git", "-C", "tree", "-c", "user.name=Name", "-c", "user.email=name@host"]
         for words in (["init", "-q"], ["add", "-A"], ["commit", "-qm", "All"]):
             subprocess.run([*git, *words], check=True)
@@ -107,7 +107,8 @@ class Builds(unittest.TestCase):
         self.assertEqual(self.asked("agep --version", commit=f" (commit {name}, changed)"), every)
 
     def test_words(self):
-        """./agep passes its words, standard input and folder to the program, and returns its status."""
+        """./agep passes its arguments, standard input and working directory to the program, and returns its
+        status."""
         self.asked("agep --version")
         write("some file", b"text")
         for words in (["inspect", "some file"], ["inspect", "no  such*file"], ["inspect"], ["inspect", ""], ["inspect", "--", "-r"], []):
@@ -117,7 +118,7 @@ class Builds(unittest.TestCase):
                 self.assertEqual((here.returncode, here.stdout, here.stderr), (program.returncode, program.stdout, program.stderr))
 
     def test_toolchains(self):
-        """Another toolchain builds anew; where there is none, what is there is run and installed."""
+        """Another toolchain builds again; without a toolchain the existing build is run and installed."""
         tools = f"{self.folder}/tools"
         os.mkdir(tools)
         for name in ("cat", "chmod", "cp", "dirname", "find", "head", "mkdir", "mv", "readlink", "sed", "sh"):
