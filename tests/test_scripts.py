@@ -1,11 +1,12 @@
-"""./agep, ./install and ./package --build with a stand-in for the toolchain: when each of them builds again,
-and for which processors."""
+"""./agep, ./install and ./package --build over a stand-in for the toolchain: when each builds anew what it is
+to run, install or pack, and for which processors. What ./install puts under PREFIX."""
 
 import functools
 import os
 import shutil
 import subprocess
 import unittest
+from pathlib import Path
 
 from program import AGEP, ROOT, read, scratch, version, write
 
@@ -111,9 +112,11 @@ class Builds(unittest.TestCase):
         status."""
         self.asked("agep --version")
         write("some file", b"text")
-        for words in (["inspect", "some file"], ["inspect", "no  such*file"], ["inspect"], ["inspect", ""], ["inspect", "--", "-r"], []):
+        run = functools.partial(subprocess.run, input=b"input", capture_output=True, env=self.environment)
+        os.symlink("tree/agep", "linked")
+        self.assertEqual(run(["./linked", "--version"]).stdout, f"agep {version()}\n".encode())
+        for words in (["inspect", "some file"], ["inspect", "no  such*file"], ["inspect"], ["inspect", ""], ["inspect", "-H", "1"], ["inspect", "--", "-r"], []):
             with self.subTest(words):
-                run = functools.partial(subprocess.run, input=b"input", capture_output=True, env=self.environment)
                 here, program = run(["tree/agep", *words]), run([AGEP, *words])
                 self.assertEqual((here.returncode, here.stdout, here.stderr), (program.returncode, program.stdout, program.stderr))
 
@@ -130,6 +133,68 @@ class Builds(unittest.TestCase):
                 write("kit/KIT-ID", b"kit two\n")
                 self.assertEqual(self.asked(script, PATH=tools), [])
                 self.assertEqual(self.asked(script), SCRIPTS[script])
+
+
+class Installs(unittest.TestCase):
+    # Each file under PREFIX, and the file of the repository that it is.
+    FILES = {
+        "bin/agep": "crates/agep/out/agep", "share/man/man1/agep.1": "share/man/agep.1",
+        "share/bash-completion/completions/agep": "share/completions/agep.bash",
+        "share/zsh/site-functions/_agep": "share/completions/_agep", "share/fish/vendor_completions.d/agep.fish": "share/completions/agep.fish",
+    }
+    # /usr/local has these from the start.
+    FOLDERS = {"bin", "share", "share/man"}
+    USAGE = "usage: ./install [--uninstall] [PREFIX]\n       ./install --library [--libdir=DIR] [--uninstall] [PREFIX]\n"
+
+    def setUp(self):
+        self.addCleanup(os.chdir, "/")
+        os.chdir(scratch())
+
+    def run_install(self, *words, **environment):
+        environment = {**os.environ, **environment}
+        done = subprocess.run([f"{ROOT}/install", *words], env=environment, umask=0o077, stdin=subprocess.DEVNULL, capture_output=True)
+        return done.returncode, done.stdout.decode(), done.stderr.decode()
+
+    def assert_modes(self, top, files):
+        """All that is below a folder, with the usual modes."""
+        found = {str(path.relative_to(top)): path for path in Path(top).rglob("*")}
+        folders = {str(folder) for file in files for folder in Path(file).parents} - {"."} | self.FOLDERS
+        self.assertEqual({*found}, {*files} | folders)
+        executable = folders | {"bin/agep"}
+        self.assertEqual([name for name, path in found.items() if path.stat().st_mode & 0o777 != (0o755 if name in executable else 0o644)], [])
+
+    def test_files(self):
+        """They are those of the repository, whatever the umask; a program that runs is replaced and not overwritten.
+        --uninstall removes just these, and the folders that it leaves empty."""
+        here, other = os.getcwd(), "share/man/man1/other.1"
+        rows = (f"{here}/prefix", f"{here}/prefix", {}), ("other", "other", {}), ("/usr", "staged/usr", {"DESTDIR": "staged"}), ("/usr", "again/usr", {"DESTDIR": "again/"})
+        for prefix, top, environment in rows:
+            for others in ([], [other]):
+                with self.subTest(f"{top} {others}"):
+                    for name in others:
+                        os.makedirs(f"{top}/{os.path.dirname(name)}")
+                        write(f"{top}/{name}", b"other")
+                    for _ in range(2):
+                        said = "".join(f"installed {top}/{name}\n" for name in self.FILES)
+                        self.assertEqual(self.run_install(prefix, **environment), (0, said, ""))
+                        self.assert_modes(top, [*self.FILES, *others])
+                        self.assertEqual([name for name, file in self.FILES.items() if read(f"{top}/{name}") != read(f"{ROOT}/{file}")], [])
+                        if os.path.exists("running"):
+                            self.assertFalse(os.path.samefile("running", f"{top}/bin/agep"))
+                            os.remove("running")
+                        os.link(f"{top}/bin/agep", "running")
+                    os.remove("running")
+                    self.assertEqual(self.run_install("--uninstall", f"{prefix}/", **environment)[::2], (0, ""))
+                    self.assert_modes(top, others)
+                    self.assertEqual(self.run_install("--uninstall", prefix, **environment), (0, "", ""))
+
+    def test_words(self):
+        for words in ("--help",), ("-h",):
+            self.assertEqual(self.run_install(*words), (0, self.USAGE, ""))
+        for words in ("--other",), ("a", "b"), ("",):
+            for first in ((), ("--uninstall",)):
+                with self.subTest(first + words):
+                    self.assertEqual(self.run_install(*first, *words), (2, "", self.USAGE))
 
 
 if __name__ == "__main__":

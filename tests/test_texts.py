@@ -3,12 +3,13 @@ completions, CHANGELOG.md."""
 
 import os
 import re
+import shlex
 import shutil
 import subprocess
 import unittest
 
 from program import AGEP, ROOT, ProgramCase, read, scratch, version, write
-from shells import offered
+from shells import FOLDER, offered
 
 PAGE = ROOT + "/share/man/agep.1"
 
@@ -26,6 +27,13 @@ def commands():
 def options_of(*words):
     """The letters and names of the options that help shows."""
     return sorted(word for pair in re.findall("^ +(-[a-zA-Z]), (--[a-z-]+)", help_of(*words), re.MULTILINE) for word in pair)
+
+
+def texts_of(command):
+    """What help says of each option, by its letter: sentences, the default as the last."""
+    options = help_of(command).split("\nOptions:\n")[1].split("\n\n")[0]
+    rows = re.findall(r"^ +(-[a-zA-Z]), --[a-z-]+(?: <\w+>)? +(\S.*(?:\n {20,}.*)*)", options, re.MULTILINE)
+    return {letter: re.sub(r"\.? \[default: (.*)\]$", r". The default is \1", " ".join(text.split())) + "." for letter, text in rows}
 
 
 def section(heading):
@@ -112,17 +120,38 @@ class Helps(ProgramCase):
 
 
 class Manual(unittest.TestCase):
+    def test_synopsis(self):
+        """Each command with its options and words, as help has them."""
+        page = re.sub(r'^\.\\".*\n?', "", section("SYNOPSIS"), flags=re.MULTILINE)
+        lines = [[shlex.split(line) for line in entry.strip().split("\n")] for entry in page.split("\n.br\n")]
+        shown = [" ".join((" " if len(macro) == 2 else "").join(words).strip() for macro, *words in entry) for entry in lines]
+        expected = []
+        for command in commands():
+            options = re.findall(r"^ +-([a-zA-Z]), --[a-z-]+(?: <(\w+)>)?", help_of(command), re.MULTILINE)
+            pairs = {"p": "{-p FILE | -k FILE...}", "P": "{-P FILE | -K FILE...}"}
+            words = [pairs.get(letter, f"[-{letter} {value}]".replace(" ]", "]")) for letter, value in options if letter not in "kKhV"]
+            usage = re.search(r"^Usage: agep \w+ \[OPTIONS\] (.*)", help_of(command), re.MULTILINE)[1]
+            expected.append(" ".join(["agep", command, *words, re.sub("[<>]", "", usage)]))
+        self.assertEqual(shown, [*expected, "agep help [COMMAND]", "agep {-h | -V}"])
+
     def test_options(self):
-        """The manual page has each option in SYNOPSIS, and once in OPTIONS."""
+        """OPTIONS has each option once, with its value."""
+        rows = re.findall(r'^\.BR (-[a-zA-Z]) ", " (--[a-z-]+)(?: " \\fI(\w+)\\fR")?', section("OPTIONS"), re.MULTILINE)
+        every = {row for words in [[], *([command] for command in commands())] for row in re.findall(r"^ +(-[a-zA-Z]), (--[a-z-]+)(?: <(\w+)>)?", help_of(*words), re.MULTILINE)}
+        self.assertEqual(sorted(rows), sorted(every))
+        self.assertNotRegex(read(PAGE).decode(), r"(?<![\\\w])-(-|[a-zA-Z]\b)", "a hyphen in place of a minus, which a shell does not know")
+
+    def test_texts(self):
+        """OPTIONS says of each option what help of each command says of it."""
+        said, page = {}, re.sub(r"\\f[BIR]", "", section("OPTIONS"))
+        for letter, paragraphs in re.findall(r'^\.TP\n\.BR (-[a-zA-Z]) .*\n((?:[^.].*\n|\.IP\n)*)', page, re.MULTILINE):
+            for paragraph in paragraphs.split(".IP\n"):
+                users, text = re.fullmatch(r"(?:\((.*)\)\n)?(.*)", paragraph, re.DOTALL).groups()
+                for command in re.split(", | and ", users) if users else commands():
+                    said.setdefault(command, {}).setdefault(letter, []).extend(text.split())
         for command in commands():
             with self.subTest(command):
-                synopsis = re.search(rf"^\.B agep {command}$(.*?)(?=^\.B agep|\Z)", section("SYNOPSIS"), re.MULTILINE | re.DOTALL)[1]
-                letters = {word for word in options_of(command) if not word.startswith("--")} - {"-h", "-V"}
-                self.assertEqual(sorted(re.findall(r"-[a-zA-Z]\b", synopsis)), sorted(letters))
-        with self.subTest("OPTIONS"):
-            rows = re.findall(r'^\.BR (-[a-zA-Z]) ", " (--[a-z-]+)', section("OPTIONS"), re.MULTILINE)
-            every = {word for words in [[]] + [[command] for command in commands()] for word in options_of(*words)}
-            self.assertEqual(sorted(word for row in rows for word in row), sorted(every))
+                self.assertEqual({letter: " ".join(words) for letter, words in said[command].items()}, texts_of(command))
 
     def enter_backups(self):
         """Enters a folder for EXAMPLES, with files like those that earlier examples made."""
@@ -205,6 +234,20 @@ class Completions(unittest.TestCase):
         self.assert_offered(options | values)
         self.assert_offered(long_joined, ["zsh", "fish"])
         self.assert_offered(short_joined, ["zsh"])
+
+    def test_descriptions(self):
+        """zsh and fish describe each option by the beginning of its help."""
+        for name, pattern in ("_agep", r"\{(-[a-zA-Z])\+?,--[^}]*\}(['\"])\[(.*)\](?::(?:number|file):\w*)?\2"), ("agep.fish", r"-s (\w) .* -d (')(.*)'$"):
+            text = read(f"{FOLDER}/{name}").decode()
+            for command in commands():
+                part = re.search(rf"^        {command}\)\n((?:            .*\n)*)", text, re.MULTILINE)
+                lines = part[1] if part else "\n".join(line for line in text.split("\n") if re.search(rf"[ ']{command}[ '].* -s | -s [hV] ", line))
+                found = {"-" + letter[-1]: words.replace("\\'", "'") for letter, _, words in re.findall(pattern, lines, re.MULTILINE)}
+                expected = {letter: re.split(r"[.;:] |\.$", words)[0] for letter, words in texts_of(command).items()}
+                if part:
+                    expected = {letter: words[0].lower() + words[1:] for letter, words in expected.items()}
+                with self.subTest(f"{name} {command}"):
+                    self.assertEqual(found, expected)
 
     def test_arguments(self):
         """A file for IN, and no option after --."""

@@ -463,6 +463,27 @@ class Reading(InFolder):
         self.assertEqual(agefile.copy("plain", os.open("b.age", os.O_WRONLY | os.O_CREAT), recipients=KEY), len(plain))
         self.assertEqual(agefile.decrypt(self.got("b.age"), identities=KEY), plain)
 
+    def test_descriptors(self):
+        """`open` closes the one that it was given, as the built-in function does. The others leave it open, also after an error."""
+        self.made(b"text"), self.put(bytes(32), "key")
+        other = Key(bytes(32))
+        for stays, name, call in (
+            (False, "a.age", lambda given: agefile.open(given, identities=KEY).close()),
+            (False, "a.age", lambda given: agefile.open(given, identities=other)),
+            (False, "new", lambda given: agefile.open(given, "wb", recipients=KEY).close()),
+            (True, "a.age", lambda given: agefile.copy(given, "plain", identities=KEY)),
+            (True, "a.age", lambda given: agefile.copy(given, "plain", identities=other)),
+            (True, "new", lambda given: agefile.copy("a.age", given, identities=KEY)),
+            (True, "a.age", lambda given: agefile.rewrap_copy(given, "plain", identities=KEY, recipients=other)),
+            (True, "new", lambda given: agefile.rewrap_copy("a.age", given, identities=KEY, recipients=other)),
+            (True, "a.age", agefile.inspect), (True, "key", agefile.inspect), (True, "key", Key.from_file), (True, "key", Passphrase.from_file),
+        ):
+            given = os.open(name, os.O_RDWR | os.O_CREAT)
+            with contextlib.suppress(AgeError):
+                call(given)
+            with contextlib.nullcontext() if stays else self.assertRaises(OSError):
+                os.close(given)
+
     def test_what_is_not_opened(self):
         """A TypeError says what to pass."""
         for wrong, words in ((None, "path"), (5.0, "path"), (io.StringIO(), "binary"), ([], "path")):

@@ -260,6 +260,15 @@ class Chains(InSystem):
         with fsspec.open(f"simplecache::age::file://{path}", "rb", age=words, simplecache={"cache_storage": self.path("cache")}) as file:
             self.assertEqual(file.read(), plain)
 
+    def test_the_system_below(self):
+        """It is the one of a protocol and its options, and file systems over two of them are two."""
+        options = {"target_protocol": "file", "cache_storage": self.path("cache")}
+        system = fsspec.filesystem("age", identities=self.identity, target_protocol="simplecache", target_options=options)
+        self.assertEqual(system.cat_file(self.new("a.age", b"text")), b"text")
+        self.assertEqual(len(os.listdir("cache")), 1)
+        first, second = (DirFileSystem(folder, fsspec.filesystem("file")) for folder in (self.folder, "/"))
+        self.assertNotEqual(*(fsspec.filesystem("age", fs=fs, identities=KEY) for fs in (first, second)))
+
     def test_a_file_system_that_streams(self):
         """As over HTTP, a file opened with block size 0 cannot seek."""
         path, files = self.new("a.age", b"text"), type(self.system.fs)
@@ -441,7 +450,9 @@ class Writes(InSystem):
                 self.assertEqual([system.exists(path + end) for end in ("", "3", "4")], [False] * 3)
         self.system.makedirs(self.path("deep/er"))
         self.system.pipe_file(self.path("deep/er/a.age"), b"text")
+        os.utime("deep/er/a.age", (1, 1))
         self.system.touch(self.path("deep/er/a.age"), truncate=False)
+        self.assertGreater(os.stat("deep/er/a.age").st_mtime, 1)
         self.assertEqual(self.system.cat_file(self.path("deep/er/a.age")), b"text")
         self.system.rm(self.path("deep"), recursive=True)
         self.assertFalse(os.path.exists("deep"))

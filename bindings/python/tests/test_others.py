@@ -2,7 +2,9 @@
 file that must be fresh or secret."""
 
 import base64
+import errno
 import io
+import itertools
 import os
 import shutil
 import subprocess
@@ -11,8 +13,8 @@ import unittest
 from unittest import mock
 
 import agefile
-from agefile import Key, Passphrase, Stanza
-from support import AGEP, KEY, ROOT, InFolder, message, text
+from agefile import AgeError, Key, Passphrase, Stanza
+from support import AGEP, KEY, ROOT, InFolder, message, pattern, text
 
 import reference
 
@@ -170,6 +172,21 @@ class Fresh(unittest.TestCase):
         found = [noting.keys[0], file[header.length : header.length + 16], salt]
         self.assertEqual(sorted(found), sorted(asked))
 
+    def test_no_file_without_random_bytes(self):
+        """Where the system gives none for the file key, the nonce or a salt, each way ends with its error."""
+        urandom = os.urandom
+        for number, make in enumerate(ways_to_make([KEY, KEY])):
+            for failing in range(4):
+                calls = itertools.count()
+
+                def fails(count):
+                    if next(calls) == failing:
+                        raise OSError(errno.ENOSYS, "no random bytes")
+                    return urandom(count)
+
+                with self.subTest(f"way {number}, call {failing}"), mock.patch("os.urandom", fails), self.assertRaisesRegex(OSError, "no random bytes"):
+                    make(b"text")
+
     def test_default_work_factor(self):
         file = agefile.encrypt(b"", recipients=Passphrase("x"))
         self.assertEqual(agefile.inspect(file).stanzas[0].args[2], "18")
@@ -227,6 +244,13 @@ class Programs(InFolder):
                 self.assertEqual(self.run_on(agefile.encrypt(b"text", recipients=secret), AGEP, "decrypt", "-p", "pass"), b"text")
         self.put(bytes(65537), "pass")
         self.assertRaises(ValueError, Passphrase.from_file, "pass")
+
+    def test_work_factors_of_a_passphrase_file(self):
+        """Those of new files, and the largest of files that it opens."""
+        one, two = (Passphrase.from_file(io.BytesIO(b"word"), work=work, max_work=1) for work in (1, 2))
+        self.assertEqual(agefile.inspect(agefile.encrypt(b"", recipients=one)).stanzas[0].args[2], "1")
+        with self.assertRaisesRegex(AgeError, pattern("Malformed", "WorkFactorTooHigh")):
+            agefile.decrypt(agefile.encrypt(b"", recipients=two), identities=one)
 
     def test_key_files(self):
         self.put(bytes(range(32)), "key")

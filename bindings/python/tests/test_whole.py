@@ -261,10 +261,10 @@ class Wrong(unittest.TestCase):
         self.assertEqual(agefile.rewrap(file, identities=empty, recipients=KEY)[-22:], file[-22:])
 
     def test_errors_are_pickled_and_copied(self):
-        for error in (AgeError(13, 7), AgeError(8, 0, 4), agefile.AgeMemoryError(17), agefile.AgeChangedError(11, 3)):
+        for error in (AgeError(13, 7, 0, "a.age", "a hint"), AgeError(8, 0, 4), agefile.AgeMemoryError(17), agefile.AgeChangedError(11, 3)):
             for other in (pickle.loads(pickle.dumps(error)), copy.copy(error), copy.deepcopy(error)):
                 self.assertEqual((type(other), str(other), other.code), (type(error), str(error), error.code))
-                self.assertEqual((other.place, other.detail), (error.place, error.detail))
+                self.assertEqual((other.place, other.detail, other.filename, other.hint), (error.place, error.detail, error.filename, error.hint))
         self.assertIsInstance(AgeError.of(17), MemoryError)
         self.assertIsInstance(agefile.AgeChangedError(11, 3), OSError)
 

@@ -319,6 +319,12 @@ class Writing(InFolder):
         for newline, expected in ((None, "a\nb\n"), ("", "a\r\nb\r\n"), ("\n", "a\r\nb\r\n")):
             with agefile.open("l.age", "r", identities=KEY, newline=newline) as file:
                 self.assertEqual(file.read(), expected)
+        with agefile.open("l.age", "w", recipients=KEY, encoding="ascii", errors="replace") as file:
+            file.write("\u00fc")
+        self.assertEqual(agefile.decrypt(self.got("l.age"), identities=KEY), b"?")
+        self.made(b"\xff", "l.age")
+        with agefile.open("l.age", "r", identities=KEY, errors="ignore") as file:
+            self.assertEqual(file.read(), "")
         code = "import agefile, sys; key = agefile.Key(bytes(range(32)))\n"
         code += "with agefile.open('u.age', 'w', recipients=key) as file: file.write('\\u00fcber')\n"
         code += "with agefile.open('u.age', 'r', identities=key) as file: assert file.read() == '\\u00fcber'"
@@ -359,6 +365,21 @@ class Writing(InFolder):
         self.assertEqual(agefile.decrypt(self.got("new"), identities=KEY), text(300000))
         self.assertEqual(sorted(os.listdir()), ["a.age", "bad.age", "new", "old"])
 
+    def test_copies_whose_end_fails(self):
+        """A failed close, sync or move of the new file is the error of the copy; with `atomic` the old file stays."""
+        self.made(text(200000))
+        error = OSError(errno.EIO, "failed")
+        for atomic, what in ((False, "agefile._paths.Output.close"), (True, "os.fsync"), (True, "os.replace")):
+            for call in (
+                lambda: agefile.copy("a.age", "old", identities=KEY, atomic=atomic), lambda: agefile.copy("a.age", "old", recipients=KEY, atomic=atomic),
+                lambda: agefile.rewrap_copy("a.age", "old", identities=KEY, recipients=KEY, atomic=atomic),
+            ):
+                self.put(b"old", "old")
+                with mock.patch(what, side_effect=error), self.assertRaises(OSError) as caught:
+                    call()
+                self.assertIs(caught.exception, error)
+                self.assertEqual((self.got("old") == b"old", sorted(os.listdir())), (atomic, ["a.age", "old"]))
+
     def test_progress(self):
         """It grows to the length of the source, which a pipe does not report."""
         class Plain:
@@ -381,6 +402,9 @@ class Writing(InFolder):
                         self.assertEqual((list(counts), counts[-1]), (sorted(set(counts)), len(source)))
                         self.assertEqual(set(totals), {None if kind is Plain else len(source) or None})
                         self.assertLessEqual(len(seen), len(source) // 65536 + 2)
+        with open("source", "rb") as source:
+            source.seek(-10, os.SEEK_END)
+            agefile.copy(source, io.BytesIO(), recipients=KEY, progress=lambda *found: self.assertEqual(found, (10, 10)))
         read_end, write_end = os.pipe()
         with open(write_end, "wb") as file:
             file.write(b"text")
