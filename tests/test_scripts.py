@@ -1,5 +1,5 @@
-"""./agep, ./install and ./package --build over a stand-in for the toolchain: when each builds anew what it is
-to run, install or pack, and for which processors. What ./install puts under PREFIX."""
+"""./agep, ./install and ./package --build with a stand-in for the toolchain: when each of them builds again,
+and for which processors. The files that ./install installs under PREFIX."""
 
 import functools
 import os
@@ -136,13 +136,13 @@ class Builds(unittest.TestCase):
 
 
 class Installs(unittest.TestCase):
-    # Each file under PREFIX, and the file of the repository that it is.
+    # Each file under PREFIX, and its source in the repository.
     FILES = {
         "bin/agep": "crates/agep/out/agep", "share/man/man1/agep.1": "share/man/agep.1",
         "share/bash-completion/completions/agep": "share/completions/agep.bash",
         "share/zsh/site-functions/_agep": "share/completions/_agep", "share/fish/vendor_completions.d/agep.fish": "share/completions/agep.fish",
     }
-    # /usr/local has these from the start.
+    # /usr/local has these folders from the start.
     FOLDERS = {"bin", "share", "share/man"}
     USAGE = "usage: ./install [--uninstall] [PREFIX]\n       ./install --library [--libdir=DIR] [--uninstall] [PREFIX]\n"
 
@@ -156,7 +156,7 @@ class Installs(unittest.TestCase):
         return done.returncode, done.stdout.decode(), done.stderr.decode()
 
     def assert_modes(self, top, files):
-        """All that is below a folder, with the usual modes."""
+        """The folder must have exactly these files and their folders, with the usual modes."""
         found = {str(path.relative_to(top)): path for path in Path(top).rglob("*")}
         folders = {str(folder) for file in files for folder in Path(file).parents} - {"."} | self.FOLDERS
         self.assertEqual({*found}, {*files} | folders)
@@ -164,8 +164,8 @@ class Installs(unittest.TestCase):
         self.assertEqual([name for name, path in found.items() if path.stat().st_mode & 0o777 != (0o755 if name in executable else 0o644)], [])
 
     def test_files(self):
-        """They are those of the repository, whatever the umask; a program that runs is replaced and not overwritten.
-        --uninstall removes just these, and the folders that it leaves empty."""
+        """The files are those of the repository, whatever the umask; a running program is replaced and not
+        overwritten. --uninstall removes only these, and the folders that this leaves empty."""
         here, other = os.getcwd(), "share/man/man1/other.1"
         rows = (f"{here}/prefix", f"{here}/prefix", {}), ("other", "other", {}), ("/usr", "staged/usr", {"DESTDIR": "staged"}), ("/usr", "again/usr", {"DESTDIR": "again/"})
         for prefix, top, environment in rows:

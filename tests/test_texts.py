@@ -30,7 +30,7 @@ def options_of(*words):
 
 
 def texts_of(command):
-    """What help says of each option, by its letter: sentences, the default as the last."""
+    """The sentences of help for each option, by its letter; the default is the last one."""
     options = help_of(command).split("\nOptions:\n")[1].split("\n\n")[0]
     rows = re.findall(r"^ +(-[a-zA-Z]), --[a-z-]+(?: <\w+>)? +(\S.*(?:\n {20,}.*)*)", options, re.MULTILINE)
     return {letter: re.sub(r"\.? \[default: (.*)\]$", r". The default is \1", " ".join(text.split())) + "." for letter, text in rows}
@@ -121,7 +121,7 @@ class Helps(ProgramCase):
 
 class Manual(unittest.TestCase):
     def test_synopsis(self):
-        """Each command with its options and words, as help has them."""
+        """Each command with its options and arguments, as in help."""
         page = re.sub(r'^\.\\".*\n?', "", section("SYNOPSIS"), flags=re.MULTILINE)
         lines = [[shlex.split(line) for line in entry.strip().split("\n")] for entry in page.split("\n.br\n")]
         shown = [" ".join((" " if len(macro) == 2 else "").join(words).strip() for macro, *words in entry) for entry in lines]
@@ -142,7 +142,7 @@ class Manual(unittest.TestCase):
         self.assertNotRegex(read(PAGE).decode(), r"(?<![\\\w])-(-|[a-zA-Z]\b)", "a hyphen in place of a minus, which a shell does not know")
 
     def test_texts(self):
-        """OPTIONS says of each option what help of each command says of it."""
+        """OPTIONS has the text that the help of each command has for the option."""
         said, page = {}, re.sub(r"\\f[BIR]", "", section("OPTIONS"))
         for letter, paragraphs in re.findall(r'^\.TP\n\.BR (-[a-zA-Z]) .*\n((?:[^.].*\n|\.IP\n)*)', page, re.MULTILINE):
             for paragraph in paragraphs.split(".IP\n"):
@@ -236,7 +236,7 @@ class Completions(unittest.TestCase):
         self.assert_offered(short_joined, ["zsh"])
 
     def test_descriptions(self):
-        """zsh and fish describe each option by the beginning of its help."""
+        """zsh and fish describe each option by the first words of its help."""
         for name, pattern in ("_agep", r"\{(-[a-zA-Z])\+?,--[^}]*\}(['\"])\[(.*)\](?::(?:number|file):\w*)?\2"), ("agep.fish", r"-s (\w) .* -d (')(.*)'$"):
             text = read(f"{FOLDER}/{name}").decode()
             for command in commands():

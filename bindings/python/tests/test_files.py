@@ -464,7 +464,8 @@ class Reading(InFolder):
         self.assertEqual(agefile.decrypt(self.got("b.age"), identities=KEY), plain)
 
     def test_descriptors(self):
-        """`open` closes the one that it was given, as the built-in function does. The others leave it open, also after an error."""
+        """`open` closes the descriptor it is given, as the built-in function does. The other functions leave
+        it open, even after an error."""
         self.made(b"text"), self.put(bytes(32), "key")
         other = Key(bytes(32))
         for stays, name, call in (

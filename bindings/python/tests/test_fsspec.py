@@ -261,7 +261,8 @@ class Chains(InSystem):
             self.assertEqual(file.read(), plain)
 
     def test_the_system_below(self):
-        """It is the one of a protocol and its options, and file systems over two of them are two."""
+        """The file system below is that of a protocol and its options; over two of them, the file systems
+        differ."""
         options = {"target_protocol": "file", "cache_storage": self.path("cache")}
         system = fsspec.filesystem("age", identities=self.identity, target_protocol="simplecache", target_options=options)
         self.assertEqual(system.cat_file(self.new("a.age", b"text")), b"text")

@@ -173,7 +173,8 @@ class Fresh(unittest.TestCase):
         self.assertEqual(sorted(found), sorted(asked))
 
     def test_no_file_without_random_bytes(self):
-        """Where the system gives none for the file key, the nonce or a salt, each way ends with its error."""
+        """If the system returns none for the file key, the nonce or a salt, each way ends with the system's
+        error."""
         urandom = os.urandom
         for number, make in enumerate(ways_to_make([KEY, KEY])):
             for failing in range(4):
@@ -246,7 +247,7 @@ class Programs(InFolder):
         self.assertRaises(ValueError, Passphrase.from_file, "pass")
 
     def test_work_factors_of_a_passphrase_file(self):
-        """Those of new files, and the largest of files that it opens."""
+        """The work factors of new files, and the largest one in files that it opens."""
         one, two = (Passphrase.from_file(io.BytesIO(b"word"), work=work, max_work=1) for work in (1, 2))
         self.assertEqual(agefile.inspect(agefile.encrypt(b"", recipients=one)).stanzas[0].args[2], "1")
         with self.assertRaisesRegex(AgeError, pattern("Malformed", "WorkFactorTooHigh")):

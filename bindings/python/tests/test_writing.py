@@ -366,7 +366,8 @@ class Writing(InFolder):
         self.assertEqual(sorted(os.listdir()), ["a.age", "bad.age", "new", "old"])
 
     def test_copies_whose_end_fails(self):
-        """A failed close, sync or move of the new file is the error of the copy; with `atomic` the old file stays."""
+        """A failed close, sync or move of the new file is an error of the copy; with `atomic` the old file
+        stays."""
         self.made(text(200000))
         error = OSError(errno.EIO, "failed")
         for atomic, what in ((False, "agefile._paths.Output.close"), (True, "os.fsync"), (True, "os.replace")):

@@ -203,7 +203,7 @@ encrypts_payload (Err fault) {limits} fresh {gathered} {text} {from} {to} a b c 
         of_map h (λ plain q. up_to_limit limits fresh gathered text plain a b c m front q.0 q.1)
     go f h = absurd h.holds
 
--- a read failed after something was written: the source gave a whole chunk
+-- a read failed after something was written: the source returned a whole chunk
 pub read_late : {key : Bytes} {max : ℕ} {t : SealerState} {more : Bool} {from mid to : Seen} (a c : Known)
     (fault : StreamFault)
     → Fills (at_start key max) t (flow from mid) (Ok more) → SealsRest t more (flow mid to) (move_of a c) (Err fault)
