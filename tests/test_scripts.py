@@ -92,6 +92,30 @@ class Builds(unittest.TestCase):
         self.assertEqual(self.asked("package --build", AGEP_CPU="x86-64-v2"), SCRIPTS["package --build"])
         self.assertEqual(self.asked("agep --version", AGEP_CPU="x86-64-v2"), [], "the program of ./agep stays")
 
+    def test_levels(self):
+        """Where AGEP_CPU names no processor, a build is for the level x86-64-v3 if the processor has all of it."""
+        parts = "avx avx2 bmi1 bmi2 f16c fma abm movbe xsave".split()
+        script = 'root=tree; . tree/share/build.sh; sed() { echo "$FLAGS"; }; processor'
+        for part in ("", *parts):
+            flags = " ".join(["fpu", *(each for each in parts if each != part), "sse"])
+            environment = {**self.environment, "AGEP_CPU": "", "FLAGS": flags}
+            said = subprocess.check_output(["sh", "-c", script], env=environment, text=True)
+            self.assertEqual(said, "x86-64-v2\n" if part else "x86-64-v3\n", f"without {part}")
+
+    def test_failing_build(self):
+        """What the toolchain says is shown, and that it failed; nothing is run or installed, and the next call builds
+        again. No standard input is read."""
+        for script, who in zip(SCRIPTS, ("agep", "agep", "package", "install")):
+            with self.subTest(script):
+                self.make_tree()
+                write("meanwhile", b"echo it is wrong; cat; exit 1")
+                done = subprocess.run(f"tree/{script}".split(), env=self.environment, input=b"input", capture_output=True)
+                self.assertEqual((done.returncode, done.stdout, os.path.exists("prefix/bin")), (1, b"", False), done.stderr)
+                self.assertIn(f"it is wrong\n{who}: the build failed\n".encode(), done.stderr)
+                self.assertNotIn(b"input", done.stderr)
+                os.remove("meanwhile")
+                self.assertEqual(self.asked(script), SCRIPTS[script])
+
     def test_commit(self):
         """A build in a git repository names the commit, and says whether the crates have changed since."""
         git = ["git", "-C", "tree", "-c", "user.name=Name", "-c", "user.email=name@host"]

@@ -411,12 +411,18 @@ class Writes(InSystem):
         self.system.makedirs(self.path("new/deep/er"))
         self.system.pipe_file(self.path("new/deep/er/a.age"), b"text")
         self.assertEqual(agefile.decrypt(self.got("new/deep/er/a.age"), identities=self.identity), b"text")
-        with mock.patch.object(type(self.system.fs), "mkdir") as below:
-            self.system.mkdir("/new", create_parents=False, acl="private")
-        below.assert_called_once_with("/new", create_parents=False, acl="private")
         self.system.mkdir(self.path("empty"))
         self.system.rmdir(self.path("empty"))
         self.assertFalse(os.path.exists("empty"))
+
+    def test_what_is_passed_on(self):
+        """The file system below gets the words too, and its result is returned."""
+        for name in "mkdir makedirs rmdir rm rm_file created modified exists isfile isdir du ukey cp_file mv".split():
+            paths = ("/old", "/new")[: 1 + (name in ("cp_file", "mv"))]
+            with self.subTest(name), mock.patch.object(type(self.system.fs), name) as below:
+                found = getattr(self.system, name)(*(f"age://{path}" for path in paths), acl="private")
+                self.assertIs(found, below.return_value if len(paths) == 1 else None)
+                below.assert_called_once_with(*paths, acl="private")
 
     def systems(self):
         """File systems with a path: over local files, over these behind another class, and over

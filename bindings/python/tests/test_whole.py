@@ -318,18 +318,15 @@ class Callers(unittest.TestCase):
 
     def test_a_wrong_file_key_is_found_by_the_mac(self):
         class Wrong:
-            def unwrap(self, stanzas):
-                return bytes(16)
-
-        class Short:
-            def unwrap(self, stanzas):
-                return bytes(15)
+            def __init__(self, length):
+                self.unwrap = lambda stanzas: bytes(length)
 
         file = agefile.encrypt(b"text", recipients=KEY)
         with self.assertRaises(AgeError) as caught:
-            agefile.decrypt(file, identities=Wrong())
+            agefile.decrypt(file, identities=Wrong(16))
         self.assertEqual(caught.exception.code, Code.BAD_MAC)
-        self.assertRaises(ValueError, agefile.decrypt, file, identities=Short())
+        for length in (0, 15, 17):
+            self.assertRaisesRegex(ValueError, f"16 bytes, not {length}", agefile.decrypt, file, identities=Wrong(length))
 
     def test_stanzas_that_are_refused(self):
         for args in ((), ("",), ("a b",), ("a", ""), ("ü",), ("a\n",), "X25519"):
