@@ -93,7 +93,7 @@ class Builds(unittest.TestCase):
         self.assertEqual(self.asked("agep --version", AGEP_CPU="x86-64-v2"), [], "the program of ./agep stays")
 
     def test_levels(self):
-        """Where AGEP_CPU names no processor, a build is for the level x86-64-v3 if the processor has all of it."""
+        """If AGEP_CPU is not set, a build is for x86-64-v3 if the processor has all of that level."""
         parts = "avx avx2 bmi1 bmi2 f16c fma abm movbe xsave".split()
         script = 'root=tree; . tree/share/build.sh; sed() { echo "$FLAGS"; }; processor'
         for part in ("", *parts):
@@ -103,8 +103,8 @@ class Builds(unittest.TestCase):
             self.assertEqual(said, "x86-64-v2\n" if part else "x86-64-v3\n", f"without {part}")
 
     def test_failing_build(self):
-        """What the toolchain says is shown, and that it failed; nothing is run or installed, and the next call builds
-        again. No standard input is read."""
+        """If a build fails, its output and a line are shown, nothing is run or installed, and the next call
+        builds again. Standard input is not read."""
         for script, who in zip(SCRIPTS, ("agep", "agep", "package", "install")):
             with self.subTest(script):
                 self.make_tree()

@@ -416,7 +416,7 @@ class Writes(InSystem):
         self.assertFalse(os.path.exists("empty"))
 
     def test_what_is_passed_on(self):
-        """The file system below gets the words too, and its result is returned."""
+        """The file system below gets the arguments, too, and its result is returned."""
         for name in "mkdir makedirs rmdir rm rm_file created modified exists isfile isdir du ukey cp_file mv".split():
             paths = ("/old", "/new")[: 1 + (name in ("cp_file", "mv"))]
             with self.subTest(name), mock.patch.object(type(self.system.fs), name) as below:
