@@ -1,14 +1,16 @@
 // For LD_PRELOAD: makes a call of the process short, or makes it fail. CALL names its kind: read,
-// write, ftruncate, fsync, lseek or statx, or message for a write to standard error. NUMBER is its
-// number among the calls of its kind, from 1, or 0 for all of them. DO says what happens: the call
-// transfers "one" byte, "half" of the bytes or "none", or fails with this error number. The call
-// creates the empty file "met". The file that TRACE names gets a line for each call: its kind, the
-// file, and the result. A read of the character device /dev/urandom returns the bytes of the file
-// that URANDOM names. If INODE is set, the number of each file is its size times this.
+// write, ftruncate, fsync, lseek, statx, open, rename, unlink, fchmod or lchown, or message for a
+// write to standard error. NUMBER is its number among the calls of its kind, from 1, or 0 for all of
+// them. DO says what happens: the call transfers "one" byte, "half" of the bytes or "none", or fails
+// with this error number. If KEPT is set, each unlink fails too. The call creates the empty file
+// "met". The file that TRACE names gets a line for each call: its kind, the file, and the result. A
+// read of the character device /dev/urandom returns the bytes of the file that URANDOM names. If
+// INODE is set, the number of each file is its size times this.
 #define _GNU_SOURCE
 #include <dlfcn.h>
 #include <errno.h>
 #include <fcntl.h>
+#include <stdarg.h>
 #include <stdio.h>
 #include <stdlib.h>
 #include <string.h>
@@ -24,6 +26,12 @@ static void *real(const char *name)
     return found;
 }
 
+static int opened(const char *name, int flags, mode_t mode)
+{
+    int (*next)(const char *, int, ...) = (int (*)(const char *, int, ...))real("open");
+    return next(name, flags, mode);
+}
+
 // How much of a size the next call of this kind may transfer; -1, with errno set, if it must fail.
 static ssize_t allowed(const char *kind, long *calls, size_t size)
 {
@@ -33,7 +41,7 @@ static ssize_t allowed(const char *kind, long *calls, size_t size)
     long number = atol(getenv("NUMBER"));
     if (++*calls != number && number != 0)
         return (ssize_t)size;
-    close(open("met", O_CREAT | O_WRONLY, 0600));
+    close(opened("met", O_CREAT | O_WRONLY, 0600));
     const char *what = getenv("DO");
     if (strcmp(what, "none") == 0)
         return 0;
@@ -45,20 +53,27 @@ static ssize_t allowed(const char *kind, long *calls, size_t size)
     return -1;
 }
 
-static void trace(const char *kind, int file, long result)
+static void trace_name(const char *kind, const char *name, long result)
 {
     const char *to = getenv("TRACE");
-    char link[32], name[4096] = "";
     int error = errno;
     if (to == NULL)
         return;
-    snprintf(link, sizeof link, "/proc/self/fd/%d", file);
-    if (readlink(link, name, sizeof name - 1) < 0)
-        strcpy(name, "nothing");
-    int out = open(to, O_CREAT | O_WRONLY | O_APPEND, 0600);
+    int out = opened(to, O_CREAT | O_WRONLY | O_APPEND, 0600);
     dprintf(out, "%s %s %ld\n", kind, strrchr(name, '/') ? strrchr(name, '/') + 1 : name, result);
     close(out);
     errno = error;
+}
+
+static void trace(const char *kind, int file, long result)
+{
+    char link[32], name[4096] = "";
+    int error = errno;
+    snprintf(link, sizeof link, "/proc/self/fd/%d", file);
+    if (readlink(link, name, sizeof name - 1) < 0)
+        strcpy(name, "nothing");
+    errno = error;
+    trace_name(kind, name, result);
 }
 
 ssize_t write(int to, const void *bytes, size_t size)
@@ -78,7 +93,7 @@ ssize_t write(int to, const void *bytes, size_t size)
 static ssize_t read_known(const char *name, void *bytes, size_t size)
 {
     static off_t at;
-    int known = open(name, O_RDONLY);
+    int known = opened(name, O_RDONLY, 0);
     ssize_t count = pread(known, bytes, size, at);
     close(known);
     at += count > 0 ? count : 0;
@@ -138,4 +153,50 @@ off_t lseek(int file, off_t to, int from)
     off_t result = allowed("lseek", &calls, 0) < 0 ? -1 : next(file, to, from);
     trace("lseek", file, (long)result);
     return result;
+}
+
+int open(const char *name, int flags, ...)
+{
+    static long calls;
+    va_list rest;
+    va_start(rest, flags);
+    mode_t mode = va_arg(rest, mode_t);
+    va_end(rest);
+    return allowed("open", &calls, 0) < 0 ? -1 : opened(name, flags, mode);
+}
+
+int rename(const char *from, const char *to)
+{
+    static long calls;
+    int (*next)(const char *, const char *) =
+        (int (*)(const char *, const char *))real("rename");
+    int result = allowed("rename", &calls, 0) < 0 ? -1 : next(from, to);
+    trace_name("rename", from, result);
+    return result;
+}
+
+int unlink(const char *name)
+{
+    static long calls;
+    int (*next)(const char *) = (int (*)(const char *))real("unlink");
+    if (getenv("KEPT") != NULL) {
+        errno = EIO;
+        return -1;
+    }
+    return allowed("unlink", &calls, 0) < 0 ? -1 : next(name);
+}
+
+int fchmod(int file, mode_t mode)
+{
+    static long calls;
+    int (*next)(int, mode_t) = (int (*)(int, mode_t))real("fchmod");
+    return allowed("fchmod", &calls, 0) < 0 ? -1 : next(file, mode);
+}
+
+int lchown(const char *name, uid_t owner, gid_t group)
+{
+    static long calls;
+    int (*next)(const char *, uid_t, gid_t) =
+        (int (*)(const char *, uid_t, gid_t))real("lchown");
+    return allowed("lchown", &calls, 0) < 0 ? -1 : next(name, owner, group);
 }

@@ -69,9 +69,9 @@ class CallCase(ProgramCase):
             if os.path.exists(name):
                 os.remove(name)
         env = {"LD_PRELOAD": preload("calls"), "TRACE": "trace", **{key.upper(): str(value) for key, value in call.items()}}
-        if form == "-o":
+        if form.endswith("-o"):
             write("made", YESTERDAY)
-            ran = self.run_agep(*job.words, "-o", "made", job.name, env=env)
+            ran = self.run_agep(*job.words, *form.split(), "made", job.name, env=env)
             self.assert_bytes(ran.out, b"")
             self.made = read("made")
         elif job.words[0] == "range":

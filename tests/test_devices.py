@@ -231,6 +231,23 @@ class SameInode(ProgramCase):
         self.assertEqual((status, out, err), (1, "", fault(message("OutputIsRead", "Input", "second"))))
         self.assert_file("first", HELLO)
 
+    def test_one_block_device(self):
+        """A block device is itself by any node of its number; a character device may be both IN and OUT."""
+        write("disk", PLAIN[:65536])
+        for out in ("$disk", "node"):
+            for option in ("-o ", ">"):
+                with self.subTest(f"{option}{out}"):
+                    status, said, err = self.mounted(f"""
+                        disk=$(losetup -f --show disk) || {{ echo "mount: no device" >&2; exit 1; }}
+                        trap 'rm -f node; losetup -d "$disk"' EXIT
+                        mknod node b $(stat -c '0x%t 0x%T' "$disk") && echo "$disk"
+                        status=0; "$1" encrypt -k key "$disk" {option}{out} || status=$?
+                        cmp "$disk" disk && exit "$status" """)
+                    disk = said.strip()
+                    name = "standard output" if option == ">" else disk if out == "$disk" else "node"
+                    self.assertEqual((status, err), (1, fault(message("OutputIsRead", "Input", name))))
+        self.writes(b"", "encrypt", "-k", "key", "-o", "/dev/null", "/dev/null")
+
     def test_without_proc(self):
         """Without /proc no name leads to standard input: then an existing OUT is refused, and a new one is
         created."""

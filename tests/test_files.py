@@ -4,7 +4,8 @@ tests/cli/files.console has an example of each."""
 import os
 
 from fixture import HELLO
-from program import BY_PASSPHRASE, OPENING, ProgramCase, preload, read, write
+from messages import message
+from program import BY_PASSPHRASE, IO_ERROR, OPENING, ProgramCase, fault, preload, read, write
 
 WRITING = ("encrypt -k key hello", "range -k key 0 5 key.age", *(f"{command} key.age" for command in OPENING))
 
@@ -70,6 +71,39 @@ class Out(Files):
         for command in ("encrypt -k key", *(it for it in OPENING if not it.startswith("range"))):
             with self.subTest(command):
                 self.changes_nothing("Unidentified: standard input", f"{command} -o old <&-")
+
+    def test_no_metadata(self):
+        """Where the system does not say which file any is, nothing is refused but an OUT that was there, and the
+        default seed."""
+        def without(name, line, more=None, number=0):
+            env = {"LD_PRELOAD": preload("calls"), "CALL": "statx", "NUMBER": str(number), "DO": error}
+            if name:
+                self.changes_nothing(name, line, more=more, env=env)
+            return self.run_line(line, env=env)
+
+        for error, reason in ("1", "Operation not permitted"), ("38", "Function not implemented"):
+            for line in WRITING:
+                line += " -s seed" * line.startswith(("encrypt", "rewrap"))
+                forms = [line] + [f"{line[: line.rindex(' ')]} <{line.split()[3]}" for _ in [line] if line.startswith(("decrypt", "salvage"))]
+                for form in forms:
+                    with self.subTest(f"{form}, {reason}"):
+                        expected = self.run_line(form).out
+                        self.assertTrue(expected)
+                        self.assert_ended(without(None, form), out=expected)
+                        self.assert_ended(without(None, f"{form} -o made"))
+                        self.assert_file("made", expected)
+                        os.remove("made")
+                        without("Unidentified: old", f"{form} -v -o old", f"identifying old: {reason}")
+                        without("Unidentified: old", f"{form} -v --atomic -o old", f"identifying old: {reason}")
+            with self.subTest(f"the default seed, {reason}"):
+                without("Unidentified: /dev/urandom", "encrypt -v -k key hello", f"identifying /dev/urandom: {reason}")
+        error, said = IO_ERROR, set()
+        for number in range(1, 9):
+            said.add(without(None, "decrypt -v -k key -o old key.age", number=number).err.decode())
+            write("old", read("yesterday"))
+        for name in ("key", "key.age", "old"):
+            with self.subTest(f"the second line, {name}"):
+                self.assertIn(fault(message("Unidentified", name), f"identifying {name}: Input/output error"), said)
 
     def test_out_of_memory(self):
         """The same if an allocation is refused."""

@@ -1,7 +1,6 @@
 """The recipes of docs/USE.md that a transcript cannot run: the crontab and the service of systemd, with the
 program as ./install installs it, in an environment like theirs."""
 
-import fcntl
 import os
 import re
 import shlex
@@ -9,6 +8,7 @@ import shutil
 import subprocess
 import unittest
 
+from messages import message
 from program import ROOT, made_once, read, scratch, write
 
 PASSPHRASE = b"correct horse\n"
@@ -41,7 +41,7 @@ def run(line, **environment):
 class Cron(unittest.TestCase):
     def setUp(self):
         table = block("crontab")
-        path, self.job = re.fullmatch(r"PATH=(\S+)\n(?:\S+ ){5}(.*)\n", table).groups()
+        path, self.first, self.job = re.fullmatch(r"PATH=(\S+)\n@reboot (.*)\n(?:\S+ ){5}(.*)\n", table).groups()
         self.assertNotIn("%", self.job, "cron ends a line there")
         self.path = path
         os.mkdir("data")
@@ -60,11 +60,13 @@ class Cron(unittest.TestCase):
         self.assertEqual(opened, b"text")
 
     def test_locked(self):
-        """While another run holds the lock, a line says that there is no backup."""
-        with open("lock", "w") as lock:
-            fcntl.flock(lock, fcntl.LOCK_EX)
-            self.says("no backup: the last one still runs\n")
+        """While another run writes the new file, two lines say so; after a start of the machine it is removed."""
+        new = "data.age.new.agep-new"
+        write(new, b"half")
+        self.says(f"agep: {message('NewFileExists', new)}\nagep: {new}: if no agep is writing it, remove it\n")
         self.assertFalse(os.path.exists("data.age"))
+        self.assertEqual(run(self.first, PATH=self.path), b"")
+        self.assertFalse(os.path.exists(new))
 
     def test_failure(self):
         """The reason is printed, and the old backup stays."""
@@ -85,12 +87,13 @@ class Systemd(unittest.TestCase):
         self.assertRegex(secret, "/etc/")
         write("dump", b"text")
         environment = {"PATH": self.FOLDERS.replace("/usr/local", installed()), "CREDENTIALS_DIRECTORY": os.getcwd()}
-        lines = re.findall("^ExecStart=(.*)$", service, re.MULTILINE)
-        self.assertEqual([shlex.split(line)[0] for line in lines], ["agep", "mv"])
+        lines = re.findall("^ExecStart(?:Pre)?=(.*)$", service, re.MULTILINE)
+        self.assertEqual([shlex.split(line)[0] for line in lines], ["rm", "agep"])
+        write("dump.age.agep-new", b"half")
         self.assertEqual([run(line, **environment) for line in lines], [b"", b""])
         self.assertEqual(run("agep decrypt -k key dump.age", **environment), b"text")
         os.remove("dump")
-        self.assertIn(b"dump: No such file or directory\n", run(lines[0], **environment))
+        self.assertIn(b"dump: No such file or directory\n", run(lines[1], **environment))
 
     @unittest.skipUnless(shutil.which("systemd-analyze"), "systemd-analyze missing")
     def test_unit(self):

@@ -28,12 +28,12 @@ _agep() {
     esac
     case ${COMP_WORDS[1]} in
         # generated: options of bash
-        encrypt) options="-p --passphrase -k --key -w --work -s --seed -H --max-header -o --output -v --verbose -h --help -V --version" ;;
-        decrypt) options="-p --passphrase -k --key -m --max-work -H --max-header -o --output -v --verbose -h --help -V --version" ;;
+        encrypt) options="-p --passphrase -k --key -w --work -s --seed -H --max-header -o --output -n --no-clobber --atomic -v --verbose -h --help -V --version" ;;
+        decrypt) options="-p --passphrase -k --key -m --max-work -H --max-header -o --output -n --no-clobber --atomic -v --verbose -h --help -V --version" ;;
         inspect) options="-r --raw -f --file-key -H --max-header -v --verbose -h --help -V --version" ;;
-        range) options="-p --passphrase -k --key -m --max-work -H --max-header -o --output -v --verbose -h --help -V --version" ;;
-        rewrap) options="-p --passphrase -k --key -m --max-work -H --max-header -o --output -v --verbose -P --new-pass -K --new-key -w --work -s --seed -h --help -V --version" ;;
-        salvage) options="-p --passphrase -k --key -m --max-work -H --max-header -o --output -v --verbose -h --help -V --version" ;;
+        range) options="-p --passphrase -k --key -m --max-work -H --max-header -o --output -n --no-clobber --atomic -v --verbose -h --help -V --version" ;;
+        rewrap) options="-p --passphrase -k --key -m --max-work -H --max-header -o --output -n --no-clobber --atomic -v --verbose -P --new-pass -K --new-key -w --work -s --seed -h --help -V --version" ;;
+        salvage) options="-p --passphrase -k --key -m --max-work -H --max-header -o --output -n --no-clobber --atomic -v --verbose -h --help -V --version" ;;
         # end of options of bash
         help) mapfile -t COMPREPLY < <(compgen -W "$commands" -- "$word") ;;
     esac

@@ -4,13 +4,13 @@ from program import OWN
 
 
 def _names(options, between=" "):
-    return between.join(f"{option.short}{between}--{option.long}" for option in options)
+    return between.join(name for option in options for name in option.names)
 
 
 def texts(commands):
     """Each generated text by its name."""
     arms = "".join(f'        {c.name}) options="{_names(c.options)}" ;;\n' for c in commands)
-    options = {option.short: option for command in commands for option in command.options if option.value}
+    options = {option.long: option for command in commands for option in command.options if option.value}
     numbers = [option for option in options.values() if option.is_number]
     files = [option for option in options.values() if not option.is_number]
     return {
@@ -31,7 +31,7 @@ def _zsh_option(command, option):
         return f"'(- *)'{{{option.short},--{option.long}}}'[{option.brief}]'"
     others = [option] * (not option.is_repeated) + command.rivals(option)
     plus, equal, value = ("+", "=", ":number:" if option.is_number else ":file:_files") if option.value else ("", "", "")
-    names = f"{{{option.short}{plus},--{option.long}{equal}}}"
+    names = f"{{{option.short}{plus},--{option.long}{equal}}}" if option.short else f"--{option.long}{equal}"
     return f"'({_names(others)}){'*' * option.is_repeated}'{names}{_quoted(f'[{option.brief}]{value}')}"
 
 
@@ -58,9 +58,10 @@ def _fish(commands):
     users, lines = {}, ""
     for command in commands:
         for option in (option for option in command.options if option not in OWN):
-            users.setdefault((option.short, option.long, option.brief), (option, []))[1].append(command.name)
+            users.setdefault((option.long, option.brief), (option, []))[1].append(command.name)
     for option, found in users.values():
         kind = (" -x" if option.is_number else " -r -F") if option.value else ""
         text = _fish_text(option.brief[0].upper() + option.brief[1:])
-        lines += f"{seen} {' '.join(found)}' -s {option.short[1:]} -l {option.long}{kind} -d {text}\n"
+        letter = f" -s {option.short[1:]}" * bool(option.short)
+        lines += f"{seen} {' '.join(found)}'{letter} -l {option.long}{kind} -d {text}\n"
     return {"commands of fish": listed, "words of help of fish": f"{seen} help' -f -a '{' '.join(names)}'\n", "options of fish": lines}

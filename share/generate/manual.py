@@ -17,7 +17,7 @@ def _usage(command):
             yield f'.RB {{ \\{option.short}\n.IR {option.value} " | "'
             yield from (f".B \\{other.short}\n.IR {other.value} ...}}" for other in rivals)
         elif not rivals:
-            yield f".RB [ \\{option.short}" + (f"\n.IR {option.value} ]" if option.value else " ]")
+            yield f".RB [ {_escaped(option.names[0])}" + (f"\n.IR {option.value} ]" if option.value else " ]")
     needed = [word.value for word in command.arguments if word.is_required]
     if needed:
         yield f".I {' '.join(needed)}"
@@ -46,11 +46,11 @@ def _options(commands):
     for command in commands:
         for option in command.options:
             said = tuple(_sentences(option))
-            found.setdefault((option.short, option.long, option.value), {}).setdefault(said, []).append(command.name)
+            found.setdefault((*option.names, option.value), {}).setdefault(said, []).append(command.name)
     lines = []
-    for (short, long, value), by_text in found.items():
+    for (*names, value), by_text in found.items():
         word = f' " \\fI{value}\\fR"' if value else ""
-        lines += [".TP", f'.BR {_escaped(short)} ", " {_escaped("--" + long)}{word}']
+        lines += [".TP", ".BR " + ' ", " '.join(map(_escaped, names)) + word]
         first = next(iter(by_text))
         for said, users in by_text.items():
             is_more = said != first and said[: len(first)] == first

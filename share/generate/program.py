@@ -8,7 +8,7 @@ RIVALS = [{"passphrase", "key"}, {"new-pass", "new-key"}]
 
 
 class Option(NamedTuple):
-    """An option, or an argument of a command, which has no letter. A missing text is empty."""
+    """An option, or an argument of a command, which has no name. A missing text is empty."""
 
     short: str
     long: str
@@ -18,6 +18,10 @@ class Option(NamedTuple):
     is_number: bool = False
     is_repeated: bool = False
     is_required: bool = False
+
+    @property
+    def names(self):
+        return [self.short] * bool(self.short) + [f"--{self.long}"]
 
     @property
     def brief(self):
@@ -100,7 +104,7 @@ class Source:
         body = self.functions[name][1]
         _, words, _ = call(body[body.index("bare_subcommand(") :])
         found = list(self.options(body))
-        return Command(*map(self.text, words[1:3]), [o for o in found if o.short] + OWN, [o for o in found if not o.short])
+        return Command(*map(self.text, words[1:3]), [o for o in found if o.long] + OWN, [o for o in found if not o.long])
 
 
 def commands(root):

@@ -11,8 +11,8 @@ use crate::lines::LossLines;
 use crate::work::{kept_prefix, perform_to};
 use age_commands::{Report, Seed, Task, seed_of};
 use age_job::{
-    Command, Job, Lines, Pipe, ReadFiles, SEED_LEN, Shown, Watched, create, read_encrypt_secrets,
-    read_file_key, read_rewrap_secrets, read_secret,
+    Command, Job, Lines, Pipe, ReadFiles, SEED_LEN, Shown, Target, Watched, read_encrypt_secrets,
+    read_file_key, read_rewrap_secrets, read_secret, refuse_output,
 };
 use age_words::{WordsFault, read_words};
 use std::alloc::Global;
@@ -116,8 +116,11 @@ pub fn run_job<
         run: None,
         is_shown,
     };
+    let target = Target::of(rt, job);
     let mut read = ReadFiles::new(rt, job);
-    match perform(rt, job, &mut read, is_shown, input, out, &mut lines) {
+    match perform(
+        rt, job, &target, &mut read, is_shown, input, out, &mut lines,
+    ) {
         Ok(()) => DONE,
         Err(failure) => {
             lines.end();
@@ -150,6 +153,7 @@ fn is_told(job: &Job, failure: &Failure<'_>) -> bool {
 fn perform<'a, F: Files + Clock + AllocGlobal, R: Read, W: Write + IsTerminal, L: Report>(
     rt: &F,
     job: &'a Job,
+    target: &'a Target,
     read: &mut ReadFiles<'a>,
     is_shown: bool,
     input: &mut R,
@@ -164,18 +168,19 @@ fn perform<'a, F: Files + Clock + AllocGlobal, R: Read, W: Write + IsTerminal, L
     ensures input { job.now.input ≢ None → input.new ≡ input.old }
     ensures output { job.now.output ≢ None → out.new ≡ out.old }
 {
+    refuse_output(rt, job)?;
     let task = task_of(rt, job, read, out)?;
     match &job.input {
         Some(name) => {
             let file = read.open_input(rt, job.command, name.as_str())?;
             let input = Shown::over(rt, file, read.input_size(job.command), is_shown);
-            perform_on(rt, job, read, task, input, out, lines)
+            perform_on(rt, job, target, read, task, input, out, lines)
         }
         None => {
             read.add_standard_input()?;
             let size = read.input_size(job.command);
             let input = Shown::over(rt, Pipe(input), size, is_shown);
-            perform_on(rt, job, read, task, input, out, lines)
+            perform_on(rt, job, target, read, task, input, out, lines)
         }
     }
 }
@@ -217,6 +222,7 @@ fn seed_from(bytes: &[u8; SEED_LEN]) -> Seed {
 fn perform_on<'a, F: Files + AllocGlobal, R: Read + Seek + Drop, W: Write, L: Report>(
     rt: &F,
     job: &'a Job,
+    target: &'a Target,
     read: &ReadFiles<'a>,
     task: Task,
     input: R,
@@ -232,9 +238,14 @@ fn perform_on<'a, F: Files + AllocGlobal, R: Read + Seek + Drop, W: Write, L: Re
     let mut input = Watched::new(rt.alloc(), input, kept_prefix(job));
     match &job.output {
         Some(name) => {
-            let mut output = create(rt, job, read, name.as_str())?;
-            perform_to(rt.alloc(), job, task, &mut input, &mut output, lines)?;
-            Ok(output.finish(name.as_str())?)
+            let mut output = target.create(rt, job, read, name.as_str())?;
+            match perform_to(rt.alloc(), job, task, &mut input, &mut output, lines) {
+                Ok(()) => Ok(target.finish(rt, job, output, name.as_str())?),
+                Err(failure) => {
+                    target.discard(rt);
+                    Err(failure)
+                }
+            }
         }
         None => {
             read.refuse_standard_output()?;

@@ -25,6 +25,8 @@ pub enum Detail<'a> {
     NoPassphrase(Role, Name<'a>),
     /// The file is not a device.
     NoDevice(Role, Name<'a>),
+    /// The file that is to replace OUT exists.
+    NewFile(Name<'a>),
 }
 
 /// An operation of the system on a file.
@@ -39,6 +41,7 @@ pub enum Doing {
     Writing,
     Truncating,
     Syncing,
+    Replacing,
 }
 
 impl<'a> Failure<'a> {
@@ -92,6 +95,7 @@ impl fmt::Display for Doing {
             Doing::Writing => "writing",
             Doing::Truncating => "truncating",
             Doing::Syncing => "syncing",
+            Doing::Replacing => "replacing",
         })
     }
 }
@@ -116,6 +120,10 @@ impl fmt::Display for Detail<'_> {
                     f,
                     "{words} {name}: no device, so its bytes may be the same again"
                 )
+            }
+            Detail::NewFile(name) => {
+                let name = Quoted(*name);
+                write!(f, "{name}: if no agep is writing it, remove it")
             }
         }
     }

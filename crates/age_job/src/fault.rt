@@ -21,6 +21,14 @@ pub enum Fault<'a> {
     CannotCreate(Name<'a>),
     /// The system does not identify this file, so it may be another file that is read or written.
     Unidentified(Name<'a>),
+    /// `--atomic` without a file to write.
+    AtomicAlone,
+    /// `--no-clobber`, and the file to write exists.
+    OutputExists(Name<'a>),
+    /// `--atomic`, and the file to write is a folder, a device or a pipe.
+    OutputIsSpecial(Name<'a>),
+    /// `--atomic`, and the file that is to replace the file to write exists.
+    NewFileExists(Name<'a>),
     /// The file to write is also read.
     OutputIsRead(Role, Name<'a>),
     /// Standard input has two roles.
@@ -58,6 +66,12 @@ impl fmt::Display for Fault<'_> {
             Fault::CannotOpen(name) => write!(f, "cannot open {name}"),
             Fault::CannotCreate(name) => write!(f, "cannot create {name}"),
             Fault::Unidentified(name) => write!(f, "cannot tell which file {name} is"),
+            Fault::AtomicAlone => f.write_str("--atomic needs -o"),
+            Fault::OutputExists(name) => write!(f, "OUT exists: {name}"),
+            Fault::OutputIsSpecial(name) => write!(f, "OUT is not a regular file: {name}"),
+            Fault::NewFileExists(name) => {
+                write!(f, "{name} exists: another run writes it, or was killed")
+            }
             Fault::OutputIsRead(role, name) => write!(f, "OUT is also {role}: {name}"),
             Fault::StandardInputTwice(one, other) if one == other => {
                 write!(f, "standard input cannot be {one} twice")

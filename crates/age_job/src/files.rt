@@ -5,10 +5,9 @@ ghost use Rattle.std.specs.Prelude.{◌≡◌, take, IfOk, IfSome};
 use crate::failure::{Doing, Failure, Tried};
 use crate::fault::Fault;
 use crate::file_names::{Name, Role};
-use crate::inode::{Inode, STANDARD_INPUT, STANDARD_OUTPUT};
+use crate::inode::{Inode, Kind, STANDARD_INPUT, STANDARD_OUTPUT};
 use crate::job::{Command, Job};
 use std::alloc::{AllocError, Global};
-use std::fs::OpenFile;
 use std::io::{ErrorKind, Read, Seek, SeekFrom};
 use std::rt::Files;
 use std::{fs, io};
@@ -27,8 +26,8 @@ pub(crate) struct NamedFile<'a> {
 #[derive(Drop)]
 pub(crate) struct ReadFile<'a> {
     pub(crate) named: NamedFile<'a>,
-    /// The identity of the file, if the system tells.
-    inode: Option<Inode>,
+    /// The identity of the file, or why the system does not tell.
+    inode: io::Result<Inode>,
     /// What is known about the contents of a file with a secret.
     pub(crate) held: Option<Held>,
 }
@@ -49,8 +48,8 @@ pub struct ReadFiles<'a> {
     files: Vec<ReadFile<'a>>,
     /// The identities of standard input and output at the start, if the system tells. It does not
     /// for a closed one, or without /proc.
-    standard: Option<Inode>,
-    standard_output: Option<Inode>,
+    standard: io::Result<Inode>,
+    standard_output: io::Result<Inode>,
     /// The role of standard input, if it has one.
     standard_role: Option<Role>,
 }
@@ -66,6 +65,19 @@ pub(crate) fn unidentified<'a>(name: &'a str, reason: io::Error) -> Failure<'a> 
         name,
         reason,
     )
+}
+
+impl<'a> ReadFile<'a> {
+    /// Refuses to write `out`, the file of this name, if that changes, or may change, this file.
+    fn refuse(&self, out: &Inode, name: &'a str) -> Result<(), Failure<'a>> {
+        match &self.inode {
+            Err(reason) if out.keeps_bytes() => Err(unidentified(self.named.name, *reason)),
+            Ok(inode) if inode.is_changed_by(out) => {
+                Err(Fault::OutputIsRead(self.named.role, Name(name)).into())
+            }
+            _ => Ok(()),
+        }
+    }
 }
 
 impl<'a> ReadFiles<'a> {
@@ -96,11 +108,7 @@ impl<'a> ReadFiles<'a> {
         name: &'a str,
     ) -> Result<F::File, Failure<'a>> {
         let mut file = open(rt, name)?;
-        let inode = match file.metadata() {
-            Ok(found) => Some(Inode::of(&found)),
-            Err(_) => None,
-        };
-        self.add_input(name, inode)?;
+        self.add_input(name, Inode::of_open(&file))?;
         if command == Command::Range
             && let Err(reason) = file.seek(SeekFrom::Start(0))
         {
@@ -114,7 +122,7 @@ impl<'a> ReadFiles<'a> {
         self.add_input("standard input", self.standard)
     }
 
-    fn add_input(&mut self, name: &'a str, inode: Option<Inode>) -> Result<(), AllocError> {
+    fn add_input(&mut self, name: &'a str, inode: io::Result<Inode>) -> Result<(), AllocError> {
         let role = Role::Input;
         let named = NamedFile { role, name };
         self.files.insert(
@@ -142,10 +150,7 @@ impl<'a> ReadFiles<'a> {
             return Err(Fault::StandardInputTwice(other, role).into());
         }
         let file = open(rt, name)?;
-        let inode = match file.metadata() {
-            Ok(found) => Inode::of(&found),
-            Err(reason) => return Err(unidentified(name, reason)),
-        };
+        let inode = Inode::of_open(&file);
         if self.is_standard(&inode) {
             if let Some(other) = self.standard_role {
                 return Err(Fault::StandardInputTwice(other, role).into());
@@ -154,7 +159,7 @@ impl<'a> ReadFiles<'a> {
         }
         self.files.push(ReadFile {
             named,
-            inode: Some(inode),
+            inode,
             held: None,
         })?;
         Ok(file)
@@ -170,7 +175,9 @@ impl<'a> ReadFiles<'a> {
     /// Returns the number of bytes that this command reads from IN, if known. IN was added.
     pub fn input_size(&self, command: Command) -> Option<u64> {
         match self.files.first()?.inode {
-            Some(inode) if inode.is_regular && command != Command::Range => Some(inode.len),
+            Ok(inode) if inode.kind == Kind::Regular && command != Command::Range => {
+                Some(inode.len)
+            }
             _ => None,
         }
     }
@@ -182,10 +189,10 @@ impl<'a> ReadFiles<'a> {
 
     /// Whether reading this file consumes standard input. A character device such as `/dev/null`
     /// does not count, because one reader of it takes nothing from another.
-    fn is_standard(&self, inode: &Inode) -> bool {
-        match &self.standard {
-            Some(standard) => !inode.is_char_device && standard.is(inode),
-            None => false,
+    fn is_standard(&self, inode: &io::Result<Inode>) -> bool {
+        match (&self.standard, inode) {
+            (Ok(standard), Ok(inode)) => inode.kind != Kind::CharDevice && standard.is(inode),
+            _ => false,
         }
     }
 
@@ -194,10 +201,7 @@ impl<'a> ReadFiles<'a> {
         if matches!(name, "/dev/stdin" | "/dev/fd/0" | "/proc/self/fd/0") {
             return true;
         }
-        match Inode::at(rt, name) {
-            Some(inode) => self.is_standard(&inode),
-            None => false,
-        }
+        self.is_standard(&Inode::at(rt, name))
     }
 
     /// Refuses secrets if two of them are standard input, before any is opened.
@@ -218,34 +222,30 @@ impl<'a> ReadFiles<'a> {
         Ok(())
     }
 
-    /// Refuses to write this file if it is regular and the job reads it or may read it.
-    pub(crate) fn refuse(&self, out: &Inode, name: &'a str) -> Result<(), Fault<'a>> {
+    /// Refuses to write this file if that changes, or may change, a file that the job reads.
+    pub(crate) fn refuse(&self, out: &Inode, name: &'a str) -> Result<(), Failure<'a>> {
         for file in self.files.as_slice() {
-            if out.is_regular && file.inode.is_none() {
-                return Err(Fault::Unidentified(Name(file.named.name)));
-            }
+            file.refuse(out, name)?;
         }
-        self.refuse_same(out, name)
+        Ok(())
     }
 
-    fn refuse_same(&self, out: &Inode, name: &'a str) -> Result<(), Fault<'a>> {
+    /// The same, if the file to write is replaced at the end: then it may be IN.
+    pub(crate) fn refuse_secrets(&self, out: &Inode, name: &'a str) -> Result<(), Failure<'a>> {
         for file in self.files.as_slice() {
-            match &file.inode {
-                Some(inode) if out.is_regular && inode.is(out) => {
-                    return Err(Fault::OutputIsRead(file.named.role, Name(name)));
-                }
-                _ => {}
+            if file.named.role != Role::Input {
+                file.refuse(out, name)?;
             }
         }
         Ok(())
     }
 
-    /// Refuses standard output if it is a regular file that the job reads, which would grow while
-    /// it is read.
-    pub fn refuse_standard_output(&self) -> Result<(), Fault<'a>> {
+    /// Refuses standard output if it is a file that the job reads, which would grow while it is
+    /// read.
+    pub fn refuse_standard_output(&self) -> Result<(), Failure<'a>> {
         match &self.standard_output {
-            Some(out) => self.refuse_same(out, "standard output"),
-            None => Ok(()),
+            Ok(out) => self.refuse(out, "standard output"),
+            Err(_) => Ok(()),
         }
     }
 }

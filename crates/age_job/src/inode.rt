@@ -2,10 +2,10 @@
 
 ghost use Rattle.std.specs.Prelude.{◌≡◌, ◌&&◌, nat_eq};
 
-use std::fs;
-use std::fs::Metadata;
+use std::fs::{Metadata, OpenFile};
 use std::os::unix::fs::{FileTypeExt, MetadataExt};
 use std::rt::Files;
+use std::{fs, io};
 
 /// The names of a process's standard input and output. They serve to identify the files, because
 /// the standard library has no metadata of a standard stream.
@@ -13,13 +13,24 @@ pub(crate) const STANDARD_INPUT: &str = "/proc/self/fd/0";
 
 pub(crate) const STANDARD_OUTPUT: &str = "/proc/self/fd/1";
 
+/// What a file is, as far as those who read or write it must know.
+#[derive(Clone, Copy, Debug, PartialEq, Eq)]
+pub(crate) enum Kind {
+    Regular,
+    /// A device that keeps what is written to it, such as a disk.
+    BlockDevice,
+    CharDevice,
+    Other,
+}
+
 /// The identity of a file: its device, and its number there.
 #[derive(Clone, Copy, Drop)]
 pub(crate) struct Inode {
     dev: u64,
     ino: u64,
-    pub(crate) is_regular: bool,
-    pub(crate) is_char_device: bool,
+    /// The number of the device that this file is, if it is one.
+    device: u64,
+    pub(crate) kind: Kind,
     /// The file's length in bytes, if it is regular.
     pub(crate) len: u64,
 }
@@ -29,17 +40,25 @@ impl Inode {
         Inode {
             dev: found.dev(),
             ino: found.ino(),
-            is_regular: found.is_file(),
-            is_char_device: found.file_type().is_char_device(),
+            device: found.rdev(),
+            kind: kind_of(found),
             len: found.len(),
         }
     }
 
     /// The file to which this name leads, also through links, if the system tells.
-    pub(crate) fn at<F: Files>(rt: &F, name: &str) -> Option<Inode> {
+    pub(crate) fn at<F: Files>(rt: &F, name: &str) -> io::Result<Inode> {
         match fs::metadata(rt, name) {
-            Ok(found) => Some(Inode::of(&found)),
-            Err(_) => None,
+            Ok(found) => Ok(Inode::of(&found)),
+            Err(reason) => Err(reason),
+        }
+    }
+
+    /// An open file, if the system tells.
+    pub(crate) fn of_open<F: OpenFile>(file: &F) -> io::Result<Inode> {
+        match file.metadata() {
+            Ok(found) => Ok(Inode::of(&found)),
+            Err(reason) => Err(reason),
         }
     }
 
@@ -52,5 +71,37 @@ impl Inode {
             && nat_eq self.now.ino other.now.ino) }
     {
         self.dev == other.dev && self.ino == other.ino
+    }
+
+    /// Whether the file keeps what is written to it.
+    pub(crate) fn keeps_bytes(&self) -> bool {
+        matches!(self.kind, Kind::Regular | Kind::BlockDevice)
+    }
+
+    /// Whether a write to `out` changes this file: both are one regular file, or one block device.
+    pub(crate) fn is_changed_by(&self, out: &Inode) -> bool
+        ensures file { out.now.kind ≡ Kind.Regular
+            → result ≡ (nat_eq self.now.dev out.now.dev && nat_eq self.now.ino out.now.ino) }
+        ensures device { out.now.kind ≡ Kind.BlockDevice → self.now.kind ≡ Kind.BlockDevice
+            → result ≡ nat_eq self.now.device out.now.device }
+    {
+        match out.kind {
+            Kind::Regular => self.is(out),
+            Kind::BlockDevice => self.kind == Kind::BlockDevice && self.device == out.device,
+            Kind::CharDevice | Kind::Other => false,
+        }
+    }
+}
+
+fn kind_of(found: &Metadata) -> Kind {
+    let kind = found.file_type();
+    if kind.is_file() {
+        Kind::Regular
+    } else if kind.is_block_device() {
+        Kind::BlockDevice
+    } else if kind.is_char_device() {
+        Kind::CharDevice
+    } else {
+        Kind::Other
     }
 }

@@ -45,6 +45,10 @@ pub struct Job {
     pub max_header: usize,
     /// The file to write, or `None` for standard output.
     pub output: Option<String>,
+    /// Whether to refuse a file to write that exists.
+    pub no_clobber: bool,
+    /// Whether the file to write is replaced by a new one after success.
+    pub atomic: bool,
     /// Whether `inspect` writes the header's own text instead of a table.
     pub raw: bool,
     /// The file that holds the file key under which `inspect` checks the header's MAC.

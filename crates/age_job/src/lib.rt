@@ -3,16 +3,17 @@
 //! the format nor how a command line is parsed.
 //!
 //! ```
+//! let target = Target::of(rt, &job);
 //! let mut read = ReadFiles::new(rt, &job);
 //! let mut input = Watched::new(alloc, read.open_input(rt, job.command, name)?, 0);
-//! let mut out = create(rt, &job, &read, out_name)?;
+//! let mut out = target.create(rt, &job, &read, out_name)?;
 //! ```
 //!
 //! `job` has the job, and `ranges` the ranges of its numbers. `files` opens the files to read,
 //! `inode` identifies them, and `small_files` reads the secrets, each of which is a `secret`.
-//! `output` is the file to write, `watched` keeps the reason of a failed read, and `progress` shows
-//! at a terminal how much was read. `fault` and `file_names` have the texts of errors, `failure`
-//! those of `--verbose`.
+//! `output` is the file to write, `target` a new file that takes the place of OUT, `watched` keeps
+//! the reason of a failed read, and `progress` shows at a terminal how much was read. `fault` and
+//! `file_names` have the texts of errors, `failure` those of `--verbose`.
 //!
 //! *What a contract sees.* A `Job` is the record of its fields, and a secret is a passphrase's
 //! bytes or a list of keys. A file is the bytes that its reader will return (`remaining`) and those
@@ -34,6 +35,7 @@ mod progress;
 mod ranges;
 mod secret;
 mod small_files;
+mod target;
 mod watched;
 
 pub use failure::{Detail, Doing, Failure, Tried};
@@ -41,9 +43,10 @@ pub use fault::Fault;
 pub use file_names::{Bytes, Lines, Name, Quoted, Role};
 pub use files::ReadFiles;
 pub use job::{Command, Job};
-pub use output::{Output, create};
+pub use output::{Output, refuse_output};
 pub use progress::{ERASE, Shown};
 pub use ranges::{DEFAULT_SEED, LEAST_HEADER, LEAST_WORK, MOST_HEADER, MOST_OFFSET, MOST_WORK};
 pub use secret::{SEED_LEN, Secret, exactly};
 pub use small_files::{read_encrypt_secrets, read_file_key, read_rewrap_secrets, read_secret};
+pub use target::Target;
 pub use watched::{Pipe, Watched};

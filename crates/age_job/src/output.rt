@@ -1,21 +1,21 @@
 //! The output file named in the arguments.
-ghost use Rattle.std.specs.Prelude.{◌≡◌, ◌<◌, false, length, IfOk, IsOk};
+ghost use Rattle.std.specs.Prelude.{◌≡◌, ◌<◌, false, true, length, Err, None, IfOk, IsOk};
 ghost use Rattle.age_job.specs.Mode.{new_mode};
 
 use crate::failure::{Doing, Failure};
 use crate::fault::Fault;
 use crate::file_names::Name;
 use crate::files::{ReadFiles, unidentified};
-use crate::inode::Inode;
+use crate::inode::{Inode, Kind};
 use crate::job::{Command, Job};
 use std::fs::{OpenFile, OpenOptions};
-use std::io;
 use std::io::{ErrorKind, IsTerminal, Write};
 use std::os::unix::fs::OpenOptionsExt;
 use std::rt::Files;
+use std::{fs, io};
 
 /// The mode of a new file with a plaintext, before the umask: only the owner can read it.
-const PLAINTEXT_MODE: u32 = 0o600;
+pub(crate) const PLAINTEXT_MODE: u32 = 0o600;
 
 /// The mode of any other new file, before the umask.
 const FILE_MODE: u32 = 0o666;
@@ -30,38 +30,61 @@ pub struct Output<F> {
     is_stale: bool,
 }
 
+/// Refuses what the options say of OUT, before anything is read: `--atomic` without OUT, and with
+/// `--no-clobber` an OUT that exists, whatever it is.
+pub fn refuse_output<'a, F: Files>(rt: &F, job: &'a Job) -> Result<(), Fault<'a>>
+    // `--atomic` without OUT is refused.
+    ensures alone { job.now.atomic ≡ true → job.now.output ≡ None → result ≡ Err Fault.AtomicAlone }
+    // Without these options nothing is refused.
+    ensures free { job.now.atomic ≡ false → job.now.no_clobber ≡ false → IsOk result }
+{
+    match &job.output {
+        Some(name) if job.no_clobber && fs::symlink_metadata(rt, name.as_str()).is_ok() => {
+            Err(Fault::OutputExists(Name(name.as_str())))
+        }
+        None if job.atomic => Err(Fault::AtomicAlone),
+        _ => Ok(()),
+    }
+}
+
 /// Opens the file of this name for writing, and creates it if it does not exist. Refuses an
-/// existing regular file that the job reads.
-pub fn create<'a, F: Files>(
+/// existing file with `--no-clobber`, or if it keeps its bytes and the job reads it.
+pub(crate) fn open_in_place<'a, F: Files>(
     rt: &F,
     job: &'a Job,
     read: &ReadFiles<'a>,
     name: &'a str,
 ) -> Result<Output<F::File>, Failure<'a>> {
-    let mut options = OpenOptions::new();
-    options
-        .write(true)
-        .create_new(true)
-        .mode(new_mode(job.command));
+    let mut options = new_file(new_mode(job.command));
     match options.open(rt, name) {
         Ok(file) => return Ok(Output::over(file, true)),
-        Err(reason) if reason.kind() == ErrorKind::AlreadyExists => {}
-        Err(reason) => return Err(cannot_create(name, reason)),
+        Err(reason) if reason.kind() != ErrorKind::AlreadyExists => {
+            return Err(cannot_create(name, reason));
+        }
+        Err(_) if job.no_clobber => return Err(Fault::OutputExists(Name(name)).into()),
+        Err(_) => {}
     }
     options.create_new(false).create(true);
     let file = match options.open(rt, name) {
         Ok(file) => file,
         Err(reason) => return Err(cannot_create(name, reason)),
     };
-    let inode = match file.metadata() {
-        Ok(found) => Inode::of(&found),
+    let inode = match Inode::of_open(&file) {
+        Ok(inode) => inode,
         Err(reason) => return Err(unidentified(name, reason)),
     };
     read.refuse(&inode, name)?;
-    Ok(Output::over(file, inode.is_regular))
+    Ok(Output::over(file, inode.kind == Kind::Regular))
 }
 
-fn cannot_create<'a>(name: &'a str, reason: io::Error) -> Failure<'a> {
+/// How to open a file that must not exist.
+pub(crate) fn new_file(mode: u32) -> OpenOptions {
+    let mut options = OpenOptions::new();
+    options.write(true).create_new(true).mode(mode);
+    options
+}
+
+pub(crate) fn cannot_create<'a>(name: &'a str, reason: io::Error) -> Failure<'a> {
     Failure::of_system(
         Fault::CannotCreate(Name(name)),
         Doing::Creating,
@@ -79,7 +102,7 @@ pub(crate) fn refuse_terminal<'a, W: IsTerminal>(job: &Job, out: &W) -> Result<(
 }
 
 /// The mode of a file that this command creates, before the system applies the umask.
-fn new_mode(command: Command) -> u32
+pub(crate) fn new_mode(command: Command) -> u32
     // The mode of a plaintext for `decrypt`, `range` and `salvage`, that of any other file for the
     // other commands. The clause cites the code's constants; only tests show that they are 600 and
     // 666.
@@ -92,7 +115,7 @@ fn new_mode(command: Command) -> u32
 }
 
 impl<F: OpenFile> Output<F> {
-    fn over(file: F, is_regular: bool) -> Output<F>
+    pub(crate) fn over(file: F, is_regular: bool) -> Output<F>
         // A regular file counts as having its old contents.
         ensures { result.is_stale ≡ is_regular }
     {
@@ -132,7 +155,7 @@ impl<F: OpenFile> Output<F> {
 
     /// Ends the output, the file of this name, after success: truncates a regular file to which
     /// nothing was written, and syncs a regular file.
-    pub fn finish<'a>(mut self, name: &'a str) -> Result<(), Failure<'a>>
+    pub(crate) fn finish<'a>(mut self, name: &'a str) -> Result<(), Failure<'a>>
     where
         F: Drop,
     {
@@ -153,7 +176,7 @@ impl<F: OpenFile> Output<F> {
     }
 }
 
-fn failed_write<'a>(doing: Doing, name: &'a str, reason: io::Error) -> Failure<'a> {
+pub(crate) fn failed_write<'a>(doing: Doing, name: &'a str, reason: io::Error) -> Failure<'a> {
     Failure::of_system(Fault::Write, doing, name, reason)
 }
 

@@ -6,14 +6,14 @@ ghost use Rattle.age_job.specs.Secret.{IsChoice, IsFileKeyOf, IsNewSecret, IsRea
 use crate::failure::{Detail, Failure};
 use crate::fault::Fault;
 use crate::file_names::{Name, Role};
-use crate::files::{Held, MOST_SMALL, NamedFile, ReadFiles, read_prefix};
+use crate::files::{Held, MOST_SMALL, NamedFile, ReadFiles, read_prefix, unidentified};
+use crate::inode::{Inode, Kind};
 use crate::job::Job;
 use crate::output::refuse_terminal;
 use crate::ranges::DEFAULT_SEED;
 use crate::secret::{SEED_LEN, Secret, exactly, without_line_end};
 use std::fs::OpenFile;
 use std::io::IsTerminal;
-use std::os::unix::fs::FileTypeExt;
 use std::rt::Files;
 
 /// Reads the secret of a command that has only one.
@@ -239,11 +239,8 @@ fn read_seed<'a, F: Files + AllocGlobal>(
     let role = Role::Seed;
     let named = NamedFile { role, name };
     let file = read.open_small(rt, named)?;
-    if name == DEFAULT_SEED && !is_char_device(&file) {
-        return Err(Failure::with(
-            Fault::CannotOpen(Name(name)),
-            Detail::NoDevice(role, Name(name)),
-        ));
+    if name == DEFAULT_SEED {
+        refuse_ordinary(&file, name)?;
     }
     let bytes = read_prefix(rt.alloc(), named, file, SEED_LEN)?;
     match exactly(bytes.as_slice()) {
@@ -255,11 +252,15 @@ fn read_seed<'a, F: Files + AllocGlobal>(
     }
 }
 
-/// Whether an open file is a character device.
-fn is_char_device<F: OpenFile>(file: &F) -> bool {
-    match file.metadata() {
-        Ok(found) => found.file_type().is_char_device(),
-        Err(_) => false,
+/// Refuses a seed file that is not a character device.
+fn refuse_ordinary<'a, F: OpenFile>(file: &F, name: &'a str) -> Result<(), Failure<'a>> {
+    match Inode::of_open(file) {
+        Ok(inode) if inode.kind == Kind::CharDevice => Ok(()),
+        Ok(_) => Err(Failure::with(
+            Fault::CannotOpen(Name(name)),
+            Detail::NoDevice(Role::Seed, Name(name)),
+        )),
+        Err(reason) => Err(unidentified(name, reason)),
     }
 }
 

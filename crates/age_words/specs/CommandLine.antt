@@ -18,9 +18,13 @@ word name = record (new_rule name) { action = Some Set; value_names = 1 }
 abbrev pub option : (s : ℕ) (name : Text) → Rule
 option s name = record (word name) { long = Some name; short = Some s }
 
+-- an option without a value, --name
+abbrev pub long_flag : (name : Text) → Rule
+long_flag name = record (new_rule name) { long = Some name; action = Some SetTrue }
+
 -- an option without a value, -s or --name
 abbrev pub flag : (s : ℕ) (name : Text) → Rule
-flag s name = record (new_rule name) { long = Some name; short = Some s; action = Some SetTrue }
+flag s name = record (long_flag name) { short = Some s }
 
 -- may be given several times
 abbrev pub several : Rule → Rule
@@ -68,6 +72,12 @@ seed = default (codes "/dev/urandom") (option (letter (codes "s")) (codes "seed"
 abbrev pub output : Rule
 output = option (letter (codes "o")) (codes "output")
 
+abbrev pub no_clobber : Rule
+no_clobber = flag (letter (codes "n")) (codes "no-clobber")
+
+abbrev pub atomic : Rule
+atomic = long_flag (codes "atomic")
+
 abbrev pub raw : Rule
 raw = flag (letter (codes "r")) (codes "raw")
 
@@ -93,13 +103,17 @@ with_rules command rules = fold with_rule command rules
 abbrev pub command : (name : Text) (rules : List Rule) → Shape
 command name rules = record (new_shape name) { rules = rules }
 
+-- the options of the commands that write OUT
+abbrev pub writing : List Rule
+writing = output ∷ no_clobber ∷ atomic ∷ []
+
 -- the options of the commands that unlock a file
 abbrev pub opening : List Rule
-opening = pass ∷ key ∷ max_work ∷ max_header ∷ output ∷ verbose ∷ []
+opening = pass ∷ key ∷ max_work ∷ max_header ∷ writing ++ verbose ∷ []
 
 abbrev pub encrypt : Shape
 encrypt = command (codes "encrypt")
-    (pass ∷ key ∷ work ∷ seed ∷ max_header ∷ output ∷ verbose ∷ input ∷ [])
+    (pass ∷ key ∷ work ∷ seed ∷ max_header ∷ writing ++ verbose ∷ input ∷ [])
 
 abbrev pub decrypt : Shape
 decrypt = command (codes "decrypt") (opening ++ input ∷ [])

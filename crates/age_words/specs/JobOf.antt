@@ -57,6 +57,8 @@ pub record JobOf (rows : List Row) (job : Job) : Type 0 where
   pub max_work : job.max_work ≡ number_or DEFAULT_MAX_WORK (codes "max-work") rows
   pub max_header : job.max_header ≡ number_or DEFAULT_MAX_HEADER (codes "max-header") rows
   pub output : option_map string_bytes job.output ≡ first_of (codes "output") rows
+  pub no_clobber : job.no_clobber ≡ is_set (codes "no-clobber") rows
+  pub atomic : job.atomic ≡ is_set (codes "atomic") rows
   pub raw : job.raw ≡ is_set (codes "raw") rows
   pub file_key : option_map string_bytes job.file_key ≡ first_of (codes "file-key") rows
   pub input : option_map string_bytes job.input ≡ first_of (codes "input") rows

@@ -6,10 +6,10 @@ ghost use Rattle.age_words.specs.CommandLine as line;
 ghost use Rattle.age_words.specs.CommandLine.{IsArg};
 
 use crate::texts::{
-    DECRYPT_END, ENCRYPT_END, ENCRYPTED_OUTPUT_HELP, FILE_KEY_HELP, INPUT_HELP, INSPECT_END,
-    KEY_HELP, MAX_HEADER_HELP, MAX_WORK_HELP, NEW_KEY_HELP, NEW_PASS_HELP, PASS_HELP,
-    PLAIN_OUTPUT_HELP, RANGE_END, REWRAP_END, SALT_HELP, SALVAGE_END, SEED_HELP,
-    SEEKABLE_INPUT_HELP, VERBOSE_HELP, WHOLE_END, WORK_HELP,
+    ATOMIC_HELP, DECRYPT_END, ENCRYPT_END, ENCRYPTED_OUTPUT_HELP, FILE_KEY_HELP, INPUT_HELP,
+    INSPECT_END, KEY_HELP, MAX_HEADER_HELP, MAX_WORK_HELP, NEW_KEY_HELP, NEW_PASS_HELP,
+    NO_CLOBBER_HELP, PASS_HELP, PLAIN_OUTPUT_HELP, RANGE_END, REWRAP_END, SALT_HELP, SALVAGE_END,
+    SEED_HELP, SEEKABLE_INPUT_HELP, VERBOSE_HELP, WHOLE_END, WORK_HELP,
 };
 use age_job::{DEFAULT_SEED, LEAST_HEADER, LEAST_WORK, MOST_HEADER, MOST_OFFSET, MOST_WORK};
 use clap::{Arg, ArgAction, Command, value_parser};
@@ -32,6 +32,10 @@ pub(crate) const MAX_WORK: &str = "max-work";
 pub(crate) const MAX_HEADER: &str = "max-header";
 
 pub(crate) const OUTPUT: &str = "output";
+
+pub(crate) const NO_CLOBBER: &str = "no-clobber";
+
+pub(crate) const ATOMIC: &str = "atomic";
 
 pub(crate) const RAW: &str = "raw";
 
@@ -133,7 +137,7 @@ fn encrypt_command<'a>(alloc: Global) -> Result<Command<'a>, AllocError>
     let command = with_arg(command, work_option(alloc))?;
     let command = with_arg(command, seed_option(alloc, SEED_HELP))?;
     let command = with_arg(command, max_header_option(alloc))?;
-    let command = with_arg(command, output_option(alloc, ENCRYPTED_OUTPUT_HELP))?;
+    let command = with_output_options(alloc, command, ENCRYPTED_OUTPUT_HELP)?;
     let command = with_arg(command, verbose_option(alloc))?;
     with_arg(command, input_word(alloc))
 }
@@ -164,8 +168,22 @@ fn with_opening_options<'a>(
     let command = with_arg(command, key_option(alloc))?;
     let command = with_arg(command, max_work_option(alloc))?;
     let command = with_arg(command, max_header_option(alloc))?;
-    let command = with_arg(command, output_option(alloc, output_help))?;
+    let command = with_output_options(alloc, command, output_help)?;
     with_arg(command, verbose_option(alloc))
+}
+
+/// The options of the commands that write OUT.
+fn with_output_options<'a>(
+    alloc: Global,
+    command: Command<'a>,
+    output_help: &'a str,
+) -> Result<Command<'a>, AllocError>
+    ensures { IfOk result
+        (λ more. shape_of more ≡ line.with_rules (shape_of command.entry) line.writing) }
+{
+    let command = with_arg(command, output_option(alloc, output_help))?;
+    let command = with_arg(command, no_clobber_option(alloc))?;
+    with_arg(command, atomic_option(alloc))
 }
 
 fn inspect_command<'a>(alloc: Global) -> Result<Command<'a>, AllocError>
@@ -295,6 +313,18 @@ fn output_option<'a>(alloc: Global, help: &'a str) -> Arg<'a>
     text_option(alloc, OUTPUT, 'o', "OUT", help)
 }
 
+fn no_clobber_option<'a>(alloc: Global) -> Arg<'a>
+    ensures { IsArg line.no_clobber result }
+{
+    flag(alloc, NO_CLOBBER, 'n', NO_CLOBBER_HELP)
+}
+
+fn atomic_option<'a>(alloc: Global) -> Arg<'a>
+    ensures { IsArg line.atomic result }
+{
+    long_flag(alloc, ATOMIC, ATOMIC_HELP)
+}
+
 fn input_word<'a>(alloc: Global) -> Arg<'a>
     ensures { IsArg line.input result }
 {
@@ -325,8 +355,13 @@ fn required_word<'a>(alloc: Global, id: &'a str, value_name: &'a str, help: &'a 
 fn flag<'a>(alloc: Global, id: &'a str, short: char, help: &'a str) -> Arg<'a>
     ensures { IsArg (line.flag short id.entry.now) result }
 {
+    long_flag(alloc, id, help).short(short)
+}
+
+fn long_flag<'a>(alloc: Global, id: &'a str, help: &'a str) -> Arg<'a>
+    ensures { IsArg (line.long_flag id.entry.now) result }
+{
     Arg::new(alloc, id)
-        .short(short)
         .long(id)
         .help(help)
         .action(ArgAction::SetTrue)

@@ -9,8 +9,9 @@ ghost use Rattle.age_words.specs.JobOf.{AsksForHelp, IsTaken, JobOf, Reads, is_s
 
 use crate::fault::WordsFault;
 use crate::options::{
-    AT, DEFAULT_MAX_HEADER, DEFAULT_MAX_WORK, DEFAULT_WORK, FILE_KEY, INPUT, KEY, LEN, MAX_HEADER,
-    MAX_WORK, NEW_KEY, NEW_PASS, OUTPUT, PASS, RAW, SEED, VERBOSE, WORK, whole_command,
+    AT, ATOMIC, DEFAULT_MAX_HEADER, DEFAULT_MAX_WORK, DEFAULT_WORK, FILE_KEY, INPUT, KEY, LEN,
+    MAX_HEADER, MAX_WORK, NEW_KEY, NEW_PASS, NO_CLOBBER, OUTPUT, PASS, RAW, SEED, VERBOSE, WORK,
+    whole_command,
 };
 use age_job::{Command, DEFAULT_SEED, Job};
 use clap::ArgMatches;
@@ -91,6 +92,8 @@ fn job_of(alloc: Global, command: Command, matches: &ArgMatches<'_>) -> Result<J
         max_work: number_or(matches, MAX_WORK, u64::from(DEFAULT_MAX_WORK)) as u8,
         max_header: number_or(matches, MAX_HEADER, DEFAULT_MAX_HEADER) as usize,
         output: text_of(alloc, matches, OUTPUT)?,
+        no_clobber: is_set(matches, NO_CLOBBER),
+        atomic: is_set(matches, ATOMIC),
         raw: is_set(matches, RAW),
         file_key: text_of(alloc, matches, FILE_KEY)?,
         input: text_of(alloc, matches, INPUT)?,

@@ -1,0 +1,197 @@
+//! How OUT is written: in place, or with `--atomic` by a new file that takes its place.
+
+ghost use Rattle.std.specs.Prelude.{◌≡◌, false};
+
+use crate::failure::{Detail, Doing, Failure};
+use crate::fault::Fault;
+use crate::file_names::Name;
+use crate::files::{ReadFiles, unidentified};
+use crate::inode::{Inode, Kind};
+use crate::job::Job;
+use crate::output::{
+    Output, PLAINTEXT_MODE, cannot_create, failed_write, new_file, new_mode, open_in_place,
+    refuse_output,
+};
+use std::fs::{Metadata, OpenFile, Permissions};
+use std::io::ErrorKind;
+use std::os::unix::fs::{MetadataExt, PermissionsExt, lchown};
+use std::rt::Files;
+use std::{fs, io};
+
+/// The end of the new file's name.
+const NEW: &str = ".agep-new";
+
+/// The permissions that a new file takes over from the one that it replaces.
+const PERMISSIONS: u32 = 0o777;
+
+/// Those of the owner and of others.
+const WITHOUT_GROUP: u32 = 0o707;
+
+/// How a job writes OUT.
+#[derive(Drop)]
+pub enum Target {
+    InPlace,
+    /// By a new file; or why that fails: where OUT leads is not known, or memory was refused.
+    Replaced(io::Result<Replacement>),
+}
+
+/// A file to replace, and the new file beside it.
+#[derive(Drop)]
+pub struct Replacement {
+    /// The name of OUT, or of the file to which it leads if it is a symbolic link.
+    old: String,
+    new: String,
+}
+
+impl Target {
+    /// Finds out how this job writes OUT.
+    pub fn of<F: Files + AllocGlobal>(rt: &F, job: &Job) -> Target
+        // Without `--atomic` OUT itself is written.
+        ensures { job.now.atomic ≡ false → result ≡ Target.InPlace }
+    {
+        match &job.output {
+            Some(name) if job.atomic => Target::Replaced(Replacement::of(rt, name.as_str())),
+            _ => Target::InPlace,
+        }
+    }
+
+    /// Opens what is to be written for OUT, the file of this name. It is created if it does not
+    /// exist; a new file that takes the place of OUT must not exist. Refuses an OUT that the job
+    /// reads, except an IN that is replaced.
+    pub fn create<'a, F: Files>(
+        &'a self,
+        rt: &F,
+        job: &'a Job,
+        read: &ReadFiles<'a>,
+        name: &'a str,
+    ) -> Result<Output<F::File>, Failure<'a>> {
+        let Target::Replaced(found) = self else {
+            return open_in_place(rt, job, read, name);
+        };
+        match found {
+            Ok(replacement) => replacement.create(rt, job, read, name),
+            Err(reason) if reason.kind() == ErrorKind::OutOfMemory => Err(
+                Fault::OutOfMemory.into(),
+            ),
+            Err(reason) => Err(cannot_create(name, *reason)),
+        }
+    }
+
+    /// Ends the output after success, and gives a new file the name of OUT.
+    pub fn finish<'a, F: Files>(
+        &self,
+        rt: &F,
+        job: &'a Job,
+        output: Output<F::File>,
+        name: &'a str,
+    ) -> Result<(), Failure<'a>> {
+        let ended = match output.finish(name) {
+            Ok(()) => self.replace(rt, job, name),
+            Err(failure) => Err(failure),
+        };
+        if ended.is_err() {
+            self.discard(rt);
+        }
+        ended
+    }
+
+    fn replace<'a, F: Files>(
+        &self,
+        rt: &F,
+        job: &'a Job,
+        name: &'a str,
+    ) -> Result<(), Failure<'a>> {
+        let Target::Replaced(Ok(Replacement { old, new })) = self else {
+            return Ok(());
+        };
+        refuse_output(rt, job)?;
+        match fs::rename(rt, new.as_str(), old.as_str()) {
+            Ok(()) => Ok(()),
+            Err(reason) => Err(failed_write(Doing::Replacing, name, reason)),
+        }
+    }
+
+    /// Removes a new file after a fault. It stays if the system does not let it be removed.
+    pub fn discard<F: Files>(&self, rt: &F) {
+        if let Target::Replaced(Ok(replacement)) = self {
+            let _ = fs::remove_file(rt, replacement.new.as_str());
+        }
+    }
+}
+
+impl Replacement {
+    fn of<F: Files + AllocGlobal>(rt: &F, name: &str) -> io::Result<Replacement> {
+        let old = followed(rt, name)?;
+        let mut new = old.clone()?;
+        new.push_str(NEW)?;
+        Ok(Replacement { old, new })
+    }
+
+    fn create<'a, F: Files>(
+        &'a self,
+        rt: &F,
+        job: &'a Job,
+        read: &ReadFiles<'a>,
+        name: &'a str,
+    ) -> Result<Output<F::File>, Failure<'a>> {
+        let found = self.found(rt, read, name)?;
+        let mode = match &found {
+            Some(_) => PLAINTEXT_MODE,
+            None => new_mode(job.command),
+        };
+        let file = match new_file(mode).open(rt, self.new.as_str()) {
+            Ok(file) => file,
+            Err(reason) if reason.kind() == ErrorKind::AlreadyExists => {
+                let new = Name(self.new.as_str());
+                return Err(Failure::with(Fault::NewFileExists(new), Detail::NewFile(new)));
+            }
+            Err(reason) => return Err(cannot_create(name, reason)),
+        };
+        if let Some(found) = &found
+            && let Err(reason) = self.keep_owner(rt, &file, found)
+        {
+            let _ = fs::remove_file(rt, self.new.as_str());
+            return Err(cannot_create(name, reason));
+        }
+        Ok(Output::over(file, true))
+    }
+
+    /// What is known of the file to replace, if there is one. It must be regular, and not the file
+    /// of a secret.
+    fn found<'a, F: Files>(
+        &self,
+        rt: &F,
+        read: &ReadFiles<'a>,
+        name: &'a str,
+    ) -> Result<Option<Metadata>, Failure<'a>> {
+        let found = match fs::metadata(rt, self.old.as_str()) {
+            Ok(found) => found,
+            Err(reason) if reason.kind() == ErrorKind::NotFound => return Ok(None),
+            Err(reason) => return Err(unidentified(name, reason)),
+        };
+        let inode = Inode::of(&found);
+        if inode.kind != Kind::Regular {
+            return Err(Fault::OutputIsSpecial(Name(name)).into());
+        }
+        read.refuse_secrets(&inode, name)?;
+        Ok(Some(found))
+    }
+
+    /// Gives the new file the permissions of the file that it replaces and, if the system allows
+    /// it, its owner and group. Another group gets no permission.
+    fn keep_owner<F: Files>(&self, rt: &F, file: &F::File, found: &Metadata) -> io::Result<()> {
+        let new = self.new.as_str();
+        let (owner, group) = (Some(found.uid()), Some(found.gid()));
+        let is_kept = lchown(rt, new, owner, group).is_ok() || lchown(rt, new, None, group).is_ok();
+        let kept = if is_kept { PERMISSIONS } else { WITHOUT_GROUP };
+        file.set_permissions(Permissions::from_mode(found.mode() & kept))
+    }
+}
+
+/// The file to which a symbolic link leads; any other name stays as it is.
+fn followed<F: Files + AllocGlobal>(rt: &F, name: &str) -> io::Result<String> {
+    match fs::symlink_metadata(rt, name) {
+        Ok(found) if found.is_symlink() => Ok(rt.canonicalize(rt.alloc(), name)?.into_string()),
+        _ => Ok(String::from_str(rt.alloc(), name)?),
+    }
+}

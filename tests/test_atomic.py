@@ -1,0 +1,310 @@
+"""`--atomic` and `--no-clobber`: OUT is the old file or the whole new one, whatever fails, and no other
+file stays."""
+
+import os
+import shutil
+import signal
+import subprocess
+import time
+
+import fixture
+from fixture import HELLO, KEY, NEW_KEY
+from messages import message
+from program import AGEP, IO_ERROR, OPENING, ProgramCase, fault, preload, read, write
+from test_calls import YESTERDAY, CallCase
+from test_files import WRITING, Files
+
+ATOMIC = "--atomic -o"
+NEW = "made.agep-new"
+
+
+def wait_for(is_met):
+    for _ in range(6000):
+        if is_met():
+            return
+        time.sleep(0.01)
+    raise AssertionError("it did not come in a minute")
+
+
+class Calls(CallCase):
+    def is_old_or_new(self, ran, job, form):
+        """A judge: OUT is whole, the old one or the new one by the status, and it stands alone."""
+        self.assertFalse(os.path.exists(NEW), "the new file was left")
+        if ran.status == 0:
+            self.is_whole(ran, job, form)
+        else:
+            self.assertEqual(ran.status, 1)
+            self.assertTrue(ran.err)
+            self.assert_bytes(self.made, YESTERDAY, "OUT")
+
+    def is_old(self, ran, job, form):
+        self.assertNotEqual(ran.status, 0)
+        self.is_old_or_new(ran, job, form)
+
+    def test_failing(self):
+        """Each call of the system fails in turn."""
+        for job in self.jobs:
+            if job.has_out:
+                for kind in ("open", "read", "write", "ftruncate", "fsync", "fchmod", "rename"):
+                    self.each_call(kind, IO_ERROR, job, ATOMIC, self.is_old)
+                for kind in ("statx", "lchown"):
+                    self.each_call(kind, IO_ERROR, job, ATOMIC, self.is_old_or_new)
+        self.each_call("lseek", IO_ERROR, self.jobs[3], ATOMIC, self.is_old)
+
+    def test_short(self):
+        """A write that moves less is followed by another one."""
+        for job in self.jobs:
+            if job.has_out:
+                self.each_call("write", "one", job, ATOMIC, self.is_whole)
+
+    def test_order(self):
+        """The new file is written, synced and renamed, in this order; OUT is not touched."""
+        self.is_whole(self.run_job(self.jobs[1], ATOMIC), self.jobs[1], ATOMIC)
+        kinds = [line.split()[0] for line in read("trace").decode().splitlines() if NEW in line]
+        self.assertEqual([kinds[0], *kinds[-2:]], ["ftruncate", "fsync", "rename"])
+        self.assertEqual(set(kinds[1:-2]), {"write"})
+        self.assertNotIn(" made ", read("trace").decode())
+
+    def test_left(self):
+        """A new file that cannot be removed stays, and the next run is refused until it is gone."""
+        for call in ("write", "fsync", "rename", "fchmod"):
+            with self.subTest(call):
+                write("made", YESTERDAY)
+                env = {"LD_PRELOAD": preload("calls"), "KEPT": "1", "CALL": call, "NUMBER": "1", "DO": IO_ERROR}
+                words = "encrypt", "-v", "-k", "key", "-s", "seed", "--atomic", "-o", "made", "plain"
+                self.assertEqual(self.run_agep(*words, env=env).status, 1)
+                self.assertTrue(os.path.exists(NEW))
+                line, more = message("NewFileExists", NEW), f"{NEW}: if no agep is writing it, remove it"
+                self.says(line, *words, more=more)
+                self.assert_file("made", YESTERDAY)
+                os.remove(NEW)
+                self.writes(b"", *words)
+                self.assertNotEqual(read("made"), YESTERDAY)
+
+    def test_explained(self):
+        """With -v the second line says what failed."""
+        for call, name, more in (
+            ("open", message("CannotCreate", "made"), "creating made"), ("fchmod", message("CannotCreate", "made"), "creating made"),
+            ("fsync", message("Write"), "syncing made"), ("rename", message("Write"), "replacing made"),
+        ):
+            with self.subTest(call):
+                write("made", YESTERDAY)
+                env = {"LD_PRELOAD": preload("calls"), "CALL": call, "NUMBER": "3" if call == "open" else "1", "DO": IO_ERROR}
+                words = "decrypt", "-v", "-k", "key", "--atomic", "-o", "made", "key.age"
+                self.says(name, *words, more=f"{more}: Input/output error", env=env)
+
+
+class Runs(ProgramCase):
+    def start(self, *words):
+        return subprocess.Popen([AGEP, *words], stdin=subprocess.PIPE, stderr=subprocess.PIPE)
+
+    def test_at_once(self):
+        """Of several runs at once on one OUT one ends well, and OUT is that one's."""
+        for count in (2, 20):
+            with self.subTest(count):
+                write("made", YESTERDAY)
+                runs = [self.start("encrypt", "-k", "key", "-s", "seed", "--atomic", "-o", "made") for _ in range(count)]
+                wait_for(lambda: sum(run.poll() is None for run in runs) == 1)
+                (last,) = (run for run in runs if run.poll() is None)
+                self.assert_file("made", YESTERDAY)
+                for run in runs:
+                    if run is not last:
+                        self.assertEqual((run.returncode, run.communicate()[1]), (1, fault(message("NewFileExists", NEW)).encode()))
+                text = b"run %d\n" % runs.index(last)
+                self.assertEqual((last.communicate(text)[1], last.returncode), (b"", 0))
+                self.assert_file("made", fixture.for_keys(text, KEY))
+                self.assertFalse(os.path.exists(NEW))
+
+    def test_killed(self):
+        """A run that is killed leaves its new file and the old OUT, and the next one is refused."""
+        for number in (signal.SIGTERM, signal.SIGKILL, signal.SIGINT):
+            with self.subTest(number.name):
+                write("made", YESTERDAY)
+                run = self.start("encrypt", "-k", "key", "--atomic", "-o", "made")
+                run.stdin.write(fixture.PLAIN)
+                run.stdin.flush()
+                wait_for(lambda: os.path.exists(NEW) and os.path.getsize(NEW))
+                run.send_signal(number)
+                run.communicate()
+                self.assertEqual(run.returncode, -number)
+                self.says(message("NewFileExists", NEW), "encrypt", "-k", "key", "--atomic", "-o", "made", "hello")
+                self.assert_file("made", YESTERDAY)
+                os.remove(NEW)
+
+
+class Atomic(Files):
+    def tearDown(self):
+        for name in ("made", "linked"):
+            if os.path.lexists(name):
+                os.remove(name)
+        super().tearDown()
+
+    def test_made(self):
+        """Each command makes a new OUT, or puts a new file in the place of the old one, and writes the same as without
+        the option."""
+        for line in WRITING:
+            line += " -s seed" * line.startswith(("encrypt", "rewrap"))
+            expected = self.run_line(line).out
+            for is_old in (False, True):
+                with self.subTest(f"{line}, {'an' if is_old else 'no'} OUT was there"):
+                    if is_old:
+                        write("made", YESTERDAY)
+                        os.link("made", "hard")
+                    self.assert_ended(self.run_line(f"{line} --atomic -o made"))
+                    self.assert_file("made", expected)
+                    self.assertFalse(os.path.exists(NEW))
+                    if is_old:
+                        self.assert_file("hard", YESTERDAY)
+                        os.remove("hard")
+                    os.remove("made")
+
+    def test_faults(self):
+        """After a fault of the file OUT is as it was, or not there."""
+        for name, line in (
+            ("WrongKey", "decrypt -k other.key key.age"), ("BadChunk: 1", "decrypt -k key damaged_two.age"), ("NotAge", "rewrap -k key -K key hello"),
+            ("BadChunk: 0", "range -k key 0 5 damaged.age"), ("Read", "encrypt -k key folder"), ("CannotOpen: absent", "salvage -k key absent"),
+        ):
+            for out in ("yesterday", "absent_out"):
+                with self.subTest(f"{line}, {out}"):
+                    self.changes_nothing(name, f"{line} --atomic -o {out}")
+        with self.subTest("a loss of salvage"):
+            write("made", YESTERDAY)
+            self.assertEqual(self.run_line("salvage -k key --atomic -o made damaged_two.age").status, 1)
+            self.assert_file("made", YESTERDAY)
+            self.assertFalse(os.path.exists(NEW))
+
+    def test_in(self):
+        """IN may be OUT, by whatever name; a secret may not."""
+        rotated = fixture.for_keys(HELLO, NEW_KEY)
+        for line, source, expected in (
+            ("encrypt -k key -s seed", HELLO, read("key.age")), ("decrypt -k key", read("key.age"), HELLO), ("salvage -k key", read("key.age"), HELLO),
+            ("range -k key 1 3", read("key.age"), b"ell"), ("rewrap -k key -K new.key -s seed", read("key.age"), rotated),
+        ):
+            for name in ("made", "./made", "linked"):
+                with self.subTest(f"{line}, {name}"):
+                    write("made", source)
+                    if not os.path.lexists("linked"):
+                        os.symlink("made", "linked")
+                    self.assert_ended(self.run_line(f"{line} --atomic -o made {name}"))
+                    self.assert_file("made", expected)
+        for role, name, line in (
+            ("Key", "key", "encrypt -k key hello"), ("Key", "key", "decrypt -k key key.age"), ("NewKey", "new.key", "rewrap -k key -K new.key key.age"),
+            ("Passphrase", "pass", "decrypt -p pass pass.age"), ("Seed", "seed", "encrypt -k key -s seed hello"), ("Key", "key", "encrypt -k key key"),
+        ):
+            with self.subTest(f"{line}, {name}"):
+                self.changes_nothing(f"OutputIsRead: {role}, {name}", f"{line} --atomic -o {name}")
+
+    def test_modes(self):
+        """A new file has the mode and the owner of the old one. A group that cannot be kept gets no permission."""
+        for mode in (0o640, 0o604, 0o666, 0o400):
+            for umask in (0o000, 0o077):
+                with self.subTest(f"{mode:o}, umask {umask:03o}"):
+                    write("made", YESTERDAY)
+                    os.chmod("made", mode)
+                    self.assert_ended(self.run_line("decrypt -k key --atomic -o made key.age", umask=umask))
+                    self.assertEqual(f"{os.stat('made').st_mode & 0o7777:o}", f"{mode:o}")
+                    os.remove("made")
+        with self.subTest("the system does not let the owner be kept"):
+            write("made", YESTERDAY)
+            os.chmod("made", 0o664)
+            env = {"LD_PRELOAD": preload("calls"), "CALL": "lchown", "NUMBER": "0", "DO": "1"}
+            self.assert_ended(self.run_line("decrypt -k key --atomic -o made key.age", env=env))
+            self.assertEqual(f"{os.stat('made').st_mode & 0o7777:o}", "604")
+            os.remove("made")
+        for line in WRITING:
+            mode = 0o666 if line.startswith(("encrypt", "rewrap")) else 0o600
+            with self.subTest(f"{line}, a new OUT"):
+                self.assert_ended(self.run_line(f"{line} --atomic -o made", umask=0o022))
+                self.assertEqual(f"{os.stat('made').st_mode & 0o777:o}", f"{mode & 0o755:o}")
+                os.remove("made")
+        if os.geteuid() == 0:
+            with self.subTest("another owner"):
+                write("made", YESTERDAY)
+                os.chown("made", 65534, 65533)
+                self.assert_ended(self.run_line("decrypt -k key --atomic -o made key.age"))
+                self.assertEqual((os.stat("made").st_uid, os.stat("made").st_gid), (65534, 65533))
+
+    def test_links(self):
+        """A symbolic link stays one, and the file to which it leads is replaced, in its own folder."""
+        os.mkdir("other")
+        for target in ("other/made", f"{self.folder}/other/made"):
+            with self.subTest(target):
+                write("other/made", YESTERDAY)
+                os.symlink(target, "linked")
+                self.assert_ended(self.run_line("decrypt -k key --atomic -o linked key.age"))
+                self.assertEqual((os.readlink("linked"), read("other/made")), (target, HELLO))
+                self.assertEqual(os.listdir("other"), ["made"])
+                new = os.path.realpath("other/made") + ".agep-new"
+                write(new, b"")
+                self.line_says(f"NewFileExists: {new}", "decrypt -k key --atomic -o linked key.age")
+                os.remove(new)
+                os.remove("linked")
+        with self.subTest("a link that leads nowhere"):
+            os.symlink("nowhere", "linked")
+            more = "creating linked: No such file or directory"
+            self.changes_nothing("CannotCreate: linked", "decrypt -v -k key --atomic -o linked key.age", more=more)
+            self.assertFalse(os.path.exists("nowhere"))
+        shutil.rmtree("other")
+
+    def test_special(self):
+        """A folder, a device or a pipe is refused, and so is a name that cannot be made."""
+        os.mkfifo("made")
+        rows = [("OutputIsSpecial", name) for name in ("folder", "folder/", ".", "/dev/null", "/dev/full", "made")]
+        rows += [("CannotCreate", name) for name in ("absent/made", "/dev/stdout", "x" * 250)]
+        for line, name in rows:
+            with self.subTest(name[:20]):
+                self.changes_nothing(f"{line}: {name}", f"decrypt -k key --atomic -o {name} key.age")
+        with self.subTest("no name"):
+            self.changes_nothing("Write", "decrypt -k key --atomic -o '' key.age")
+
+    def test_alone(self):
+        """It needs OUT."""
+        for line in ("encrypt -k absent absent", *(f"{it} absent" for it in OPENING)):
+            with self.subTest(line):
+                self.changes_nothing("AtomicAlone", f"{line} --atomic")
+
+
+class NoClobber(Files):
+    def test_exists(self):
+        """An OUT that is there is refused, whatever it is, before anything is read."""
+        os.mkfifo("pipe")
+        os.symlink("nowhere", "dangling")
+        os.symlink("hello", "linked")
+        for name in ("yesterday", "empty", "folder", "/dev/null", "pipe", "dangling", "linked", "key"):
+            for option in ("-n", "--no-clobber", "-n --atomic"):
+                for command in ("encrypt -k absent", "decrypt", *OPENING):
+                    with self.subTest(f"{command} {option} -o {name}"):
+                        self.changes_nothing(f"OutputExists: {name}", f"{command} {option} -o {name} absent")
+        self.assertEqual(os.readlink("dangling"), "nowhere")
+
+    def test_made(self):
+        """Otherwise it changes nothing, also without OUT."""
+        for line in WRITING:
+            line += " -s seed" * line.startswith(("encrypt", "rewrap"))
+            expected = self.run_line(line).out
+            for options in ("-n -o made", "--atomic -n -o made"):
+                with self.subTest(f"{line} {options}"):
+                    self.assert_ended(self.run_line(f"{line} {options}"))
+                    self.assert_file("made", expected)
+                    os.remove("made")
+            with self.subTest(f"{line} -n"):
+                self.assert_ended(self.run_line(f"{line} -n"), out=expected)
+
+    def test_made_meanwhile(self):
+        """An OUT that came to be after the first look stays."""
+        for options in ("-n", "-n --atomic"):
+            with self.subTest(options):
+                words = [AGEP, "encrypt", "-k", "key", *options.split(), "-o", "made"]
+                run = subprocess.Popen(words, stdin=subprocess.PIPE, stderr=subprocess.PIPE)
+                if "--atomic" in options:
+                    wait_for(lambda: os.path.exists(NEW))
+                    write("made", YESTERDAY)
+                    self.assertEqual((run.communicate(HELLO)[1], run.returncode), (fault(message("OutputExists", "made")).encode(), 1))
+                else:
+                    run.communicate(HELLO)
+                    env = {"LD_PRELOAD": preload("calls"), "CALL": "statx", "NUMBER": "0", "DO": IO_ERROR}
+                    write("made", YESTERDAY)
+                    self.line_says("OutputExists: made", "encrypt -k key -s seed -n -o made hello", env=env)
+                self.assert_file("made", YESTERDAY)
+                self.assertFalse(os.path.exists(NEW))
+                os.remove("made")
