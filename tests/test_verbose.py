@@ -16,6 +16,7 @@ RAW_KEY, RAW_FILE_KEY = "a key file holds 32 raw bytes, no hexadecimal", "a file
 SHORT_SEED, NO_BYTE = "a seed file holds at least 48 bytes", "no byte, or one LF alone"
 CUT_OR_LONGER = "is the last: the file may be cut short, or have bytes behind its end"
 FRONT, SEALED = 172, 65552
+MARK, A_MARK = b"\xef\xbb\xbf", "a byte-order mark"
 
 
 def no_growth():
@@ -137,6 +138,16 @@ class SmallFiles(Verbose):
             self.explains("NoPassphrase", f"passphrase file {name}: {NO_BYTE}", f"encrypt -p {name} hello")
             self.explains("NoPassphrase", f"new passphrase file {name}: {NO_BYTE}", f"rewrap -k key -P {name} key.age")
 
+    def test_untyped(self):
+        """Passphrases for a new file that nobody types."""
+        for name, text, why in (
+            ("cr", b"word\r", "ends in CR"), ("cr.lf", b"word\r\n", "ends in CR"), ("mark", MARK + b"word\n", f"begins with {A_MARK}"),
+            ("both", MARK + b"word\r\n", f"begins with {A_MARK} and ends in CR"), ("lines", MARK + b"word\n\n", f"begins with {A_MARK} and ends in LF"),
+        ):
+            write(name, text)
+            self.explains("UntypedPassphrase", f"passphrase file {name}: the passphrase {why}", f"encrypt -p {name} hello")
+            self.explains("UntypedPassphrase", f"new passphrase file {name}: the passphrase {why}", f"rewrap -k key -P {name} key.age")
+
 
 class Headers(Verbose):
     def test_fronts(self):
@@ -212,6 +223,8 @@ class Headers(Verbose):
             ("pass.txt", PASSPHRASE + b"\r\n", "15 bytes; the passphrase ends in CR"),
             (" cr", PASSPHRASE + b"\r", "14 bytes; the passphrase ends in CR"),
             ("lines", PASSPHRASE + b"\n\n", "15 bytes; the passphrase ends in LF"),
+            ("mark", MARK + PASSPHRASE, f"16 bytes; the passphrase begins with {A_MARK}"),
+            ("both", MARK + PASSPHRASE + b"\r\n", f"18 bytes; the passphrase begins with {A_MARK} and ends in CR"),
         ):
             write(name, text)
             word, shown = shlex.quote(name), f'"{name}"' if " " in name else name

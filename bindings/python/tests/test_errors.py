@@ -79,6 +79,8 @@ class Hints(InFolder):
         yield "wrong key", plain, Key(bytes(32))
         yield "wrong passphrase", by_word, Passphrase("word")
         yield "CR", by_word, Passphrase("passphrase word"[:13] + "\r")
+        yield "mark", by_word, Passphrase("\ufeffpassphrase!")
+        yield "mark and LF", by_word, Passphrase("\ufeffpassphrase\n")
         yield "salt", by_word.replace(salt, b"AAAA"), Passphrase("pass")
         for work in ("23", "24", "30", "31", "9" * 40):
             yield f"work {work}", SCRYPT.format("A" * 22, work, "A" * 43, "A" * 43).encode(), Passphrase("pass")

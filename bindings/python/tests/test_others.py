@@ -4,6 +4,7 @@ read here, and what is made here they read; and what of a new file has to be fre
 import base64
 import io
 import os
+import pickle
 import shutil
 import subprocess
 import sys
@@ -218,13 +219,30 @@ class Programs(InFolder):
     @unittest.skipUnless(os.path.exists(AGEP), "agep is not built")
     def test_passphrase_files_of_agep(self):
         """`from_file` takes the line end that agep takes."""
-        for data in (b"word", b"word\n", b"word\n\n", b"word\r\n", b"two\nlines\n", b"\xff"):
+        for data in (b"word", b"word\n", b"word\n\n", b"two\nlines\n", b"\xff"):
             self.put(data, "pass")
             secret = Passphrase.from_file("pass", work=2)
             with self.subTest(data):
                 self.assertEqual(self.run_on(agefile.encrypt(b"text", recipients=secret), AGEP, "decrypt", "-p", "pass"), b"text")
         self.put(bytes(65537), "pass")
         self.assertRaises(ValueError, Passphrase.from_file, "pass")
+
+    def test_passphrase_files_that_nobody_types(self):
+        """They make no file in any way, as for agep, and open those that others made."""
+        for data in (b"word\r", b"word\r\n", b"\r", b"\xef\xbb\xbfword", b"\xef\xbb\xbfword\n", b"\xef\xbb\xbfword\r\n"):
+            secret = Passphrase.from_file(io.BytesIO(data), work=1)
+            for number, call in enumerate((
+                lambda secret: agefile.encrypt(b"text", recipients=secret),
+                lambda secret: agefile.copy(io.BytesIO(b"text"), io.BytesIO(), recipients=secret),
+                lambda secret: agefile.open("made", "wb", recipients=secret),
+                lambda secret: agefile.rewrap(agefile.encrypt(b"", recipients=KEY), identities=KEY, recipients=secret),
+                lambda secret: pickle.loads(pickle.dumps(secret)).wrap(bytes(16)),
+            )):
+                with self.subTest(f"{data!r}, {number}"), self.assertRaisesRegex(ValueError, "passphrase ends in CR or begins with a byte-order mark"):
+                    call(secret)
+            self.assertFalse(os.path.exists("made"))
+            file = agefile.encrypt(b"text", recipients=Passphrase(data.removesuffix(b"\n"), work=1))
+            self.assertEqual(agefile.decrypt(file, identities=secret), b"text")
 
     def test_key_files(self):
         self.put(bytes(range(32)), "key")

@@ -23,6 +23,8 @@ pub enum Detail<'a> {
     Size(Role, Name<'a>, usize),
     /// The passphrase file is empty.
     NoPassphrase(Role, Name<'a>),
+    /// What the passphrase begins or ends with that nobody types.
+    UntypedPassphrase(Role, Name<'a>, &'static str),
     /// The file is not a device.
     NoDevice(Role, Name<'a>),
 }
@@ -110,6 +112,10 @@ impl fmt::Display for Detail<'_> {
                 let (words, name) = (role.words(), Quoted(*name));
                 write!(f, "{words} {name}: no byte, or one LF alone")
             }
+            Detail::UntypedPassphrase(role, name, ends) => {
+                let (words, name) = (role.words(), Quoted(*name));
+                write!(f, "{words} {name}: the passphrase {ends}")
+            }
             Detail::NoDevice(role, name) => {
                 let (words, name) = (role.words(), Quoted(*name));
                 write!(
@@ -160,11 +166,11 @@ impl fmt::Display for Tried<'_, '_> {
                     let (words, name) = (role.words(), Quoted(Name(name)));
                     let len = Bytes(u128::from(held.len));
                     write!(f, "{before}{words} {name} ({len}")?;
-                    f.write_str(match held.last {
-                        Some(b'\r') => "; the passphrase ends in CR)",
-                        Some(b'\n') => "; the passphrase ends in LF)",
-                        _ => ")",
-                    })?;
+                    let ends = held.ends;
+                    if !ends.is_empty() {
+                        write!(f, "; the passphrase {ends}")?;
+                    }
+                    f.write_str(")")?;
                     before = ", ";
                 }
                 _ => {}

@@ -38,8 +38,8 @@ pub(crate) struct ReadFile<'a> {
 pub(crate) struct Held {
     /// The length in bytes.
     pub(crate) len: u64,
-    /// The last byte of a passphrase.
-    pub(crate) last: Option<u8>,
+    /// What a passphrase begins or ends with that nobody types, or nothing.
+    pub(crate) ends: &'static str,
 }
 
 /// The files that a job has opened for reading. The file to write is compared with them.
