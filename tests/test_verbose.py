@@ -16,6 +16,8 @@ RAW_KEY, RAW_FILE_KEY = "a key file holds 32 raw bytes, no hexadecimal", "a file
 SHORT_SEED, NO_BYTE = "a seed file holds at least 48 bytes", "no byte, or one LF alone"
 CUT_OR_LONGER = "is the last: the file may be cut short, or have bytes behind its end"
 FRONT, SEALED = 172, 65552
+# Unicode Standard Annex 9, section 2
+DIRECTING = "\u061c\u200e\u200f\u202a\u202b\u202c\u202d\u202e\u2066\u2067\u2068\u2069"
 MARK, A_MARK = b"\xef\xbb\xbf", "a byte-order mark"
 
 
@@ -53,7 +55,7 @@ class Files(Verbose):
 
     def test_names(self):
         """The second line tells each name from all others: it stands in quotation marks where it is empty or has a
-        blank at an end, and what sets the direction of writing is an escape."""
+        blank at an end. What sets the direction of writing is an escape on both lines."""
         for name, first, second in (
             ("", "", '""'),
             (" ", " ", '" "'),
@@ -63,7 +65,8 @@ class Files(Verbose):
             ('" a"', '" a"', '\\" a\\"'),
             ("a\\nb", "a\\nb", "a\\\\nb"),
             ("a\nb", "a\\nb", "a\\nb"),
-            ("a\u202eb", "a\u202eb", "a\\u{202e}b"),
+            *((f"a{c}b", f"a\\u{{{ord(c):x}}}b", f"a\\u{{{ord(c):x}}}b") for c in DIRECTING),
+            ("a\u200db\u2065", "a\u200db\u2065", "a\u200db\u2065"),
         ):
             self.explains(f"CannotOpen: {first}", f"opening {second}: {NO_FILE}", f"inspect {shlex.quote(name)}")
         write(" key", b"")
