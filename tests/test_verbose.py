@@ -6,7 +6,7 @@ import shlex
 import signal
 
 from fixture import PASSPHRASE, PLAIN, SEED, changed, with_other_mac
-from program import BY_PASSPHRASE, OPENING, ProgramCase, read, write
+from program import BY_PASSPHRASE, OPENING, ProgramCase, preload, read, write
 from test_headers import ZERO_MAC, ZERO_SALT, header_in, header_of, table
 
 # The commands that read the header of IN, which is to follow.
@@ -158,7 +158,8 @@ class Headers(Verbose):
         key_age = read("key.age")
         for name, text in (
             ("armor", b"-----BEGIN AGE ENCRYPTED FILE-----\n"),
-            ("mark", b"\xef\xbb\xbfage-encryption.org/v1\n"),
+            ("mark", MARK + b"age-encryption.org/v1\n"),
+            ("crlf", key_age.replace(b"\n", b"\r\n")),
             ("version", b"age-encryption.org/v2\n"),
             ("long", b"age-encryption.org/v1\n-> a" + b"a" * 70000),
             *((f"cut.{size}", key_age[:size]) for size in (1, 21, 120)),
@@ -171,7 +172,8 @@ class Headers(Verbose):
             ("HeaderTruncated", "cut.21", "the file ends after 21 bytes, within its header"),
             ("HeaderTruncated", "cut.120", "the file ends after 120 bytes, within its header"),
             ("NotAge", "armor", "ASCII armor stands at its start; age decrypts such a file"),
-            ("NotAge", "mark", "a byte-order mark stands at its start"),
+            ("NotAge", "mark", f"{A_MARK} stands at its start"),
+            ("NotAge", "crlf", "its line ends are CR LF: it was changed by a text tool"),
             ("NotAge", "version", first_line),
             ("NotAge", "plain", first_line),
             ("HeaderTooLarge", "long", "the header is longer than 65536 bytes; -H accepts up to 16777216"),
@@ -252,6 +254,27 @@ class Headers(Verbose):
             self.explains("Malformed: WorkFactorTooHigh", f"{name}: its work factor {why}", *(f"{line} {name}" for line in lines))
 
 
+    def test_memory(self):
+        """What scrypt needed where memory was out: for the header that was read, or for a new one that takes more."""
+        for factor in (18, 19):
+            write(f"work.{factor}", header_of(f"-> scrypt {ZERO_SALT} {factor}\n{ZERO_MAC}\n"))
+        old, new = "; a lower -m refuses it", "; a lower -w takes less"
+        takes_18, takes_19 = "its work factor is 18, which takes 256 MiB of memory", "its work factor is 19, which takes 512 MiB of memory"
+        for more, *lines in (
+            (f"standard output: {takes_18}{new}", "encrypt -p pass hello", "rewrap -k key -P pass key.age", "rewrap -p pass -P pass pass.age"),
+            (f"made: {takes_19}{new}", "encrypt -p pass -w 19 -o made hello", "rewrap -p pass -P pass -w 19 -o made work.18"),
+            (f"work.18: {takes_18}{old}", *(f"{command} work.18" for command in BY_PASSPHRASE), "rewrap -p pass -P pass work.18"),
+            (f"work.19: {takes_19}{old}", "rewrap -p pass -P pass work.19", "decrypt -p pass -o made work.19"),
+            (f"standard input: {takes_18}{old}", "decrypt -p pass <work.18"),
+        ):
+            self.explains("OutOfMemory", more, *lines, memory=100000 * 1024)
+
+    def test_shrunk(self):
+        """A file that has fewer bytes than its size said: its last read gives none."""
+        env = {"LD_PRELOAD": preload("calls"), "CALL": "read", "NUMBER": "LAST", "DO": "none"}
+        self.explains("Read", "key.age: the file became shorter while it was read", "range -k key 0 5 key.age", env=env)
+
+
 class Chunks(Verbose):
     def test_chunks(self):
         """Damaged and missing chunks: the file has its header and nonce, 172 bytes, and then chunks of 65,552, the
@@ -315,4 +338,5 @@ class Others(Verbose):
             *(("OutputIsRead: Input, key.age", f"{command} -o key.age key.age") for command in OPENING),
         ):
             self.explains(name, None, line)
-        self.explains("OutOfMemory", None, "encrypt -p pass -w 18 hello", memory=100000 * 1024)
+        write("great", header_of(f"-> {'a' * 4000000}\n\n"))
+        self.explains("OutOfMemory", None, "inspect -H 16777216 great", memory=8 << 20)
