@@ -23,8 +23,9 @@ escaped_char exact c =
     else if nat_lt c 16 then codes "\\x0" ++ digits 16 false c
     else if is_control c then codes "\\x" ++ digits 16 false c
     else if directs_writing c then codes "\\u{" ++ digits 16 false c ++ codes "}"
-    else if exact && c == 92 then codes "\\\\"
-    else if exact && c == 34 then codes "\\\""
+    else if not exact then encode_utf8 c
+    else if c == 92 then codes "\\\\"
+    else if c == 34 then codes "\\\""
     else encode_utf8 c
 
 -- a name in a message

@@ -121,8 +121,9 @@ fn write_char<W: fmt::Write>(c: char, exact: bool, f: &mut fmt::Formatter<W>) ->
         _ if code < 16 => write!(f, "\\x0{code:x}"),
         _ if c.is_control() => write!(f, "\\x{code:x}"),
         _ if directs_writing(code) => write!(f, "\\u{{{code:x}}}"),
-        '\\' if exact => f.write_str("\\\\"),
-        '"' if exact => f.write_str("\\\""),
+        _ if !exact => f.write_char(c),
+        '\\' => f.write_str("\\\\"),
+        '"' => f.write_str("\\\""),
         _ => f.write_char(c),
     }
 }
