@@ -12,9 +12,9 @@ from test_headers import ZERO_MAC, ZERO_SALT, header_in, header_of, table
 # The commands that read the header of IN, which is to follow.
 READING = ("inspect", *OPENING)
 NO_FILE, FULL, CLOSED = "No such file or directory", "No space left on device", "Bad file descriptor"
-RAW_KEY, RAW_FILE_KEY = "a key file holds 32 raw bytes, no hexadecimal", "a file key file holds 16 raw bytes, no hexadecimal"
-SHORT_SEED, NO_BYTE = "a seed file holds at least 48 bytes", "no byte, or one LF alone"
-CUT_OR_LONGER = "is the last: the file may be cut short, or have bytes behind its end"
+RAW_KEY, RAW_FILE_KEY = "a key file holds 32 raw bytes, not hexadecimal", "a file key file holds 16 raw bytes, not hexadecimal"
+SHORT_SEED, NO_BYTE = "a seed file holds at least 48 bytes", "it is empty, or holds only one LF"
+CUT_OR_LONGER = "is the last: the file may be cut short, or have bytes after its end"
 FRONT, SEALED = 172, 65552
 # Unicode Standard Annex 9, section 2
 DIRECTING = "\u061c\u200e\u200f\u202a\u202b\u202c\u202d\u202e\u2066\u2067\u2068\u2069"
@@ -171,8 +171,8 @@ class Headers(Verbose):
             ("HeaderTruncated", "cut.1", "the file ends after 1 byte, within its header"),
             ("HeaderTruncated", "cut.21", "the file ends after 21 bytes, within its header"),
             ("HeaderTruncated", "cut.120", "the file ends after 120 bytes, within its header"),
-            ("NotAge", "armor", "ASCII armor stands at its start; age decrypts such a file"),
-            ("NotAge", "mark", f"{A_MARK} stands at its start"),
+            ("NotAge", "armor", "it begins with ASCII armor; age decrypts such a file"),
+            ("NotAge", "mark", f"it begins with {A_MARK}"),
             ("NotAge", "crlf", "its line ends are CR LF: it was changed by a text tool"),
             ("NotAge", "version", first_line),
             ("NotAge", "plain", first_line),
@@ -313,7 +313,7 @@ class Others(Verbose):
         key_end, salt = key_age.index(b"\n--- ") + 5, pass_age.split(b" ")[2]
         a_key = "a key fits, but the header was changed after it was written"
         nonce = "the file ends within the 16 bytes that follow its header"
-        line = "the file is damaged, or was changed as a text: line 4 is not valid"
+        line = "the file is damaged, or was changed by a text tool: line 4 is not valid"
         stanza = "the file is damaged, or another program made it: a stanza for -p or -k is not valid"
         for fault, text, why, commands in (
             ("BadLine: 4", key_age[:key_end] + b"_" + key_age[key_end + 1 :], line, READING),

@@ -183,7 +183,7 @@ class Key(_Secret):
             length = read_into(source, memoryview(room))
         if length != 32:
             found = "more" if length > 32 else str(length)
-            raise ValueError(f"a key file holds 32 raw bytes, no hexadecimal; this one has {found}")
+            raise ValueError(f"a key file holds 32 raw bytes, not hexadecimal; this one has {found}")
         return cls(bytes(room[:32]))
 
     def _text(self, file_key: bytes) -> bytes:
@@ -285,9 +285,11 @@ def _front_hint(code: int, front: bytes) -> str | None:
     if code != Code.NOT_AGE:
         return None
     if front.startswith(b"-----BEGIN AGE"):
-        return "ASCII armor stands at its start; age decrypts such a file"
-    if front.startswith(b"\xef\xbb\xbf"):
-        return "a byte-order mark stands at its start"
+        return "it begins with ASCII armor; age decrypts such a file"
+    if front.startswith(_MARK):
+        return "it begins with a byte-order mark"
+    if front.startswith(b"age-encryption.org/v1\r\n"):
+        return "its line ends are CR LF: it was changed by a text tool"
     return "the first line of an age file is age-encryption.org/v1"
 
 

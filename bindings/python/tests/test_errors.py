@@ -67,7 +67,7 @@ class Hints(InFolder):
         mac[at - 5] ^= 1
         salt = by_word.split(b" ")[2]
         for name, file in (
-            ("empty", b""), ("no age", b"text"), ("a mark", b"\xef\xbb\xbf" + plain), ("armor", b"-----BEGIN AGE ENCRYPTED FILE-----\n"),
+            ("empty", b""), ("no age", b"text"), ("a mark", b"\xef\xbb\xbf" + plain), ("CR LF", plain.replace(b"\n", b"\r\n", 3)), ("armor", b"-----BEGIN AGE ENCRYPTED FILE-----\n"),
             ("cut header", plain[:50]), ("1 byte", plain[:1]), ("line", plain.replace(b"\n--- ", b"\n--- _", 1)), ("mac", bytes(mac)),
             ("large header", b"age-encryption.org/v1\n-> " + b"x" * 70000 + b"\n"),
             ("nonce", plain[: at + 5]), ("no chunk", plain[: at + 16]), ("1 byte of a chunk", plain[: at + 17]), ("cut", plain[:-5]), ("cut at a chunk", plain[: at + 16 + 65552]),

@@ -249,7 +249,7 @@ class Programs(InFolder):
         for file in ("key", os.open("key", os.O_RDONLY), io.BytesIO(bytes(range(32)))):
             self.assertEqual(agefile.decrypt(agefile.encrypt(b"text", recipients=KEY), identities=Key.from_file(file)), b"text")
         for wrong, found in ((bytes(31), "has 31"), (bytes(33), "has more"), (b"00" * 32, "has more"), (b"", "has 0")):
-            with self.assertRaisesRegex(ValueError, f"32 raw bytes, no hexadecimal; this one {found}"):
+            with self.assertRaisesRegex(ValueError, f"32 raw bytes, not hexadecimal; this one {found}"):
                 Key.from_file(self.put(wrong, "wrong"))
         self.assertRaises(FileNotFoundError, Key.from_file, "absent")
         for text in ("00" * 32, ""):

@@ -173,8 +173,8 @@ impl Hint {
     fn words(&self) -> &'static str {
         match self {
             Hint::Empty => "the file is empty",
-            Hint::Armor => "ASCII armor stands at its start; age decrypts such a file",
-            Hint::ByteOrderMark => "a byte-order mark stands at its start",
+            Hint::Armor => "it begins with ASCII armor; age decrypts such a file",
+            Hint::ByteOrderMark => "it begins with a byte-order mark",
             Hint::CrLf => "its line ends are CR LF: it was changed by a text tool",
             Hint::NoVersionLine => "the first line of an age file is age-encryption.org/v1",
             Hint::WrongKey => "not opened by",
@@ -221,7 +221,7 @@ impl fmt::Display for Hint {
             }
             Hint::HeaderLine(line) => write!(
                 f,
-                "the file is damaged, or was changed as a text: line {line} is not valid"
+                "the file is damaged, or was changed by a text tool: line {line} is not valid"
             ),
             Hint::Chunk(index) => {
                 let first = first_byte(*index);
@@ -237,7 +237,7 @@ impl fmt::Display for Hint {
                     f,
                     "chunk {index}, from byte {first} of the plaintext on, is the last: "
                 )?;
-                f.write_str("the file may be cut short, or have bytes behind its end")
+                f.write_str("the file may be cut short, or have bytes after its end")
             }
             Hint::EndsInChunk(index, len) => {
                 let len = Bytes(*len);

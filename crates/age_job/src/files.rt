@@ -7,6 +7,7 @@ use crate::fault::Fault;
 use crate::file_names::{Name, Role};
 use crate::inode::{Inode, STANDARD_INPUT, STANDARD_OUTPUT};
 use crate::job::{Command, Job};
+use crate::secret::Ends;
 use std::alloc::{AllocError, Global};
 use std::fs::OpenFile;
 use std::io::{ErrorKind, Read, Seek, SeekFrom};
@@ -38,8 +39,8 @@ pub(crate) struct ReadFile<'a> {
 pub(crate) struct Held {
     /// The length in bytes.
     pub(crate) len: u64,
-    /// What a passphrase begins or ends with that nobody types, or nothing.
-    pub(crate) ends: &'static str,
+    /// The ends of a passphrase.
+    pub(crate) ends: Option<Ends>,
 }
 
 /// The files that a job has opened for reading. The file to write is compared with them.

@@ -40,16 +40,32 @@ pub(crate) fn ends_in_return(bytes: &[u8]) -> bool
     bytes.ends_with(b"\r")
 }
 
-/// What this passphrase begins or ends with that nobody types, for messages. Returns an empty text
-/// if there is no such thing.
-pub(crate) fn ends_of(passphrase: &[u8]) -> &'static str {
-    match (begins_with_mark(passphrase), passphrase.last()) {
-        (false, Some(b'\r')) => "ends in CR",
-        (false, Some(b'\n')) => "ends in LF",
-        (true, Some(b'\r')) => "begins with a byte-order mark and ends in CR",
-        (true, Some(b'\n')) => "begins with a byte-order mark and ends in LF",
-        (true, _) => "begins with a byte-order mark",
-        (false, _) => "",
+/// What messages say of the ends of a passphrase.
+#[derive(Clone, Copy)]
+pub struct Ends {
+    /// Whether it begins with a byte-order mark.
+    pub(crate) is_marked: bool,
+    pub(crate) last: Option<u8>,
+}
+
+impl Ends {
+    pub(crate) fn of(passphrase: &[u8]) -> Ends {
+        Ends {
+            is_marked: begins_with_mark(passphrase),
+            last: passphrase.last().copied(),
+        }
+    }
+
+    /// What the passphrase begins or ends with that nobody types, or an empty text.
+    pub(crate) fn words(self) -> &'static str {
+        match (self.is_marked, self.last) {
+            (false, Some(b'\r')) => "ends in CR",
+            (false, Some(b'\n')) => "ends in LF",
+            (true, Some(b'\r')) => "begins with a byte-order mark and ends in CR",
+            (true, Some(b'\n')) => "begins with a byte-order mark and ends in LF",
+            (true, _) => "begins with a byte-order mark",
+            (false, _) => "",
+        }
     }
 }
 

@@ -12,7 +12,7 @@ use crate::job::Job;
 use crate::output::refuse_terminal;
 use crate::ranges::DEFAULT_SEED;
 use crate::secret::{
-    SEED_LEN, Secret, begins_with_mark, ends_in_return, ends_of, exactly, without_line_end,
+    Ends, SEED_LEN, Secret, begins_with_mark, ends_in_return, exactly, without_line_end,
 };
 use std::fs::OpenFile;
 use std::io::IsTerminal;
@@ -202,7 +202,7 @@ fn read_new_passphrase<'a, F: Files + AllocGlobal>(
         return Err(Failure::with(Fault::NoPassphrase, Detail::NoPassphrase(role, Name(name))));
     }
     if begins_with_mark(bytes) || ends_in_return(bytes) {
-        let detail = Detail::UntypedPassphrase(role, Name(name), ends_of(bytes));
+        let detail = Detail::UntypedPassphrase(role, Name(name), Ends::of(bytes));
         return Err(Failure::with(Fault::UntypedPassphrase, detail));
     }
     Ok(passphrase)
@@ -224,7 +224,7 @@ fn read_passphrase<'a, F: Files + AllocGlobal>(
     let passphrase = without_line_end(bytes);
     read.note(Held {
         len: len as u64,
-        ends: ends_of(passphrase.as_slice()),
+        ends: Some(Ends::of(passphrase.as_slice())),
     });
     Ok(passphrase)
 }
@@ -299,7 +299,7 @@ fn read_just<'a, F: Files + AllocGlobal, const N: usize>(
     let len = bytes.len();
     read.note(Held {
         len: len as u64,
-        ends: "",
+        ends: None,
     });
     match exactly(bytes.as_slice()) {
         Some(bytes) => Ok(bytes),
