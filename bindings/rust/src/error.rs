@@ -202,10 +202,10 @@ impl fmt::Display for Error {
             Error::WorkFactor => write!(f, "work factor must be 1 to 30"),
             Error::BadArguments => write!(f, "stanza arguments must be visible ASCII, one space apart"),
             Error::EmptyPassphrase => write!(f, "passphrase is empty"),
+            // end of texts of errors
             Error::UntypedPassphrase => {
                 write!(f, "passphrase ends in CR or begins with a byte-order mark")
             }
-            // end of texts of errors
             Error::Refused => write!(f, "recipient refused"),
             Error::Incomplete => write!(f, "an earlier write failed"),
             Error::Other(code) => write!(f, "code {code}"),
