@@ -194,7 +194,7 @@ class DefaultSeed(ProgramCase):
             self.skipTest("this needs the right to mount")
         for words in ("encrypt -k key hello", "rewrap -k key -K other.key key.age"):
             with self.subTest(words):
-                line, more = message("CannotOpen", "/dev/urandom"), "seed file /dev/urandom: no device, so its bytes may be the same again"
+                line, more = message("CannotOpen", "/dev/urandom"), "seed file /dev/urandom: not a device, so its bytes may repeat"
                 self.assertEqual(self.with_device("seed", *words.split()), (1, fault(line), False))
                 self.assertEqual(self.with_device("seed", *words.split(), "-v"), (1, fault(line, more), False))
                 self.assertEqual(self.with_device("/dev/zero", *words.split()), (0, "", True))

@@ -74,17 +74,17 @@ class Names(ProgramCase):
         with self.subTest("OUT is IN"):
             self.says(message("OutputIsRead", "Input", SHOWN), "encrypt", "-k", "key", "-o", NAME, NAME)
         rows = [
-            ("encrypt -k", message("KeyLength"), "key file", "6 bytes; a key file holds 32 raw bytes, no hexadecimal"),
-            ("decrypt -k", message("KeyLength"), "key file", "6 bytes; a key file holds 32 raw bytes, no hexadecimal"),
-            ("rewrap -k key -K", message("KeyLength"), "new key file", "6 bytes; a key file holds 32 raw bytes, no hexadecimal"),
+            ("encrypt -k", message("KeyLength"), "key file", "6 bytes; a key file holds 32 raw bytes, not hexadecimal"),
+            ("decrypt -k", message("KeyLength"), "key file", "6 bytes; a key file holds 32 raw bytes, not hexadecimal"),
+            ("rewrap -k key -K", message("KeyLength"), "new key file", "6 bytes; a key file holds 32 raw bytes, not hexadecimal"),
             ("encrypt -k key -s", message("SeedLength"), "seed file", "6 bytes; a seed file holds at least 48 bytes"),
-            ("inspect -f", message("FileKeyLength"), "file key file", "6 bytes; a file key file holds 16 raw bytes, no hexadecimal"),
+            ("inspect -f", message("FileKeyLength"), "file key file", "6 bytes; a file key file holds 16 raw bytes, not hexadecimal"),
         ]
         for words, line, role, why in rows:
             with self.subTest(words):
                 self.says(line, *words.split(), NAME, "-v", "hello", more=f"{role} {SHOWN}: {why}")
         for text, line, why in (
-            (bytes(65537), message("PassphraseLength"), "more than 65536 bytes"), (b"", message("NoPassphrase"), "no byte, or one LF alone"),
+            (bytes(65537), message("PassphraseLength"), "more than 65536 bytes"), (b"", message("NoPassphrase"), "it is empty, or holds only one LF"),
         ):
             with self.subTest(line):
                 write(NAME, text)
@@ -92,7 +92,7 @@ class Names(ProgramCase):
 
     def test_in(self):
         """All of them in the name of IN."""
-        end = "chunk 0, from byte 0 of the plaintext on, is the last: the file may be cut short, or have bytes behind its end"
+        end = "chunk 0, from byte 0 of the plaintext on, is the last: the file may be cut short, or have bytes after its end"
         rows = [
             (b"", "key", message("HeaderTruncated"), f"{SHOWN}: the file is empty"),
             (fixture.changed(read("key.age"), -1), "key", message("BadChunk", 0), f"{SHOWN}: {end}"),

@@ -1,9 +1,12 @@
 """The line by which -v shows at a terminal how much was read."""
 
+import fcntl
 import os
 import pty
 import re
 import subprocess
+import termios
+import threading
 import time
 
 import fixture
@@ -11,7 +14,7 @@ from fixture import HELLO, KEY
 from messages import message
 from program import AGEP, ProgramCase, fault, read, write
 
-ERASE = "\r\x1b[K"
+ERASE, CUT, WRAP = "\r\x1b[K", "\x1b[?7l", "\x1b[?7h"
 MANY = b"".join(b"%d\n" % i for i in range(1, 100001))[:450000]
 KEY_FRONT = 172
 # The size in KiB, and the lines for a pipe and for a file: how much was read, how fast, and the
@@ -39,14 +42,15 @@ class Progress(ProgramCase):
         write("many", MANY)
         write("many.age", fixture.for_keys(MANY, KEY))
 
-    def at_terminal(self, *words, pieces=()):
+    def at_terminal(self, *words, pieces=(), term="xterm"):
         """Runs the program with a terminal as standard error, and feeds these bytes slowly or reads the
         output slowly. Returns its status, its output, the text on the terminal, and the seconds."""
         controller, terminal = pty.openpty()
         start = time.monotonic()
+        environment = {**os.environ, "TERM": term}
         with open("out", "wb") as file:
             stdout = file if pieces else subprocess.PIPE
-            done = subprocess.Popen([AGEP, *words], stdin=subprocess.PIPE, stdout=stdout, stderr=terminal)
+            done = subprocess.Popen([AGEP, *words], stdin=subprocess.PIPE, stdout=stdout, stderr=terminal, env=environment)
         os.close(terminal)
         for piece in pieces:
             done.stdin.write(piece)
@@ -71,7 +75,7 @@ class Progress(ProgramCase):
         self.assertTrue(1 < len(drawn) <= 2 * took + 1, (drawn, took))
         before = 0
         for count, each in enumerate(drawn[1:], 1):
-            found = re.fullmatch(line, each)
+            found = re.fullmatch(re.escape(CUT) + line + re.escape(WRAP), each)
             self.assertIsNotNone(found, each)
             done, rate, *left = map(int, found.groups())
             self.assertTrue(before < done <= SIZE, each)
@@ -97,7 +101,7 @@ class Progress(ProgramCase):
         """It is erased before the message about a fault."""
         write("damaged", fixture.changed(read("many.age"), -1))
         status, out, said, took = self.at_terminal("decrypt", "-v", "-k", "key", "damaged")
-        more = "damaged: chunk 6, from byte 393216 of the plaintext on, is the last: the file may be cut short, or have bytes behind its end"
+        more = "damaged: chunk 6, from byte 393216 of the plaintext on, is the last: the file may be cut short, or have bytes after its end"
         last = fault(message("BadChunk", 6), more).replace("\n", "\r\n")
         self.assertEqual((status, out), (1, MANY[:393216]))
         self.assert_drawn(said, FILE, took, last)
@@ -136,6 +140,43 @@ class Progress(ProgramCase):
             with self.subTest(words):
                 status, out, said, _ = self.at_terminal(*words.split())
                 self.assertEqual((status, out, said), (0, plain, ""))
+
+    def test_dumb(self):
+        """A terminal without escape sequences gets none: nothing is shown, and lines on lost chunks are as ever."""
+        write("damaged", fixture.changed(read("many.age"), KEY_FRONT + 65552))
+        lost = fault("chunk 1 is lost: bytes 65536 to 131071 of the plaintext").replace("\n", "\r\n")
+        expected = MANY[:65536] + bytes(65536) + MANY[131072:]
+        self.assertEqual(self.at_terminal("salvage", "-v", "-k", "key", "damaged", term="dumb")[:3], (1, expected, lost))
+        for term in ("dum", "dumber", ""):
+            with self.subTest(term):
+                self.assertIn(ERASE, self.at_terminal("decrypt", "-v", "-k", "key", "many.age", term=term)[2])
+
+    def test_out(self):
+        """Nothing is shown where OUT is a terminal, by any name: it gets the plaintext alone. Another OUT gets all of it."""
+        pieces = [read("many.age")[at : at + 131072] for at in range(0, len(MANY), 131072)]
+        os.symlink("/dev/tty", "link")
+        for name, shows in (("/dev/tty", False), ("/dev/stderr", False), ("link", False), ("/dev/null", True), ("made", True)):
+            with self.subTest(name):
+                controller, terminal = pty.openpty()
+                done = subprocess.Popen(
+                    [AGEP, "decrypt", "-v", "-k", "key", "-o", name], stdin=subprocess.PIPE, stdout=subprocess.DEVNULL, stderr=terminal,
+                    start_new_session=True, preexec_fn=lambda: fcntl.ioctl(2, termios.TIOCSCTTY, 0), env={**os.environ, "TERM": "xterm"},
+                )
+                os.close(terminal)
+                said = bytearray()
+                reader = threading.Thread(target=lambda: said.extend(drained(controller)))
+                reader.start()
+                for piece in pieces:
+                    done.stdin.write(piece)
+                    done.stdin.flush()
+                    time.sleep(0.6)
+                done.stdin.close()
+                self.assertEqual(done.wait(timeout=60), 0)
+                reader.join()
+                if shows:
+                    self.assertTrue(said.startswith(ERASE.encode()) and said.endswith(ERASE.encode()), said)
+                else:
+                    self.assertEqual(said.replace(b"\r\n", b"\n") == MANY, True, said[:100])
 
     def test_no_terminal(self):
         """Nothing is shown if standard error is not a terminal."""

@@ -108,14 +108,23 @@ class Passphrases(ProgramCase):
         "nul": b"\0",
         "nuls before": b"\0\0correct horse",
         "line ends before": b"\n\r\ncorrect horse",
-        "cr after": b"correct horse\r",
         "spaces around": b" correct horse ",
         "nfc": unicodedata.normalize("NFC", "p\xe4ssw\xf6rd \u2603 \U0001f986").encode(),
         "nfd": unicodedata.normalize("NFD", "p\xe4ssw\xf6rd \u2603 \U0001f986").encode(),
         "latin": "p\xe4ssw\xf6rd".encode("latin1"),
         "no utf8": b"\xff\xfe\xc0\xaf\xed\xa0\x80",
-        "mark": b"\xef\xbb\xbfcorrect horse",
+        "mark behind": b"correct\xef\xbb\xbfhorse\xef\xbb\xbf",
+        "cr before": b"\rcorrect\rhorse",
+        "cr and lf after": b"correct horse\r\n\n",
         "upper": b"CORRECT HORSE",
+    }
+    # What nobody types, and what an editor or a system puts around a text.
+    UNTYPED = {
+        "cr after": b"correct horse\r",
+        "mark": b"\xef\xbb\xbfcorrect horse",
+        "mark and cr": b"\xef\xbb\xbfcorrect horse\r",
+        "mark alone": b"\xef\xbb\xbf",
+        "cr alone": b"\r",
     }
 
     def test_bytes(self):
@@ -136,15 +145,30 @@ class Passphrases(ProgramCase):
                 write("secret", text + b"\n")
                 self.writes(HELLO, "decrypt", "-p", "secret", "made")
 
+    def test_untyped(self):
+        """A CR at the end and a byte-order mark are refused for a new file. They open one that has them."""
+        for name, text in self.UNTYPED.items():
+            write("made", fixture.for_passphrase(HELLO, text, 4))
+            for end in (b"", b"\n"):
+                write("secret", text + end)
+                with self.subTest(f"{name}, then {end!r}"):
+                    self.says(message("UntypedPassphrase"), "encrypt", "-p", "secret", "-w", "4", "hello")
+                    self.says(message("UntypedPassphrase"), "rewrap", "-k", "key", "-P", "secret", "-w", "4", "key.age")
+                    self.writes(HELLO, "decrypt", "-p", "secret", "made")
+                    self.writes(HELLO, "range", "-p", "secret", "0", "9", "made")
+                    self.writes(HELLO, "salvage", "-p", "secret", "made")
+                    self.writes(read("key.age"), "rewrap", "-p", "secret", "-K", "key", "-s", "seed", "made")
+
     def test_others(self):
         """Texts that look alike are different passphrases."""
         write("made", fixture.for_passphrase(HELLO, self.TEXTS["nfc"], 4))
         write("secret", self.TEXTS["nfd"])
         with self.subTest("a letter and its accent apart"):
             self.says(message("WrongKey"), "decrypt", "-p", "secret", "made")
+        others = {**self.TEXTS, **self.UNTYPED}
         for name in ("nuls before", "line ends before", "cr after", "spaces around", "mark", "upper"):
             with self.subTest(name):
-                write("secret", self.TEXTS[name])
+                write("secret", others[name])
                 self.says(message("WrongKey"), "decrypt", "-p", "secret", "pass.age")
 
     def test_lengths(self):

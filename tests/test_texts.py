@@ -99,6 +99,25 @@ class Helps(ProgramCase):
         with self.subTest("the manual page"):
             self.assertIn(f'"agep {version()}"', read(PAGE).decode())
 
+    def test_other_words(self):
+        """Options and commands of other programs are refused. The help that the refusal points to names what to use."""
+        lines = help_of().split("\nIf you are looking for:\n")[1].split("\n\n")[0]
+        rows = dict(re.findall(r"^  (\S.*?)  +(\S.*)$", lines, re.MULTILINE))
+        words = [word for row in rows for word in row.split(", ")]
+        self.assertEqual(words, ["-d", "-r", "-i", "keygen", "verify", "test"])
+        for word in words:
+            ran = self.run_agep(word)
+            self.assertEqual((ran.status, ran.out), (2, b""))
+            self.assertTrue(ran.err.endswith(b"\nFor more information, try '--help'.\n"), ran.err)
+        self.assertEqual(rows["-d"], "agep decrypt")
+        self.assertIn("no public keys", rows["-r, -i"])
+        enter_examples()
+        run_example("agep encrypt -p passphrase -w 10 -o notes.age notes")
+        os.remove("key")
+        for row in ("keygen", "verify, test"):
+            run_example(rows[row])
+        self.assertEqual(len(read("key")), 32)
+
     def test_examples(self):
         """The examples in help run, in a folder with the files that they name."""
         enter_examples()

@@ -6,16 +6,19 @@ import shlex
 import signal
 
 from fixture import PASSPHRASE, PLAIN, SEED, changed, with_other_mac
-from program import BY_PASSPHRASE, OPENING, ProgramCase, read, write
+from program import BY_PASSPHRASE, OPENING, ProgramCase, preload, read, write
 from test_headers import ZERO_MAC, ZERO_SALT, header_in, header_of, table
 
 # The commands that read the header of IN, which must follow.
 READING = ("inspect", *OPENING)
 NO_FILE, FULL, CLOSED = "No such file or directory", "No space left on device", "Bad file descriptor"
-RAW_KEY, RAW_FILE_KEY = "a key file holds 32 raw bytes, no hexadecimal", "a file key file holds 16 raw bytes, no hexadecimal"
-SHORT_SEED, NO_BYTE = "a seed file holds at least 48 bytes", "no byte, or one LF alone"
-CUT_OR_LONGER = "is the last: the file may be cut short, or have bytes behind its end"
+RAW_KEY, RAW_FILE_KEY = "a key file holds 32 raw bytes, not hexadecimal", "a file key file holds 16 raw bytes, not hexadecimal"
+SHORT_SEED, NO_BYTE = "a seed file holds at least 48 bytes", "it is empty, or holds only one LF"
+CUT_OR_LONGER = "is the last: the file may be cut short, or have bytes after its end"
 FRONT, SEALED = 172, 65552
+# Unicode Standard Annex 9, section 2
+DIRECTING = "\u061c\u200e\u200f\u202a\u202b\u202c\u202d\u202e\u2066\u2067\u2068\u2069"
+MARK, A_MARK = b"\xef\xbb\xbf", "a byte-order mark"
 
 
 def no_growth():
@@ -51,8 +54,8 @@ class Files(Verbose):
             self.explains(f"CannotCreate: {name}", f"creating {name}: {why}", *lines)
 
     def test_names(self):
-        """The second line shows no two names alike: a name that is empty or has a blank at an end is quoted,
-        and characters that set the direction of writing are escaped."""
+        """The second line shows no two names alike: a name that is empty or has a blank at an end is quoted. Both lines
+        escape characters that set the direction of writing."""
         for name, first, second in (
             ("", "", '""'),
             (" ", " ", '" "'),
@@ -62,7 +65,8 @@ class Files(Verbose):
             ('" a"', '" a"', '\\" a\\"'),
             ("a\\nb", "a\\nb", "a\\\\nb"),
             ("a\nb", "a\\nb", "a\\nb"),
-            ("a\u202eb", "a\u202eb", "a\\u{202e}b"),
+            *((f"a{c}b", f"a\\u{{{ord(c):x}}}b", f"a\\u{{{ord(c):x}}}b") for c in DIRECTING),
+            ("a\u200db\u2065", "a\u200db\u2065", "a\u200db\u2065"),
         ):
             self.explains(f"CannotOpen: {first}", f"opening {second}: {NO_FILE}", f"inspect {shlex.quote(name)}")
         write(" key", b"")
@@ -137,6 +141,16 @@ class SmallFiles(Verbose):
             self.explains("NoPassphrase", f"passphrase file {name}: {NO_BYTE}", f"encrypt -p {name} hello")
             self.explains("NoPassphrase", f"new passphrase file {name}: {NO_BYTE}", f"rewrap -k key -P {name} key.age")
 
+    def test_untyped(self):
+        """Passphrases for a new file that nobody types."""
+        for name, text, why in (
+            ("cr", b"word\r", "ends in CR"), ("cr.lf", b"word\r\n", "ends in CR"), ("mark", MARK + b"word\n", f"begins with {A_MARK}"),
+            ("both", MARK + b"word\r\n", f"begins with {A_MARK} and ends in CR"), ("lines", MARK + b"word\n\n", f"begins with {A_MARK} and ends in LF"),
+        ):
+            write(name, text)
+            self.explains("UntypedPassphrase", f"passphrase file {name}: the passphrase {why}", f"encrypt -p {name} hello")
+            self.explains("UntypedPassphrase", f"new passphrase file {name}: the passphrase {why}", f"rewrap -k key -P {name} key.age")
+
 
 class Headers(Verbose):
     def test_fronts(self):
@@ -144,7 +158,8 @@ class Headers(Verbose):
         key_age = read("key.age")
         for name, text in (
             ("armor", b"-----BEGIN AGE ENCRYPTED FILE-----\n"),
-            ("mark", b"\xef\xbb\xbfage-encryption.org/v1\n"),
+            ("mark", MARK + b"age-encryption.org/v1\n"),
+            ("crlf", key_age.replace(b"\n", b"\r\n")),
             ("version", b"age-encryption.org/v2\n"),
             ("long", b"age-encryption.org/v1\n-> a" + b"a" * 70000),
             *((f"cut.{size}", key_age[:size]) for size in (1, 21, 120)),
@@ -156,8 +171,9 @@ class Headers(Verbose):
             ("HeaderTruncated", "cut.1", "the file ends after 1 byte, within its header"),
             ("HeaderTruncated", "cut.21", "the file ends after 21 bytes, within its header"),
             ("HeaderTruncated", "cut.120", "the file ends after 120 bytes, within its header"),
-            ("NotAge", "armor", "ASCII armor stands at its start; age decrypts such a file"),
-            ("NotAge", "mark", "a byte-order mark stands at its start"),
+            ("NotAge", "armor", "it begins with ASCII armor; age decrypts such a file"),
+            ("NotAge", "mark", f"it begins with {A_MARK}"),
+            ("NotAge", "crlf", "its line ends are CR LF: it was changed by a text tool"),
             ("NotAge", "version", first_line),
             ("NotAge", "plain", first_line),
             ("HeaderTooLarge", "long", "the header is longer than 65536 bytes; -H accepts up to 16777216"),
@@ -212,6 +228,8 @@ class Headers(Verbose):
             ("pass.txt", PASSPHRASE + b"\r\n", "15 bytes; the passphrase ends in CR"),
             (" cr", PASSPHRASE + b"\r", "14 bytes; the passphrase ends in CR"),
             ("lines", PASSPHRASE + b"\n\n", "15 bytes; the passphrase ends in LF"),
+            ("mark", MARK + PASSPHRASE, f"16 bytes; the passphrase begins with {A_MARK}"),
+            ("both", MARK + PASSPHRASE + b"\r\n", f"18 bytes; the passphrase begins with {A_MARK} and ends in CR"),
         ):
             write(name, text)
             word, shown = shlex.quote(name), f'"{name}"' if " " in name else name
@@ -234,6 +252,26 @@ class Headers(Verbose):
             ("digits", "has 40 digits; agep accepts at most 30", "decrypt -p pass"),
         ):
             self.explains("Malformed: WorkFactorTooHigh", f"{name}: its work factor {why}", *(f"{line} {name}" for line in lines))
+
+    def test_memory(self):
+        """What scrypt needed where memory was out: for the header that was read, or for a new one that takes more."""
+        for factor in (18, 19):
+            write(f"work.{factor}", header_of(f"-> scrypt {ZERO_SALT} {factor}\n{ZERO_MAC}\n"))
+        old, new = "; a lower -m refuses it", "; a lower -w takes less"
+        takes_18, takes_19 = "its work factor is 18, which takes 256 MiB of memory", "its work factor is 19, which takes 512 MiB of memory"
+        for more, *lines in (
+            (f"standard output: {takes_18}{new}", "encrypt -p pass hello", "rewrap -k key -P pass key.age", "rewrap -p pass -P pass pass.age"),
+            (f"made: {takes_19}{new}", "encrypt -p pass -w 19 -o made hello", "rewrap -p pass -P pass -w 19 -o made work.18"),
+            (f"work.18: {takes_18}{old}", *(f"{command} work.18" for command in BY_PASSPHRASE), "rewrap -p pass -P pass work.18"),
+            (f"work.19: {takes_19}{old}", "rewrap -p pass -P pass work.19", "decrypt -p pass -o made work.19"),
+            (f"standard input: {takes_18}{old}", "decrypt -p pass <work.18"),
+        ):
+            self.explains("OutOfMemory", more, *lines, memory=100000 * 1024)
+
+    def test_shrunk(self):
+        """A file that has fewer bytes than its size said: its last read gives none."""
+        env = {"LD_PRELOAD": preload("calls"), "CALL": "read", "NUMBER": "LAST", "DO": "none"}
+        self.explains("Read", "key.age: the file became shorter while it was read", "range -k key 0 5 key.age", env=env)
 
 
 class Chunks(Verbose):
@@ -274,7 +312,7 @@ class Others(Verbose):
         key_end, salt = key_age.index(b"\n--- ") + 5, pass_age.split(b" ")[2]
         a_key = "a key fits, but the header was changed after it was written"
         nonce = "the file ends within the 16 bytes that follow its header"
-        line = "the file is damaged, or was changed as a text: line 4 is not valid"
+        line = "the file is damaged, or was changed by a text tool: line 4 is not valid"
         stanza = "the file is damaged, or another program made it: a stanza for -p or -k is not valid"
         for fault, text, why, commands in (
             ("BadLine: 4", key_age[:key_end] + b"_" + key_age[key_end + 1 :], line, READING),
@@ -299,4 +337,5 @@ class Others(Verbose):
             *(("OutputIsRead: Input, key.age", f"{command} -o key.age key.age") for command in OPENING),
         ):
             self.explains(name, None, line)
-        self.explains("OutOfMemory", None, "encrypt -p pass -w 18 hello", memory=100000 * 1024)
+        write("great", header_of(f"-> {'a' * 4000000}\n\n"))
+        self.explains("OutOfMemory", None, "inspect -H 16777216 great", memory=8 << 20)

@@ -67,7 +67,7 @@ class Hints(InFolder):
         mac[at - 5] ^= 1
         salt = by_word.split(b" ")[2]
         for name, file in (
-            ("empty", b""), ("no age", b"text"), ("a mark", b"\xef\xbb\xbf" + plain), ("armor", b"-----BEGIN AGE ENCRYPTED FILE-----\n"),
+            ("empty", b""), ("no age", b"text"), ("a mark", b"\xef\xbb\xbf" + plain), ("CR LF", plain.replace(b"\n", b"\r\n", 3)), ("armor", b"-----BEGIN AGE ENCRYPTED FILE-----\n"),
             ("cut header", plain[:50]), ("1 byte", plain[:1]), ("line", plain.replace(b"\n--- ", b"\n--- _", 1)), ("mac", bytes(mac)),
             ("large header", b"age-encryption.org/v1\n-> " + b"x" * 70000 + b"\n"),
             ("nonce", plain[: at + 5]), ("no chunk", plain[: at + 16]), ("1 byte of a chunk", plain[: at + 17]), ("cut", plain[:-5]), ("cut at a chunk", plain[: at + 16 + 65552]),
@@ -79,6 +79,8 @@ class Hints(InFolder):
         yield "wrong key", plain, Key(bytes(32))
         yield "wrong passphrase", by_word, Passphrase("word")
         yield "CR", by_word, Passphrase("passphrase word"[:13] + "\r")
+        yield "mark", by_word, Passphrase("\ufeffpassphrase!")
+        yield "mark and LF", by_word, Passphrase("\ufeffpassphrase\n")
         yield "salt", by_word.replace(salt, b"AAAA"), Passphrase("pass")
         for work in ("23", "24", "30", "31", "9" * 40):
             yield f"work {work}", SCRYPT.format("A" * 22, work, "A" * 43, "A" * 43).encode(), Passphrase("pass")

@@ -6,6 +6,7 @@ import errno
 import io
 import itertools
 import os
+import pickle
 import shutil
 import subprocess
 import sys
@@ -238,13 +239,30 @@ class Programs(InFolder):
     @unittest.skipUnless(os.path.exists(AGEP), "agep is not built")
     def test_passphrase_files_of_agep(self):
         """`from_file` removes the same line end as agep."""
-        for data in (b"word", b"word\n", b"word\n\n", b"word\r\n", b"two\nlines\n", b"\xff"):
+        for data in (b"word", b"word\n", b"word\n\n", b"two\nlines\n", b"\xff"):
             self.put(data, "pass")
             secret = Passphrase.from_file("pass", work=2)
             with self.subTest(data):
                 self.assertEqual(self.run_on(agefile.encrypt(b"text", recipients=secret), AGEP, "decrypt", "-p", "pass"), b"text")
         self.put(bytes(65537), "pass")
         self.assertRaises(ValueError, Passphrase.from_file, "pass")
+
+    def test_passphrase_files_that_nobody_types(self):
+        """They make no file in any way, as for agep, and open those that others made."""
+        for data in (b"word\r", b"word\r\n", b"\r", b"\xef\xbb\xbfword", b"\xef\xbb\xbfword\n", b"\xef\xbb\xbfword\r\n"):
+            secret = Passphrase.from_file(io.BytesIO(data), work=1)
+            for number, call in enumerate((
+                lambda secret: agefile.encrypt(b"text", recipients=secret),
+                lambda secret: agefile.copy(io.BytesIO(b"text"), io.BytesIO(), recipients=secret),
+                lambda secret: agefile.open("made", "wb", recipients=secret),
+                lambda secret: agefile.rewrap(agefile.encrypt(b"", recipients=KEY), identities=KEY, recipients=secret),
+                lambda secret: pickle.loads(pickle.dumps(secret)).wrap(bytes(16)),
+            )):
+                with self.subTest(f"{data!r}, {number}"), self.assertRaisesRegex(ValueError, "passphrase ends in CR or begins with a byte-order mark"):
+                    call(secret)
+            self.assertFalse(os.path.exists("made"))
+            file = agefile.encrypt(b"text", recipients=Passphrase(data.removesuffix(b"\n"), work=1))
+            self.assertEqual(agefile.decrypt(file, identities=secret), b"text")
 
     def test_work_factors_of_a_passphrase_file(self):
         """The work factors of new files, and the largest one in files that it opens."""
@@ -258,7 +276,7 @@ class Programs(InFolder):
         for file in ("key", os.open("key", os.O_RDONLY), io.BytesIO(bytes(range(32)))):
             self.assertEqual(agefile.decrypt(agefile.encrypt(b"text", recipients=KEY), identities=Key.from_file(file)), b"text")
         for wrong, found in ((bytes(31), "has 31"), (bytes(33), "has more"), (b"00" * 32, "has more"), (b"", "has 0")):
-            with self.assertRaisesRegex(ValueError, f"32 raw bytes, no hexadecimal; this one {found}"):
+            with self.assertRaisesRegex(ValueError, f"32 raw bytes, not hexadecimal; this one {found}"):
                 Key.from_file(self.put(wrong, "wrong"))
         self.assertRaises(FileNotFoundError, Key.from_file, "absent")
         for text in ("00" * 32, ""):

@@ -267,6 +267,39 @@ fn empty_passphrase_opens_old_files_and_makes_none() {
     assert_eq!(decrypt(EMPTY_PASSPHRASE, &[&empty]).unwrap(), b"hello\n");
 }
 
+#[test]
+fn passphrase_files_are_those_of_the_program() {
+    let path = std::env::temp_dir().join(format!("passphrase.{}", std::process::id()));
+    let read = |bytes: &[u8]| {
+        std::fs::write(&path, bytes).unwrap();
+        Passphrase::from_file(&path).map(|passphrase| passphrase.with_work(1))
+    };
+    let opens = |bytes: &[u8], text: &[u8]| {
+        let file = encrypt(b"text", &[&Passphrase::new(text).with_work(1)]).unwrap();
+        assert_eq!(decrypt(&file, &[&read(bytes).unwrap()]).unwrap(), b"text");
+    };
+    for (bytes, text) in [(&b"word"[..], &b"word"[..]), (b"word\n", b"word"), (b"\n\n", b"\n"), (b"a\nb\n", b"a\nb"), (b"\xff", b"\xff")] {
+        opens(bytes, text);
+        let file = encrypt(b"text", &[&read(bytes).unwrap()]).unwrap();
+        assert_eq!(decrypt(&file, &[&Passphrase::new(text)]).unwrap(), b"text");
+    }
+    for (bytes, text) in [
+        (&b"word\r"[..], &b"word\r"[..]),
+        (b"word\r\n", b"word\r"),
+        (b"\xef\xbb\xbfword\n", b"\xef\xbb\xbfword"),
+    ] {
+        opens(bytes, text);
+        let error = Writer::new(Vec::new(), &[&read(bytes).unwrap()]).unwrap_err();
+        let said = "passphrase ends in CR or begins with a byte-order mark";
+        assert_eq!((error.kind(), error.to_string().as_str()), (ErrorKind::InvalidInput, said));
+    }
+    let most = [b'a'; 65_536];
+    opens(&most, &most);
+    assert_eq!(read(&[b'a'; 65_537]).unwrap_err().kind(), ErrorKind::InvalidInput);
+    std::fs::remove_file(&path).unwrap();
+    assert_eq!(Passphrase::from_file(&path).unwrap_err().kind(), ErrorKind::NotFound);
+}
+
 /// The passphrase, as an identity that counts how often it is asked.
 struct Counting<'a>(&'a Cell<usize>);
 

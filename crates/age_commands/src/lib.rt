@@ -33,7 +33,7 @@ mod task;
 mod watched_sink;
 
 pub use buffering::limits_of;
-pub use hint::{Hint, header_of, hint_at};
+pub use hint::{Hint, header_of, hint_at, scrypt_hint};
 pub use salvage::Report;
 pub use seed::{Seed, seed_of};
 pub use task::{Task, perform_between};

@@ -4,7 +4,7 @@ use age_cli::run;
 use std::io;
 use std::io::{ErrorKind, IsTerminal, Write};
 use std::process::Abort;
-use std::rt::Files;
+use std::rt::{Env, Files};
 use std::time::Clock;
 
 /// A header of one stanza, and one that ends within its version line.
@@ -42,7 +42,7 @@ impl IsTerminal for Buffered {
 
 /// Runs these arguments on an input. The output must have this many bytes, all written before its
 /// only flush; if flushes fail, the message of a failed write must be the only one.
-fn expect_flushed<F: Files + Clock + AllocGlobal + Abort>(
+fn expect_flushed<F: Files + Clock + Env + AllocGlobal + Abort>(
     rt: &F,
     words: &[&str],
     input: &[u8],
