@@ -49,7 +49,7 @@ class Out(Files):
             (True, "HeaderTruncated", each((*OPENING, *by_passphrase), "cut.age", "empty")),
             (True, "HeaderTruncated", ["rewrap -p pass -K new.key < <(head -c 149 empty_pass.age)"]),
             (True, "MixedPassphrase", each(by_passphrase, "mixed.age")),
-            (True, "BadMac", each(by_passphrase, "mac.age")),
+            (True, "BadMac", each([it for it in by_passphrase if "salvage" not in it], "mac.age")),
             (True, "BadChunk: 0", each(("decrypt -k key", "range -k key 0 5"), "damaged.age")),
             (False, "CannotOpen: absent", each(("encrypt -k key", *OPENING), "absent")),
             (False, "KeyLength", each(("encrypt -k short.key", *short_key), "key.age")),

@@ -3,12 +3,15 @@ exactly if it was made as the chunk of its number."""
 
 import itertools
 
-from fixture import HELLO, changed
+from fixture import HELLO, changed, with_other_mac
 from make_vectors import KEYED, MADE, NONCE, age_file, chunk, filled
+from messages import message
 from program import ProgramCase, fault
 from testkit import SEALED
 
 HEADER = age_file(KEYED, b"")
+# what is said of a header whose MAC is wrong although a key fits
+CHANGED = "the header was changed: the chunks were tried with the key that fits"
 
 
 def lost_lines(losses):
@@ -24,8 +27,8 @@ def lost_lines(losses):
         yield f"{chunks} lost: bytes {start} to {end} of the plaintext"
 
 
-def saved(payload):
-    """The output and the lines of salvage for a payload."""
+def saved(payload, is_changed=False):
+    """The output and the lines of salvage for a payload, after a header that was changed or not."""
     pieces = [payload[at : at + SEALED] for at in range(16, len(payload), SEALED)] or [b""]
     made = MADE if payload[:16] == NONCE else {}
     text, losses, early = b"", [], None
@@ -38,13 +41,13 @@ def saved(payload):
         text += opened
     is_rest = is_last is None and not opened
     is_behind = is_rest and early is not None and early == i - 1
-    lines = list(lost_lines(losses))
+    lines = [*lost_lines(losses), *[CHANGED] * is_changed]
     if early == i:
         lines.append(f"chunk {early} is empty: only an empty plaintext ends with an empty chunk")
     elif is_behind:
-        lines.append(f"there are up to 16 bytes behind chunk {early}, which is the last")
+        lines.append(f"up to 16 bytes follow chunk {early}, which is the last")
     elif early is not None:
-        lines.append(f"chunk {early} is marked as the last, and more follows: bytes behind the end, or another file")
+        lines.append(f"chunk {early} is marked as the last, and more follows: bytes after the end, or another file")
     if is_last is False or (is_rest and not is_behind):
         lines.append(f"the file is cut short: the plaintext from byte {len(text)} on is missing")
     elif is_last is None and opened and early is None:
@@ -99,10 +102,21 @@ class Payloads(ProgramCase):
         self.assert_all((f"{more} bytes behind", whole + bytes(more)) for more in range(1, 40))
 
     def test_headers(self):
-        """The same in its header and nonce: the fault is that of decrypt."""
+        """The same in its header and nonce: the fault is that of decrypt. But a changed header for which a key fits
+        costs no chunk."""
         file = HEADER + NONCE + chunk(0, True, HELLO)
         cuts = [(f"cut at {at}", file[:at]) for at in range(len(HEADER) + 16)]
         for name, bad in cuts + [(f"byte {at} changed", changed(file, at)) for at in range(len(HEADER))]:
             with self.subTest(name):
-                opened = self.run_agep("decrypt", "-k", "key", input=bad)
-                self.assert_ended(self.run_agep("salvage", "-k", "key", input=bad), 1, opened.err, b"")
+                opened, ran = (self.run_agep(command, "-k", "key", input=bad) for command in ("decrypt", "salvage"))
+                if opened.err == fault(message("BadMac")).encode():
+                    self.assert_ended(ran, 1, fault(CHANGED), HELLO)
+                else:
+                    self.assert_ended(ran, 1, opened.err, b"")
+
+    def test_changed_header(self):
+        """A header that was changed, before a payload that is damaged, cut or too long."""
+        for payload in (NONCE + bytes(SEALED) + chunk(1, True, HELLO), NONCE + filled(0, False), NONCE + chunk(0, True, HELLO) + b"\n"):
+            text, lines = saved(payload, is_changed=True)
+            ran = self.run_agep("salvage", "-k", "key", input=with_other_mac(HEADER) + payload)
+            self.assert_ended(ran, 1, "".join(map(fault, lines)), text)

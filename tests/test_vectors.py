@@ -105,12 +105,16 @@ class Program(ProgramCase):
             (kind, secret), *others = case.secrets
             if others or case.is_armored or case.secrets == make_vectors.BY_X25519:
                 continue
-            if testkit.EXPECT[case.fault[0]] not in ("success", "payload failure"):
+            expected = testkit.EXPECT[case.fault[0]]
+            if expected not in ("success", "payload failure", "HMAC failure"):
                 continue
             with self.subTest(case.name):
-                text, lines = saved(case.file[len(header_in(case.file)) :])
+                payload = case.file[len(header_in(case.file)) :]
+                text, lines = saved(payload, expected == "HMAC failure")
                 option, value = ("-p", secret.encode()) if kind == "passphrase" else ("-k", bytes.fromhex(secret.split()[1]))
                 ran = self.run_agep("salvage", option, testkit.secret_file(value), input=case.file)
+                if len(payload) < 16:
+                    text, lines = b"", [message("NonceTruncated")]
                 self.assert_ended(ran, 1 if lines else 0, "".join(map(fault, lines)), text)
 
     def test_inspect(self):

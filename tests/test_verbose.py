@@ -316,13 +316,14 @@ class Others(Verbose):
         stanza = "the file is damaged, or another program made it: a stanza for -p or -k is not valid"
         for fault, text, why, commands in (
             ("BadLine: 4", key_age[:key_end] + b"_" + key_age[key_end + 1 :], line, READING),
-            ("BadMac", with_other_mac(key_age), a_key, OPENING),
+            ("BadMac", with_other_mac(key_age), a_key, [it for it in OPENING if "salvage" not in it]),
             ("Malformed: Salt", pass_age.replace(salt, b"AAAA"), stanza, BY_PASSPHRASE),
             ("NonceTruncated", key_age[:160], nonce, [it for it in OPENING if "rewrap" not in it]),
         ):
             write("made", text)
             self.explains(fault, f"made: {why}", *(f"{command} made" for command in commands))
-        self.explains("BadMac", f"mac.age: {a_key}", *(f"{command} mac.age" for command in BY_PASSPHRASE))
+        by_passphrase = [f"{command} mac.age" for command in BY_PASSPHRASE if "salvage" not in command]
+        self.explains("BadMac", f"mac.age: {a_key}", *by_passphrase)
         write("nonce", SEED[16:32])
         more = "key.age: the file key is not the one of this file, or the header was changed"
         self.explains("BadMac", more, "inspect -f nonce key.age", out=table(header_in(key_age), False))

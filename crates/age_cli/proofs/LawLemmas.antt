@@ -8,9 +8,8 @@ use Rattle.age_header.specs.Verdict.{HeaderVerdict}
 use Rattle.age_header.specs.declared.file_key.FileKey.{FileKey}
 use Rattle.age_recipient.specs.Choice.{choice}
 use Rattle.age_stream.specs.declared.done.Done.{Done}
-use Rattle.age_stream.specs.declared.salvaged.Salvaged.{Salvaged}
 use Rattle.age_stream.specs.Reading.{Reading, whole}
-use Rattle.age_stream.specs.Salvage.{LossesMoved, is_whole}
+use Rattle.age_stream.specs.Salvage.{LossesMoved}
 use Rattle.age_file.specs.declared.fault.Fault.{Fault}
 use Rattle.age_file.specs.declared.fault.Fault.TheVariants.{BadChunk}
 use Rattle.age_file.specs.declared.limits.Fresh.{Fresh}
@@ -18,7 +17,8 @@ use Rattle.age_file.specs.AgeFile.{AgeFile, Bounds}
 use Rattle.age_file.specs.Decrypt.{DecryptsText}
 use Rattle.age_file.specs.NewFile.{EncryptsText, Gathering}
 use Rattle.age_file.specs.Rewrap.{RewrapsText, Rewrapped}
-use Rattle.age_file.specs.Salvage.{SalvagesText, SavesFile}
+use Rattle.age_file.specs.Salvage.{SalvagesText, SavesFile, is_whole_file}
+use Rattle.age_file.specs.declared.salvaging.SalvagedFile.{SalvagedFile}
 use Rattle.age_file.specs.Verdict.{Answering, IsVerdict, finding}
 use Rattle.age_file.proofs.SalvageLaws.{saved_exactly, saved_whole}
 use Rattle.age_job.specs.declared.job.Command.TheVariants as command
@@ -80,7 +80,7 @@ if_ok true fault e = refl
 if_ok false fault e = absurd (cc)
 
 saved_all : OkIsAgeFile → SomeVerdict → (limits : Bounds) (answers : Answering) (b xs : Bytes) (taken new : Known)
-    (lost : LossesMoved) (s : Salvaged) → is_whole s ≡ true
+    (lost : LossesMoved) (s : SalvagedFile) → is_whole_file s ≡ true
     → SavesFile limits answers b (move_of (Some xs) taken) lost (Ok s) → Keeps taken new → Gained limits b xs new
 saved_all law some limits answers b xs taken new lost s all saves keeps =
     let (verdict, judged) = some limits answers b in
@@ -92,13 +92,13 @@ saved_all law some limits answers b xs taken new lost s all saves keeps =
     (found.0, found.1, verdict.plaintext, found.2, grown xs verdict.plaintext taken new took keeps)
 
 salvaged : OkIsAgeFile → SomeVerdict → (limits : Bounds) (answers : Answering) (b xs : Bytes) (taken new : Known)
-    (lost : LossesMoved) (done : Result Salvaged Fault) (work : Result ⊤ Fault) → work ≡ if_whole done
+    (lost : LossesMoved) (done : Result SalvagedFile Fault) (work : Result ⊤ Fault) → work ≡ if_whole done
     → OfKnown (Some b) (λ x. SalvagesText limits answers x (move_of (Some xs) taken) lost done)
     → Ends taken new work (Ok tt) → Gained limits b xs new
 salvaged law some limits answers b xs taken new lost (Err fault) work is d ends =
     absurd (cc (is, (ended taken new ends).0))
 salvaged law some limits answers b xs taken new lost (Ok s) work is d ends =
-    let all = if_ok (is_whole s) (BadChunk s.chunks) (sym is ∙ (ended taken new ends).0) in
+    let all = if_ok (is_whole_file s) (BadChunk s.payload.chunks) (sym is ∙ (ended taken new ends).0) in
     saved_all law some limits answers b xs taken new lost s all d.2 (ended taken new ends).1
 
 pub done_decrypt : OkIsAgeFile → SomeVerdict → (job : Job) (b xs : Bytes) (new : Known)

@@ -2,7 +2,9 @@
 
 use crate::program::say;
 use age_commands::Report;
-use age_file::{CHUNK_SIZE, Losses, Lost, LostRun, Salvaged, Saved, TAG_SIZE, join_lost};
+use age_file::{
+    CHUNK_SIZE, Losses, Lost, LostRun, Salvaged, SalvagedFile, Saved, TAG_SIZE, join_lost,
+};
 use age_job::ERASE;
 use std::alloc::Global;
 use std::fmt;
@@ -62,10 +64,10 @@ impl<'a, E: Write> LossLines<'a, E> {
                 "chunk {chunk} is empty: only an empty plaintext ends with an empty chunk"
             )),
             Saved::Nothing if !saved.is_cut() => self.print(&format_args!(
-                "there are up to {TAG_SIZE} bytes behind chunk {chunk}, which is the last"
+                "up to {TAG_SIZE} bytes follow chunk {chunk}, which is the last"
             )),
             _ => self.print(&format_args!(
-                "chunk {chunk} is marked as the last, and more follows: bytes behind the end, \
+                "chunk {chunk} is marked as the last, and more follows: bytes after the end, \
                  or another file"
             )),
         }
@@ -96,19 +98,23 @@ impl<'a, E: Write> Losses for LossLines<'a, E> {
 }
 
 impl<'a, E: Write> Report for LossLines<'a, E> {
-    fn damaged(&mut self, saved: &Salvaged) {
+    fn damaged(&mut self, saved: &SalvagedFile) {
         self.end();
+        if !saved.has_right_mac {
+            self.print(&"the header was changed: the chunks were tried with the key that fits");
+        }
+        let payload = saved.payload;
         let Salvaged {
             bytes,
             chunks,
             early,
             last,
             ..
-        } = *saved;
+        } = payload;
         if let Some(early) = early {
-            self.early(early, saved);
+            self.early(early, &payload);
         }
-        if saved.is_cut() {
+        if payload.is_cut() {
             self.print(&format_args!(
                 "the file is cut short: the plaintext from byte {bytes} on is missing"
             ));

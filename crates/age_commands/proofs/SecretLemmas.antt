@@ -12,7 +12,7 @@ use Rattle.age_recipient.specs.Answer.{decision_from}
 use Rattle.age_recipient.specs.declared.labels.Labels.{Labels}
 use Rattle.age_recipient.specs.declared.unwrapped.Unwrapped.{Unwrapped}
 use Rattle.age_stream.specs.declared.done.Done.{Done}
-use Rattle.age_stream.specs.declared.salvaged.Salvaged.{Salvaged}
+use Rattle.age_file.specs.declared.salvaging.SalvagedFile.{SalvagedFile}
 use Rattle.age_stream.specs.Salvage.{LossesMoved}
 use Rattle.age_file.specs.declared.fault.Fault.{Fault}
 use Rattle.age_file.specs.declared.limits.Fresh.{Fresh}
@@ -51,7 +51,7 @@ decrypting_meant limits {source} old new r same h =
     subst (λ (a : Answering). Decrypts limits a source (move_of old new) r) same h
 
 pub salvaging_meant : {f g : Answering} (limits : Bounds) {source : Flow} (sink : Moved) (losses : LossesMoved)
-    (r : Result Salvaged Fault) → f ≡ g
+    (r : Result SalvagedFile Fault) → f ≡ g
     → SalvagesFile limits f source sink losses r → SalvagesFile limits g source sink losses r
 salvaging_meant limits {source} sink losses r same h =
     subst (λ (a : Answering). SalvagesFile limits a source sink losses r) same h

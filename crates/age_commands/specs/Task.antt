@@ -10,10 +10,10 @@ use Rattle.age_file.specs.Decrypt.{DecryptsText}
 use Rattle.age_file.specs.Device.{IsQuiet}
 use Rattle.age_file.specs.NewFile.{EncryptsGiven, EncryptsText, Gathering, RefusesFirst, TookWhileEncrypting}
 use Rattle.age_file.specs.Rewrap.{RewrapsText}
-use Rattle.age_file.specs.Salvage.{SalvagesFile, SalvagesText}
+use Rattle.age_file.specs.Salvage.{SalvagesFile, SalvagesText, is_whole_file}
+use Rattle.age_file.specs.declared.salvaging.SalvagedFile.{SalvagedFile}
 use Rattle.age_file.specs.Verdict.{Answering}
-use Rattle.age_stream.specs.Salvage.{LossesMoved, is_whole}
-use Rattle.age_stream.specs.declared.salvaged.Salvaged.{Salvaged}
+use Rattle.age_stream.specs.Salvage.{LossesMoved}
 use Rattle.age_job.specs.declared.job.Job.{Job}
 use Rattle.age_commands.specs.declared.task.Task.{Task}
 use Rattle.age_commands.specs.declared.task.Task.TheVariants.{Encrypt, Decrypt, Rewrap, Inspect, Range, Salvage}
@@ -34,15 +34,15 @@ pub record Encrypting (limits : Bounds) (fresh : Fresh) (gathered : Gathering) (
   pub took : IfErr done (TookWhileEncrypting limits fresh gathered source sink)
 
 -- the result of salvaging: Ok only if everything is saved
-abbrev pub if_whole : Result Salvaged Fault → Result ⊤ Fault
-if_whole (Ok s) = if is_whole s then Ok tt else Err (BadChunk s.chunks)
+abbrev pub if_whole : Result SalvagedFile Fault → Result ⊤ Fault
+if_whole (Ok s) = if is_whole_file s then Ok tt else Err (BadChunk s.payload.chunks)
 if_whole (Err fault) = Err fault
 
 -- the result, the output and the reports of `salvage`
 abbrev pub SalvagesAll : (limits : Bounds) (answers : Answering) (source : Flow) (sink : Moved)
     (lost : LossesMoved) (result : Result ⊤ Fault) → Type 0
 SalvagesAll limits answers source sink lost result =
-    (done : Result Salvaged Fault) × (result ≡ if_whole done)
+    (done : Result SalvagedFile Fault) × (result ≡ if_whole done)
     × SalvagesFile limits answers source sink lost done
 
 -- P holds of some bytes, and of those to come, if they are known
@@ -71,7 +71,7 @@ Performs job (Inspect key) from sink lost result =
     OfKnown from (λ b. InspectsText (limits_of job) job.raw key b sink result)
 Performs job (Salvage secret) from sink lost result =
     let answers = answers_of secret job.max_work in
-    (done : Result Salvaged Fault) × (result ≡ if_whole done)
+    (done : Result SalvagedFile Fault) × (result ≡ if_whole done)
     × OfKnown from (λ b. SalvagesText (limits_of job) answers b sink lost done)
 Performs job (Range secret) from sink lost result =
     (size : Option ℕ) × RangingAny (λ _ _ _. ⊤) (λ found. found) (limits_of job)

@@ -10,14 +10,14 @@ ghost use Rattle.age_stream.specs.Salvage.{losses_by};
 
 use crate::buffering::limits_of;
 use crate::identity::SecretIdentity;
-use age_file::{Fault, Identity, Losses, Salvaged, Sink, Source};
+use age_file::{Fault, Identity, Losses, SalvagedFile, Sink, Source};
 use age_job::{Job, Secret};
 use std::alloc::Global;
 
 /// A receiver of the reports of `salvage`.
 pub trait Report: Losses {
     /// Receives what was saved of a file that is not whole, after its lost chunks.
-    fn damaged(&mut self, saved: &Salvaged)
+    fn damaged(&mut self, saved: &SalvagedFile)
         // The lost chunks reported so far are unchanged.
         ensures { Self.lost self.new ≡ Self.lost self.old };
 }
@@ -46,7 +46,7 @@ pub(crate) fn salvage_all<S: Source, W: Sink, L: Report>(
         Ok(saved) if saved.is_whole() => Ok(()),
         Ok(saved) => {
             report.damaged(&saved);
-            Err(Fault::BadChunk(saved.chunks))
+            Err(Fault::BadChunk(saved.payload.chunks))
         }
         Err(fault) => Err(fault),
     }
@@ -61,7 +61,7 @@ fn salvage<S: Source, W: Sink, L: Losses>(
     input: &mut S,
     out: &mut W,
     losses: &mut L,
-) -> Result<Salvaged, Fault>
+) -> Result<SalvagedFile, Fault>
     requires { IsInRange job.now }
     // Returns, writes and reports what the library does for the identity and the limits of the job
     // and its secret.
@@ -69,7 +69,7 @@ fn salvage<S: Source, W: Sink, L: Losses>(
         (flow_by S.to_come S.gave input.old input.new) (move_by W.taken out.old out.new)
         (losses_by L.lost losses.old losses.new) result }
     // If no chunk is lost, none was reported.
-    ensures silent { IfOk result (λ s. s.lost ≡ 0 → losses.new ≡ losses.old) }
+    ensures silent { IfOk result (λ s. s.payload.lost ≡ 0 → losses.new ≡ losses.old) }
     // On a fault other than a chunk's, `TooManyChunks`, `Read` and `Write` the sink is unchanged.
     ensures quiet { IsQuiet out.old out.new result }
     ensures reads { CountsIf is_read (S.failed input.old) (S.failed input.new) result }

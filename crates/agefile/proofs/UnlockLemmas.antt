@@ -12,7 +12,8 @@ use Rattle.age_stream.specs.Reading.{Reading, stop}
 use Rattle.age_file.specs.declared.fault.Fault.{Fault}
 use Rattle.age_file.specs.declared.fault.Fault.TheVariants.{OutOfMemory, BadMac, MixedPassphrase, NonceTruncated}
 use Rattle.age_file.specs.Inspect.{Inspects}
-use Rattle.age_file.specs.Verdict.{Answering, IsVerdict, header_fault, reading_after, parts_of, reading_under, header_key, checked_key, finding}
+use Rattle.age_file.specs.Verdict.{Answering, IsVerdict, header_fault, reading_after, parts_of, reading_under, header_key, if_right, finding}
+use Rattle.age_file.proofs.FileLemmas.{tested_key}
 use Rattle.age_file.proofs.DecryptLemmas.{err_err}
 use Rattle.age_file.proofs.FileLemmas.{one_verdict}
 use Rattle.agefile.specs.declared.report.Report.{Report}
@@ -157,8 +158,8 @@ key_again : (answers : Answering) (p : HeaderParts) (k : FileKey) → header_key
 key_again answers p k e = go (is_mixed p.stanzas) (choice (answers p.stanzas)) e
   where
     go : (t : Bool) (chosen : Result FileKey UnlockFault)
-        → cond t (Err MixedPassphrase) (checked_key p chosen) ≡ Ok k
-        → cond t (Err MixedPassphrase) (checked_key p (Ok k)) ≡ Ok k
+        → if_right (cond t (Err MixedPassphrase) (tested_key p chosen)) ≡ Ok k
+        → if_right (cond t (Err MixedPassphrase) (tested_key p (Ok k))) ≡ Ok k
     go true chosen e = absurd (cc)
     go false (Err fault) e = absurd (cc)
     go false (Ok j) e = rw (same_key (bytes_eq p.mac (header_mac j.0 p.stanzas)) j k e) at e

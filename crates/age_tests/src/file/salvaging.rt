@@ -6,7 +6,9 @@ use super::devices::FailingSink;
 use super::failing::FILE;
 use super::key_identities;
 use crate::devices::FailingSource;
-use age_file::{Fault, Limits, Losses, Lost, Salvaged, Saved, Sink, Source, salvage};
+use age_file::{
+    Fault, Limits, Losses, Lost, Salvaged, SalvagedFile, Saved, Sink, Source, salvage,
+};
 use age_header::{MemSink, MemSource};
 use sha2::{Digest, Sha256};
 use std::alloc::Global;
@@ -115,7 +117,7 @@ fn salvaged<S: Source, W: Sink>(
     source: &mut S,
     sink: &mut W,
     limits: &Limits,
-) -> (Result<Salvaged, Fault>, Vec<Lost>) {
+) -> (Result<SalvagedFile, Fault>, Vec<Lost>) {
     let mut kept = Kept {
         chunks: Vec::new(alloc),
     };
@@ -181,12 +183,16 @@ fn expect_early(
     let mut sink = MemSink::new(Vec::new(alloc));
     let mut source = MemSource::new(file.as_slice());
     let (answer, reported) = salvaged(rt, alloc, &mut source, &mut sink, &Limits::default());
-    let saved = Salvaged {
+    let payload = Salvaged {
         bytes: bytes as u128,
         chunks,
         lost: losses.len() as u128,
         early,
         last,
+    };
+    let saved = SalvagedFile {
+        has_right_mac: true,
+        payload,
     };
     assert_eq!(rt; answer, Ok(saved));
     let text = sink.into_vec();
