@@ -235,6 +235,10 @@ pub fn part_seal_next(part: &mut Part, chunk: &mut [u8]) -> Result<usize, Error>
     call!(agefile_part_seal_next(part, chunk.as_mut_ptr(), chunk.len())).map(|report| report.len as usize)
 }
 
+pub fn salvage_next(payload: &mut Payload, chunk: &mut [u8], last: bool) -> Result<Report, Error> {
+    call!(agefile_salvage_next(payload, chunk.as_mut_ptr(), chunk.len(), last))
+}
+
 pub fn ranges_open(front: &[u8], file_len: u64, file_key: &[u8; 16]) -> Result<(Ranges, Report), Error> {
     let mut ranges = Ranges::default();
     let report = call!(agefile_ranges_open(front.as_ptr(), front.len(), file_len, file_key, &mut ranges))?;
