@@ -1,11 +1,10 @@
-// Loaded before the C library: makes a call of the process short or failing. CALL names its kind,
-// which is read, write, ftruncate, fsync, lseek or statx, or message for a write to standard error.
-// NUMBER is its number among those of its kind, from 1, or 0 for all of them. DO is what becomes of
-// it: it moves "one" byte, or "half" of them, or "none", or fails with the error of this number. The
-// empty
-// file "met" shows that it came. The file that TRACE names gets a line for each call: its kind, the
-// file that it is about, and what it returned. A read of the character device /dev/urandom gives
-// the bytes of the file that URANDOM names. Where INODE is set, the number of each file is its size times this.
+// For LD_PRELOAD: makes a call of the process short, or makes it fail. CALL names its kind: read,
+// write, ftruncate, fsync, lseek or statx, or message for a write to standard error. NUMBER is its
+// number among the calls of its kind, from 1, or 0 for all of them. DO says what happens: the call
+// transfers "one" byte, "half" of the bytes or "none", or fails with this error number. The call
+// creates the empty file "met". The file that TRACE names gets a line for each call: its kind, the
+// file, and the result. A read of the character device /dev/urandom returns the bytes of the file
+// that URANDOM names. If INODE is set, the number of each file is its size times this.
 #define _GNU_SOURCE
 #include <dlfcn.h>
 #include <errno.h>
@@ -25,8 +24,7 @@ static void *real(const char *name)
     return found;
 }
 
-// How much of a size is left for the call of this kind that comes now: -1, and errno is set, where
-// it fails.
+// How much of a size the next call of this kind may transfer; -1, with errno set, if it must fail.
 static ssize_t allowed(const char *kind, long *calls, size_t size)
 {
     const char *call = getenv("CALL");
@@ -76,7 +74,7 @@ ssize_t write(int to, const void *bytes, size_t size)
     return count;
 }
 
-// What URANDOM names, from where the last such read ended.
+// The bytes of the file that URANDOM names, from the end of the last such read on.
 static ssize_t read_known(const char *name, void *bytes, size_t size)
 {
     static off_t at;

@@ -1,4 +1,4 @@
-"""The line of -v that shows at a terminal how much was read."""
+"""The line by which -v shows at a terminal how much was read."""
 
 import os
 import pty
@@ -14,7 +14,7 @@ from program import AGEP, ProgramCase, fault, read, write
 ERASE = "\r\x1b[K"
 MANY = b"".join(b"%d\n" % i for i in range(1, 100001))[:450000]
 KEY_FRONT = 172
-# The size in KiB, and the lines of a pipe and of a file: how much was read, how fast, and the
+# The size in KiB, and the lines for a pipe and for a file: how much was read, how fast, and the
 # seconds that are left.
 SIZE = 439
 PIPE = r"agep: (\d+) KiB, (\d+) KiB/s"
@@ -22,7 +22,7 @@ FILE = rf"agep: (\d+) KiB of {SIZE} KiB, (\d+) KiB/s, (\d+) s left"
 
 
 def drained(controller):
-    """What a terminal or a pipe got until its last user has gone."""
+    """All that a terminal or a pipe receives until its last writer has closed it."""
     said = b""
     try:
         while more := os.read(controller, 65536):
@@ -40,8 +40,8 @@ class Progress(ProgramCase):
         write("many.age", fixture.for_keys(MANY, KEY))
 
     def at_terminal(self, *words, pieces=()):
-        """Runs the program, whose standard error is a terminal, and gives these bytes slowly, or takes
-        the output slowly. Returns its status, output, what the terminal got, and the seconds."""
+        """Runs the program with a terminal as standard error, and feeds these bytes slowly or reads the
+        output slowly. Returns its status, its output, the text on the terminal, and the seconds."""
         controller, terminal = pty.openpty()
         start = time.monotonic()
         with open("out", "wb") as file:
@@ -64,7 +64,7 @@ class Progress(ProgramCase):
         return status, out, drained(controller).decode(), took
 
     def assert_drawn(self, said, line, took, last=""):
-        """Whether the line was drawn, at most twice a second, and erased before what came last."""
+        """Whether the line was drawn, at most twice a second, and erased before the last output."""
         self.assertEqual(said[len(said) - len(ERASE + last) :], ERASE + last)
         drawn = said[: len(said) - len(ERASE + last)].split(ERASE)
         self.assertEqual(drawn[0], "")
@@ -81,20 +81,20 @@ class Progress(ProgramCase):
             before = done
 
     def test_pipe(self):
-        """Of a pipe it shows how much was read, and how fast."""
+        """For a pipe it shows how much was read, and how fast."""
         pieces = [MANY[:131072], MANY[131072:262144], MANY[262144:393216], MANY[393216:]]
         status, _, said, took = self.at_terminal("encrypt", "-v", "-k", "key", "-s", "seed", pieces=pieces)
         self.assertEqual((status, read("out")), (0, read("many.age")))
         self.assert_drawn(said, PIPE, took)
 
     def test_file(self):
-        """Of a file it shows the size, too, and the time that is left."""
+        """For a file it also shows the size and the time that is left."""
         status, out, said, took = self.at_terminal("decrypt", "-v", "-k", "key", "many.age")
         self.assertEqual((status, out), (0, MANY))
         self.assert_drawn(said, FILE, took)
 
     def test_fault(self):
-        """It is gone before the message on a fault."""
+        """It is erased before the message about a fault."""
         write("damaged", fixture.changed(read("many.age"), -1))
         status, out, said, took = self.at_terminal("decrypt", "-v", "-k", "key", "damaged")
         more = "damaged: chunk 6, from byte 393216 of the plaintext on, is the last: the file may be cut short, or have bytes behind its end"
@@ -103,7 +103,7 @@ class Progress(ProgramCase):
         self.assert_drawn(said, FILE, took, last)
 
     def test_lost(self):
-        """A line on lost chunks takes its place: of chunk 1 in the midst, and of chunk 4 in the end."""
+        """A line about lost chunks replaces it: chunk 1 in the middle, and chunk 4 at the end."""
         text = fixture.changed(read("many.age"), KEY_FRONT + 65552)
         write("damaged", fixture.changed(text, KEY_FRONT + 4 * 65552))
         status, out, said, took = self.at_terminal("salvage", "-v", "-k", "key", "damaged")
@@ -116,7 +116,7 @@ class Progress(ProgramCase):
         self.assert_drawn(said, FILE, took)
 
     def test_closed_output(self):
-        """The terminal does not get the output if standard output is closed."""
+        """If standard output is closed, the terminal does not get the output."""
         last = fault(message("Write"), "writing standard output: Bad file descriptor").replace("\n", "\r\n")
         for words, name in (
             ("decrypt -v -k key", "key.age"), ("decrypt -v -k key key.age", "/dev/null"), ("encrypt -v -k key", "hello"),
@@ -131,14 +131,14 @@ class Progress(ProgramCase):
                 self.assertEqual((status, drained(controller).decode()), (1, last))
 
     def test_none(self):
-        """Nothing is shown without -v, or of a small file."""
+        """Nothing is shown without -v, or for a small file."""
         for words, plain in (("decrypt -k key many.age", MANY), ("decrypt -v -k key key.age", HELLO)):
             with self.subTest(words):
                 status, out, said, _ = self.at_terminal(*words.split())
                 self.assertEqual((status, out, said), (0, plain, ""))
 
     def test_no_terminal(self):
-        """Nothing is shown where standard error is no terminal."""
+        """Nothing is shown if standard error is not a terminal."""
         with open("out", "wb") as out:
             words = [AGEP, "encrypt", "-v", "-k", "key", "-s", "seed"]
             done = subprocess.Popen(words, stdin=subprocess.PIPE, stdout=out, stderr=subprocess.PIPE)

@@ -1,5 +1,5 @@
-"""What salvage writes and says of small files, by a model without a cipher: a piece opens exactly if it was made as a chunk of
-its number."""
+"""Compares the output and the lines of salvage on small files with a model without a cipher: a piece opens
+exactly if it was made as the chunk of its number."""
 
 import itertools
 
@@ -12,7 +12,7 @@ HEADER = age_file(KEYED, b"")
 
 
 def lost_lines(losses):
-    """The lines on lost chunks, given by the number, the first and the last byte of each."""
+    """The lines about lost chunks, each given as its number, first byte and last byte."""
     runs = []
     for i, start, end in losses:
         if runs and runs[-1][1] == i - 1:
@@ -25,7 +25,7 @@ def lost_lines(losses):
 
 
 def saved(payload):
-    """What salvage writes and says of a payload."""
+    """The output and the lines of salvage for a payload."""
     pieces = [payload[at : at + SEALED] for at in range(16, len(payload), SEALED)] or [b""]
     made = MADE if payload[:16] == NONCE else {}
     text, losses, early = b"", [], None
@@ -54,7 +54,7 @@ def saved(payload):
 
 class Payloads(ProgramCase):
     def assert_saved(self, payload):
-        """Bytes and lines are the model's, and the status is 0 exactly if that of decrypt is."""
+        """Output and lines are those of the model, and the status is 0 exactly if that of decrypt is."""
         text, lines = saved(payload)
         ran = self.run_agep("salvage", "-k", "key", input=HEADER + payload)
         self.assert_ended(ran, 1 if lines else 0, "".join(map(fault, lines)), text)
@@ -66,7 +66,8 @@ class Payloads(ProgramCase):
                 self.assert_saved(payload)
 
     def test_arrangements(self):
-        """Chunks in every order, some twice or left out, of several files with one file key, and every kind of end."""
+        """Chunks of several files with one file key, in every order, some twice or left out, with every kind
+        of end."""
         full = {
             "chunk 0": filled(0, False), "chunk 1": filled(1, False), "last 0": filled(0, True), "last 1": filled(1, True),
             "damaged": bytes(SEALED),
@@ -84,21 +85,21 @@ class Payloads(ProgramCase):
         )
 
     def test_edges(self):
-        """A file of three chunks, cut or with bytes behind its end, near each place where a piece ends."""
+        """A file of three chunks, cut or with bytes after its end, near the end of each piece."""
         whole = NONCE + filled(0, False) + filled(1, False) + chunk(2, True, HELLO)
         near = [16 + i * SEALED + by for i in range(3) for by in range(-18, 19)]
         self.assert_all((f"cut at {at}", whole[:at]) for at in near if 16 <= at < len(whole))
         self.assert_all((f"{more} bytes behind", whole + b"\n" * more) for more in range(1, 40))
 
     def test_bytes(self):
-        """A file of one chunk: cut anywhere, each of its bytes changed, and bytes behind its end."""
+        """A file of one chunk: cut anywhere, with each byte changed, and with bytes after its end."""
         whole = NONCE + chunk(0, True, HELLO)
         self.assert_all((f"cut at {at}", whole[:at]) for at in range(16, len(whole)))
         self.assert_all((f"byte {at} changed", changed(whole, at)) for at in range(len(whole)))
         self.assert_all((f"{more} bytes behind", whole + bytes(more)) for more in range(1, 40))
 
     def test_headers(self):
-        """The same of its header and nonce: the fault is that of decrypt."""
+        """The same in its header and nonce: the fault is that of decrypt."""
         file = HEADER + NONCE + chunk(0, True, HELLO)
         cuts = [(f"cut at {at}", file[:at]) for at in range(len(HEADER) + 16)]
         for name, bad in cuts + [(f"byte {at} changed", changed(file, at)) for at in range(len(HEADER))]:

@@ -1,14 +1,15 @@
-"""Compares what tells users of the program with the built program: the texts of help and their
-examples, the manual page, the completions, the change log."""
+"""Compares the texts for users with the built program: help and its examples, the manual page, the
+completions, CHANGELOG.md."""
 
 import os
 import re
+import shlex
 import shutil
 import subprocess
 import unittest
 
 from program import AGEP, ROOT, ProgramCase, read, scratch, version, write
-from shells import offered
+from shells import FOLDER, offered
 
 PAGE = ROOT + "/share/man/agep.1"
 
@@ -18,7 +19,7 @@ def help_of(*words):
 
 
 def commands():
-    """The commands that help shows, but for help itself."""
+    """The commands that help shows, except help itself."""
     shown = help_of().split("\nCommands:\n")[1].split("\n\n")[0]
     return [line.split()[0] for line in shown.split("\n") if line.split()[0] != "help"]
 
@@ -28,13 +29,20 @@ def options_of(*words):
     return sorted(word for pair in re.findall("^ +(-[a-zA-Z]), (--[a-z-]+)", help_of(*words), re.MULTILINE) for word in pair)
 
 
+def texts_of(command):
+    """The sentences of help for each option, by its letter; the default is the last one."""
+    options = help_of(command).split("\nOptions:\n")[1].split("\n\n")[0]
+    rows = re.findall(r"^ +(-[a-zA-Z]), --[a-z-]+(?: <\w+>)? +(\S.*(?:\n {20,}.*)*)", options, re.MULTILINE)
+    return {letter: re.sub(r"\.? \[default: (.*)\]$", r". The default is \1", " ".join(text.split())) + "." for letter, text in rows}
+
+
 def section(heading):
-    """The part of the manual page between this heading and the next."""
+    """The section of the manual page with this heading."""
     return read(PAGE).decode().replace("\\-", "-").split(f"\n.SH {heading}\n")[1].split("\n.SH ")[0]
 
 
 def enter_examples():
-    """Enters a folder that has the files which examples name, beside a folder for programs."""
+    """Enters a folder with the files that the examples name, beside a folder for programs."""
     folder = scratch()
     for name in ("bin", "work", "work/folder"):
         os.mkdir(f"{folder}/{name}")
@@ -50,7 +58,7 @@ def enter_examples():
 
 
 def run_example(line, *options, status=0):
-    """Runs a line in the folder, which ends so, and returns what it writes."""
+    """Runs a line in the folder, which must end with this status, and returns its output."""
     env = {**os.environ, "PATH": f"../bin:{os.environ['PATH']}"}
     done = subprocess.run(["bash", *options, "-c", line], env=env, stdin=subprocess.DEVNULL, capture_output=True, timeout=60)
     if (done.returncode, done.stderr) != (status, b""):
@@ -60,7 +68,7 @@ def run_example(line, *options, status=0):
 
 class Helps(ProgramCase):
     def test_form(self):
-        """Help fits 80 columns of ASCII, and ends with the statuses and examples."""
+        """Help is ASCII, fits 80 columns, and ends with the statuses and examples."""
         self.assertGreaterEqual(len(commands()), 4)
         for words in [[]] + [[command] for command in commands()]:
             with self.subTest(" ".join(words) or "agep"):
@@ -73,7 +81,7 @@ class Helps(ProgramCase):
                     self.assertEqual([line.split()[0] for line in lines if line.split()], ["0", "1", "2"])
 
     def test_same(self):
-        """Help by the word help and by options is the same."""
+        """The word help and the options give the same help."""
         for first, *others in (["--help"], ["help"], ["help", "--help"], ["help", "-h"]), (["inspect", "--help"], ["help", "inspect"]):
             expected = self.run_agep(*first)
             self.assert_ended(expected, 0, "", None)
@@ -82,7 +90,7 @@ class Helps(ProgramCase):
                     self.writes(expected.out, *words)
 
     def test_versions(self):
-        """The version is the newest of the change log."""
+        """The version is the newest in CHANGELOG.md."""
         self.assertRegex(version(), r"^\d+\.\d+\.\d+$")
         for option in ("-V", "--version"):
             for words in [[]] + [[command] for command in commands()]:
@@ -92,7 +100,7 @@ class Helps(ProgramCase):
             self.assertIn(f'"agep {version()}"', read(PAGE).decode())
 
     def test_examples(self):
-        """The examples of help run, in a folder that has the files which they name."""
+        """The examples in help run, in a folder with the files that they name."""
         enter_examples()
         for command in commands():
             for name in os.listdir("."):
@@ -112,27 +120,48 @@ class Helps(ProgramCase):
 
 
 class Manual(unittest.TestCase):
+    def test_synopsis(self):
+        """Each command with its options and arguments, as in help."""
+        page = re.sub(r'^\.\\".*\n?', "", section("SYNOPSIS"), flags=re.MULTILINE)
+        lines = [[shlex.split(line) for line in entry.strip().split("\n")] for entry in page.split("\n.br\n")]
+        shown = [" ".join((" " if len(macro) == 2 else "").join(words).strip() for macro, *words in entry) for entry in lines]
+        expected = []
+        for command in commands():
+            options = re.findall(r"^ +-([a-zA-Z]), --[a-z-]+(?: <(\w+)>)?", help_of(command), re.MULTILINE)
+            pairs = {"p": "{-p FILE | -k FILE...}", "P": "{-P FILE | -K FILE...}"}
+            words = [pairs.get(letter, f"[-{letter} {value}]".replace(" ]", "]")) for letter, value in options if letter not in "kKhV"]
+            usage = re.search(r"^Usage: agep \w+ \[OPTIONS\] (.*)", help_of(command), re.MULTILINE)[1]
+            expected.append(" ".join(["agep", command, *words, re.sub("[<>]", "", usage)]))
+        self.assertEqual(shown, [*expected, "agep help [COMMAND]", "agep {-h | -V}"])
+
     def test_options(self):
-        """The manual page has each option, in SYNOPSIS and once in OPTIONS."""
+        """OPTIONS has each option once, with its value."""
+        rows = re.findall(r'^\.BR (-[a-zA-Z]) ", " (--[a-z-]+)(?: " \\fI(\w+)\\fR")?', section("OPTIONS"), re.MULTILINE)
+        every = {row for words in [[], *([command] for command in commands())] for row in re.findall(r"^ +(-[a-zA-Z]), (--[a-z-]+)(?: <(\w+)>)?", help_of(*words), re.MULTILINE)}
+        self.assertEqual(sorted(rows), sorted(every))
+        self.assertNotRegex(read(PAGE).decode(), r"(?<![\\\w])-(-|[a-zA-Z]\b)", "a hyphen in place of a minus, which a shell does not know")
+
+    def test_texts(self):
+        """OPTIONS has the text that the help of each command has for the option."""
+        said, page = {}, re.sub(r"\\f[BIR]", "", section("OPTIONS"))
+        for letter, paragraphs in re.findall(r'^\.TP\n\.BR (-[a-zA-Z]) .*\n((?:[^.].*\n|\.IP\n)*)', page, re.MULTILINE):
+            for paragraph in paragraphs.split(".IP\n"):
+                users, text = re.fullmatch(r"(?:\((.*)\)\n)?(.*)", paragraph, re.DOTALL).groups()
+                for command in re.split(", | and ", users) if users else commands():
+                    said.setdefault(command, {}).setdefault(letter, []).extend(text.split())
         for command in commands():
             with self.subTest(command):
-                synopsis = re.search(rf"^\.B agep {command}$(.*?)(?=^\.B agep|\Z)", section("SYNOPSIS"), re.MULTILINE | re.DOTALL)[1]
-                letters = {word for word in options_of(command) if not word.startswith("--")} - {"-h", "-V"}
-                self.assertEqual(sorted(re.findall(r"-[a-zA-Z]\b", synopsis)), sorted(letters))
-        with self.subTest("OPTIONS"):
-            rows = re.findall(r'^\.BR (-[a-zA-Z]) ", " (--[a-z-]+)', section("OPTIONS"), re.MULTILINE)
-            every = {word for words in [[]] + [[command] for command in commands()] for word in options_of(*words)}
-            self.assertEqual(sorted(word for row in rows for word in row), sorted(every))
+                self.assertEqual({letter: " ".join(words) for letter, words in said[command].items()}, texts_of(command))
 
     def enter_backups(self):
-        """Enters a folder for EXAMPLES that has files which earlier ones made."""
+        """Enters a folder for EXAMPLES, with files like those that earlier examples made."""
         self.addCleanup(os.chdir, "/")
         enter_examples()
         run_example("agep encrypt -p passphrase -w 10 -o notes.age notes && agep encrypt -k key -o disk.age disk")
         run_example("tar c folder | agep encrypt -k key -o folder.tar.age")
 
     def test_examples(self):
-        """Each of EXAMPLES runs in a plain shell. Its files open; after a tar that fails the old backup is there."""
+        """Each of EXAMPLES runs in a plain shell. Its files open; if tar fails, the old backup stays."""
         secrets = ("-p passphrase", "-p passphrase.new", "-k key", "-k recovery.key")
         opened = {"notes.age": "agep decrypt {} notes.age", "folder.tar.age": "agep decrypt {} folder.tar.age | tar xO folder/notes"}
         blocks = re.findall(r"^\.nf\n(.*?)^\.fi$", section("EXAMPLES"), re.MULTILINE | re.DOTALL)
@@ -170,10 +199,10 @@ class Manual(unittest.TestCase):
 
 
 class Completions(unittest.TestCase):
-    """What each shell offers, by its own completion."""
+    """The completions of each shell."""
 
     def assert_offered(self, rows, shells=("bash", "zsh", "fish")):
-        """Compares what the shells offer for the last word of lines, in a folder that has the file some.age."""
+        """Compares what the shells offer for the last word of lines, in a folder with the file some.age."""
         folder = scratch()
         write(folder + "/some.age", b"")
         for shell in shells:
@@ -183,7 +212,7 @@ class Completions(unittest.TestCase):
                 self.assertEqual(offered(shell, list(rows), folder), {line: sorted(words) for line, words in rows.items()})
 
     def test_commands(self):
-        """The commands, and for help too."""
+        """The commands, also after help."""
         every = [*commands(), "help"]
         own = ["-V", "-h", "--help", "--version"]
         self.assert_offered({"agep ": every + own, "agep help ": every, "agep e": ["encrypt"]}, ["bash"])
@@ -191,7 +220,8 @@ class Completions(unittest.TestCase):
         self.assert_offered({"agep ": every, "agep -": own, "agep help ": commands(), "agep e": ["encrypt"]}, ["fish"])
 
     def test_options(self):
-        """Each option of each command, and after it a file where its value is one, and nothing where it is a number."""
+        """Each option of each command, and after it a file if its value is a file, and nothing if it is a
+        number."""
         options, values, short_joined, long_joined = {}, {}, {}, {}
         for command in commands():
             options[f"agep {command} -"] = options_of(command)
@@ -205,15 +235,29 @@ class Completions(unittest.TestCase):
         self.assert_offered(long_joined, ["zsh", "fish"])
         self.assert_offered(short_joined, ["zsh"])
 
+    def test_descriptions(self):
+        """zsh and fish describe each option by the first words of its help."""
+        for name, pattern in ("_agep", r"\{(-[a-zA-Z])\+?,--[^}]*\}(['\"])\[(.*)\](?::(?:number|file):\w*)?\2"), ("agep.fish", r"-s (\w) .* -d (')(.*)'$"):
+            text = read(f"{FOLDER}/{name}").decode()
+            for command in commands():
+                part = re.search(rf"^        {command}\)\n((?:            .*\n)*)", text, re.MULTILINE)
+                lines = part[1] if part else "\n".join(line for line in text.split("\n") if re.search(rf"[ ']{command}[ '].* -s | -s [hV] ", line))
+                found = {"-" + letter[-1]: words.replace("\\'", "'") for letter, _, words in re.findall(pattern, lines, re.MULTILINE)}
+                expected = {letter: re.split(r"[.;:] |\.$", words)[0] for letter, words in texts_of(command).items()}
+                if part:
+                    expected = {letter: words[0].lower() + words[1:] for letter, words in expected.items()}
+                with self.subTest(f"{name} {command}"):
+                    self.assertEqual(found, expected)
+
     def test_arguments(self):
-        """A file where IN is to follow, and no option behind --."""
+        """A file for IN, and no option after --."""
         lines = [f"agep {command}{' 0 1' * (command == 'range')} so" for command in commands()]
         self.assert_offered({line: ["some.age"] for line in lines})
         self.assert_offered({f"agep {words} -- -": [] for words in ("decrypt", "encrypt -k key")}, ["bash", "zsh"])
         self.assert_offered({"agep range so": [], "agep range 0 so": []}, ["zsh"])
 
     def test_options_that_are_given(self):
-        """zsh offers -k and -K again, no other option, and none that excludes one that is given."""
+        """zsh offers -k and -K again, no other option twice, and none that a given option excludes."""
         rows = {}
         for words, gone in {
             "encrypt -k a": "-p --passphrase", "encrypt -p a": "-p --passphrase -k --key", "decrypt -k a -m 3": "-p --passphrase -m --max-work",

@@ -1,5 +1,5 @@
-"""`-v`: which second line follows the line of each fault, in each command. Each run is made without -v
-too, where the first line is the only one. tests/cli/verbose.console has an example of each kind."""
+"""`-v`: the second line for each fault, in each command. Each run is repeated without -v, where the first
+line is the only one. tests/cli/verbose.console has an example of each kind."""
 
 import resource
 import shlex
@@ -9,7 +9,7 @@ from fixture import PASSPHRASE, PLAIN, SEED, changed, with_other_mac
 from program import BY_PASSPHRASE, OPENING, ProgramCase, read, write
 from test_headers import ZERO_MAC, ZERO_SALT, header_in, header_of, table
 
-# The commands that read the header of IN, which is to follow.
+# The commands that read the header of IN, which must follow.
 READING = ("inspect", *OPENING)
 NO_FILE, FULL, CLOSED = "No such file or directory", "No space left on device", "Bad file descriptor"
 RAW_KEY, RAW_FILE_KEY = "a key file holds 32 raw bytes, no hexadecimal", "a file key file holds 16 raw bytes, no hexadecimal"
@@ -19,14 +19,14 @@ FRONT, SEALED = 172, 65552
 
 
 def no_growth():
-    """No file of this process may grow, and no signal says so."""
+    """Lets no file of this process grow, without a signal."""
     signal.signal(signal.SIGXFSZ, signal.SIG_IGN)
     resource.setrlimit(resource.RLIMIT_FSIZE, (0, 0))
 
 
 class Verbose(ProgramCase):
     def explains(self, name, more, *lines, out=b"", **how):
-        """Lines that end with the fault of this name, and with -v with a second line."""
+        """Lines must end with the fault of this name, and with -v have a second line."""
         for line in lines:
             command, _, rest = line.partition(" ")
             with self.subTest(line.replace("\n", "\\n")):
@@ -36,7 +36,7 @@ class Verbose(ProgramCase):
 
 class Files(Verbose):
     def test_opening(self):
-        """Files that can't be opened."""
+        """Files that cannot be opened."""
         lines = [
             "encrypt -k key absent", "encrypt -k key -k absent hello", "encrypt -k key -s absent hello", "rewrap -k key -P absent key.age",
             "inspect -f absent key.age", *(f"{command} absent" for command in READING),
@@ -45,14 +45,14 @@ class Files(Verbose):
         self.explains("CannotOpen: hello/a", "opening hello/a: Not a directory", *(f"{it} hello/a" for it in READING))
 
     def test_creating(self):
-        """OUT that can't be created."""
+        """OUTs that cannot be created."""
         for name, why in ("absent/a", NO_FILE), ("folder", "Is a directory"), ("n" * 300, "File name too long"):
             lines = [f"encrypt -k key -o {name} hello", *(f"{it} -o {name} key.age" for it in OPENING)]
             self.explains(f"CannotCreate: {name}", f"creating {name}: {why}", *lines)
 
     def test_names(self):
-        """The second line tells each name from all others: it stands in quotation marks where it is empty or has a
-        blank at an end, and what sets the direction of writing is an escape."""
+        """The second line shows no two names alike: a name that is empty or has a blank at an end is quoted,
+        and characters that set the direction of writing are escaped."""
         for name, first, second in (
             ("", "", '""'),
             (" ", " ", '" "'),
@@ -86,7 +86,7 @@ class Files(Verbose):
             self.explains("Read", f"reading the {role} file folder: Is a directory", line)
 
     def test_writing(self):
-        """What can't be written to: a full device, a closed standard output, and a file that may not grow."""
+        """Outputs that cannot be written: a full device, a closed standard output, and a file that may not grow."""
         few = ("encrypt -k key hello", "range -k key 0 5 key.age", *(f"{command} key.age" for command in OPENING))
         many = (
             "encrypt -k key two_chunks", "decrypt -k key two.age", "range -k key 0 140000 key.age", "salvage -k key two.age",
@@ -102,7 +102,7 @@ class Files(Verbose):
 
 class SmallFiles(Verbose):
     def test_sizes(self):
-        """Secrets and seeds of a wrong size."""
+        """Secrets and seeds of the wrong size."""
         for size in (12, 15, 64, 65):
             write(f"size.{size}", PLAIN[:size])
         write("most", PLAIN[:65536])
@@ -125,7 +125,7 @@ class SmallFiles(Verbose):
             self.explains("FileKeyLength", f"file key file {name}: {size} bytes; {RAW_FILE_KEY}", f"inspect -f {name} key.age")
 
     def test_passphrases(self):
-        """Passphrase files that are too long, or hold none."""
+        """Passphrase files that are too long, or empty."""
         for role, line in (
             ("passphrase", "decrypt -p long.pass pass.age"),
             ("passphrase", "range -p long.pass 0 1 pass.age"),
@@ -140,7 +140,7 @@ class SmallFiles(Verbose):
 
 class Headers(Verbose):
     def test_fronts(self):
-        """What is no header, or a greater one than is accepted."""
+        """Files that do not begin with a header, or with a bigger one than is accepted."""
         key_age = read("key.age")
         for name, text in (
             ("armor", b"-----BEGIN AGE ENCRYPTED FILE-----\n"),
@@ -170,7 +170,7 @@ class Headers(Verbose):
         self.explains("HeaderTruncated", "empty: the file is empty", "inspect -r empty")
 
     def test_new_header(self):
-        """A new header that is larger than the limit is that of OUT."""
+        """If the new header is larger than the limit, the line names OUT."""
         keys = [f"new.{at}" for at in range(920)]
         for at, name in enumerate(keys):
             write(name, PLAIN[32 * at : 32 * at + 32])
@@ -182,7 +182,7 @@ class Headers(Verbose):
             self.explains("HeaderTooLarge", f"{out}: {why}", f"{words} {' '.join(f'{option} {name}' for name in keys)} {rest}")
 
     def test_stanzas(self):
-        """Which tool opens a file of these stanzas."""
+        """The tool that opens a file with these stanzas."""
         for name, types, tool in (
             ("pass.age", "scrypt", "-p"),
             ("data/three_recipients.age", "X25519", "another tool"),
@@ -199,7 +199,7 @@ class Headers(Verbose):
         self.explains("NoMatch", f"standard input: {own}", "decrypt -p pass <key.age")
 
     def test_secrets(self):
-        """Which secrets do not open a file whose stanzas are for them."""
+        """The secrets that failed to open a file with stanzas of their type."""
         other = "key file other.key (32 bytes)"
         lines = [f"{command.replace('-k key', '-k other.key')} key.age" for command in OPENING]
         self.explains("WrongKey", f"key.age: not opened by {other}", *lines)
@@ -220,7 +220,7 @@ class Headers(Verbose):
             self.explains("WrongKey", f"pass.age: not opened by passphrase file {shown} ({size})", *lines)
 
     def test_work_factors(self):
-        """A work factor above the one that is accepted, with the memory that it takes."""
+        """A work factor above the accepted one, with the memory that it needs."""
         for factor in (2, 23, 24, 30, 31, 99, 10**39):
             write(f"work.{factor}" if factor < 100 else "digits", header_of(f"-> scrypt {ZERO_SALT} {factor}\n{ZERO_MAC}\n"))
         for name, why, *lines in (
@@ -238,8 +238,8 @@ class Headers(Verbose):
 
 class Chunks(Verbose):
     def test_chunks(self):
-        """Damaged and missing chunks: the file has its header and nonce, 172 bytes, and then chunks of 65,552, the
-        last of 8,944."""
+        """Damaged and missing chunks: the file has 172 bytes of header and nonce, then chunks of 65,552
+        bytes, and a last one of 8,944."""
         plain_age, end = read("plain.age"), FRONT + 2 * SEALED
         first = "made: chunk 0 holds the plaintext from byte 0 to 65535"
         second = "made: chunk 1 holds the plaintext from byte 65536 to 131071"
@@ -290,7 +290,7 @@ class Others(Verbose):
         self.explains("BadMac", more, "inspect -f nonce key.age", out=table(header_in(key_age), False))
 
     def test_no_second_line(self):
-        """Faults whose line says all have no second line."""
+        """Faults whose first line says everything have no second line."""
         for name, line in (
             ("KeyChoice", "encrypt hello"),
             ("NewKeyChoice", "rewrap -k key key.age"),

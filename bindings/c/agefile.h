@@ -171,8 +171,9 @@ uint32_t agefile_version(void) AGEFILE_USED;
 /* ---- Headers. Reading a header needs no passphrase or key, so its MAC is not verified.
  *
  * Here and below, `front` is any beginning of the file that contains its header; every such
- * beginning has the same result. AGEFILE_FRONT bytes, or all of a shorter file, always suffice. For
- * a shorter front the calls return AGEFILE_HEADER_TRUNCATED: read on, if the file has more. */
+ * beginning has the same result. AGEFILE_FRONT bytes, or all of a shorter file, always suffice. If
+ * the header is not complete, the calls return AGEFILE_HEADER_TRUNCATED: read on, if the file has
+ * more. */
 typedef struct agefile_summary {
     uint64_t header_len;
     uint64_t stanzas;
@@ -372,9 +373,9 @@ uint32_t agefile_ranges_chunk(
     agefile_report *report) AGEFILE_CALL((1, 5));
 
 /* ---- Whole buffers under a file key. report.len is the number of bytes written to the start of
- * `out`. On AGEFILE_TOO_SMALL it is the number needed, and `out` is unchanged. For the front, the
- * stanzas, the file key and the nonce see above. After a fault of the payload `out` begins with the
- * plaintext of the verified chunks before it: use the output only after AGEFILE_OK. */
+ * `out`. On AGEFILE_TOO_SMALL it is the number needed, and `out` is unchanged. See above for
+ * `front`, the stanzas, the file key and the nonce. After a fault of the payload `out` begins with
+ * the plaintext of the verified chunks before it: use the output only after AGEFILE_OK. */
 uint32_t agefile_decrypt(
     const uint8_t *file, size_t file_len, const uint8_t file_key[AGEFILE_LEAST 16], uint8_t *out,
     size_t out_len, agefile_report *report) AGEFILE_CALL((3, 6));

@@ -1,17 +1,18 @@
-//! Encrypts or decrypts standard input to standard output by one way of the crate for Rust, for comparisons with
-//! other programs:
+//! Encrypts or decrypts standard input to standard output by one API of the crate for Rust, for
+//! comparisons with other programs:
 //!   convert (whole | stream | ranges | threads) (encrypt | decrypt) (-k | -p) SECRET_FILE
-//! After a fault it writes what came before, and ends with the line and the status of agep.
+//! After a fault it has written the plaintext before the fault, and ends with the line and the
+//! status of agep.
 //!   convert files salvage (-k | -p) SECRET_FILE
-//! salvages files from standard input, each after its length. For each it writes the length of the plaintext, the
-//! plaintext, and a line of JSON: the report, or the error as a text.
+//! salvages files from standard input, each after its length. For each it writes the length of the
+//! plaintext, the plaintext, and a line of JSON: the report, or the error as a text.
 
 use std::io::{self, Cursor, Read, Write};
 use std::{env, fs, process};
 
 use agefile::{Identity, Key, Passphrase, RangeReader, Reader, Recipient, Salvaged, Writer};
 
-/// By pieces of this length, so that chunks come in several.
+/// In pieces of this length, so that a chunk takes several.
 const PIECE: usize = 50_000;
 
 fn encrypted(way: &str, plain: &[u8], recipient: &dyn Recipient) -> io::Result<Vec<u8>> {

@@ -1,4 +1,4 @@
-"""AgeError: what it is no subclass of, its hints beside the second line of `agep -v`, its pickles."""
+"""AgeError: its base classes, its hints compared with the second line of `agep -v`, its pickles."""
 
 import io
 import json
@@ -30,7 +30,7 @@ class Kinds(InFolder):
         self.assertEqual(AgeError.__mro__[1:], Exception.__mro__)
 
     def test_the_module(self):
-        """No pickle and no traceback names a private file."""
+        """Pickles and tracebacks name no private module."""
         for name in agefile.__all__:
             if hasattr(getattr(agefile, name), "__qualname__"):
                 self.assertEqual(getattr(agefile, name).__module__, "agefile", name)
@@ -50,7 +50,7 @@ class Kinds(InFolder):
 
 
 class Hints(InFolder):
-    """Each fault of a file: the hint is the second line of `agep -v`, with the words of Python."""
+    """For each fault of a file, the hint is the second line of `agep -v` in terms of Python."""
 
     WORDS = (("-p opens it", "a Passphrase opens it"), ("-k opens it", "a Key opens it"), ("another tool opens it", "another tool or identity opens it"),
              ("for -p or -k is not", "for a Passphrase or a Key is not"), ("agep accepts at most 30", "at most 30 is accepted"),
@@ -58,7 +58,7 @@ class Hints(InFolder):
              ("key file key (32 bytes)", "Key"))
 
     def files(self):
-        """The faults: a name, the file, and the secret that opens it, or does not."""
+        """The faults: a name, the file, and the secret that opens it or not."""
         plain = agefile.encrypt(text(140000), recipients=KEY)
         by_word = agefile.encrypt(b"text", recipients=Passphrase("pass", work=2))
         header = agefile.inspect(plain)
@@ -87,7 +87,7 @@ class Hints(InFolder):
             yield types, f"age-encryption.org/v1\n{stanzas}--- {'A' * 43}\n".encode(), KEY
 
     def hints(self, file, secret):
-        """The hint by each way of reading."""
+        """The hint from each way of reading."""
         for name, call in (
             ("decrypt", lambda: agefile.decrypt(file, identities=secret)),
             ("decrypt on threads", lambda: agefile.decrypt(file, identities=secret, threads=2)),

@@ -1,4 +1,4 @@
--- What a job that is done has written, where input and output are known.
+-- What a finished job has written, if input and output are known.
 use Rattle.std.proofs.Common.{◌≡◌, ◌≤◌, ◌⊎◌, ◌∙◌, ◌++◌, ℕ, ap, arith, cond, false, inl, inr, length, refl, subst, sym, true, List, None, Some, Result, Ok, Err}
 use Rattle.std.specs.Prelude.{⊤, ◌↔◌, Bool, Option}
 use Rattle.std.specs.Io.KnownBytes.{Appends, Keeps}
@@ -159,7 +159,7 @@ done_rewrap job b xs new one (task.Rewrap old other salt, is, (taken, work, (los
     rewrote (limits_of job) (answers_of old job.max_work) (gathering_of other job.work salt) b xs taken new work r ends
 done_rewrap job b xs new one (task, is, w) = absurd (cc (one, is.0))
 
--- the output gained what is shown of the header with which the input begins
+-- the output gained what is shown of the header at the start of the input
 abbrev pub Showed : (limits : Bounds) (raw : Bool) (b xs : Bytes) (new : Known) → Type 0
 Showed limits raw b xs new =
     (header : HeaderParts) × (text : Bytes) × HeaderVerdict b limits.max_header (Ok (finding text header))
@@ -180,7 +180,7 @@ done_inspect job b xs new one (task.Inspect key, is, (taken, work, (lost, i), qu
     showed (limits_of job) job.raw key b xs taken new work i ends
 done_inspect job b xs new one (task, is, w) = absurd (cc (one, is.0))
 
--- the output gained at most so many bytes
+-- the output gained at most this many bytes
 abbrev pub GainedAtMost : (len : ℕ) (xs : Bytes) (new : Known) → Type 0
 GainedAtMost len xs new = (part : Bytes) × (length part ≤ len) × (new ≡ Some (xs ++ part))
 

@@ -1,4 +1,4 @@
--- What a task does, of which proofs see the bytes to come alone.
+-- What a task does, if proofs know only the bytes to come.
 use Rattle.std.proofs.Common.{[], Some, None, Err, inl, refl}
 use Rattle.std.proofs.KnownBytes.{Appends-nil, Keeps-refl}
 use Rattle.age_stream.specs.Salvage.{KnownLosses, losses_of}

@@ -1,4 +1,4 @@
--- The verdict is a plaintext on age files alone.
+-- The verdict is a plaintext only on age files.
 use Rattle.std.proofs.Common.{◌≡◌, ◌↔◌, ◌⊎◌, inl, inr, ℕ, List, [], ◌∷◌, ◌++◌, length, drop, cond, true, false, Bool, sym, ◌∙◌, ap, refl, subst, Option, Some, None, Result, Ok, Err}
 use Rattle.std.specs.Prelude.{option_map}
 use Rattle.std.specs.Str.{bytes_eq}

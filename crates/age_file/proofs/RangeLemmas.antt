@@ -240,7 +240,7 @@ pub file_begins : (limits : Bounds) (answers : Answering) {gave : ℕ → ℕ �
 file_begins limits answers at h k first key b =
     record { header = h; at = at; first = first; key = k; chosen = found_key key; begins = b }
 
--- what was given stays so
+-- bytes that were returned stay returned
 pub header_stays : {limits : Bounds} {old new : ℕ → ℕ → Type 0} {at : ℕ} {h : HeaderParts} → StaysGiven old new
     → GaveHeader limits old at h → GaveHeader limits new at h
 header_stays {old} {new} {at} stays first = record {

@@ -141,7 +141,7 @@ heading_rewraps limits answers gathered {come} {mid} old h key fault i chosen (i
 
 -- ---- what was written
 
--- the file of the new header, if the source gives these bytes
+-- the file with the new header, if the source returns these bytes
 new_file : (limits : Bounds) (answers : Answering) (gathered : FileKey → Gathering) (come mid : Seen) (h : HeaderParts)
     (key : FileKey) (text bytes : Bytes)
     → (i : IsHeaded limits come mid h) → header_key answers h ≡ Ok key → Made limits key (gathered key) text
@@ -223,7 +223,7 @@ copied_rewraps {limits} answers gathered {come} {mid} {to} old put new {h} {key}
     ))
     go f c = absurd c
 
--- copying ends with a late fault alone
+-- copying ends only with a late fault
 pub copies_late : (K : Type 0) (source : Flow) (old new : Known) (r : Result (Unit {0}) Fault)
     → Copies source (move_of old new) r
     → IfErr r (λ fault. IsLate fault ⊎ K)

@@ -28,7 +28,7 @@ use Rattle.age_file.proofs.DecryptLemmas.{IsHeaded, err_err, headed, payload_tak
 saves_none : (old : Known) (lost : KnownLosses) → SavesNone (move_of old old) (losses_of lost lost)
 saves_none old lost = (Appends-nil old, reports_none lost)
 
--- what a file comes to, where a fault ends the work before its payload
+-- the outcome of a file, if a fault ends the work before its payload
 stopped : (limits : Bounds) (answers : Answering) (b : Bytes) (old : Known) (lost : KnownLosses) (fault : Fault)
     → SavesFile limits answers b (move_of old old) (losses_of lost lost) (Err fault)
     → SalvagesText limits answers b (move_of old old) (losses_of lost lost) (Err fault)

@@ -56,7 +56,7 @@ fronts {source} {b} {rest} come left (Ok parts, is, reads) =
 
 -- ---- the file key
 
--- a length is given with a file key, or with its fault
+-- a length comes with a file key, or with its fault
 key_with : (n : ℕ) {found : Unlocked} {key : Result FileKey Fault} → Ok found ≡ with_len n key
     → (key ≡ Ok found.key) × (found.header_len ≡ n)
 key_with n {key = Err fault} e = absurd (cc)
@@ -151,7 +151,7 @@ same_key : (t : Bool) (j k : FileKey) → ◌≡◌ {A = Result FileKey Fault} (
 same_key true j k e = ok_ok e
 same_key false j k e = absurd (cc)
 
--- where a key was chosen and its MAC verified, it is so of this key
+-- if a key was chosen and its MAC verified, this holds for this key
 key_again : (answers : Answering) (p : HeaderParts) (k : FileKey) → header_key answers p ≡ Ok k
     → header_key (by_file_key k.0) p ≡ Ok k
 key_again answers p k e = go (is_mixed p.stanzas) (choice (answers p.stanzas)) e
@@ -221,7 +221,7 @@ start_found answers {b} {rest} nonce {key} found finds back long nonce_is key_is
 
 -- ---- what a start is
 
--- a file key was unlocked, sixteen bytes follow the header, and the chunks start behind them
+-- a file key was unlocked, sixteen bytes follow the header, and the chunks start after them
 pub record StartsUnder (len : ℕ) (rest : Bytes) (key : Result FileKey Fault) (s : Start) : Type 0 where
   pub k : FileKey
   pub unlocks : key ≡ Ok k
