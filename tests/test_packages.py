@@ -16,8 +16,10 @@ from pathlib import Path
 
 import fixture
 import stand_in
+import salvaged
 from packaged import functions_of, listed, members
 import test_damaged_files
+import test_salvage
 import test_vectors
 import testkit
 from program import AGEP
@@ -548,6 +550,9 @@ class ForPython(unittest.TestCase):
     def test_files_of_others(self):
         self.run_tests("test_others.py")
 
+    def test_salvaging(self):
+        self.run_tests("test_salvaging.py")
+
     def test_x25519(self):
         self.run_tests("test_x25519.py")
 
@@ -624,6 +629,29 @@ class ForRust(unittest.TestCase):
             with self.subTest(way.name):
                 self.assertEqual(test_vectors.differences(way), {})
                 self.assertEqual(test_vectors.differences(way, test_damaged_files.cases()), {})
+
+    def test_salvage(self):
+        """What it saves and reports of the program's small files is what the model says."""
+        (self.tree / "key").write_bytes(fixture.KEY)
+        words = (self.converter(), "files", "salvage", "-k", "key")
+        with subprocess.Popen(words, stdin=subprocess.PIPE, stdout=subprocess.PIPE, cwd=self.tree) as process:
+            def saved(file):
+                process.stdin.write(len(file).to_bytes(8, "little") + file)
+                process.stdin.flush()
+                text = process.stdout.read(int.from_bytes(process.stdout.read(8), "little"))
+                return text, json.loads(process.stdout.readline())
+
+            def assert_saved(payload):
+                text, (length, chunks, runs, *facts) = saved(test_salvage.HEADER + payload)
+                lost = tuple((range(*numbers), first, end - first, is_unread) for numbers, (first, end), is_unread in runs)
+                self.assertEqual((text, (length, chunks, lost, *facts)), salvaged.expected(payload))
+
+            files = test_salvage.Payloads()
+            files.assert_saved = assert_saved
+            for each in files.test_arrangements, files.test_edges, files.test_bytes:
+                each()
+            process.stdin.close()
+            self.assertEqual(process.wait(), 0)
 
     def test_no_threads(self):
         """If the system starts no thread, because each would need a stack of 4 EiB, one thread does the work."""

@@ -141,6 +141,10 @@ FUNCTION(uint32_t, part_seal_next,
          (agefile_part *part, OUT(chunk), REPORT),
          { CHECK(chunk) },
          (part, chunk, chunk_len, report))
+FUNCTION(uint32_t, salvage_next,
+         (agefile_payload *payload, OUT(chunk), bool last, REPORT),
+         { CHECK(chunk) },
+         (payload, chunk, chunk_len, last, report))
 FUNCTION(uint32_t, ranges_open,
          (IN(front), uint64_t file_len, const uint8_t file_key[16], agefile_ranges *ranges, REPORT),
          { CLOSE(ranges) CHECK(front) },

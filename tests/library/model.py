@@ -382,6 +382,36 @@ def part_seal_next(part, chunk):
     return next_of_part(part, chunk, WRITING)
 
 
+SAVED_CHUNK, SAVED_LAST, SAVED_EARLY, SAVED_ZEROS, SAVED_NONE = range(1, 6)
+
+
+def saved(key, number, is_last, data):
+    """What is saved of a sealed chunk: its text or zeros, and which of these."""
+    for is_marked in (is_last, not is_last):
+        text = opened(key, number.to_bytes(11, "big") + bytes([is_marked]), data) if len(data) >= TAG else None
+        if text is not None and not is_marked:
+            return text, SAVED_CHUNK
+        if text is not None:
+            return text, SAVED_LAST if is_last and (text or number == 0) else SAVED_EARLY
+    return bytes(max(len(data) - TAG, 0)), SAVED_ZEROS if len(data) > TAG else SAVED_NONE
+
+
+def salvage_next(data, chunk, is_last):
+    payload, is_last = payload_of(data), bool(is_last)
+    if payload.state != READING or not is_chunk_length(len(chunk), is_last):
+        raise Fault(OUT_OF_ORDER)
+    if payload.number == MOST:
+        payload.state = FAILED
+        payload.write()
+        raise Fault(TOO_MANY_CHUNKS)
+    text, kind = saved(payload.key, payload.number, is_last, bytes(chunk))
+    chunk[: len(text)] = text
+    payload.number += 1
+    payload.state = ENDED if is_last else READING
+    payload.write()
+    return OK, (len(text), kind, 0)
+
+
 def last_index(sealed):
     return max(sealed - 1, 0) // SEALED
 

@@ -46,7 +46,7 @@ def kind_of(value):
 CALLS = {e.name: tuple(kind_of(value) for value in e.parameters if value.kind != "report") for e in HEADER.functions}
 INDEX = {name: index for index, name in enumerate(CALLS)}
 # The calls that allocate nothing.
-CHUNKS = ("open_next", "seal_next", "take_part", "part_open_next", "part_seal_next", "ranges_last", "ranges_locate", "ranges_chunk")
+CHUNKS = ("open_next", "seal_next", "take_part", "part_open_next", "part_seal_next", "salvage_next", "ranges_last", "ranges_locate", "ranges_chunk")
 # The calls without a report.
 NUMBERS = [e.name for e in HEADER.functions if not any(value.kind == "report" for value in e.parameters)]
 # The calls that open a struct, with the index of that argument.
@@ -295,6 +295,8 @@ class Maker:
 
     def for_seal_next(self):
         return self.for_open_next(False)
+
+    for_salvage_next = for_open_next
 
     def for_take_part(self):
         return self.struct(64), self.choice(1, 2, 3, self.number()), self.bytes(64)
