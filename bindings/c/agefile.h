@@ -330,7 +330,7 @@ enum agefile_saved {
  * agefile_saved, and the payload continues after the chunk. Otherwise the chunk is unchanged.
  *
  * Each text is genuine. The plaintext is whole exactly if agefile_open_next opens all chunks: the
- * last one is then an AGEFILE_SAVED_LAST, and each other an AGEFILE_SAVED_CHUNK. */
+ * last one is then an AGEFILE_SAVED_LAST, and every other one an AGEFILE_SAVED_CHUNK. */
 uint32_t agefile_salvage_next(
     agefile_payload *payload, uint8_t *chunk, size_t chunk_len, bool last, agefile_report *report)
     AGEFILE_CALL((1, 5));

@@ -248,7 +248,7 @@ class Programs(InFolder):
         self.assertRaises(ValueError, Passphrase.from_file, "pass")
 
     def test_passphrase_files_that_nobody_types(self):
-        """They make no file in any way, as for agep, and open those that others made."""
+        """They make no file in any way, as in agep, and open files that others made."""
         for data in (b"word\r", b"word\r\n", b"\r", b"\xef\xbb\xbfword", b"\xef\xbb\xbfword\n", b"\xef\xbb\xbfword\r\n"):
             secret = Passphrase.from_file(io.BytesIO(data), work=1)
             for number, call in enumerate((

@@ -1,5 +1,5 @@
-"""salvage: small files of every kind against a model, reads that fail, and its arguments. What is saved
-after a failed read is arithmetic."""
+"""salvage: small files of every kind compared with a model, failing reads, and its arguments. What
+is saved after a failed read follows by arithmetic."""
 
 import errno
 import io
@@ -22,14 +22,14 @@ FRONT = agefile.inspect(agefile.encrypt(b"", recipients=KEY)).length + 16
 
 
 def saved(source, **words):
-    """What is written, and the report."""
+    """The output and the report."""
     out = io.BytesIO()
     report = agefile.salvage(source, out, identities=words.pop("identities", KEY), **words)
     return out.getvalue(), report
 
 
 class Model(test_salvage.Payloads):
-    """The files of the program's own test. A file is whole exactly if it can be decrypted."""
+    """The files of the program's test. A file is whole exactly if it can be decrypted."""
 
     def assert_saved(self, payload):
         key = Key(fixture.KEY)
@@ -43,11 +43,11 @@ class Model(test_salvage.Payloads):
             is_whole = False
         self.assertEqual(report.whole, is_whole)
 
-    # Of the program alone, which continues under a wrong MAC.
+    # Only of the program, which continues under a wrong MAC.
     test_changed_header = None
 
     def test_headers(self):
-        """The error of a header is that of `copy`, and nothing is written."""
+        """An error in the header is the same as in `copy`, and nothing is written."""
         file = agefile.encrypt(b"hello", recipients=KEY)
         cuts = [(f"cut at {at}", file[:at]) for at in range(FRONT)]
         for name, bad in cuts + [(f"byte {at}", fixture.changed(file, at)) for at in range(FRONT - 16)]:
@@ -61,8 +61,8 @@ class Model(test_salvage.Payloads):
 
 
 class Disk(io.RawIOBase):
-    """A file with bad blocks of 512 bytes, given by their numbers. A read ends before a bad block and fails in it, or it
-    fails if it reaches one."""
+    """A file with bad blocks of 512 bytes, given by number. A read ends before a bad block and
+    fails in it, or fails as soon as it reaches one."""
 
     def __init__(self, data, bad, can_seek=True, ends_before=True):
         self.data, self.bad, self.at, self.failed = data, set(bad), 0, 0
@@ -107,7 +107,8 @@ class FailedReads(unittest.TestCase):
         return b"".join(bytes(len(piece)) if i in chunks else piece for i, piece in enumerate(pieces))
 
     def assert_lost(self, source, chunks, *runs):
-        """These chunks are lost, which are these runs: their numbers, and whether they were not read."""
+        """These chunks must be lost, in these runs: their numbers, and whether they could not be
+        read."""
         found, report = saved(source)
         self.assertTrue(found == self.without(*chunks))
         ends = [min(run[0].stop * TEXT, len(self.plain)) for run in runs]
@@ -115,7 +116,8 @@ class FailedReads(unittest.TestCase):
         self.assertEqual(report, (len(self.plain), 5, wanted, None, 0, False, not chunks))
 
     def test_bad_blocks(self):
-        """A bad block costs the chunks on it, wherever it lies in them, and each is tried once."""
+        """A bad block costs the chunks on it, wherever it is in them, and each chunk is tried
+        once."""
         blocks = range(-(-FRONT // 512), -(-len(self.file) // 512))
         for block in [*blocks[:3], *blocks[::37], *(len(self.file) // 512 - 1, len(self.file) // 512)]:
             first, last = ((at - FRONT) // SEALED for at in (512 * block, min(512 * block + 511, len(self.file) - 1)))
@@ -127,11 +129,12 @@ class FailedReads(unittest.TestCase):
                 with self.subTest(block=block, kind=kind):
                     chunks = range(first, last + 1)
                     self.assert_lost(source, chunks, (chunks, True))
-                    # The end of the file may lie on it too.
+                    # The end of the file may also be on it.
                     self.assertLessEqual(disk.failed, len(chunks) + 1)
 
     def test_many_bad_blocks(self):
-        """Several in a chunk, in chunks in a row and apart, all from some block on, and all but the first ones."""
+        """Several in one chunk, in adjacent and in separate chunks, all from some block on, and all
+        except the first ones."""
         def block(chunk, at):
             return (FRONT + chunk * SEALED + at) // 512
 
@@ -149,7 +152,7 @@ class FailedReads(unittest.TestCase):
                 in_time(lambda: self.assert_lost(Disk(self.file, bad), chunks, *rows))
 
     def test_damage_beside_it(self):
-        """A run of chunks that are damaged is another one than that of chunks that could not be read."""
+        """Damaged chunks and chunks that could not be read are different runs."""
         disk = Disk(damaged(self.file, 1, 2), [(FRONT + 3 * SEALED) // 512 + 9])
         self.assert_lost(disk, [1, 2, 3], (range(1, 3), False), (range(3, 4), True))
 
@@ -161,8 +164,8 @@ class FailedReads(unittest.TestCase):
         self.assert_lost(disk, [1], (range(1, 2), True))
 
     def test_one_failure(self):
-        """Each read fails once in turn: in the header that is an error, at the end it does not matter, and elsewhere a chunk
-        is lost."""
+        """Each read fails once in turn: in the header this is an error, at the end it does not
+        matter, and elsewhere a chunk is lost."""
         for number in itertools.count():
             disk, calls = Disk(self.file, []), itertools.count()
             read = disk.readinto
@@ -186,7 +189,7 @@ class FailedReads(unittest.TestCase):
         self.assertGreater(number, 5)
 
     def test_header(self):
-        """A read that fails in the header is the error."""
+        """A read that fails in the header is an error."""
         for block in (0, FRONT // 512):
             out = io.BytesIO()
             with self.subTest(block), self.assertRaises(OSError):
@@ -194,7 +197,8 @@ class FailedReads(unittest.TestCase):
             self.assertEqual(out.getvalue(), b"")
 
     def test_no_seek(self):
-        """A source that cannot seek ends there: the error is raised after what came before it was written."""
+        """With a source that cannot seek, salvaging ends there: the part before is written, and the
+        error is raised."""
         bad = [(FRONT + 2 * SEALED) // 512 + 9]
         for disk in (Disk(self.file, bad, can_seek=False), ReadOnly(Disk(self.file, bad, can_seek=False))):
             out = io.BytesIO()
@@ -203,14 +207,15 @@ class FailedReads(unittest.TestCase):
             self.assertTrue(out.getvalue() == self.plain[: 2 * TEXT])
 
     def test_no_end(self):
-        """Where a file ends before the failed read, as those do that do not tell their length, its error is raised."""
+        """If the file ends before the failed read, as files without a known length do, the error is
+        raised."""
         disk = Disk(self.file, [(FRONT + 2 * SEALED) // 512 + 9])
         seek, disk.seek = disk.seek, lambda at, whence=0: disk.at if whence == 1 else seek(at) if whence == 0 else FRONT
         self.assertRaisesRegex(OSError, "Input/output error", saved, disk)
 
 
 class ReadOnly:
-    """A source that has nothing but `read`."""
+    """A source that has only `read`."""
 
     def __init__(self, file):
         self.read = file.read
@@ -244,7 +249,8 @@ class Arguments(InFolder):
         self.assertEqual(report.lost, (Lost(range(1, 2), TEXT, TEXT - 1, False),))
 
     def test_old_file(self):
-        """A wrong key leaves an old file at the sink's path. With `atomic` any error does."""
+        """After a wrong key, an old file at the sink's path stays. With `atomic` it stays after any
+        error."""
         name = self.made(text(2 * TEXT))
         for words in ({"identities": Key(bytes(32))}, {"identities": Key(bytes(32)), "atomic": True}):
             self.put(b"old", "out")
@@ -259,7 +265,8 @@ class Arguments(InFolder):
         self.assertRaisesRegex(TypeError, "atomic takes a path", agefile.salvage, name, io.BytesIO(), identities=KEY, atomic=True)
 
     def test_progress(self):
-        """It gets the bytes read, skipped ones too, and how many there are. Its own exception is none of a read."""
+        """It gets the number of bytes read, including skipped ones, and of all. Its own exception
+        does not count as a failed read."""
         name, told = self.made(text(4 * TEXT)), []
         size = os.stat(name).st_size
         agefile.salvage(name, io.BytesIO(), identities=KEY, progress=lambda *numbers: told.append(numbers))
@@ -276,7 +283,7 @@ class Arguments(InFolder):
         self.assertRaisesRegex(BrokenPipeError, "of the progress", agefile.salvage, name, io.BytesIO(), identities=KEY, progress=fails)
 
     def test_report(self):
-        """Names of its fields, and that it can be pickled and compared."""
+        """The names of its fields; it can be pickled and compared."""
         _, report = saved(io.BytesIO(damaged(agefile.encrypt(text(TEXT + 1), recipients=KEY), 0)))
         self.assertEqual(repr(report), "Salvaged(length=65537, chunks=2, "
                          "lost=(Lost(chunks=range(0, 1), offset=0, length=65536, unread=False),), early=None, trailing=0, cut=False, whole=False)")

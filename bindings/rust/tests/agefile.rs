@@ -161,7 +161,7 @@ fn great_header_may_come_in_single_bytes() {
 fn ranges_are_slices() {
     for plain in SIZES.map(text) {
         let mut file = Cursor::new(encrypt(&plain, &[&key()]).unwrap());
-        // Wherever it stands, the whole source is the file.
+        // Whatever its position, the whole source is the file.
         file.set_position(7);
         let mut reader = RangeReader::new(file, &[&key()]).unwrap();
         assert_eq!((reader.len(), reader.is_empty()), (plain.len() as u64, plain.is_empty()));

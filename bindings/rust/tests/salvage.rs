@@ -1,5 +1,6 @@
-//! What is left of damaged files, and of files whose reads fail. What is expected is arithmetic. The packages' tests
-//! compare the same calls with a model, for all kinds of small files.
+//! What is left of damaged files, and of files whose reads fail. The expected results follow by
+//! arithmetic. The packages' tests compare the same calls with a model, for all kinds of small
+//! files.
 
 mod common;
 
@@ -27,7 +28,7 @@ fn file() -> (Vec<u8>, Vec<u8>, usize) {
     (plain, file, front)
 }
 
-/// Zeros stand for these runs of chunks, and the report says so.
+/// These runs of chunks must be zeros, and the report must say so.
 fn assert_lost(source: impl Read + Seek, runs: &[(Range<usize>, bool)]) {
     let (mut plain, ..) = file();
     let len = plain.len();
@@ -45,7 +46,8 @@ fn assert_lost(source: impl Read + Seek, runs: &[(Range<usize>, bool)]) {
     assert_eq!((report.early, report.trailing, report.is_cut), (None, 0, false));
 }
 
-/// A file of whose bytes some cannot be read. A read ends before them and fails in them, or it fails if it reaches them.
+/// A file in which some bytes cannot be read. A read ends before them and fails in them, or fails
+/// as soon as it reaches them.
 struct Disk {
     file: Cursor<Vec<u8>>,
     bad: Vec<(usize, usize)>,
@@ -155,7 +157,7 @@ fn errors() {
     let pipe = Disk { can_seek: false, ..Disk::new(file.clone(), &bad) };
     assert_eq!(salvage(pipe, &mut out, &[&key()]).unwrap_err().to_string(), "bad block");
     assert!(out == plain[..2 * TEXT]);
-    // Nothing is lost where a read fails at the end.
+    // Nothing is lost if a read fails at the end.
     assert_lost(Disk::new(file.clone(), &[(file.len(), file.len() + 1)]), &[]);
     // An interrupted read is repeated.
     let interrupted = Disk { kind: ErrorKind::Interrupted, failures: 3, ..Disk::new(file.clone(), &bad) };
