@@ -531,8 +531,13 @@ class Writes(InSystem):
                 fsspec.filesystem("age", **words)
         for mode, words in (("rb", {"atomic": True}), ("r", {"identities": KEY}), ("wb", {"identities": KEY}), ("w", {"word": 1})):
             self.assertRaises(TypeError, self.system.open, path, mode, **words)
-        for words in ({"block_size": 100}, {"cache_type": "none"}):
+        for words in ({"block_size": 100}, {"cache_type": "none"}, {"cache_options": {}}, {"size": 3}, {"autocommit": True}):
             self.assertEqual(self.system.open(path, **words).read(), b"old")
+        for words in ({"asynchronous": False}, {"loop": None}, {"batch_size": 5}, {"max_paths": 5}, {"listings_expiry_time": 5}, {"use_listings_cache": True}):
+            self.assertEqual(fsspec.filesystem("age", identities=self.identity, **words).cat_file(path), b"old")
+        self.new("a.age", b"a\r\n\xff")
+        with self.system.open(path, "r", newline="", errors="replace") as file:
+            self.assertEqual(file.read(), "a\r\n\ufffd")
 
     @unittest.skipIf(pandas is None, "pandas is missing")
     def test_pandas(self):
