@@ -6,9 +6,7 @@ use super::devices::FailingSink;
 use super::failing::FILE;
 use super::key_identities;
 use crate::devices::FailingSource;
-use age_file::{
-    Fault, Limits, Losses, Lost, Salvaged, SalvagedFile, Saved, Sink, Source, salvage,
-};
+use age_file::{Fault, Limits, Losses, Lost, Salvaged, SalvagedFile, Saved, Sink, Source, salvage};
 use age_header::{MemSink, MemSource};
 use sha2::{Digest, Sha256};
 use std::alloc::Global;
