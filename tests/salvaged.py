@@ -1,5 +1,5 @@
-"""What salvaging a payload writes and reports in Python and Rust, by a model without a cipher: a piece opens exactly if it
-was made as a chunk of its number."""
+"""The output and the report of salvaging a payload in Python and Rust, by a model without a cipher: a piece
+opens exactly if it was made as the chunk of its number."""
 
 import itertools
 
@@ -8,14 +8,14 @@ from testkit import SEALED
 
 
 def runs(numbers):
-    """The runs of these numbers, which rise."""
+    """The runs of these ascending numbers."""
     for _, run in itertools.groupby(enumerate(numbers), lambda pair: pair[1] - pair[0]):
         found = [number for _, number in run]
         yield range(found[0], found[-1] + 1)
 
 
 def expected(payload):
-    """The text, and the report in the order of agefile.Salvaged."""
+    """The text, and the report with its fields in the order of agefile.Salvaged."""
     pieces = [payload[at : at + SEALED] for at in range(16, len(payload), SEALED)] or [b""]
     end, made = len(pieces) - 1, MADE if payload[:16] == NONCE else {}
     opened = [made.get((i, piece), (bytes(max(len(piece) - 16, 0)), None)) for i, piece in enumerate(pieces)]

@@ -232,7 +232,7 @@ class SameInode(ProgramCase):
         self.assert_file("first", HELLO)
 
     def test_one_block_device(self):
-        """A block device is itself by any node of its number; a character device may be both IN and OUT."""
+        """Any node with its number is the same block device; a character device may be both IN and OUT."""
         write("disk", PLAIN[:65536])
         for out in ("$disk", "node"):
             for option in ("-o ", ">"):

@@ -73,8 +73,8 @@ class Out(Files):
                 self.changes_nothing("Unidentified: standard input", f"{command} -o old <&-")
 
     def test_no_metadata(self):
-        """Where the system does not say which file any is, nothing is refused but an OUT that was there, and the
-        default seed."""
+        """If the system does not tell which file is which, only an existing OUT and the default seed are
+        refused."""
         def without(name, line, more=None, number=0):
             env = {"LD_PRELOAD": preload("calls"), "CALL": "statx", "NUMBER": str(number), "DO": error}
             if name:

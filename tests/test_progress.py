@@ -142,7 +142,8 @@ class Progress(ProgramCase):
                 self.assertEqual((status, out, said), (0, plain, ""))
 
     def test_dumb(self):
-        """A terminal without escape sequences gets none: nothing is shown, and lines on lost chunks are as ever."""
+        """A terminal without escape sequences gets none: no progress is shown, and the lines about lost
+        chunks are as usual."""
         write("damaged", fixture.changed(read("many.age"), KEY_FRONT + 65552))
         lost = fault("chunk 1 is lost: bytes 65536 to 131071 of the plaintext").replace("\n", "\r\n")
         expected = MANY[:65536] + bytes(65536) + MANY[131072:]
@@ -152,7 +153,8 @@ class Progress(ProgramCase):
                 self.assertIn(ERASE, self.at_terminal("decrypt", "-v", "-k", "key", "many.age", term=term)[2])
 
     def test_out(self):
-        """Nothing is shown where OUT is a terminal, by any name: it gets the plaintext alone. Another OUT gets all of it."""
+        """Nothing is shown if OUT is a terminal by any name: it gets only the plaintext. Another OUT gets all
+        of it."""
         pieces = [read("many.age")[at : at + 131072] for at in range(0, len(MANY), 131072)]
         os.symlink("/dev/tty", "link")
         for name, shows in (("/dev/tty", False), ("/dev/stderr", False), ("link", False), ("/dev/null", True), ("made", True)):

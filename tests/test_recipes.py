@@ -60,7 +60,7 @@ class Cron(unittest.TestCase):
         self.assertEqual(opened, b"text")
 
     def test_locked(self):
-        """While another run writes the new file, two lines say so; after a start of the machine it is removed."""
+        """While another run is writing the new file, two lines say so; it is removed when the machine starts."""
         new = "data.age.new.agep-new"
         write(new, b"half")
         self.says(f"agep: {message('NewFileExists', new)}\nagep: {new}: if no agep is writing it, remove it\n")

@@ -10,7 +10,7 @@ from program import ProgramCase, fault
 from testkit import SEALED
 
 HEADER = age_file(KEYED, b"")
-# what is said of a header whose MAC is wrong although a key fits
+# the line about a header whose MAC is wrong although a key fits
 CHANGED = "the header was changed: the chunks were tried with the key that fits"
 
 
@@ -28,7 +28,7 @@ def lost_lines(losses):
 
 
 def saved(payload, is_changed=False):
-    """The output and the lines of salvage for a payload, after a header that was changed or not."""
+    """The output and the lines of salvage for a payload, with a changed header or not."""
     pieces = [payload[at : at + SEALED] for at in range(16, len(payload), SEALED)] or [b""]
     made = MADE if payload[:16] == NONCE else {}
     text, losses, early = b"", [], None
@@ -102,8 +102,8 @@ class Payloads(ProgramCase):
         self.assert_all((f"{more} bytes behind", whole + bytes(more)) for more in range(1, 40))
 
     def test_headers(self):
-        """The same in its header and nonce: the fault is that of decrypt. But a changed header for which a key fits
-        costs no chunk."""
+        """The same in its header and nonce: the fault is that of decrypt, except that a changed header costs
+        no chunk if a key fits."""
         file = HEADER + NONCE + chunk(0, True, HELLO)
         cuts = [(f"cut at {at}", file[:at]) for at in range(len(HEADER) + 16)]
         for name, bad in cuts + [(f"byte {at} changed", changed(file, at)) for at in range(len(HEADER))]:
@@ -115,7 +115,7 @@ class Payloads(ProgramCase):
                     self.assert_ended(ran, 1, opened.err, b"")
 
     def test_changed_header(self):
-        """A header that was changed, before a payload that is damaged, cut or too long."""
+        """A changed header before a payload that is damaged, cut or too long."""
         for payload in (NONCE + bytes(SEALED) + chunk(1, True, HELLO), NONCE + filled(0, False), NONCE + chunk(0, True, HELLO) + b"\n"):
             text, lines = saved(payload, is_changed=True)
             ran = self.run_agep("salvage", "-k", "key", input=with_other_mac(HEADER) + payload)

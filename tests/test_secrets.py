@@ -118,7 +118,7 @@ class Passphrases(ProgramCase):
         "cr and lf after": b"correct horse\r\n\n",
         "upper": b"CORRECT HORSE",
     }
-    # What nobody types, and what an editor or a system puts around a text.
+    # Bytes that nobody types, and that an editor or a system puts around a text.
     UNTYPED = {
         "cr after": b"correct horse\r",
         "mark": b"\xef\xbb\xbfcorrect horse",
@@ -146,7 +146,7 @@ class Passphrases(ProgramCase):
                 self.writes(HELLO, "decrypt", "-p", "secret", "made")
 
     def test_untyped(self):
-        """A CR at the end and a byte-order mark are refused for a new file. They open one that has them."""
+        """A CR at the end and a byte-order mark are refused for a new file, but open a file made with them."""
         for name, text in self.UNTYPED.items():
             write("made", fixture.for_passphrase(HELLO, text, 4))
             for end in (b"", b"\n"):

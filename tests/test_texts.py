@@ -100,7 +100,7 @@ class Helps(ProgramCase):
             self.assertIn(f'"agep {version()}"', read(PAGE).decode())
 
     def test_other_words(self):
-        """Options and commands of other programs are refused. The help that the refusal points to names what to use."""
+        """Options and commands of other programs are refused. The help named by the refusal says what to use."""
         lines = help_of().split("\nIf you are looking for:\n")[1].split("\n\n")[0]
         rows = dict(re.findall(r"^  (\S.*?)  +(\S.*)$", lines, re.MULTILINE))
         words = [word for row in rows for word in row.split(", ")]

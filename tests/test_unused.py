@@ -100,7 +100,7 @@ class Unused(unittest.TestCase):
         return self.run_script("find_unused", *crates)
 
     def test_lemmas(self):
-        """It names the lemmas that nothing but their own proof cites, and what Common passes on for none."""
+        """It names the lemmas that only their own proofs cite, and the names that Common re-exports for nobody."""
         lemmas = "crates/one/proofs/Lemmas.antt: "
         self.assertEqual(self.find(), (1, "crates/one/proofs/Common.antt: sym\n" + lemmas + "second\n"
                                        + lemmas + "fourth\n" + lemmas + "IsFifth\n" + lemmas + "sixth\n"))
@@ -118,7 +118,7 @@ class Unused(unittest.TestCase):
         self.assertEqual(self.find("one"), (0, ""))
 
     def test_margin(self):
-        """check_margin names what is not proved with --margin, in each crate or in those named."""
+        """check_margin names the goals that are not proved with --margin, in all crates or in those given."""
         self.assertEqual(self.run_script("check_margin"), (0, ""))
         self.put("crates/one/proofs/f/Answers.antt", ANSWERS.replace("returns-clause-len c", "returns-clause-text c"))
         refused = "fn one::f: no proof: expected answers in ./proofs/f/Answers.antt; `search` did not prove `returns-clause-len`\n"

@@ -254,7 +254,8 @@ class Headers(Verbose):
             self.explains("Malformed: WorkFactorTooHigh", f"{name}: its work factor {why}", *(f"{line} {name}" for line in lines))
 
     def test_memory(self):
-        """What scrypt needed where memory was out: for the header that was read, or for a new one that takes more."""
+        """The memory that scrypt needed, if it was out of memory: for the header that was read, or for a new
+        one that takes more."""
         for factor in (18, 19):
             write(f"work.{factor}", header_of(f"-> scrypt {ZERO_SALT} {factor}\n{ZERO_MAC}\n"))
         old, new = "; a lower -m refuses it", "; a lower -w takes less"
@@ -269,7 +270,7 @@ class Headers(Verbose):
             self.explains("OutOfMemory", more, *lines, memory=100000 * 1024)
 
     def test_shrunk(self):
-        """A file that has fewer bytes than its size said: its last read gives none."""
+        """A file with fewer bytes than its size said: its last read returns none."""
         env = {"LD_PRELOAD": preload("calls"), "CALL": "read", "NUMBER": "LAST", "DO": "none"}
         self.explains("Read", "key.age: the file became shorter while it was read", "range -k key 0 5 key.age", env=env)
 

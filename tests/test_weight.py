@@ -1,4 +1,4 @@
-"""tests/weight: which kind a file is of, and what a kind may grow by."""
+"""tests/weight: the kind of each file, and the growth that a kind may have."""
 
 import os
 import re
@@ -24,7 +24,7 @@ FILES = {
 
 class Weight(unittest.TestCase):
     def setUp(self):
-        """A tree of a hundred lines of code, and room for a thousand of other kinds."""
+        """A tree with a hundred lines of code, and a budget of a thousand for other kinds."""
         self.tree = scratch()
         subprocess.run(("git", "init", "-q", self.tree), check=True)
         os.makedirs(self.tree + "/tests")
@@ -53,7 +53,7 @@ class Weight(unittest.TestCase):
         self.assertEqual(done.returncode, 0, done.stdout)
 
     def test_kinds(self):
-        """A line more is a line of one kind, or is not counted."""
+        """Another line counts for one kind, or for none."""
         before = self.lines()
         for kind, names in FILES.items():
             for name in names:
@@ -85,7 +85,7 @@ class Weight(unittest.TestCase):
                 self.assertIn("weight: code: write each reason as ", done.stdout)
 
     def test_write(self):
-        """--write makes the lines of today the budget, and takes the reasons away."""
+        """--write makes the current lines the budget, and removes the reasons."""
         self.grow("crates/a/src/a.rt", 1100)
         self.plan(100, "7 for a test")
         self.assertEqual(self.weigh("--write").returncode, 0)
