@@ -5,7 +5,8 @@
 // with this error number. If KEPT is set, each unlink fails too. The call creates the empty file
 // "met". The file that TRACE names gets a line for each call: its kind, the file, and the result. A
 // read of the character device /dev/urandom returns the bytes of the file that URANDOM names. If
-// INODE is set, the number of each file is its size times this.
+// INODE is set, the number of each file is its size times this. If BAD is set, to two offsets, no
+// byte of a file IN.age can be read from the first to before the second.
 #define _GNU_SOURCE
 #include <dlfcn.h>
 #include <errno.h>
@@ -15,6 +16,7 @@
 #include <stdlib.h>
 #include <string.h>
 #include <sys/stat.h>
+#include <sys/syscall.h>
 #include <sys/sysmacros.h>
 #include <unistd.h>
 
@@ -100,6 +102,25 @@ static ssize_t read_known(const char *name, void *bytes, size_t size)
     return count;
 }
 
+// How much can be read of a file from where it stands: -1, and errno is set, at bytes that can't.
+static ssize_t readable(int from, size_t size)
+{
+    const char *bad = getenv("BAD");
+    char link[32], name[4096] = "";
+    struct stat file;
+    long long first, last;
+    off_t at = (off_t)syscall(SYS_lseek, from, 0, SEEK_CUR);
+    snprintf(link, sizeof link, "/proc/self/fd/%d", from);
+    if (bad == NULL || sscanf(bad, "%lld %lld", &first, &last) != 2 || at < 0 ||
+        readlink(link, name, sizeof name - 1) < 0 || strcmp(strrchr(name, '/'), "/IN.age") != 0 ||
+        fstat(from, &file) != 0 || at >= last || at >= file.st_size)
+        return (ssize_t)size;
+    if (at < first)
+        return at + (off_t)size <= first ? (ssize_t)size : (ssize_t)(first - at);
+    errno = EIO;
+    return -1;
+}
+
 ssize_t read(int from, void *bytes, size_t size)
 {
     static long reads;
@@ -107,6 +128,8 @@ ssize_t read(int from, void *bytes, size_t size)
     const char *known = getenv("URANDOM");
     struct stat file;
     ssize_t count = allowed("read", &reads, size);
+    if (count > 0)
+        count = readable(from, (size_t)count);
     if (count > 0 && known != NULL && fstat(from, &file) == 0 && S_ISCHR(file.st_mode) &&
         file.st_rdev == makedev(1, 9))
         count = read_known(known, bytes, (size_t)count);

@@ -6,15 +6,19 @@ import os
 
 import fixture
 import reference
-from fixture import KEY, PLAIN, SALT, SEED
+from fixture import KEY, PLAIN, SALT, SEED, with_other_mac
 from messages import message
 from program import INTERRUPTED, IO_ERROR, NO_SPACE, ProgramCase, fault, preload, read, write
 from test_headers import table
+from test_salvage import lost_lines
+from testkit import SEALED
 
 # Takes more than one read.
 LONG_PASSPHRASE = b"".join(b"%d\n" % i for i in range(1, 1001))
 LONG_PLAIN = PLAIN[:131173]
 PART = PLAIN[65530 : 65530 + 65550]
+# The sizes of the header with the nonce, and of the whole file.
+HEAD, FILE = 172, 172 + 2 * SEALED + 117
 YESTERDAY = b"".join(b"%d\n" % i for i in range(1, 50001))
 
 
@@ -175,6 +179,78 @@ class ShortCalls(CallCase):
                     self.assertTrue(self.met)
 
 
+class UnreadChunks(CallCase):
+    """salvage goes on behind what cannot be read of a file that it is given by its name."""
+
+    def setUp(self):
+        super().setUp()
+        write("IN.age", read("key.age"))
+        self.job = Job("salvage -k key", "IN.age", LONG_PLAIN, 5, 3)
+
+    def assert_saved(self, ran, first, lost, unread):
+        """These chunks are lost, and so many bytes were not read, the first at this offset."""
+        text, losses = b"", []
+        for i in range(3):
+            chunk = LONG_PLAIN[65536 * i : 65536 * (i + 1)]
+            if i in lost:
+                losses.append((i, len(text), len(text) + len(chunk) - 1))
+            text += bytes(len(chunk)) if i in lost else chunk
+        lines = list(lost_lines(losses))
+        if 2 in lost:
+            lines.append("the file ends after 117 bytes of chunk 2: more may be missing")
+        lines.append(f"reading IN.age: Input/output error; {unread} bytes were left out, the first at byte {first}")
+        self.assert_ended(ran, 1, "".join(map(fault, lines)), None)
+        self.assert_bytes(self.made, text)
+
+    def test_in_turn(self):
+        """Each read fails once: it costs the rest of its chunk. At the header, the nonce or the end nothing follows."""
+        def judge(ran, job, form):
+            sizes = [int(row.split()[2]) for row in read("trace").decode().splitlines() if row.startswith("read IN.age ")]
+            if -1 not in sizes:
+                self.has_failed(message("Read"))(ran, job, form)
+                return
+            at = sum(sizes[: sizes.index(-1)])
+            if at < HEAD or at == FILE:
+                self.has_failed(message("Read"))(ran, job, form)
+            else:
+                i = (at - HEAD) // SEALED
+                self.assert_saved(ran, at, [i], min(HEAD + SEALED * (i + 1), FILE) - at)
+
+        self.each_call("read", IO_ERROR, self.job, "-o", judge)
+
+    def test_places(self):
+        """A part of the file can never be read, or all from an offset on."""
+        for first in (HEAD, HEAD + 1, HEAD + 8000, HEAD + SEALED - 1, HEAD + SEALED, HEAD + SEALED + 1, HEAD + 2 * SEALED, FILE - 1):
+            for last in (first + 1, first + 4096, first + SEALED, FILE):
+                last = min(last, FILE)
+                with self.subTest(f"from {first} to {last}"):
+                    ran = self.run_job(self.job, "-o", bad=f"{first} {last}")
+                    lost = range((first - HEAD) // SEALED, (last - 1 - HEAD) // SEALED + 1)
+                    # the first byte of a chunk is read with the chunk before it
+                    is_alone = last > HEAD + 1 and (last - HEAD) % SEALED == 1
+                    end = last if is_alone else min(HEAD + SEALED * lost.stop, FILE)
+                    self.assert_saved(ran, first, lost, end - first)
+        for first in (0, 100, 155, 156, HEAD - 1):
+            for last in (first + 1, FILE):
+                with self.subTest(f"from {first} to {last}"):
+                    ran = self.run_job(self.job, "-o", bad=f"{first} {last}")
+                    self.assert_ended(ran, 1, fault(message("Read")))
+                    self.assert_bytes(self.made, YESTERDAY)
+
+    def test_changed_header(self):
+        """It does so too behind a header that was changed."""
+        write("IN.age", with_other_mac(read("key.age")))
+        ran = self.run_job(self.job, "-o", bad=f"{HEAD + SEALED} {FILE}")
+        line = "the header was changed: the chunks were tried with the key that fits"
+        self.assertIn(fault(line).encode(), ran.err)
+        self.assert_bytes(self.made, LONG_PLAIN[:65536] + bytes(len(LONG_PLAIN) - 65536))
+
+    def test_pipe(self):
+        """Of a pipe and of standard input nothing follows."""
+        whole = Job("salvage -k key", "key.age", LONG_PLAIN, 5, 3)
+        self.each_call("read", IO_ERROR, whole, "", self.has_failed(message("Read")))
+
+
 class FailingCalls(CallCase):
     def test_reads(self):
         """A failed read is not taken for the end of the file, and does not truncate an existing OUT."""
@@ -184,7 +260,8 @@ class FailingCalls(CallCase):
 
         for job in self.jobs:
             for form in job.forms():
-                self.each_call("read", IO_ERROR, job, form, judge)
+                if (job.words[0], form) != ("salvage", "-o"):
+                    self.each_call("read", IO_ERROR, job, form, judge)
 
     def test_writes(self):
         """A write that fails, or writes nothing."""

@@ -497,7 +497,7 @@ class FailedCalls(unittest.TestCase):
                         first = " ".join(block[block.index("{\n") + 1 : block.index("=>")].split())
                         self.assertIn(first, self.REFUSED)
                 count += 1
-        self.assertEqual(count, 8)
+        self.assertEqual(count, 9)
 
 
 LIBRARIES = ["age_cipher", "age_kdf", "age_header", "age_recipient", "age_stream", "age_file"]

@@ -1,11 +1,11 @@
 //! The lines about chunks that `salvage` lost.
 
 use crate::program::say;
-use age_commands::Report;
+use age_commands::{Report, Unread};
 use age_file::{
     CHUNK_SIZE, Losses, Lost, LostRun, Salvaged, SalvagedFile, Saved, TAG_SIZE, join_lost,
 };
-use age_job::ERASE;
+use age_job::{Detail, Doing, ERASE, Name};
 use std::alloc::Global;
 use std::fmt;
 use std::io::Write;
@@ -15,6 +15,7 @@ use std::io::Write;
 pub(crate) struct LossLines<'a, E> {
     pub(crate) alloc: Global,
     pub(crate) err: &'a mut E,
+    pub(crate) input: Name<'a>,
     pub(crate) run: Option<LostRun>,
     /// Whether the line on progress may be shown, which a line printed here replaces.
     pub(crate) is_shown: bool,
@@ -125,5 +126,17 @@ impl<'a, E: Write> Report for LossLines<'a, E> {
                 "the file ends after {len} bytes of chunk {last}: more may be missing"
             ));
         }
+    }
+
+    fn unread(&mut self, unread: &Unread) {
+        let Unread {
+            first,
+            bytes,
+            reason,
+        } = *unread;
+        let detail = Detail::System(Doing::Reading, self.input, reason);
+        self.print(&format_args!(
+            "{detail}; {bytes} bytes were left out, the first at byte {first}"
+        ));
     }
 }

@@ -8,7 +8,7 @@ ghost use Rattle.age_header.specs.Device.{Stays, move_by};
 
 use crate::failure::{Failure, Fault};
 use crate::lines::LossLines;
-use crate::work::{kept_prefix, perform_to};
+use crate::work::{input_name, kept_prefix, perform_to};
 use age_commands::{Report, Seed, Task, seed_of};
 use age_job::{
     Command, Job, Lines, Pipe, ReadFiles, SEED_LEN, Shown, Target, Watched, read_encrypt_secrets,
@@ -112,6 +112,7 @@ pub fn run_job<
     let mut lines = LossLines {
         alloc: rt.alloc(),
         err,
+        input: input_name(job),
         run: None,
         is_shown,
     };
