@@ -10,8 +10,8 @@ use Rattle.age_commands.specs.declared.skipping.Unread.{Unread}
 abbrev pub come_by : (skips : Bool) (from : Known) → Known
 come_by skips from = if skips then None else from
 
--- What was returned of a reader that began with the bytes `start`, of which `now` are to come. After
--- a failed read nothing is said, because zeros stand for the bytes that it did not return.
+-- What was returned of a reader that began with the bytes `start`, of which `now` are to come.
+-- After a failed read nothing is said, because zeros stand for the bytes that it did not return.
 abbrev pub HasRead : (reached : Reached) (start now : Known) (past : Bytes) → Type 0
 HasRead Place start now past = Consumes start now past
 HasRead End start now past = Consumes start now past × IsAtEnd now

@@ -9,7 +9,8 @@
 //! A command with its secrets is a `task`, and each command has a module of its own. `seed` has the
 //! random bytes of a new file, `recipient` and `identity` say what a secret means to a command, and
 //! `buffering` has a job's limits and the sources over its input. `skipping` is the source of
-//! `salvage`, `watched_sink` a sink over any writer, and `hint` has what the input tells of a fault.
+//! `salvage`, and `watched_sink` a sink over any writer. `hint` has what the input tells of a
+//! fault.
 //!
 //! Nothing here opens a file or prints: the crate `age_cli` does both.
 //!

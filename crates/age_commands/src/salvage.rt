@@ -62,8 +62,8 @@ pub(crate) fn salvage_all<R: Read + Seek, W: Sink, L: Report, K: Begun>(
     judged(report, done, source.is_read(), source.unread())
 }
 
-/// The result of the command. Reports what was saved, if that is not the whole file, and which bytes
-/// could not be read.
+/// The result of the command. Reports what was saved, if that is not the whole file, and which
+/// bytes could not be read.
 fn judged<L: Report>(
     report: &mut L,
     done: Result<SalvagedFile, Fault>,

@@ -5,7 +5,7 @@ ghost use Rattle.age_commands.specs.Skipping.{HasRead, come_by, is_end, unread_l
 
 use age_file::{DeviceFault, NONCE_SIZE, Source};
 use std::io;
-use std::io::{Read, Seek, SeekFrom};
+use std::io::{ErrorKind, Read, Seek, SeekFrom};
 use std::marker::{Brand, PhantomData};
 
 /// What a reader holds at its start, for a proof. It ties what a `SkippingSource` has returned to
@@ -104,7 +104,7 @@ impl<R: Read + Seek, K: Begun> SkippingSource<R, K> {
         ensures may { IfSome result (λ _. self.old.skips ≡ true) }
     {
         self.reached = Reached::Failure;
-        if !self.skips || !self.is_at_chunks {
+        if !self.skips || !self.is_at_chunks || reason.kind() == ErrorKind::Interrupted {
             return None;
         }
         let (at, n) = pass_over(&mut self.reader, buf)?;
