@@ -22,8 +22,8 @@ AGEP = os.path.join(ROOT, "crates", "agep", "out", "agep")
 OPENING = ("decrypt -k key", "range -k key 0 1", "rewrap -k key -K key", "salvage -k key")
 BY_PASSPHRASE = ("decrypt -p pass", "range -p pass 0 1", "rewrap -p pass -K key", "salvage -p pass")
 IO_ERROR, NO_SPACE, INTERRUPTED = "5", "28", "4"
-# How many programs run at a time, since other scripts run at the same time.
-AT_A_TIME = max(1, (os.cpu_count() or 1) // 2)
+# How many programs run at a time, since other scripts run at the same time as most of these.
+AT_A_TIME = int(os.environ.get("AT_A_TIME", max(1, (os.cpu_count() or 1) // 2)))
 
 
 def build():

@@ -1,6 +1,7 @@
 """Makes the packages twice, unpacks each, and uses its contents; runs the tests of the packages for Python
 and Rust over the wheel and the tarball. The tests of share/agep.c need no package."""
 
+import fcntl
 import functools
 import gzip
 import json
@@ -312,7 +313,8 @@ class Packages(unittest.TestCase):
     @needs("man")
     def test_manual_page(self):
         page = self.unpacked("agep_*.deb") / "usr/share/man/man1/agep.1.gz"
-        self.assertIn(f"\nagep {self.version} ", run("man", "-l", page, env=os.environ | {"LC_ALL": "C.UTF-8", "MANWIDTH": "200"}))
+        said = run("man", "-l", page, env=os.environ | {"LC_ALL": "C.UTF-8", "MANWIDTH": "200"})
+        self.assertRegex(said, rf"\nagep {re.escape(self.version)} +\d{{4}}-\d\d-\d\d +AGEP")
 
     def test_libraries_that_are_needed(self):
         """The oldest glibc for programs and libraries is that of docs/PACKAGES.md, and the wheel has its tag."""
@@ -492,10 +494,14 @@ class Chooser(unittest.TestCase):
 
 @functools.cache
 def made():
-    """The folder of the packages, which are made once."""
-    folder = Path(tempfile.mkdtemp())
-    unittest.addModuleCleanup(shutil.rmtree, folder)
-    run(ROOT / "package", folder / "dist", umask=0o022)
+    """The folder of the packages, which are made once: under tests/packages.sh by the first process that needs them."""
+    folder = Path(os.environ.get("PACKAGES") or tempfile.mkdtemp())
+    if "PACKAGES" not in os.environ:
+        unittest.addModuleCleanup(shutil.rmtree, folder)
+    with open(folder / "lock", "w") as lock:
+        fcntl.flock(lock, fcntl.LOCK_EX)
+        if not (folder / "dist/SHA256SUMS").exists():
+            run(ROOT / "package", folder / "dist", umask=0o022)
     return folder / "dist"
 
 
@@ -507,7 +513,9 @@ def made_one(what, pattern):
     return found[0]
 
 
-class ForPython(unittest.TestCase):
+class WithPython(unittest.TestCase):
+    """The tests of the package for Python, in an environment that has the wheel."""
+
     @classmethod
     def setUpClass(cls):
         wheel = made_one("the wheel", "*.whl")
@@ -526,9 +534,8 @@ class ForPython(unittest.TestCase):
         if skipped:
             self.skipTest(f"{name}: {skipped[0]}")
 
-    def test_files_and_errors(self):
-        self.run_tests("test_whole.py")
 
+class ForPython(WithPython):
     def test_opened_files(self):
         self.run_tests("test_files.py")
 
@@ -540,9 +547,6 @@ class ForPython(unittest.TestCase):
 
     def test_unclosed_files(self):
         self.run_tests("test_unclosed.py")
-
-    def test_ways_of_writing(self):
-        self.run_tests("test_ways.py")
 
     def test_damaged_files(self):
         self.run_tests("test_damage.py")
@@ -566,6 +570,14 @@ class ForPython(unittest.TestCase):
     def test_annotations(self):
         run("mypy", "--strict", "--config-file", ROOT / "bindings/python/pyproject.toml", ROOT / "bindings/python/agefile",
             "--cache-dir", self.environment_folder / "cache")
+
+
+class LongForPython(WithPython):
+    def test_files_and_errors(self):
+        self.run_tests("test_whole.py")
+
+    def test_ways_of_writing(self):
+        self.run_tests("test_ways.py")
 
 
 @needs("cargo")
