@@ -12,10 +12,10 @@ use std::io::Write;
 
 /// Prints a line for each run of lost chunks as soon as it ends.
 #[derive(Drop)]
-pub(crate) struct LossLines<'a, E> {
+pub(crate) struct LossLines<'a, 'b, E> {
     pub(crate) alloc: Global,
     pub(crate) err: &'a mut E,
-    pub(crate) input: Name<'a>,
+    pub(crate) input: Name<'b>,
     pub(crate) run: Option<LostRun>,
     /// Whether the line on progress may be shown, which a line printed here replaces.
     pub(crate) is_shown: bool,
@@ -48,7 +48,7 @@ impl fmt::Display for RunLine {
     }
 }
 
-impl<'a, E: Write> LossLines<'a, E> {
+impl<'a, 'b, E: Write> LossLines<'a, 'b, E> {
     fn print<D: fmt::Display>(&mut self, line: &D) {
         let before = if self.is_shown { ERASE } else { "" };
         say(
@@ -83,7 +83,7 @@ impl<'a, E: Write> LossLines<'a, E> {
     }
 }
 
-impl<'a, E: Write> Losses for LossLines<'a, E> {
+impl<'a, 'b, E: Write> Losses for LossLines<'a, 'b, E> {
     ghost use Rattle.std.specs.Prelude.{None};
 
     ghost lost = { λ _. None };
@@ -98,7 +98,7 @@ impl<'a, E: Write> Losses for LossLines<'a, E> {
     }
 }
 
-impl<'a, E: Write> Report for LossLines<'a, E> {
+impl<'a, 'b, E: Write> Report for LossLines<'a, 'b, E> {
     fn damaged(&mut self, saved: &SalvagedFile) {
         self.end();
         if !saved.has_right_mac {
