@@ -23,9 +23,14 @@ def commands():
     return [line.split()[0] for line in shown.split("\n") if line.split()[0] != "help"]
 
 
+def option_rows(*words):
+    """The letter, or an empty text, and the name of each option that help shows."""
+    return re.findall("^ {2,6}(?:(-[a-zA-Z]), )?(--[a-z-]+)", help_of(*words), re.MULTILINE)
+
+
 def options_of(*words):
     """The letters and names of the options that help shows."""
-    return sorted(word for pair in re.findall("^ +(-[a-zA-Z]), (--[a-z-]+)", help_of(*words), re.MULTILINE) for word in pair)
+    return sorted(word for pair in option_rows(*words) for word in pair if word)
 
 
 def section(heading):
@@ -117,12 +122,12 @@ class Manual(unittest.TestCase):
         for command in commands():
             with self.subTest(command):
                 synopsis = re.search(rf"^\.B agep {command}$(.*?)(?=^\.B agep|\Z)", section("SYNOPSIS"), re.MULTILINE | re.DOTALL)[1]
-                letters = {word for word in options_of(command) if not word.startswith("--")} - {"-h", "-V"}
-                self.assertEqual(sorted(re.findall(r"-[a-zA-Z]\b", synopsis)), sorted(letters))
+                briefs = {letter or name for letter, name in option_rows(command)} - {"-h", "-V"}
+                self.assertEqual(sorted(re.findall(r"(?<!-)-[a-zA-Z]\b|--[a-z-]+", synopsis)), sorted(briefs))
         with self.subTest("OPTIONS"):
-            rows = re.findall(r'^\.BR (-[a-zA-Z]) ", " (--[a-z-]+)', section("OPTIONS"), re.MULTILINE)
+            rows = re.findall(r'^\.TP\n\.BR (?:(-[a-zA-Z]) ", " )?(--[a-z-]+)', section("OPTIONS"), re.MULTILINE)
             every = {word for words in [[]] + [[command] for command in commands()] for word in options_of(*words)}
-            self.assertEqual(sorted(word for row in rows for word in row), sorted(every))
+            self.assertEqual(sorted(word for row in rows for word in row if word), sorted(every))
 
     def enter_backups(self):
         """Enters a folder for EXAMPLES that has files which earlier ones made."""
