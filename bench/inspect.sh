@@ -1,7 +1,7 @@
 #!/bin/bash
 # Measures `agep inspect` on headers of 1, 4 and 16 MiB in four shapes: time, peak memory, system
-# calls. It needs GNU time, and strace for the last two columns. A machine that does other work at
-# the same time shows longer times: the processor's seconds are in the columns that end in "cpu".
+# calls. It needs GNU time, and strace for the last two columns. On a busy machine the seconds on
+# the clock are longer; the columns that end in "cpu" have the processor time.
 set -eu
 root=$(cd "$(dirname "$0")/.." && pwd -P)
 agep=$root/crates/agep/out/agep
@@ -12,14 +12,14 @@ cd "$work"
 many_a=$(printf 'A%.0s' {1..43})
 full_line=${many_a}AAAAAAAAAAAAAAAAAAAAA
 
-# Copies of a text, of at most so many bytes.
+# Copies of a text, in total at most SIZE bytes: copies TEXT SIZE.
 copies() {
     local text=$1 size=$2 lines
     lines=$(printf "%s\n" "$text" | wc -l)
     yes -- "$text" | head -n $((size / (${#text} + 1) * lines))
 }
 
-# A header of one shape, of at most so many bytes.
+# A header of a shape, of at most SIZE bytes: header SHAPE SIZE.
 header() {
     local room=$(($2 - 22 - 48))
     echo age-encryption.org/v1
@@ -40,7 +40,8 @@ header() {
     echo "--- $many_a"
 }
 
-# The calls of one kind on one descriptor, or - where they can't be counted.
+# The number of calls of a kind on a descriptor, or - if they cannot be counted: calls NAME
+# DESCRIPTOR.
 calls() {
     strace -o trace -e trace="$1" "$agep" inspect -H 16777216 <in >out 2>err && grep -c "^$1($2, " trace || echo -
 }
@@ -61,7 +62,7 @@ for shape in body x25519 stanzas words; do
     for mebibytes in 1 4 16; do
         header $shape $((mebibytes * 1048576)) >in
         read -r raw raw_user raw_system < <(timed '%e %U %S' -r)
-        cmp -s in out || echo "-r gave something else" >&2
+        cmp -s in out || echo "-r printed another header" >&2
         read -r table user system peak < <(timed '%e %U %S %M')
         printf '%-8s %10d %9d %8s %8s %8s %8s %10d %7s %6s %6s\n' $shape "$(wc -c <in)" \
             "$(sed -n '2s/stanzas //p' out)" "$table" "$(sum "$user" "$system")" "$raw" "$(sum "$raw_user" "$raw_system")" \

@@ -3,11 +3,11 @@
 
 usage: bench/library.py PREFIX [--mib 1024] [--runs 3] [--only WORD]
 
-PREFIX is where ./install --library put the library; `agep` has to be built, and it needs a C compiler,
-cargo and age. Programs in C and Rust link the archive, but for the row that says otherwise. Each command
-runs in turn, as often as --runs says. The table has the best times, on the clock and of the processor,
-the ratio of processor time to that of agep, and the most memory. TMPDIR names the folder of the files,
-which takes four times the size; --only leaves out the rows without this word.
+PREFIX is where ./install --library put the library; `agep` must be built. The script needs a C compiler,
+cargo and age. Programs in C and Rust link the archive, except in the row that says otherwise. The commands
+run in turn, --runs times each. The table has the best times, on the clock and of the processor, the ratio
+of processor time to that of agep, and the peak memory. TMPDIR names the folder for the files, which need
+four times the size; --only leaves out the rows without this word.
 """
 
 import argparse
@@ -41,8 +41,8 @@ SEALING = {
     "Python, copy": "agefile.copy(open(name, 'rb', 0), SINK, recipients=KEY)",
     "Python, copy, threads=4": "agefile.copy(open(name, 'rb', 0), SINK, recipients=KEY, threads=4)",
 }
-# The time of a Python row is that of its call alone, without the interpreter's start, and without
-# what reads the file into memory first where the call takes bytes.
+# The time of a Python row is that of the call alone, without the start of the interpreter and, if
+# the call takes bytes, without reading the file into memory.
 SCRIPT = """import agefile, shutil, sys, time
 KEY, name = agefile.Key(open('key', 'rb').read()), sys.argv[1]
 SINK, data = open('/dev/null', 'wb', 0), open(name, 'rb').read() if {takes_data} else None
@@ -53,8 +53,8 @@ print(time.monotonic() - clock, time.process_time() - cpu, file=sys.stderr)
 
 
 def use_memory(mib):
-    """Uses memory in a process that ends. A virtual machine gives memory that has been free for a
-    while to its host, and its first use after that takes several times as long."""
+    """Uses memory in a process that ends. A virtual machine returns memory to its host that has been free
+    for a while, and the first use after that takes several times as long."""
     child = os.fork()
     if child == 0:
         memory = mmap.mmap(-1, mib << 20)
@@ -66,7 +66,7 @@ def use_memory(mib):
 
 
 def measured(words, folder, environment):
-    """The seconds on the clock and of the processor, and the most memory in MiB, of a command."""
+    """The seconds of a command on the clock and of the processor, and its peak memory in MiB."""
     began = time.monotonic()
     words = [str(word) for word in words]
     process = subprocess.Popen(words, cwd=folder, env=environment, stdout=subprocess.DEVNULL, stderr=subprocess.PIPE, text=True)
@@ -99,7 +99,7 @@ def built_in_rust(prefix, folder):
 
 
 def streams(prefix, folder):
-    """The same example in C and in Rust, by the archive and by the shared library."""
+    """The same example in C and in Rust, over the archive and over the shared library."""
     shared = built("stream", prefix, folder, [f"-L{prefix}/lib", "-lagefile", f"-Wl,-rpath,{prefix}/lib"])
     return [
         ("C, stream.c, shared library", shared.rename(folder / "stream_shared")), ("C, stream.c", built("stream", prefix, folder)),
@@ -108,7 +108,7 @@ def streams(prefix, folder):
 
 
 def rows_of(prefix, folder):
-    """Pairs of a title and a command; those that seal, and those that open."""
+    """Pairs of a title and a command: first those that encrypt, then those that decrypt."""
     programs, parallel = streams(prefix, folder), built("parallel", prefix, folder)
     to_null = ["sh", "-c", '"$@" <plain >/dev/null', "sh"]
     from_made = ["sh", "-c", '"$@" <made >/dev/null', "sh"]
@@ -130,7 +130,7 @@ def rows_of(prefix, folder):
 
 
 def prepare(folder, mib):
-    """The plaintext, its files of agep and of age, and the keys."""
+    """Makes the plaintext, the files of agep and age for it, and the keys."""
     (folder / "key").write_bytes(os.urandom(32))
     block = os.urandom(1 << 20)
     with open(folder / "plain", "wb") as file:
@@ -143,7 +143,7 @@ def prepare(folder, mib):
 
 
 def headers(environment):
-    """How long the header of 10,911 stanzas takes."""
+    """Times the header of 10,911 stanzas."""
     code = (
         "import agefile, time; head = b'age-encryption.org/v1\\n' + b'-> a\\n\\n' * 10911 + b'--- ' + b'A' * 43 + b'\\n'\n"
         "times = []\nfor _ in range(7):\n    began = time.process_time(); found = agefile.inspect(head); times.append(time.process_time() - began)\n"
@@ -152,7 +152,7 @@ def headers(environment):
     return subprocess.check_output([sys.executable, "-c", code], env=environment, text=True).strip()
 
 
-# Each call in microseconds: rows of 20 bytes that are written one by one, and read as lines.
+# Microseconds for each call: rows of 20 bytes, written one by one and read as lines.
 ROWS = """
 import agefile, gzip, sys, time
 KEY, COUNT = agefile.Key(bytes(32)), 500000

@@ -4,10 +4,10 @@ throughput by size.
 
 usage: bench/peers.py [--mib 1024] [--runs 7] [--files 1000] [--cpu LEVEL] [--only WORD] [--svg FILE]
 
-The programs are built for the level of the processor at hand, or for the one that --cpu names.
---only leaves out the rows without this word, and the second table. --svg draws that table. It needs
-the toolchain, a C compiler, openssl, age, gpg and GNU time. TMPDIR names the folder of the files,
-which takes seven times the size.
+The programs are built for this machine's level of processor, or for the level given by --cpu. --only
+leaves out the rows without this word, and the second table; --svg draws the second table. The script
+needs the toolchain, a C compiler, openssl, age, gpg and GNU time. TMPDIR names the folder for the
+files, which need seven times the size.
 """
 
 import argparse
@@ -32,7 +32,7 @@ AGEP = ROOT / "crates/agep/out/agep"
 CIPHER = ROOT / "crates/cipher_bench/out/cipher_bench"
 KDF = ROOT / "crates/kdf_bench/out/kdf_bench"
 LOG_N, R, P = 18, 8, 1
-# What openssl may not use at this level: AVX-512, and at x86-64-v2 also AVX and AVX2.
+# What openssl must not use at each level: AVX-512, and at x86-64-v2 also AVX and AVX2.
 HELD = {"x86-64-v3": ":~0xD0230000", "x86-64-v2": "~0x1000000000000000:~0xD0230020"}
 
 
@@ -44,12 +44,12 @@ class Time(NamedTuple):
 
 
 class Command:
-    """A command that is run once for each of some files. {} in its words and in its output's name
-    is the file's number. With `user` only the user time of the processor counts."""
+    """A command that runs once for each of some files. {} in its arguments and in the name of its output
+    stands for the number of the file. With `user`, only the user time of the processor counts."""
 
     def __init__(self, *words, source="/dev/null", out="/dev/null", held="", files=1, user=False):
         self.words = [str(word) for word in words]
-        self.words[0] = shutil.which(self.words[0]) or sys.exit(f"there is no {words[0]}")
+        self.words[0] = shutil.which(self.words[0]) or sys.exit(f"{words[0]} is missing")
         self.source, self.out, self.files, self.user = source, out, files, user
         self.environment = os.environ | ({"OPENSSL_ia32cap": held} if held else {})
 
@@ -76,8 +76,8 @@ class Command:
         return Time(clock, used.ru_utime + (0 if self.user else used.ru_stime))
 
     def memory(self):
-        """The most memory in MiB. GNU time starts the command, since a process that this script
-        starts is charged for the script's memory too."""
+        """The peak memory in MiB. GNU time starts the command, because a process started by this script
+        would be charged for the memory of the script, too."""
         line = ["time", "-f", "%M", *(word.format(0) for word in self.words)]
         with open(self.source, "rb") as source:
             said = subprocess.run(line, stdin=source, capture_output=True, env=self.environment)
@@ -85,7 +85,7 @@ class Command:
 
 
 class OpensslSpeed:
-    """Openssl's own benchmark, which counts the user time: what so many MiB would take."""
+    """The benchmark of openssl itself, which counts user time: the time that this many MiB would take."""
 
     def __init__(self, words, size, mib, held=""):
         self.line = ["openssl", "speed", *words, "-bytes", str(size), "-seconds", "1"]
@@ -102,7 +102,7 @@ class OpensslSpeed:
 
 
 class HashlibScrypt:
-    """Scrypt of Python's hashlib, which is OpenSSL's, in this process."""
+    """The scrypt of Python's hashlib, which is OpenSSL's, in this process."""
 
     def key(self):
         cost = {"n": 2**LOG_N, "r": R, "p": P, "maxmem": 2**31 - 1}
@@ -119,7 +119,7 @@ class HashlibScrypt:
 
 
 def primitives(level, mib):
-    """Each kind of work, the program here, and its peers."""
+    """Each kind of work on bytes, with our program and its peers."""
     held, held_name = HELD[level], f"openssl held to {level}"
     aead = ["-aead", "-evp", "chacha20-poly1305"]
     for part, size, words in (
@@ -143,7 +143,7 @@ def primitives(level, mib):
 
 
 def whole_files(mib, files, recipient):
-    """The same for files. Age has no symmetric key, so each of its rows has an X25519 key."""
+    """The same for files. Age has no symmetric keys, so its rows use an X25519 key."""
     encrypt, age_encrypt = [AGEP, "encrypt", "-k", "key"], ["age", "-r", recipient]
     decrypt, age_decrypt = [AGEP, "decrypt", "-k", "key"], ["age", "-d", "-i", "identity"]
     for where, out in (("/dev/null", "/dev/null"), ("a file", "out")):
@@ -175,8 +175,8 @@ def whole_files(mib, files, recipient):
 
 
 def programs_by_size(recipient):
-    """Of each kind of work the words of each program, and what the name of its input ends in. Openssl
-    encrypts without authentication: its command has no cipher with it."""
+    """For each kind of work the arguments of each program, and the suffix of its input. Openssl encrypts
+    without authentication, because its command offers no authenticated cipher."""
     gpg = ["gpg", "--batch", "--quiet", "--homedir", "gpg", "--pinentry-mode", "loopback", "--passphrase-file", "new.key"]
     sealing = [*gpg, "--symmetric", "--s2k-mode", "0", "--cipher-algo", "AES256", "--compress-algo", "none", "-o", "-"]
     openssl = ["openssl", "enc", "-chacha20", "-K", 32 * "07", "-iv", 16 * "00", "-in"]
@@ -197,7 +197,7 @@ def programs_by_size(recipient):
 
 
 def throughput(mib, runs, recipient):
-    """The bytes a second of each kind of work, program and size, by the best of some runs."""
+    """The bytes per second of each kind of work, program and size, by the best of several runs."""
     works, most = programs_by_size(recipient), mib << 20
     os.mkdir("gpg", 0o700)
     sizes = [1024 << shift for shift in range(0, 21, 2) if 1024 << shift <= most]
@@ -212,7 +212,7 @@ def throughput(mib, runs, recipient):
         ]
         for program, (words, _) in works["encrypting"].items():
             Command(*words, "sized", out="sized." + program).measure()
-        # a short run ends in a millisecond or two
+        # a short run takes only a millisecond or two
         turns = runs if size >= 1 << 24 else 5 * runs
         times = [[command.measure().clock for _, command in commands] for _ in range(turns)]
         for (line, _), seconds in zip(commands, zip(*times)):
@@ -230,7 +230,7 @@ def print_throughput(rates):
 
 
 def build(level):
-    """Builds what is measured, and tests that both scrypts give the same key."""
+    """Builds the programs to be measured, and checks that both scrypts give the same key."""
     os.environ["AGEP_CPU"] = level
     stream = ["cc", "-O2", "-Iprefix/include", "-o", "stream", ROOT / "bindings/c/examples/stream.c"]
     for line, folder in (
@@ -250,7 +250,7 @@ def build(level):
 
 
 def make_files(mib, files):
-    """Makes the plaintexts, the secrets and the encrypted files. Returns age's recipient."""
+    """Makes the plaintexts, the secrets and the encrypted files. Returns the recipient for age."""
     with open("plain", "wb") as plain:
         for _ in range(mib):
             plain.write(bytes(2**20))
@@ -271,7 +271,7 @@ def make_files(mib, files):
 
 
 def cells(here, there):
-    """The best and the median of our times, of a peer's, and of their ratio."""
+    """The best and the median of our times, of those of a peer, and of their ratio."""
     if any(math.isnan(seconds) for seconds in here + there):
         return ["-"] * 3
     ours, peers = ((min(times), statistics.median(times)) for times in (here, there))
@@ -281,7 +281,7 @@ def cells(here, there):
 
 
 def print_table(works, times):
-    """The seconds are those of the clock, or of the processor where the peer counts no others."""
+    """The seconds are those of the clock, or of the processor if the peer counts only these."""
     print("| Work | Peer | Here, s | Peer, s | Ratio | of CPU | MiB |")
     print("|---|---|---|---|---|---|---|")
     for name, ours, peers in works:

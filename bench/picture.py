@@ -1,4 +1,4 @@
-"""The picture of bench/README.md: throughput over the size of the file, for each program."""
+"""The picture in bench/README.md: throughput by the size of the file, for each program."""
 
 import math
 from typing import NamedTuple
@@ -11,7 +11,7 @@ SIZE_NAMES = {1 << 10: "1 KiB", 1 << 15: "32 KiB", 1 << 20: "1 MiB", 1 << 25: "3
 
 
 class Panel(NamedTuple):
-    """A part of the picture with two logarithmic axes, from its left end on."""
+    """A part of the picture with two logarithmic axes, which begins at `left`."""
 
     left: int
     width: int = 330
@@ -43,14 +43,14 @@ def grid(panel, title):
 
 
 def lines(panel, rates):
-    """A line for each program: `rates` has its bytes a second by the size."""
+    """A line for each program: `rates` has its bytes per second by size."""
     for program, points in rates.items():
         places = " ".join(f"{panel.x(size):.1f},{panel.y(rate):.1f}" for size, rate in points.items())
         yield f'<polyline points="{places}" fill="none" stroke="{COLORS[program]}" stroke-width="2"/>'
 
 
 def draw(works):
-    """The picture of each kind of work, from its name and its rates, side by side."""
+    """The pictures of all kinds of work, side by side, each from its name and its rates."""
     panels = [(Panel(80 + 430 * number), name, rates) for number, (name, rates) in enumerate(works.items())]
     width = panels[-1][0].left + 350
     body = [part for panel, name, rates in panels for part in (*grid(panel, name), *lines(panel, rates))]

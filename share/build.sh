@@ -1,5 +1,5 @@
-# Sourced by ./agep, ./install, ./package, ./release, .ci/run and tests/planted/run, with the
-# repository's folder in `root`: how what they run is built.
+# Builds the program and the library. ./agep, ./install, ./package, ./release, .ci/run and
+# tests/planted/run source this file, with the repository's folder in `root`.
 # shellcheck shell=sh disable=SC2154
 
 # Whether the processor has all of the level x86-64-v3.
@@ -13,7 +13,7 @@ has_v3() {
     done
 }
 
-# The processor to build for: AGEP_CPU where it is set, else the one at hand.
+# The level of processor to build for: AGEP_CPU if that is set, otherwise this machine's.
 processor() {
     if [ -n "${AGEP_CPU:-}" ]; then
         echo "$AGEP_CPU"
@@ -24,7 +24,7 @@ processor() {
     fi
 }
 
-# The version of the toolchain, empty where there is none. `rt version` prints the same, but takes
+# The version of the toolchain, or nothing if there is none. `rt version` prints the same, but takes
 # half a second.
 toolchain() {
     rt=$(command -v rt) || return 0
@@ -32,9 +32,9 @@ toolchain() {
     cat "${rt%/*}/../KIT-ID" 2>/dev/null || rt version
 }
 
-# Whether a file is there, its mark holds this text and the version of the toolchain at hand, and no
-# source is newer than the mark: is_current FILE MARK TEXT. Without a toolchain its version does not
-# count. A folder is newer where a file came or went.
+# Whether a file exists, its mark has this text and the version of the installed toolchain, and no
+# source is newer than the mark: is_current FILE MARK TEXT. If no toolchain is installed, the
+# version is not compared. A folder is newer if a file in it was added or removed.
 is_current() {
     [ -f "$1" ] && [ -f "$2" ] || return 1
     made_by=
@@ -47,23 +47,23 @@ is_current() {
     [ -z "$newer" ]
 }
 
-# Ends the script where the toolchain is missing: need_rt WHO WHAT.
+# Ends the script if the toolchain is missing: need_rt SCRIPT WHAT.
 need_rt() {
     if ! command -v rt >/dev/null; then
-        echo "$1: to build the $2, the command rt of the Rattle toolchain is needed" >&2
+        echo "$1: building the $2 needs the Rattle toolchain, the command rt" >&2
         exit 1
     fi
 }
 
-# Marks what was built with a text, the version of the toolchain and the commit, as old as a file:
-# mark MARK TEXT BEGAN.
+# Writes the mark of a build: a text, the version of the toolchain and the commit. The mark gets the
+# time of the file BEGAN: mark MARK TEXT BEGAN.
 mark() {
     { echo "$2" && toolchain && commit; } >"$1"
     touch -r "$3" "$1"
 }
 
-# The commit of the crates at hand, with a word if they have changed since. An archive, which has no
-# repository, has it in share/commit. Empty where neither knows it.
+# The commit of the crates, and whether they have changed since. An archive has no repository, but
+# has the commit in share/commit. Prints nothing if neither has it.
 commit() {
     name=$(cd "$root" && git --git-dir=.git rev-parse --short=10 HEAD 2>/dev/null) || {
         sed -n 's/^\([0-9a-f]\{10\}\).*/commit \1/p' "$root/share/commit" 2>/dev/null || :
@@ -73,20 +73,20 @@ commit() {
     echo "commit $name${changes:+, changed}"
 }
 
-# Shows at a terminal what is at work, in place of what was shown before; with no words nothing.
+# Replaces the line at the terminal that shows the work in progress. Without arguments, removes it.
 show() {
     [ ! -t 2 ] || printf '\r\033[K%s' "$*" >&2
 }
 
-# Shows which libraries are at work: those of the file `begun` that are not in `finished`.
+# Shows which libraries are being proved: those in the file `begun` that are not in `finished`.
 show_work() {
     at_work=$(sort "$begun" "$finished" | uniq -u | paste -sd ' ')
     show ${at_work:+"proving $at_work"}
 }
 
-# Proves and builds a library, with these flags. Where it took some seconds, it says so on standard
-# error, and how many libraries are left: `finished` has a line for each that is built.
-# What fails here fails again in the build that needs the library, which says why.
+# Proves and builds a library: library NAME FLAG.. If that took some seconds, a line on standard
+# error says so, and how many libraries are left: `finished` has a line for each one that is built.
+# A failure is not reported here, because the build that needs the library fails too, and says why.
 library() {
     name=$1
     shift
@@ -101,11 +101,11 @@ library() {
     show_work
 }
 
-# Proves and builds the libraries up to age_file, or with the word age_cli up to that, lowest first.
-# A run of `rt` waits for another one that uses a library below both. So only what depends on none
-# of the others is proved in parallel with them: age_cipher, and age_job with age_words above it.
-# The latter is to end before age_commands, which depends on age_job. What this script has proved
-# before is left out.
+# Proves and builds the libraries up to age_file or up to age_cli, lowest first: libraries LAST. A
+# run of `rt` waits for another run that uses the same lower library. So only those that share none
+# are proved in parallel with the others: age_cipher, and age_job with age_words above it. These two
+# must be done before age_commands, which depends on age_job. Skips what this script has proved
+# before.
 proved_to=
 libraries() {
     [ "$proved_to" != age_cli ] && [ "$proved_to" != "$1" ] || return 0
@@ -132,12 +132,13 @@ libraries() {
     trap - INT TERM
 }
 
-# The program, and its mark: it names the processor and the toolchain of the last build, and is as
-# old as the start of that build.
+# The program, and its mark, which names the processor and the toolchain of the last build, and has
+# the time at which that build started.
 program=$root/crates/agep/out/agep
 built=$root/crates/agep/out/built
 
-# Keeps the program for a processor, its object and its mark beside it, so that none is built twice.
+# Keeps a copy of the program for a processor, with its object and its mark, so that no level is
+# built twice.
 keep_level() {
     rm -f "$program-$1.o"
     [ ! -f "$program.o" ] || cp -p "$program.o" "$program-$1.o"
@@ -150,7 +151,7 @@ has_level() {
     is_current "$program-$1" "$program-$1.built" "$1"
 }
 
-# Makes the program the one for a processor, if it was kept.
+# Makes the kept program for a processor the current one. Fails if none was kept.
 take_level() {
     has_level "$1" || return
     cp -p "$program-$1" "$program.$$"
@@ -158,13 +159,13 @@ take_level() {
     cp -p "$program-$1.built" "$built"
 }
 
-# Proves the program, and builds it for a processor: build_program WHO PROCESSOR. All output goes to
-# standard error, and no input is read.
+# Proves the program, and builds it for a processor: build_program SCRIPT PROCESSOR. All output goes
+# to standard error, and nothing is read from standard input.
 build_program() {
     need_rt "$1" program
     echo "$1: building the program; its proofs are checked first, so a first build takes minutes" >&2
     if [ -d "$root/crates/age_kdf/out" ] && [ ! -f "$built" ]; then
-        echo "$1: a build was interrupted; this one goes on with what it had proved" >&2
+        echo "$1: resuming a build that was interrupted" >&2
     fi
     seconds=$(date +%s)
     began=$(mktemp)
@@ -184,16 +185,16 @@ build_program() {
     echo "$1: built for $2 in $(($(date +%s) - seconds)) s" >&2
 }
 
-# The version of the last release: the newest heading of the change log that is a number.
+# The version of the last release: the first heading of CHANGELOG.md that is a number.
 released_version() {
     sed -n 's/^## \([0-9][0-9.]*\).*/\1/p' "$root/CHANGELOG.md" | head -n 1
 }
 
-# The name that programs which link the library look for. A release that changes what an earlier one
-# promised has another number.
+# The name by which programs find the shared library. A release that breaks a promise of an earlier
+# one gets another number.
 soname=libagefile.so.1
 
-# Prints the pkg-config file, which finds PREFIX from its own folder: pkg_config_file LIBDIR.
+# Prints the pkg-config file, which gives PREFIX relative to its own folder: pkg_config_file LIBDIR.
 pkg_config_file() {
     cat <<END
 prefix=\${pcfiledir}/$(echo "$1/pkgconfig" | sed 's|[^/][^/]*|..|g')
@@ -208,8 +209,8 @@ Libs: -L\${libdir} -lagefile
 END
 }
 
-# The levels of processor that the library holds, and that the program is packed for. Debian and
-# most distributions have the level x86-64.
+# The levels of processor for which the library and the packages' program contain builds. Debian and
+# most distributions support x86-64.
 levels="x86-64 x86-64-v3"
 
 crate=$root/crates/agefile
@@ -219,7 +220,7 @@ has_library() {
     is_current "$crate/out/$1.a" "$crate/out/$1.built" "$1"
 }
 
-# Proves the library for C, and builds it for each level, to out/LEVEL.a: build_library WHO.
+# Proves the library for C, and builds out/LEVEL.a for each level: build_library SCRIPT.
 build_library() {
     for level in $levels; do
         ! has_library "$level" || continue
@@ -239,10 +240,10 @@ build_library() {
     done
 }
 
-# Makes the archive and the shared library of what build_library built, in a folder: link_library
-# FOLDER. Both are one object, in which no other name is global: the functions of agefile.c, and the
-# two builds that they call, where agefile_NAME is x86_64_agefile_NAME or x86_64_v3_agefile_NAME.
-# Three functions of C that allocate come from the toolchain.
+# Links the builds of build_library into the archive and the shared library, in a folder:
+# link_library FOLDER. Both are made from one object, whose only global names are the functions of
+# agefile.c. They call the two builds, in which agefile_NAME is named x86_64_agefile_NAME or
+# x86_64_v3_agefile_NAME. Three functions of C that allocate come from the toolchain.
 link_library() {
     parts=$1/parts
     mkdir -p "$parts"

@@ -1,11 +1,12 @@
-// Loaded before the C library: makes a call of the process short or failing. CALL names its kind,
-// which is read, write, ftruncate, fsync, lseek, statx, open, rename, unlink, fchmod or lchown, or
-// message for a write to standard error. NUMBER is its number among those of its kind, from 1, or 0
-// for all of them. DO is what becomes of it: it moves "one" byte, or "half" of them, or "none", or
-// fails with the error of this number. With KEPT set each unlink fails too. The empty file "met"
-// shows that it came. The file that TRACE names gets a line for each call: its kind, the file that
-// it is about, and what it returned. A read of the character device /dev/urandom gives the bytes of
-// the file that URANDOM names. Where INODE is set, the number of each file is its size times this.
+// For LD_PRELOAD: makes a call of the process short, or makes it fail. CALL names its kind: read,
+// write, ftruncate, fsync, lseek, statx, open, rename, unlink, fchmod or lchown, or message for a
+// write to standard error. NUMBER is its number among the calls of its kind, from 1, or 0 for all of
+// them. DO says what happens: the call transfers "one" byte, "half" of the bytes or "none", or fails
+// with this error number. If KEPT is set, each unlink fails too. The call creates the empty file
+// "met". The file that TRACE names gets a line for each call: its kind, the file, and the result. A
+// read of the character device /dev/urandom returns the bytes of the file that URANDOM names. If
+// INODE is set, the number of each file is its size times this. If BAD is set, to two offsets, no
+// byte of a file IN.age can be read from the first to before the second.
 #define _GNU_SOURCE
 #include <dlfcn.h>
 #include <errno.h>
@@ -15,6 +16,7 @@
 #include <stdlib.h>
 #include <string.h>
 #include <sys/stat.h>
+#include <sys/syscall.h>
 #include <sys/sysmacros.h>
 #include <unistd.h>
 
@@ -32,8 +34,7 @@ static int opened(const char *name, int flags, mode_t mode)
     return next(name, flags, mode);
 }
 
-// How much of a size is left for the call of this kind that comes now: -1, and errno is set, where
-// it fails.
+// How much of a size the next call of this kind may transfer; -1, with errno set, if it must fail.
 static ssize_t allowed(const char *kind, long *calls, size_t size)
 {
     const char *call = getenv("CALL");
@@ -90,7 +91,7 @@ ssize_t write(int to, const void *bytes, size_t size)
     return count;
 }
 
-// What URANDOM names, from where the last such read ended.
+// The bytes of the file that URANDOM names, from the end of the last such read on.
 static ssize_t read_known(const char *name, void *bytes, size_t size)
 {
     static off_t at;
@@ -101,6 +102,25 @@ static ssize_t read_known(const char *name, void *bytes, size_t size)
     return count;
 }
 
+// How much can be read of a file from where it stands: -1, and errno is set, at bytes that can't.
+static ssize_t readable(int from, size_t size)
+{
+    const char *bad = getenv("BAD");
+    char link[32], name[4096] = "";
+    struct stat file;
+    long long first, last;
+    off_t at = (off_t)syscall(SYS_lseek, from, 0, SEEK_CUR);
+    snprintf(link, sizeof link, "/proc/self/fd/%d", from);
+    if (bad == NULL || sscanf(bad, "%lld %lld", &first, &last) != 2 || at < 0 ||
+        readlink(link, name, sizeof name - 1) < 0 || strcmp(strrchr(name, '/'), "/IN.age") != 0 ||
+        fstat(from, &file) != 0 || at >= last || at >= file.st_size)
+        return (ssize_t)size;
+    if (at < first)
+        return at + (off_t)size <= first ? (ssize_t)size : (ssize_t)(first - at);
+    errno = EIO;
+    return -1;
+}
+
 ssize_t read(int from, void *bytes, size_t size)
 {
     static long reads;
@@ -108,6 +128,8 @@ ssize_t read(int from, void *bytes, size_t size)
     const char *known = getenv("URANDOM");
     struct stat file;
     ssize_t count = allowed("read", &reads, size);
+    if (count > 0)
+        count = readable(from, (size_t)count);
     if (count > 0 && known != NULL && fstat(from, &file) == 0 && S_ISCHR(file.st_mode) &&
         file.st_rdev == makedev(1, 9))
         count = read_known(known, bytes, (size_t)count);

@@ -1,6 +1,6 @@
-// Loaded before the C library. Where ROOM is set, standard output is a device that takes one byte at a time, ROOM of them in all, and
-// then has no space left. Where BREAKS is set, standard input is one that gives one byte at a time, and fails at its end. Where PIECE is set,
-// no read of standard input gives more than so many bytes.
+// For LD_PRELOAD. If ROOM is set, standard output is a device that takes single bytes, ROOM of
+// them, and then has no space left. If BREAKS is set, standard input returns single bytes, and
+// fails at its end. If PIECE is set, no read of standard input returns more than so many bytes.
 #define _GNU_SOURCE
 #include <dlfcn.h>
 #include <errno.h>

@@ -1,16 +1,17 @@
 #!/usr/bin/env python3
-"""Runs a command with its input and output held in hand.
+"""Runs a command, and controls its input and output.
 
 usage: tests/feed.py lockstep START PIECE EXPECTED_START EXPECTED_PIECE INPUT EXPECTED COMMAND..
        tests/feed.py leave COUNT INPUT COMMAND..
        tests/feed.py peak COMMAND..
        tests/feed.py peak-piped INPUT COMMAND..
 
-lockstep feeds the first START bytes of INPUT and a piece of PIECE bytes, and then one piece more at a time. Before the next piece is fed,
-all but the newest of the pieces must have come out: the first EXPECTED_START bytes of EXPECTED, and EXPECTED_PIECE bytes for each.
-leave reads COUNT bytes of the output, and closes it, while INPUT is fed on.
-peak and peak-piped write the most memory that the command had resident, in KiB, in place of its output.
-Each ends with the command's status, or with 125 and a line on standard error where what it looks for doesn't come.
+lockstep feeds the first START bytes of INPUT and a piece of PIECE bytes, and then one piece at a time. Before
+it feeds the next piece, all but the newest piece must have come out: the first EXPECTED_START bytes of
+EXPECTED, and EXPECTED_PIECE bytes for each piece.
+leave reads COUNT bytes of the output and closes it, and goes on feeding INPUT.
+peak and peak-piped print the peak resident memory of the command in KiB, instead of its output.
+Each ends with the command's status, or with 125 and a line on standard error if the expected output does not come.
 """
 
 import os
@@ -20,7 +21,7 @@ import sys
 import threading
 import time
 
-# Seconds without any progress after which nothing more is waited for.
+# Gives up after so many seconds without progress.
 PATIENCE = 20
 
 
@@ -34,7 +35,7 @@ def read_file(name):
 
 
 class Running:
-    """A command whose input and output are pipes that never block this process."""
+    """A command whose input and output are pipes; this process never blocks on them."""
 
     def __init__(self, words):
         self.process = subprocess.Popen(words, stdin=subprocess.PIPE, stdout=subprocess.PIPE)
@@ -46,7 +47,7 @@ class Running:
         self.has_ended = False
 
     def step(self, is_feeding):
-        """Waits until the command takes or gives something; returns whether it takes."""
+        """Waits until the command reads or writes; returns whether it reads."""
         readers = [] if self.has_ended else [self.output]
         writers = [self.input] if is_feeding else []
         can_read, can_write, _ = select.select(readers, writers, [], PATIENCE)
@@ -104,7 +105,7 @@ def leave(count, input_name, *words):
         half = len(data) // 2
         running.feed(data[:half])
         if len(running.received) < int(count):
-            # a command that takes its whole input first
+            # a command that reads its whole input first
             running.feed(data[half:])
             running.close()
             running.expect(int(count))
@@ -120,7 +121,7 @@ def leave(count, input_name, *words):
 
 
 class Peak(threading.Thread):
-    """Looks at the most memory that a process had resident until it ends."""
+    """Polls the peak resident memory of a process until it ends."""
 
     def __init__(self, process):
         super().__init__(daemon=True)
@@ -159,7 +160,7 @@ def peak_piped(input_name, *words):
         def feed():
             while piece := file.read(1 << 20):
                 process.stdin.write(piece)
-            # the process waits for more now, so this is its whole memory but for the end
+            # now the process waits for more input, so only its end can still need memory
             watch.look()
             process.stdin.close()
 

@@ -1,6 +1,6 @@
-"""Makes the folder of files that the transcripts and the tests of the program start from.
+"""Makes the folder of files with which the transcripts and the tests of the program start.
 
-Nothing in it is from the program: the age files are those of reference.py.
+Nothing in it comes from the program: reference.py makes the age files.
 """
 
 import os
@@ -14,7 +14,7 @@ KEY = SEED[:32]
 OTHER_KEY = SEED[16:]
 NEW_KEY = bytes(32)
 PASSPHRASE = b"correct horse"
-# What seq prints, up to 140,000 bytes: three chunks.
+# The output of seq, 140,000 bytes of it: three chunks.
 PLAIN = b"".join(b"%d\n" % i for i in range(1, 40000))[:140000]
 HELLO = b"hello\n"
 
@@ -28,13 +28,13 @@ def for_passphrase(plain, passphrase=PASSPHRASE, work=10):
 
 
 def changed(file, at):
-    """The file with the byte at this offset changed."""
+    """The file, with the byte at this offset changed."""
     at %= len(file)
     return file[:at] + bytes([file[at] ^ 1]) + file[at + 1 :]
 
 
 def with_other_mac(file):
-    """The file with the first character of its MAC changed."""
+    """The file, with the first character of its MAC changed."""
     at = file.index(b"\n--- ") + 5
     return file[:at] + (b"B" if file[at : at + 1] == b"A" else b"A") + file[at + 1 :]
 
@@ -85,7 +85,7 @@ def files():
 
 
 def make(folder):
-    """Makes the folder, which must not be there."""
+    """Makes the folder, which must not exist."""
     os.mkdir(folder)
     for name, text in files().items():
         with open(os.path.join(folder, name), "wb") as file:

@@ -1,11 +1,11 @@
 #!/usr/bin/env python3
-"""Makes the test vectors in a folder, which must not be there, by tests/reference.py alone, and prints the
-SHA-256 of all: tests/vectors/README.md says what they are.
+"""Makes the test vectors in a folder, which must not exist, with tests/reference.py alone, and prints the
+SHA-256 of all of them. tests/vectors/README.md describes them.
 
 usage: tests/make_vectors.py FOLDER
 
-Each is made with the fault of docs/FORMAT.md that opening it ends in, and the plaintext that may be
-released before: what is expected follows from these.
+Each vector is made together with the fault of docs/FORMAT.md that opening it returns, and the plaintext that
+may be released before the fault. The expected result follows from these two.
 """
 
 import base64
@@ -29,7 +29,7 @@ from testkit import EXPECT
 FILE_KEY, NONCE = SEED[:16], SEED[16:32]
 CHUNK, LIMIT = 65536, 65536
 PAYLOAD_KEY = hkdf(FILE_KEY, NONCE, b"payload")
-# Of more bytes than these the file is compressed.
+# Files larger than this are compressed.
 PLAIN_SIZE = 1000
 
 # The X25519 secrets of an identity and of a stanza's share, and the identity's text (BIP 173).
@@ -47,9 +47,9 @@ BY_X25519 = (("identity", X_IDENTITY),)
 
 
 class Case(NamedTuple):
-    """A vector: its fault with the number or the part that it names, or (None,); the text that is released;
-    and the chunk behind it, if that opens only under the flag that its place does not have. A reader that
-    tries both flags releases that too."""
+    """A vector: its fault with the number or the part that the fault names, or (None,); the text that is
+    released; and the chunk after that text, if it opens only under the wrong flag for its position. A reader
+    that tries both flags releases that chunk, too."""
 
     name: str
     comment: str
@@ -62,7 +62,7 @@ class Case(NamedTuple):
 
     @property
     def head(self):
-        """The vector's own lines, before the empty one."""
+        """The lines of the vector, before the empty line."""
         expect = EXPECT[self.fault[0]]
         fields = [("expect", expect)]
         if expect in ("success", "payload failure"):
@@ -74,13 +74,13 @@ class Case(NamedTuple):
 
     @property
     def stored(self):
-        """The vector's own bytes."""
+        """The bytes of the vector."""
         return self.head + b"\n" + (zlib.compress(self.file, 9) if len(self.file) > PLAIN_SIZE else self.file)
 
 
-# Lines of headers, each of a stanza or more.
+# Lines of headers, each with one or more stanzas.
 def scrypt_lines(*arguments, body=None):
-    """A passphrase's stanza with other arguments behind its type, or another body."""
+    """A passphrase stanza with other arguments after its type, or another body."""
     right, wrap_key = passphrase_stanza(PASSPHRASE, 1, SALT)
     return stanza_text([right[0], *(arguments or right[1:])], sealed(wrap_key, bytes(12), FILE_KEY) if body is None else body)
 
@@ -99,7 +99,8 @@ SCRYPT, KEYED, X = scrypt_lines(), key_lines(), x25519_lines()
 GREASE = stanza_text([b"fZ%-grease", b"?", b"~!"], bytes(range(100)))
 
 
-# The text of each chunk that was made, and whether it is the last, by its number and its bytes.
+# For each chunk that was made, by its number and its bytes: its text, and whether it is the last
+# one.
 MADE = {}
 
 
@@ -112,7 +113,7 @@ def chunk(number, is_last, text):
 
 @functools.lru_cache
 def filler(number, is_last, size=CHUNK):
-    """The text of a chunk whose ciphertext is zeros, so that it is stored in a few bytes."""
+    """The text of a chunk whose ciphertext is zeros, so that the file compresses to a few bytes."""
     return chunk(number, is_last, bytes(size))[:-16]
 
 
@@ -121,7 +122,7 @@ def filled(number, is_last, size=CHUNK):
 
 
 def plain_and_chunks(size):
-    """A plaintext of this size, and its sealed chunks."""
+    """A plaintext of this size and its sealed chunks."""
     sizes = [min(CHUNK, size - at) for at in range(0, size, CHUNK)] or [0]
     places = [(i, i == len(sizes) - 1, length) for i, length in enumerate(sizes)]
     return b"".join(filler(*place) for place in places), [filled(*place) for place in places]
@@ -143,7 +144,7 @@ EMPTY = HEADER + NONCE + chunk(0, True, b"")
 
 
 def files(prefix, fault, rows, secrets=BY_PASSPHRASE):
-    """Files that end alike: the rows are their names, comments and lines."""
+    """Files with the same result: the rows are their names, comments and lines."""
     for name, comment, lines in rows:
         yield Case(f"{prefix}_{name}", comment, age_file(lines), fault, HELLO if fault == OPENS else b"", secrets)
 
@@ -156,7 +157,7 @@ def versions():
         ("leading_mark", "a byte order mark comes before the version line", b"\xef\xbb\xbf" + VERSION),
         ("trailing_space", "the version line ends with a space", b"age-encryption.org/v1 \n"),
         ("uppercase", "the version line is in capitals", VERSION.upper()),
-        ("without_lf", "the version line goes on into the first stanza", VERSION[:-1]),
+        ("without_lf", "the version line continues into the first stanza", VERSION[:-1]),
     ):
         yield Case(f"version_{name}", comment, ended(version + SCRYPT, FILE_KEY) + PAYLOAD, ("NotAge",))
 
@@ -180,7 +181,7 @@ def argument_lines():
         ("no_arrow", "an argument line begins with its type", b"a\n"),
         ("no_space", "no space follows the arrow", b"->a\n"),
         ("indented", "a space comes before the arrow", b" -> a\n"),
-        ("empty_line", "an empty line stands before the first stanza", b"\n-> a\n"),
+        ("empty_line", "an empty line comes before the first stanza", b"\n-> a\n"),
     ):
         yield from files("arguments", ("BadLine", 2), [(name, comment, line + body)])
         if name in ("no_arguments", "trailing_space", "no_arrow"):
@@ -205,7 +206,7 @@ def body_lines():
         ("two_short_lines", "a body has two short lines", b"AAAA\nAAAA\n", 4),
         ("two_empty_lines", "an empty line follows an empty body", b"\n\n", 4),
         ("short_line_first", "a full line follows a short one", b"AAAA\n" + zeros + b"\n", 4),
-        ("full_line_not_canonical", "the pad bits of a short line behind a full one are not zero", zeros + b"AB\n", 4),
+        ("full_line_not_canonical", "the pad bits of a short line after a full one are not zero", zeros + b"AB\n", 4),
         ("missing", "a stanza has no body line", b"", 3),
     ):
         yield from files("body", ("BadLine", line), [(name, comment, b"-> a\n" + body)])
@@ -223,7 +224,7 @@ def end_lines():
         ("trailing_space", "a space follows the MAC", b" " + mac + b" "),
         ("second_argument", "the end line has a second argument", b" " + mac + b" a"),
         ("cr", "the end line ends with CR LF", b" " + mac + b"\r"),
-        ("missing", "the end line has three dashes alone", b""),
+        ("missing", "the end line has only three dashes", b""),
         ("four_dashes", "the end line begins with four dashes", b"- " + mac),
     ):
         yield Case(f"mac_{name}", comment, start + end + b"\n" + PAYLOAD, ("BadLine", 4))
@@ -234,8 +235,8 @@ def macs():
     key = hkdf(FILE_KEY, b"", b"header")
     for name, comment, mac in (
         ("zeros", "the MAC is zeros", bytes(32)),
-        ("of_the_space", "the MAC is also of the space behind the dashes", hmac.digest(key, text + b" ", "sha256")),
-        ("without_the_dashes", "the MAC is not of the dashes", hmac.digest(key, text[:-3], "sha256")),
+        ("of_the_space", "the MAC also covers the space after the dashes", hmac.digest(key, text + b" ", "sha256")),
+        ("without_the_dashes", "the MAC does not cover the dashes", hmac.digest(key, text[:-3], "sha256")),
         ("of_the_file_key", "the key of the MAC is the file key", hmac.digest(FILE_KEY, text, "sha256")),
         ("of_another_file_key", "the key of the MAC comes from another file key", hmac.digest(hkdf(NONCE, b"", b"header"), text, "sha256")),
     ):
@@ -255,8 +256,8 @@ def macs():
 def scrypt_arguments():
     salt, body = signs(SALT), sealed(bytes(32), bytes(12), FILE_KEY)
     yield from files("scrypt_argument", ARG_COUNT, (
-        ("missing", "there is no work factor", scrypt_lines(salt)), ("more", "there is an argument more", scrypt_lines(salt, b"1", b"1")),
-        ("none", "there are neither salt nor work factor", stanza_text([b"scrypt"], body)),
+        ("missing", "there is no work factor", scrypt_lines(salt)), ("more", "there is one argument too many", scrypt_lines(salt, b"1", b"1")),
+        ("none", "there is neither a salt nor a work factor", stanza_text([b"scrypt"], body)),
     ))
     yield from files("scrypt_salt", BAD_SALT, ((name, comment, scrypt_lines(other, b"1")) for name, comment, other in bad_salts()))
     yield from files("scrypt_work_factor", WORK_TEXT, (
@@ -267,7 +268,7 @@ def scrypt_arguments():
     ))
     yield from files("scrypt_work_factor", TOO_HIGH, (
         (str(work), f"the work factor is {comment}", scrypt_lines(salt, str(work).encode())) for work, comment in (
-            (23, "one more than the greatest that is usually accepted"), (31, "more than 30"), (64, "2^6"), (257, "2^8 + 1"),
+            (23, "one more than the usual maximum"), (31, "more than 30"), (64, "2^6"), (257, "2^8 + 1"),
             (65537, "2^16 + 1"), (2**32 + 1, "2^32 + 1"), (2**64 + 1, "2^64 + 1"),
         )
     ))
@@ -278,7 +279,7 @@ def scrypt_arguments():
 
 
 def bad_salts():
-    """Salts of a stanza that are malformed."""
+    """Malformed salts of a stanza."""
     salt = signs(SALT)
     return (
         ("short", "the salt has 15 bytes", signs(SALT[1:])), ("long", "the salt has 17 bytes", signs(SALT + b"\0")),
@@ -289,7 +290,7 @@ def bad_salts():
 
 
 def not_canonical(text):
-    """The base64 text with another last character, which has the same bytes."""
+    """The base64 text with another last character that decodes to the same bytes."""
     return text[:-1] + bytes([text[-1] + 1])
 
 
@@ -303,7 +304,7 @@ def scrypt_bodies():
     yield from files("scrypt_body", BODY_LENGTH, [("empty", "the body is empty", scrypt_lines(body=b""))])
     for name, comment, fault, lines in (
         ("arguments", "an argument is missing, and the salt and the body are malformed", ARG_COUNT, scrypt_lines(salt[1:], body=b"")),
-        ("argument_more", "there is an argument more, and all others and the body are malformed", ARG_COUNT, scrypt_lines(salt[1:], b"015", b"x", body=b"")),
+        ("argument_more", "there is one argument too many, and all others and the body are malformed", ARG_COUNT, scrypt_lines(salt[1:], b"015", b"x", body=b"")),
         ("salt", "the salt, the work factor's text and the body are malformed", BAD_SALT, scrypt_lines(salt[1:], b"0", body=b"")),
         ("work_factor_text", "the work factor's text and the body are malformed", WORK_TEXT, scrypt_lines(salt, b"099", body=b"")),
         ("work_factor", "the work factor is too high and the body empty", TOO_HIGH, scrypt_lines(salt, b"99", body=b"")),
@@ -322,8 +323,8 @@ def scrypt_files():
         ("passphrase", "the passphrase is another one", wrapped(passphrase_stanza(PASSPHRASE[:-1], 1, SALT), FILE_KEY)),
         ("tag", "the last byte of the body's tag is changed", scrypt_lines(body=changed(body, -1))),
         ("ciphertext", "the first byte of the body is changed", scrypt_lines(body=changed(body, 0))),
-        ("work_factor", "the work factor is not the one of the body", scrypt_lines(salt, b"2")),
-        ("salt", "the salt is not the one of the body", scrypt_lines(signs(NONCE), b"1")),
+        ("work_factor", "the work factor is not that of the body", scrypt_lines(salt, b"2")),
+        ("salt", "the salt is not that of the body", scrypt_lines(signs(NONCE), b"1")),
         ("label", "scrypt's salt has no label", scrypt_lines(body=sealed(without_label, bytes(12), FILE_KEY))),
         ("nonce", "the nonce of the body is 1", scrypt_lines(body=sealed(wrap_key, bytes(11) + b"\1", FILE_KEY))),
     ))
@@ -342,7 +343,7 @@ def passphrases():
     for name, comment, passphrase in (
         ("empty", "the passphrase is empty", ""), ("space", "the passphrase begins and ends with a space", " correct horse "),
         ("colon", "the passphrase has a colon and a space", "expect: no match"), ("utf_8", "the passphrase is not ASCII", "pässwörd ☃ 🦆"),
-        ("nfd", "letters of the passphrase are decomposed, which makes another one", "pa\u0308sswo\u0308rd ☃ 🦆"),
+        ("nfd", "letters of the passphrase are decomposed, so it is another passphrase", "pa\u0308sswo\u0308rd ☃ 🦆"),
         ("cr", "the passphrase ends with CR", "correct horse\r"),
         ("64", "the passphrase fills a block of SHA-256", longest[:64]), ("65", "the passphrase is a byte longer than a block of SHA-256", longest),
     ):
@@ -365,9 +366,9 @@ def malformed_keyed():
     for fault, rows in (
         (ARG_COUNT, (
             ("argument_missing", "there is no salt", stanza_text([b"example.org/key"], body)),
-            ("argument_more", "there is an argument more", key_lines(signs(SALT), b"1")),
+            ("argument_more", "there is one argument too many", key_lines(signs(SALT), b"1")),
             ("order_arguments", "an argument is missing and the body empty", stanza_text([b"example.org/key"], b"")),
-            ("order_argument_more", "there is an argument more, and the salt and the body are malformed", key_lines(b"A", b"x", body=b"")),
+            ("order_argument_more", "there is one argument too many, and the salt and the body are malformed", key_lines(b"A", b"x", body=b"")),
         )),
         (BAD_SALT, (
             *((f"salt_{name}", comment, key_lines(salt)) for name, comment, salt in bad_salts()),
@@ -388,10 +389,10 @@ def keyed():
     yield from files("key_wrong", WRONG_KEY, (
         ("key", "the key is another one", other), ("of_two", "both stanzas are for other keys", other + key_lines(key=third)),
         ("tag", "the last byte of the body's tag is changed", key_lines(body=changed(body, -1))),
-        ("salt", "the salt is not the one of the body", key_lines(signs(NONCE))),
+        ("salt", "the salt is not that of the body", key_lines(signs(NONCE))),
     ), BY_KEY)
     yield from files("key", OPENS, (
-        ("first", "the key's stanza is the first of two", KEYED + other), ("twice", "the same stanza stands twice", KEYED * 2),
+        ("first", "the key's stanza is the first of two", KEYED + other), ("twice", "the same stanza occurs twice", KEYED * 2),
         ("malformed_behind", "a malformed stanza follows one that opens", KEYED + key_lines(body=b"")), *among_others(KEYED, other, X),
     ), BY_KEY)
     yield from files("key", OPENS, [("second_of_two_keys", "the second of two keys opens the file", KEYED)], (key_identity(OTHER_KEY), *BY_KEY))
@@ -404,7 +405,7 @@ def among_others(lines, other, foreign):
     return (
         ("alone", "the stanza is alone", lines), ("second", "the stanza is the second of two", other + lines),
         ("behind_another_kind", "the stanza follows one of the other kind", foreign + lines),
-        ("grease", "stanzas of other types come before, between and behind", GREASE + other + GREASE + lines + GREASE),
+        ("grease", "stanzas of other types come before, between and after", GREASE + other + GREASE + lines + GREASE),
         ("behind_48_bytes", "a body of 48 bytes ends with an empty line", stanza_text([b"a"], bytes(48)) + lines),
         ("behind_96_bytes", "a body of 96 bytes ends with an empty line", stanza_text([b"a"], bytes(96)) + lines),
         ("behind_each_argument_byte", "an argument has all bytes from 33 to 126", stanza_text([b"a", bytes(range(33, 127))], b"") + lines),
@@ -422,7 +423,7 @@ def x25519_files():
         )),
         (("Malformed",), (
             ("argument_missing", "there is no share", stanza_text([b"X25519"], body)),
-            ("argument_more", "there is an argument more", x25519_lines(signs(share), b"1")),
+            ("argument_more", "there is one argument too many", x25519_lines(signs(share), b"1")),
             ("share_short", "the share has 31 bytes", x25519_lines(signs(share[1:]))),
             ("share_long", "the share has 33 bytes", x25519_lines(signs(share + b"\0"))),
             ("share_not_canonical", "the pad bits of the share are not zero", x25519_lines(not_canonical(signs(share)))),
@@ -435,7 +436,7 @@ def x25519_files():
 
 
 def limits():
-    """Headers of a size around the limit of this project, and of great counts."""
+    """Headers of sizes around the limit of this project, and with many stanzas, lines or arguments."""
     for kind, lines, secrets in (("key", KEYED, BY_KEY), ("x25519", X, BY_X25519)):
         rest = LIMIT - len(age_file(lines, b"")) - len(b"-> \n\n")
         for size in (LIMIT, LIMIT + 1):
@@ -462,8 +463,8 @@ def sizes():
 
 
 def payloads(rows):
-    """Damaged payloads: the rows are their names, comments, faults, chunks of the faults, the sealed chunks,
-    and where it is released too the text of the chunk at fault. The chunks before it are released."""
+    """Damaged payloads: the rows are their names, comments, faults, the chunks of the faults, the sealed
+    chunks and, if a reader may release it, the text of the faulty chunk. The chunks before it are released."""
     for name, comment, fault, number, chunks, *more in rows:
         text = b"".join(filler(i, False) for i in range(number))
         yield Case(f"payload_{name}", comment, age_file(SCRYPT, NONCE + b"".join(chunks)), (fault, number), text, more=b"".join(more))
@@ -486,7 +487,7 @@ def damaged_chunks():
         ("tag_third", "the tag of the third chunk is changed", "BadChunk", 2, [FIRST, SECOND, changed(THIRD, -1)]),
         ("another_key", "the payload's key comes from the nonce twice", "BadChunk", 0, [sealed_chunk(key, 0, True, HELLO)]),
         ("swapped", "the first two of three chunks are swapped", "BadChunk", 0, [SECOND, FIRST, THIRD]),
-        ("repeated", "the first chunk stands twice", "BadChunk", 1, [FIRST, FIRST, LAST]),
+        ("repeated", "the first chunk occurs twice", "BadChunk", 1, [FIRST, FIRST, LAST]),
         ("removed_all", "no chunk follows the nonce", "ChunkShort", 0, []),
         ("removed_first", "the first chunk is missing", "BadChunk", 0, [LAST]),
         ("removed_second", "the second of three chunks is missing", "BadChunk", 1, [FIRST, THIRD]),
@@ -515,12 +516,12 @@ def flags_and_counters():
         ("counter_from_1", "the first chunk is counted as 1", "BadChunk", 0, [chunk(1, True, HELLO)]),
         ("counter_stays", "the second chunk is counted as 0", "BadChunk", 1, [FIRST, filled(0, True, 100)]),
         ("counter_skips", "the second chunk is counted as 2", "BadChunk", 1, [FIRST, filled(2, True, 100)]),
-        ("counter_little_endian", "the counter begins with its least byte", "BadChunk", 1, [FIRST, filled(1 << 80, True, 100)]),
+        ("counter_little_endian", "the counter begins with its lowest byte", "BadChunk", 1, [FIRST, filled(1 << 80, True, 100)]),
     ))
 
 
 def ends():
-    """Bytes behind the last chunk, and a file of two chunks that is cut."""
+    """Bytes after the last chunk, and a file of two chunks that is cut."""
     for name, comment, size in (
         ("short", "a last chunk that is not full", 6), ("full", "a full last chunk", CHUNK), ("second", "a second chunk that is not full", CHUNK + 6),
         ("second_full", "a second chunk that is full", 2 * CHUNK),
@@ -538,7 +539,7 @@ def ends():
 
 
 def cuts():
-    """A file of nothing that is cut at each offset."""
+    """The file of an empty plaintext, cut at each offset."""
     for size in range(len(EMPTY)):
         fault = ("HeaderTruncated",) if size < len(HEADER) else ("NonceTruncated",) if size < len(HEADER) + 16 else ("ChunkShort", 0)
         yield Case(f"cut_{size:03}", f"a file of {len(EMPTY)} bytes cut to {size}", EMPTY[:size], fault)
@@ -559,13 +560,13 @@ GROUPS = (
 
 @functools.cache
 def cases():
-    """All vectors, by their names."""
+    """All vectors by name."""
     return sorted((case for group in GROUPS for case in group()), key=lambda case: case.name)
 
 
 def sum_of_all():
-    """The SHA-256 of the names, lines and files of all vectors. No file is compressed, since another zlib
-    may compress it to other bytes."""
+    """The SHA-256 of the names, lines and files of all vectors. The files are not compressed, because another
+    zlib may compress them differently."""
     total = hashlib.sha256()
     for case in cases():
         total.update(b"%b\n%b\n%d\n%b" % (case.name.encode(), case.head, len(case.file), case.file))
@@ -573,7 +574,7 @@ def sum_of_all():
 
 
 def make(folder):
-    """Makes the vectors in a folder, which must not be there."""
+    """Makes the vectors in a folder, which must not exist."""
     os.makedirs(folder)
     for case in cases():
         write(f"{folder}/{case.name}", case.stored)
@@ -581,7 +582,7 @@ def make(folder):
 
 def main():
     if len(sys.argv) != 2 or os.path.lexists(sys.argv[1]):
-        sys.exit("usage: tests/make_vectors.py FOLDER     a folder that is not there")
+        sys.exit("usage: tests/make_vectors.py FOLDER     a folder that does not exist")
     make(sys.argv[1])
     print(f"{len(cases())} vectors, {sum_of_all()}")
 

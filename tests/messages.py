@@ -1,5 +1,5 @@
-"""The messages of agep by the names of their faults, from what is written by hand: those of files
-from docs/FORMAT.md, those of the program from tests/messages.txt."""
+"""The messages of agep by the names of their faults, from the texts written by hand: those about files from
+docs/FORMAT.md, those of the program from tests/messages.txt."""
 
 import itertools
 import os
@@ -15,8 +15,8 @@ def read_lines(name):
 
 
 def numbers():
-    """The faults and parts in the tables of docs/FORMAT.md: the number in C of each, its name, and
-    its text, whose words are numbered."""
+    """The faults and parts in the tables of docs/FORMAT.md: number in C, name, and text, with numbered
+    placeholders."""
     for line in read_lines("docs/FORMAT.md"):
         found = re.fullmatch(r"\| (\d+) \| `(\w+)` \|(?: [^|]* \|)? `([^`]*)` \|", line)
         if found:
@@ -26,32 +26,31 @@ def numbers():
 
 
 def rows():
-    """The name of each message, and its text."""
+    """The name and the text of each message."""
     own = [line for line in read_lines("tests/messages.txt") if line and not line.startswith("#")]
     of_files = [(name, text) for _, name, text in numbers()]
     return of_files + [tuple(line.split(": ", 1)) for line in own]
 
 
-# Each text by its name and the number of its words.
+# Each text by its name and the number of its placeholders.
 TEXTS = {(name, len(set(re.findall(r"\{\d\}", text)))): text for name, text in rows()}
 
 
 def message(name, *words):
-    """The message of a fault about these words. A word that is the name of a message stands for its
-    text."""
+    """The message of a fault, with these words in it. A word that is the name of a message stands for its text."""
     if (name, len(words)) not in TEXTS:
         raise KeyError(f"{name} with {len(words)} words is not in {NAMES}")
     return TEXTS[name, len(words)].format(*(TEXTS.get((word, 0), word) for word in words))
 
 
 def pattern(name, *words):
-    """The regular expression that matches just this message."""
+    """A regular expression that matches only this message."""
     return f"^{re.escape(message(name, *words))}$"
 
 
 def filled(line):
-    """A line of a transcript. Where it is `agep: <NAME>` or `agep: <NAME: WORD, WORD>` it is the
-    message's; the last word may have commas."""
+    """A line of a transcript. `agep: <NAME>` and `agep: <NAME: WORD, WORD>` stand for that message; the last
+    word may contain commas."""
     found = re.fullmatch(r"((?:2> )?agep: )<(\w+)(?:: (.*))?>", line)
     if not found:
         return line

@@ -1,4 +1,5 @@
-"""What is in a package, what packaged.txt says of it, and for which processors its programs are."""
+"""The contents of a package, the lines of packaged.txt about it, and the processors for which its programs
+are built."""
 
 import io
 import re
@@ -11,7 +12,8 @@ ROOT = Path(__file__).resolve().parent.parent
 
 
 def members(package):
-    """The path, mode, owner and link of all that a package installs, and the content of its files."""
+    """For everything that a package installs its path, mode, owner and link target, and the contents of its
+    files."""
     if package.suffix == ".whl":
         with zipfile.ZipFile(package) as file:
             for info in file.infolist():
@@ -27,8 +29,8 @@ def members(package):
 
 
 def listed():
-    """The lines of packaged.txt by package and path: mode, sign, and the file that follows. A star stands for the
-    names of the repository's files, and a later line for what another says of one of them."""
+    """The lines of packaged.txt by package and path: mode, sign, and the file that follows. A star stands for
+    the names of the repository's files; a later line overrides an earlier one."""
     *_, text = (ROOT / "tests/packaged.txt").read_text().partition("\n\n")
     for package, *lines in (part.strip().split("\n") for part in text.split("\n\n")):
         rows = {}
@@ -39,8 +41,8 @@ def listed():
         yield package, rows
 
 
-# Instructions that a processor of the level x86-64 may lack, as objdump names them: those of AVX,
-# FMA, F16C, BMI, MOVBE and LZCNT, and of SSE3 to SSE4.2 with POPCNT.
+# Instructions that a processor of the level x86-64 may lack, as objdump names them: AVX, FMA, F16C,
+# BMI, MOVBE, LZCNT, POPCNT, and SSE3 to SSE4.2.
 NEWER = re.compile(
     r"\t(v[a-z]+\w*|andn|bextr|bls\w+|bzhi|mulx|p?dep|pext|rorx|sarx|shlx|shrx|movbe|lzcnt|popcnt|crc32\w*|cmpxchg16b|lddqu|mov(ddup|s[hl]dup)"
     r"|h(add|sub)p[sd]|addsubp[sd]|pshufb|palignr|ph(add|sub)\w+|pmaddubsw|pmulhrsw|psign\w|pabs\w|p?blend\w+|dpp[sd]|extractps|insertps"
@@ -49,7 +51,8 @@ NEWER = re.compile(
 
 
 def functions_of(file):
-    """The name of each function in a program or archive, for both builds the same, and its number of newer instructions."""
+    """For each function of a program or archive its name, which is the same in both builds, and its number of
+    newer instructions."""
     said = subprocess.run(["objdump", "-d", "--no-show-raw-insn", file], capture_output=True, text=True, check=True).stdout
     found = [["", 0]]
     for line in said.splitlines():

@@ -1,6 +1,5 @@
-"""Finds the file key, the nonce and the salt of an age v1 file of one stanza, as the definitions of
-the RFCs say it and with nothing of this project. With these bytes as its seed reference.py makes the
-same file again."""
+"""Finds the file key, the nonce and the salt of an age v1 file with one stanza, following the RFCs and
+sharing nothing with this project. With these bytes as the seed, reference.py makes the same file again."""
 
 import base64
 import hashlib
@@ -13,11 +12,11 @@ def decoded(text):
 
 
 def parts(file, secret):
-    """48 bytes; the secret is the passphrase or the key."""
+    """The 48 bytes; the secret is the passphrase or the key."""
     version, stanza, body, mac, rest = file.split(b"\n", 4)
     arrow, kind, salt, *work = stanza.split(b" ")
     if version != b"age-encryption.org/v1" or arrow != b"->" or not mac.startswith(b"--- "):
-        raise AssertionError("no file of one stanza")
+        raise AssertionError("not a file with one stanza")
     salt, body = decoded(salt), decoded(body)
     if kind == b"scrypt":
         wrap_key = hashlib.scrypt(
@@ -26,7 +25,7 @@ def parts(file, secret):
         )
     else:
         wrap_key = hkdf(secret, salt, kind)
-    # The cipher is an XOR, so sealing opens.
+    # The cipher is an XOR, so sealing also opens.
     file_key = sealed(wrap_key, bytes(12), body[:-16])[:-16]
     if sealed(wrap_key, bytes(12), file_key) != body:
         raise AssertionError("the secret does not open this file")

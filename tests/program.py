@@ -1,4 +1,4 @@
-"""What the tests of the built program share: the program, how it runs, the scratch folder."""
+"""Shared by the tests of the built program: the program, ways to run it, scratch folders."""
 
 import atexit
 import os
@@ -18,30 +18,30 @@ from messages import filled
 TESTS = os.path.dirname(os.path.abspath(__file__))
 ROOT = os.path.dirname(TESTS)
 AGEP = os.path.join(ROOT, "crates", "agep", "out", "agep")
-# The commands that open IN, which is to follow, by a key and by a passphrase.
+# The commands that open IN, which must follow, with a key and with a passphrase.
 OPENING = ("decrypt -k key", "range -k key 0 1", "rewrap -k key -K key", "salvage -k key")
 BY_PASSPHRASE = ("decrypt -p pass", "range -p pass 0 1", "rewrap -p pass -K key", "salvage -p pass")
 IO_ERROR, NO_SPACE, INTERRUPTED = "5", "28", "4"
-# How much is run at a time: other scripts run beside these.
-AT_A_TIME = max(1, (os.cpu_count() or 1) // 2)
+# How many programs run at a time, since other scripts run at the same time as most of these.
+AT_A_TIME = int(os.environ.get("AT_A_TIME", max(1, (os.cpu_count() or 1) // 2)))
 
 
 def build():
-    """Builds the program where it is not current; ends the process where that fails."""
+    """Builds the program if it is not current; ends the process if that fails."""
     if subprocess.run([ROOT + "/agep", "--version"], stdout=subprocess.DEVNULL).returncode != 0:
         print("0 passed, 1 failed")
         sys.exit(1)
 
 
 def scratch():
-    """A folder that is removed when the process ends."""
+    """A folder that is deleted when the process ends."""
     folder = tempfile.mkdtemp()
     atexit.register(shutil.rmtree, folder, ignore_errors=True)
     return folder
 
 
 def made_once(make):
-    """The function, whose first result is kept."""
+    """The function; its first result is kept."""
     kept = []
     return lambda: kept[0] if kept else kept.append(make()) or kept[0]
 
@@ -59,7 +59,7 @@ def copy_fixture(folder):
 
 @made_once
 def version():
-    """The newest version in the change log."""
+    """The newest version in CHANGELOG.md."""
     return re.search(r"^## (\d[\d.]*)", read(ROOT + "/CHANGELOG.md").decode(), re.MULTILINE)[1]
 
 
@@ -77,20 +77,20 @@ libraries = {}
 
 
 def preload(name):
-    """The library of tests/NAME.c, to be loaded before the C library."""
+    """The library of tests/NAME.c, for LD_PRELOAD."""
     if name not in libraries:
         made = f"{scratch()}/{name}.so"
         words = ["cc", "-shared", "-fPIC", "-o", made, f"{TESTS}/{name}.c", "-ldl"]
         try:
             subprocess.run(words, check=True)
         except FileNotFoundError:
-            raise AssertionError("there is no C compiler, without which no call is refused or fails") from None
+            raise AssertionError("without a C compiler, no call can be refused or made to fail") from None
         libraries[name] = made
     return libraries[name]
 
 
 class Ran:
-    """How a run of the program ended, and what it wrote."""
+    """The status and the output of a run of the program."""
 
     def __init__(self, words, done):
         self.words = words
@@ -100,24 +100,24 @@ class Ran:
 
 
 def fault(line, more=None):
-    """What standard error has after a fault."""
+    """What a fault prints on standard error."""
     return f"agep: {line}\n" + (f"agep: {more}\n" if more else "")
 
 
 def usage_error(text, usage=None):
-    """What standard error has after a refused command line."""
+    """What a refused command line prints on standard error."""
     usage = f"Usage: agep {usage}\n\n" if usage else ""
     return f"error: {text}\n\n{usage}For more information, try '--help'.\n"
 
 
 def shown(data):
-    """Bytes as a message shows them."""
+    """Bytes, as a failure message shows them."""
     text = data.decode("utf-8", "backslashreplace")
     return text if len(text) <= 2000 else f"{text[:1000]!r} .. {text[-200:]!r} ({len(data)} bytes)"
 
 
 class ProgramCase(unittest.TestCase):
-    """Tests that run the program in a folder of their class: a copy of the fixture."""
+    """Tests that run the program in a folder of their class, a copy of the fixture."""
 
     longMessage = True
 
@@ -135,7 +135,7 @@ class ProgramCase(unittest.TestCase):
         self.addCleanup(os.chdir, "/")
 
     def run_agep(self, *words, input=b"", env=None, memory=None, program=AGEP, **more):
-        """Runs the program. `input` is its bytes, or an open file."""
+        """Runs the program. `input` is bytes or an open file."""
         if isinstance(input, bytes) and "stdin" not in more:
             more["input"] = input
         elif "stdin" not in more:
@@ -161,7 +161,7 @@ class ProgramCase(unittest.TestCase):
         )
 
     def assert_ended(self, ran, status=0, err="", out=b""):
-        """Compares all that a run left: its status, standard error and standard output."""
+        """Compares the status, the standard error and the standard output of a run."""
         expected = err if isinstance(err, bytes) else err.encode()
         words = " ".join(map(str, ran.words))
         came = f"status {ran.status}\n{shown(ran.err)}"
@@ -171,22 +171,23 @@ class ProgramCase(unittest.TestCase):
             self.assert_bytes(ran.out, out, f"standard output of agep {words}")
 
     def says(self, line, *words, more=None, out=b"", **how):
-        """Runs the program, which ends with this fault, and wrote just this."""
+        """Runs the program, which must end with this fault and have written exactly this."""
         self.assert_ended(self.run_agep(*words, **how), 1, fault(line, more), out)
 
     def run_line(self, line, **how):
-        """Runs the program with the words and the redirections of a line of bash, and nothing on standard input."""
+        """Runs the program with the arguments and redirections of a line of bash, and an empty standard input."""
         ran = self.run_agep("-c", f'exec "$0" {line}', AGEP, program="bash", stdin=subprocess.DEVNULL, **how)
         ran.words = [line]
         return ran
 
     def line_says(self, name, line, more=None, out=b"", **how):
-        """Runs a line, which ends with the fault of this name and words, as transcripts have it, and wrote just this."""
+        """Runs a line, which must end with the fault of this name and words, written as in transcripts, and
+        have written exactly this."""
         expected = filled(f"agep: <{name}>") + "\n" + (f"agep: {more}\n" if more else "")
         self.assert_ended(self.run_line(line, **how), 1, expected, out)
 
     def writes(self, out, *words, **how):
-        """Runs the program, which ends well, and wrote just this."""
+        """Runs the program, which must succeed and have written exactly this."""
         self.assert_ended(self.run_agep(*words, **how), 0, "", out)
 
     def assert_file(self, name, expected):

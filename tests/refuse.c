@@ -1,6 +1,6 @@
-// Loaded before the C library, refuses the process its allocation with the number REFUSE (from 1),
-// and then makes the empty file "refused". Where LARGE is set, refuses each allocation of more than
-// so many bytes, and the file holds the size of the last one.
+// For LD_PRELOAD: refuses the process its allocation with the number REFUSE (from 1), and then
+// creates the empty file "refused". If LARGE is set, refuses each allocation of more than so many
+// bytes, and writes the size of the last one into that file.
 #define _GNU_SOURCE
 #include <dlfcn.h>
 #include <fcntl.h>

@@ -1,4 +1,5 @@
-"""What bash, zsh and fish offer for the last word of a line of agep: the first two at a terminal."""
+"""The completions that bash, zsh and fish offer for the last word of a line of agep; the first two run at a
+terminal."""
 
 import contextlib
 import itertools
@@ -9,7 +10,8 @@ import subprocess
 from program import ROOT, scratch, write
 
 FOLDER = ROOT + "/share/completions"
-# How each reads its file, and has control-T put all that it offers in place of the last word.
+# How each shell reads its completions, and makes control-T replace the last word by all that it
+# offers.
 STARTS = {
     "bash --norc": f"source {FOLDER}/agep.bash; bind '\"\\C-t\": insert-completions'",
     "zsh -f": f"""fpath=({FOLDER} $fpath); autoload -Uz compinit && compinit -u -D
@@ -19,7 +21,7 @@ STARTS = {
 
 
 def at_terminal(shell, lines, folder):
-    """The words of each line, when the shell has completed and run it: agep is a function that writes them."""
+    """The arguments of each line after the shell has completed and run it; agep is a function that prints them."""
     read, tell = os.pipe()
     terminal, other = pty.openpty()
     os.set_blocking(terminal, False)
@@ -49,10 +51,10 @@ def by_fish(lines, folder):
 
 
 def offered(shell, lines, folder):
-    """What the shell offers for the last word of each line, sorted."""
+    """The sorted completions for the last word of each line."""
     if shell == "fish":
         return dict(zip(lines, map(sorted, by_fish(lines, folder))))
     (start,) = (start for start in STARTS if start.startswith(shell))
     found = list(at_terminal(start, lines, folder))[1:]
-    # The words before it were not changed, and it stays where nothing is offered.
+    # The words before it must be unchanged, and it stays if nothing is offered.
     return {line: sorted({*words[line.count(" ") - 1 :]} - {line.split(" ")[-1]}) for line, words in zip(lines, found)}

@@ -1,4 +1,4 @@
-"""A stand-in for the toolchain, which builds by copying what the repository has built for the packages."""
+"""A stand-in for the toolchain: it copies what the repository has built for the packages."""
 
 import os
 import shutil
@@ -17,7 +17,7 @@ esac
 
 
 def tools_but(folder, *hidden):
-    """Makes a folder with links to the tools that are there, but these."""
+    """Makes a folder with links to all installed tools except these."""
     os.mkdir(folder)
     for place in filter(os.path.isdir, os.environ["PATH"].split(":")):
         for name in os.listdir(place):
@@ -27,7 +27,7 @@ def tools_but(folder, *hidden):
 
 
 def toolchain(folder, *hidden):
-    """An environment in which the command rt is the stand-in, and these tools are hidden."""
+    """An environment in which the stand-in is the command rt, and these tools are hidden."""
     environment = tools_but(folder, "rt", *hidden)
     with open(f"{folder}/rt", "w") as file:
         file.write(RT.format(root=ROOT, rt=shutil.which("rt")))

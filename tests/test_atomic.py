@@ -1,4 +1,4 @@
-"""`--atomic` and `--no-clobber`: OUT is the old file or the whole new one, whatever fails, and no other
+"""`--atomic` and `--no-clobber`: whatever fails, OUT is the old file or the complete new one, and no other
 file stays."""
 
 import os
@@ -28,7 +28,7 @@ def wait_for(is_met):
 
 class Calls(CallCase):
     def is_old_or_new(self, ran, job, form):
-        """A judge: OUT is whole, the old one or the new one by the status, and it stands alone."""
+        """A judge: OUT is the complete old or new file, depending on the status, and there is no other file."""
         self.assertFalse(os.path.exists(NEW), "the new file was left")
         if ran.status == 0:
             self.is_whole(ran, job, form)
@@ -42,7 +42,7 @@ class Calls(CallCase):
         self.is_old_or_new(ran, job, form)
 
     def test_failing(self):
-        """Each call of the system fails in turn."""
+        """Each system call fails in turn."""
         for job in self.jobs:
             if job.has_out:
                 for kind in ("open", "read", "write", "ftruncate", "fsync", "fchmod", "rename"):
@@ -52,7 +52,7 @@ class Calls(CallCase):
         self.each_call("lseek", IO_ERROR, self.jobs[3], ATOMIC, self.is_old)
 
     def test_short(self):
-        """A write that moves less is followed by another one."""
+        """A short write is followed by another one."""
         for job in self.jobs:
             if job.has_out:
                 self.each_call("write", "one", job, ATOMIC, self.is_whole)
@@ -66,7 +66,7 @@ class Calls(CallCase):
         self.assertNotIn(" made ", read("trace").decode())
 
     def test_left(self):
-        """A new file that cannot be removed stays, and the next run is refused until it is gone."""
+        """A new file that cannot be removed stays, and the next run is refused until it is removed."""
         for call in ("write", "fsync", "rename", "fchmod"):
             with self.subTest(call):
                 write("made", YESTERDAY)
@@ -99,7 +99,7 @@ class Runs(ProgramCase):
         return subprocess.Popen([AGEP, *words], stdin=subprocess.PIPE, stderr=subprocess.PIPE)
 
     def test_at_once(self):
-        """Of several runs at once on one OUT one ends well, and OUT is that one's."""
+        """Of several runs at once on one OUT, exactly one succeeds, and OUT is its file."""
         for count in (2, 20):
             with self.subTest(count):
                 write("made", YESTERDAY)
@@ -116,7 +116,7 @@ class Runs(ProgramCase):
                 self.assertFalse(os.path.exists(NEW))
 
     def test_killed(self):
-        """A run that is killed leaves its new file and the old OUT, and the next one is refused."""
+        """A killed run leaves its new file and the old OUT, and the next run is refused."""
         for number in (signal.SIGTERM, signal.SIGKILL, signal.SIGINT):
             with self.subTest(number.name):
                 write("made", YESTERDAY)
@@ -140,8 +140,8 @@ class Atomic(Files):
         super().tearDown()
 
     def test_made(self):
-        """Each command makes a new OUT, or puts a new file in the place of the old one, and writes the same as without
-        the option."""
+        """Each command creates OUT, or replaces the old one by a new file, and writes the same as without the
+        option."""
         for line in WRITING:
             line += " -s seed" * line.startswith(("encrypt", "rewrap"))
             expected = self.run_line(line).out
@@ -159,7 +159,7 @@ class Atomic(Files):
                     os.remove("made")
 
     def test_faults(self):
-        """After a fault of the file OUT is as it was, or not there."""
+        """After a fault of the age file, OUT is as it was, or does not exist."""
         for name, line in (
             ("WrongKey", "decrypt -k other.key key.age"), ("BadChunk: 1", "decrypt -k key damaged_two.age"), ("NotAge", "rewrap -k key -K key hello"),
             ("BadChunk: 0", "range -k key 0 5 damaged.age"), ("Read", "encrypt -k key folder"), ("CannotOpen: absent", "salvage -k key absent"),
@@ -174,7 +174,7 @@ class Atomic(Files):
             self.assertFalse(os.path.exists(NEW))
 
     def test_in(self):
-        """IN may be OUT, by whatever name; a secret may not."""
+        """IN may be OUT, by any name; a secret may not."""
         rotated = fixture.for_keys(HELLO, NEW_KEY)
         for line, source, expected in (
             ("encrypt -k key -s seed", HELLO, read("key.age")), ("decrypt -k key", read("key.age"), HELLO), ("salvage -k key", read("key.age"), HELLO),
@@ -225,7 +225,7 @@ class Atomic(Files):
                 self.assertEqual((os.stat("made").st_uid, os.stat("made").st_gid), (65534, 65533))
 
     def test_links(self):
-        """A symbolic link stays one, and the file to which it leads is replaced, in its own folder."""
+        """A symbolic link stays a link, and the file to which it leads is replaced, in its own folder."""
         os.mkdir("other")
         for target in ("other/made", f"{self.folder}/other/made"):
             with self.subTest(target):
@@ -247,7 +247,7 @@ class Atomic(Files):
         shutil.rmtree("other")
 
     def test_special(self):
-        """A folder, a device or a pipe is refused, and so is a name that cannot be made."""
+        """A folder, a device or a pipe is refused, and so is a name that cannot be created."""
         os.mkfifo("made")
         rows = [("OutputIsSpecial", name) for name in ("folder", "folder/", ".", "/dev/null", "/dev/full", "made")]
         rows += [("CannotCreate", name) for name in ("absent/made", "/dev/stdout", "x" * 250)]
@@ -266,7 +266,7 @@ class Atomic(Files):
 
 class NoClobber(Files):
     def test_exists(self):
-        """An OUT that is there is refused, whatever it is, before anything is read."""
+        """An existing OUT is refused, whatever it is, before anything is read."""
         os.mkfifo("pipe")
         os.symlink("nowhere", "dangling")
         os.symlink("hello", "linked")
@@ -278,7 +278,7 @@ class NoClobber(Files):
         self.assertEqual(os.readlink("dangling"), "nowhere")
 
     def test_made(self):
-        """Otherwise it changes nothing, also without OUT."""
+        """Otherwise it changes nothing, even without OUT."""
         for line in WRITING:
             line += " -s seed" * line.startswith(("encrypt", "rewrap"))
             expected = self.run_line(line).out
@@ -291,7 +291,7 @@ class NoClobber(Files):
                 self.assert_ended(self.run_line(f"{line} -n"), out=expected)
 
     def test_made_meanwhile(self):
-        """An OUT that came to be after the first look stays."""
+        """An OUT that was created after the first check stays."""
         for options in ("-n", "-n --atomic"):
             with self.subTest(options):
                 words = [AGEP, "encrypt", "-k", "key", *options.split(), "-o", "made"]

@@ -1,6 +1,5 @@
-"""Builds the program and the cipher's tests for the level x86-64-v3 in a copy of the sources, where the
-processor at hand has that level. The copy has what an earlier build left, so that what was proved
-there isn't proved once more."""
+"""Builds the program and the tests of the cipher for x86-64-v3, in a copy of the sources, if this machine's
+processor has that level. The copy includes earlier builds, so that nothing is proved twice."""
 
 import os
 import shutil
@@ -32,7 +31,7 @@ class Avx2(ProgramCase):
             shutil.copy2(f"{ROOT}/{name}", f"{copy}/{name}")
         for crate in os.listdir(ROOT + "/crates"):
             for part in ("src", "specs", "proofs", "out"):
-                # The library for C isn't needed; another script may be building it meanwhile.
+                # Without the library for C, which another script may be building at the same time.
                 if os.path.isdir(f"{ROOT}/crates/{crate}/{part}") and (crate, part) != ("agefile", "out"):
                     subprocess.run(
                         ["cp", "-a", "--parents", f"crates/{crate}/{part}", copy], cwd=ROOT, check=True
@@ -46,7 +45,7 @@ class Avx2(ProgramCase):
         self.assertEqual(read(self.copy + "/crates/agep/out/built").split(b"\n")[0], b"x86-64-v3")
 
     def test_files(self):
-        """What is sealed is what Python seals by the RFCs, and comes back."""
+        """Sealing gives what Python seals by the RFCs, and opening gives the plaintext back."""
         program = self.copy + "/crates/agep/out/agep"
         for size in SIZES:
             with self.subTest(f"{size} bytes"):
@@ -57,7 +56,7 @@ class Avx2(ProgramCase):
                 self.writes(plain, "decrypt", "-k", "key", input=expected, program=program)
 
     def test_vectors(self):
-        """The cipher's vectors."""
+        """The vectors of the cipher."""
         done = subprocess.run(
             ["rt", "test", "--cpu", "x86-64-v3"], cwd=self.copy + "/crates/age_cipher", stdin=subprocess.DEVNULL, capture_output=True
         )

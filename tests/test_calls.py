@@ -1,31 +1,35 @@
-"""Each command with each of its reads, writes, truncations, syncs and seeks cut short or failing in
-turn. A short call changes nothing. A failing one ends in its line and the status 1, with a prefix of
-the right output: never in the status 0 over a file that is not whole."""
+"""Runs each command with each of its reads, writes, truncations, syncs and seeks cut short or failing in
+turn. A short call changes nothing. A failing call ends with its message, status 1 and a prefix of the right
+output, and never with status 0 and an incomplete file."""
 
 import os
 
 import fixture
 import reference
-from fixture import KEY, PLAIN, SALT, SEED
+from fixture import KEY, PLAIN, SALT, SEED, with_other_mac
 from messages import message
 from program import INTERRUPTED, IO_ERROR, NO_SPACE, ProgramCase, fault, preload, read, write
 from test_headers import table
+from test_salvage import lost_lines
+from testkit import SEALED
 
-# More than one piece, when it is read.
+# Takes more than one read.
 LONG_PASSPHRASE = b"".join(b"%d\n" % i for i in range(1, 1001))
 LONG_PLAIN = PLAIN[:131173]
 PART = PLAIN[65530 : 65530 + 65550]
+# The sizes of the header with the nonce, and of the whole file.
+HEAD, FILE = 172, 172 + 2 * SEALED + 117
 YESTERDAY = b"".join(b"%d\n" % i for i in range(1, 50001))
 
 
 class Job:
-    """A command line without -o and IN, the file that it reads, and what it is to write."""
+    """A command line without -o and IN, the file that it reads, and the expected output."""
 
     def __init__(self, words, name, expected, reads, writes):
         self.words = words.split()
         self.name = name
         self.expected = expected
-        # how many calls it has at least
+        # how many calls it makes at least
         self.least = {"read": reads, "write": writes, "lseek": 3}
         self.has_out = self.words[0] != "inspect"
 
@@ -38,7 +42,7 @@ class Job:
 
 def jobs():
     key_age = fixture.for_keys(LONG_PLAIN, KEY)
-    # one LF at the end of its file is no part of it
+    # one LF at the end of the file does not belong to it
     pass_age = reference.age_file(SEED, [reference.passphrase_stanza(LONG_PASSPHRASE[:-1], 4, SALT)], LONG_PLAIN)
     header = key_age[:156]
     return [
@@ -63,8 +67,8 @@ class CallCase(ProgramCase):
         write("key.age", fixture.for_keys(LONG_PLAIN, KEY))
 
     def run_job(self, job, form, **call):
-        """Runs a job with one of its calls changed; what it wrote is then `self.made`, and whether
-        there was such a call `self.met`."""
+        """Runs a job with one of its calls changed. Sets `self.made` to its output, and `self.met` to whether
+        there was such a call."""
         for name in ("met", "trace"):
             if os.path.exists(name):
                 os.remove(name)
@@ -89,7 +93,7 @@ class CallCase(ProgramCase):
         self.assert_bytes(self.made, job.expected, "the output")
 
     def has_failed(self, line):
-        """A judge: this line, with a prefix of what is expected, or with -o what was there before."""
+        """A judge: this message, and a prefix of the expected output or, with -o, the old contents."""
         def judge(ran, job, form):
             self.assert_ended(ran, 1, fault(line), None)
             if form == "-o" and self.made == YESTERDAY:
@@ -98,7 +102,7 @@ class CallCase(ProgramCase):
         return judge
 
     def each_call(self, kind, what, job, form, judge):
-        """Runs a job with each call of a kind in turn, until a run meets none; that one is whole."""
+        """Changes each call of a kind in turn, until a run has no such call; that run must be complete."""
         with self.subTest(f"{job} {form}, each {kind} in turn, DO={what}"):
             for number in range(1, 1000):
                 ran = self.run_job(job, form, call=kind, number=number, do=what)
@@ -114,12 +118,12 @@ class CallCase(ProgramCase):
 
 class Order(CallCase):
     def calls(self):
-        """The calls that are about OUT."""
+        """The calls on OUT."""
         rows = [line.split() for line in read("trace").decode().splitlines()]
         return [(kind, int(result)) for kind, name, result in rows if name == "made"]
 
     def test_order(self):
-        """OUT is truncated, then written, then synced; the sizes of the writes make up the whole."""
+        """OUT is truncated, then written, then synced; the writes add up to the whole output."""
         for job in self.jobs:
             if job.has_out:
                 with self.subTest(str(job)):
@@ -130,7 +134,7 @@ class Order(CallCase):
                     self.assertEqual(sum(size for _, size in middle), len(job.expected))
 
     def test_no_byte(self):
-        """An OUT without a byte is truncated and synced, and after a fault left alone."""
+        """If there is no output, OUT is truncated and synced; after a fault it is left alone."""
         job = Job("decrypt -k key", "empty.age", b"", 5, 0)
         self.is_whole(self.run_job(job, "-o"), job, "-o")
         self.assertEqual([kind for kind, _ in self.calls()], ["ftruncate", "fsync"])
@@ -141,7 +145,7 @@ class Order(CallCase):
 
 class ShortCalls(CallCase):
     def test_in_turn(self):
-        """A read or a write that moves less is followed by another one."""
+        """A short read or write is followed by another one."""
         for job in self.jobs:
             for form in job.forms():
                 for kind in ("read", "write"):
@@ -149,7 +153,7 @@ class ShortCalls(CallCase):
                         self.each_call(kind, what, job, form, self.is_whole)
 
     def test_all(self):
-        """Each read, or each write, moves less."""
+        """Every read, or every write, is short."""
         for job in self.jobs:
             for form in job.forms():
                 for kind in ("read", "write"):
@@ -159,7 +163,7 @@ class ShortCalls(CallCase):
                             self.assertTrue(self.met)
 
     def test_interrupted(self):
-        """What an interrupted call did not move is moved later, or the work ends with a fault."""
+        """After an interrupted call the rest is read or written later, or the command fails."""
         def whole_or(line):
             def judge(ran, job, form):
                 (self.is_whole if ran.status == 0 else self.has_failed(line))(ran, job, form)
@@ -175,26 +179,99 @@ class ShortCalls(CallCase):
                     self.assertTrue(self.met)
 
 
+class UnreadChunks(CallCase):
+    """salvage goes on behind what cannot be read of a file that it is given by its name."""
+
+    def setUp(self):
+        super().setUp()
+        write("IN.age", read("key.age"))
+        self.job = Job("salvage -k key", "IN.age", LONG_PLAIN, 5, 3)
+
+    def assert_saved(self, ran, first, lost, unread):
+        """These chunks are lost, and so many bytes were not read, the first at this offset."""
+        text, losses = b"", []
+        for i in range(3):
+            chunk = LONG_PLAIN[65536 * i : 65536 * (i + 1)]
+            if i in lost:
+                losses.append((i, len(text), len(text) + len(chunk) - 1))
+            text += bytes(len(chunk)) if i in lost else chunk
+        lines = list(lost_lines(losses))
+        if 2 in lost:
+            lines.append("the file ends after 117 bytes of chunk 2: more may be missing")
+        lines.append(f"reading IN.age: Input/output error; {unread} bytes were left out, the first at byte {first}")
+        self.assert_ended(ran, 1, "".join(map(fault, lines)), None)
+        self.assert_bytes(self.made, text)
+
+    def test_in_turn(self):
+        """Each read fails once: it costs the rest of its chunk. At the header, the nonce or the end nothing follows."""
+        def judge(ran, job, form):
+            sizes = [int(row.split()[2]) for row in read("trace").decode().splitlines() if row.startswith("read IN.age ")]
+            if -1 not in sizes:
+                self.has_failed(message("Read"))(ran, job, form)
+                return
+            at = sum(sizes[: sizes.index(-1)])
+            if at < HEAD or at == FILE:
+                self.has_failed(message("Read"))(ran, job, form)
+            else:
+                i = (at - HEAD) // SEALED
+                self.assert_saved(ran, at, [i], min(HEAD + SEALED * (i + 1), FILE) - at)
+
+        self.each_call("read", IO_ERROR, self.job, "-o", judge)
+
+    def test_places(self):
+        """A part of the file can never be read, or all from an offset on."""
+        for first in (HEAD, HEAD + 1, HEAD + 8000, HEAD + SEALED - 1, HEAD + SEALED, HEAD + SEALED + 1, HEAD + 2 * SEALED, FILE - 1):
+            for last in (first + 1, first + 4096, first + SEALED, FILE):
+                last = min(last, FILE)
+                with self.subTest(f"from {first} to {last}"):
+                    ran = self.run_job(self.job, "-o", bad=f"{first} {last}")
+                    lost = range((first - HEAD) // SEALED, (last - 1 - HEAD) // SEALED + 1)
+                    # the first byte of a chunk is read with the chunk before it
+                    is_alone = last > HEAD + 1 and (last - HEAD) % SEALED == 1
+                    end = last if is_alone else min(HEAD + SEALED * lost.stop, FILE)
+                    self.assert_saved(ran, first, lost, end - first)
+        for first in (0, 100, 155, 156, HEAD - 1):
+            for last in (first + 1, FILE):
+                with self.subTest(f"from {first} to {last}"):
+                    ran = self.run_job(self.job, "-o", bad=f"{first} {last}")
+                    self.assert_ended(ran, 1, fault(message("Read")))
+                    self.assert_bytes(self.made, YESTERDAY)
+
+    def test_changed_header(self):
+        """It does so too behind a header that was changed."""
+        write("IN.age", with_other_mac(read("key.age")))
+        ran = self.run_job(self.job, "-o", bad=f"{HEAD + SEALED} {FILE}")
+        line = "the header was changed: the chunks were tried with the key that fits"
+        self.assertIn(fault(line).encode(), ran.err)
+        self.assert_bytes(self.made, LONG_PLAIN[:65536] + bytes(len(LONG_PLAIN) - 65536))
+
+    def test_pipe(self):
+        """Of a pipe and of standard input nothing follows."""
+        whole = Job("salvage -k key", "key.age", LONG_PLAIN, 5, 3)
+        self.each_call("read", IO_ERROR, whole, "", self.has_failed(message("Read")))
+
+
 class FailingCalls(CallCase):
     def test_reads(self):
-        """A read that fails is no end of a file, and no OUT that was there is emptied for nothing."""
+        """A failed read is not taken for the end of the file, and does not truncate an existing OUT."""
         def judge(ran, job, form):
             self.has_failed(message("Read"))(ran, job, form)
             self.assertTrue(form != "-o" or self.made, "OUT is empty")
 
         for job in self.jobs:
             for form in job.forms():
-                self.each_call("read", IO_ERROR, job, form, judge)
+                if (job.words[0], form) != ("salvage", "-o"):
+                    self.each_call("read", IO_ERROR, job, form, judge)
 
     def test_writes(self):
-        """A write that fails, or that moves nothing."""
+        """A write that fails, or writes nothing."""
         for job in self.jobs:
             for form in job.forms():
                 for what in (IO_ERROR, NO_SPACE, "none"):
                     self.each_call("write", what, job, form, self.has_failed(message("Write")))
 
     def test_files(self):
-        """An OUT that can't be truncated stays as it was. One that can't be synced is no success."""
+        """An OUT that cannot be truncated stays as it was. If OUT cannot be synced, the command fails."""
         def is_untouched(ran, job, form):
             self.assert_ended(ran, 1, fault(message("Write")))
             self.assert_bytes(self.made, YESTERDAY, "OUT")
@@ -210,7 +287,7 @@ class FailingCalls(CallCase):
                 self.each_call("fsync", NO_SPACE, job, "-o", is_unsynced)
 
     def test_metadata(self):
-        """Where the system does not say which file is which, an OUT that was there stays as it was."""
+        """If the system does not tell which file is which, an existing OUT stays as it was."""
         names = ["pass", "key", "other.key", "seed", "plain", "key.age", "made", "standard input"]
         lines = [fault(message("Unidentified", name)).encode() for name in names]
 
@@ -227,7 +304,7 @@ class FailingCalls(CallCase):
                 self.each_call("statx", IO_ERROR, job, "-o", judge)
 
     def test_metadata_of_one_file(self):
-        """An OUT that is read too stays as it was, whichever question about files fails."""
+        """An OUT that is also read stays as it was, whichever question about files fails."""
         for words, name, is_piped in (
             ("encrypt -k key -o plain", "plain", False), ("encrypt -k key -o plain", "plain", True),
             ("encrypt -k key -s seed -o seed", "seed", True), ("decrypt -k key -o key.age", "key.age", False),
@@ -252,7 +329,7 @@ class FailingCalls(CallCase):
             self.assertGreaterEqual(number, 3)
 
     def test_seeks(self):
-        """Of the commands range alone seeks."""
+        """Only range seeks."""
         job = self.jobs[3]
 
         def judge(ran, job, form):
@@ -267,7 +344,7 @@ class FailingCalls(CallCase):
                 self.assert_ended(ran, 1, fault(message("CannotOpen", "key.age")), None)
 
     def test_explained(self):
-        """With -v the second line says which file can't be synced, truncated or read."""
+        """With -v the second line names the file that cannot be synced, truncated or read."""
         rows = [
             ("fsync", "key.age", "syncing made"), ("ftruncate", "key.age", "writing made"), ("ftruncate", "empty.age", "truncating made"),
         ]
@@ -280,7 +357,7 @@ class FailingCalls(CallCase):
 
 class Messages(CallCase):
     def test_messages(self):
-        """Each message comes whole, in one write; where it can't come the status is the same."""
+        """Each message is one write; if that fails, the status is the same."""
         write("cut", read("key.age")[:131300])
         for row in ("1 2 decrypt -v -k key cut", "1 2 inspect -v nowhere", "1 1 inspect nowhere", "2 1 inspect a b", "2 1 frob"):
             status, count, *words = row.split()
@@ -302,11 +379,11 @@ class Messages(CallCase):
 
 
 class Devices(ProgramCase):
-    """Standard output that takes one byte at a time and then none, standard input that gives one
-    byte at a time and then fails."""
+    """Standard output that takes single bytes and then none, and standard input that returns single bytes and
+    then fails."""
 
     def test_room(self):
-        """A device without room for the whole output."""
+        """A device without space for the whole output."""
         header = b"age-encryption.org/v1\n-> a\n\n--- " + b"A" * 43 + b"\n"
         self.assertEqual(len(header), 76)
         write("header", header)
@@ -352,10 +429,10 @@ class Devices(ProgramCase):
 
 
 class Syncs(ProgramCase):
-    """Whether the program syncs what it writes to."""
+    """Which outputs the program syncs."""
 
     def counted(self, *words, fails=False):
-        """Runs the program, where each call that syncs may fail, and counts these calls."""
+        """Runs the program, optionally with each sync failing, and counts the syncs."""
         if os.path.exists("trace"):
             os.remove("trace")
         env = {"LD_PRELOAD": preload("calls"), "TRACE": "trace"}
@@ -365,7 +442,7 @@ class Syncs(ProgramCase):
         return ran, sum(line.startswith(b"fsync ") for line in read("trace").splitlines())
 
     def test_syncs(self):
-        """OUT is synced once before status 0; a device and standard output are not."""
+        """OUT is synced once before status 0; devices and standard output are not."""
         for words in (
             "encrypt -k key hello", "decrypt -k key key.age", "decrypt -k key empty.age", "range -k key 0 5 key.age",
             "rewrap -p pass -K new.key pass.age", "salvage -k key key.age",

@@ -1,5 +1,6 @@
-"""Files of nothing that were cut or changed at each offset, files of two chunks that were cut at their edges, and what rewrap makes of such
-files. tests/test_library.py and tests/test_packages.py open those of `cases` by the libraries, as the test vectors."""
+"""Files of an empty plaintext, cut or changed at each offset; files of two chunks, cut at their boundaries;
+and such files after rewrap. tests/test_library.py and tests/test_packages.py open the files of `cases` with
+the libraries, in the form of test vectors."""
 
 import fixture
 import reference
@@ -14,26 +15,26 @@ SALT_FAULT = "Malformed", "Salt"
 
 
 def with_another_stanza():
-    """A key's file of nothing, with a stanza of another type before the key's."""
+    """The keyed file of an empty plaintext, with a stanza of another type first."""
     stanzas = reference.stanza_text([b"plug"], bytes(48)) + reference.wrapped(reference.key_stanza(KEY, SALT), SEED[:16])
     return reference.ended(reference.VERSION + stanzas, SEED[:16]) + fixture.for_keys(b"", KEY)[156:]
 
 
 def changed(file, at, *signs):
-    """The file with the byte at this offset changed: a base64 character of a body or a MAC, which begin at these, to
-    another one, and any other byte in its least bit."""
+    """The file with the byte at this offset changed: within `signs`, the ranges of a body and a MAC, to
+    another base64 character, and elsewhere in its lowest bit."""
     if any(first <= at <= last for first, last in signs):
         return file[:at] + (b"E" if file[at : at + 1] == b"A" else b"A") + file[at + 1 :]
     return fixture.changed(file, at)
 
 
 def after_last_line(file, end, line):
-    """Where the header's last LF is changed, the line goes on into the payload."""
+    """If the last LF of the header is changed, the line continues into the payload."""
     return ("BadLine", line) if b"\n" in file[end + 1 :] else ("HeaderTruncated",)
 
 
 def cut_rows(header):
-    """Of a file of nothing that is cut in its header, its nonce of 16 bytes, or its tag."""
+    """Rows for a file of an empty plaintext that is cut in its header, its nonce of 16 bytes, or its tag."""
     return [
         (0, header - 1, "HeaderTruncated"), (header, header + 15, "NonceTruncated"), (header + 16, header + 31, "ChunkShort", 0),
         (header + 32, header + 32, None),
@@ -41,7 +42,8 @@ def cut_rows(header):
 
 
 def keyed_rows(file, end, shift, line):
-    """Of a keyed file changed at each offset. The keyed stanza begins `shift` bytes and `line` lines later than usual."""
+    """Rows for a keyed file that is changed at each offset. Its stanza begins `shift` bytes and `line` lines
+    later than usual."""
     return [
         (22 + shift, 24 + shift, "BadLine", 2 + line), (25 + shift, 40 + shift, "NoMatch"), (41 + shift, 61 + shift, "WrongKey"),
         (62 + shift, 62 + shift, *SALT_FAULT), (63 + shift, 63 + shift, "BadLine", 2 + line), (64 + shift, 106 + shift, "WrongKey"),
@@ -51,7 +53,7 @@ def keyed_rows(file, end, shift, line):
 
 
 def passphrase_rows(file):
-    """Of a passphrase's file changed at each offset."""
+    """Rows for a passphrase file that is changed at each offset."""
     return [
         (0, 21, "NotAge"), (22, 24, "BadLine", 2), (25, 31, "NoMatch"), (32, 52, "WrongKey"), (53, 53, *SALT_FAULT), (54, 54, "Malformed", "ArgCount"),
         (55, 55, "Malformed", "WorkFactorText"), (56, 56, "WrongKey"), (57, 57, "BadLine", 2), (58, 100, "WrongKey"), (101, 101, "BadLine", 3),
@@ -60,8 +62,8 @@ def passphrase_rows(file):
 
 
 def tables():
-    """The name of a table, the secret, how many files it has, the file of each number, and its rows: a first and a last
-    number, and the fault of each. Nothing is released."""
+    """The name of a table, the secret, the number of files, a function from numbers to files, and the rows: a
+    first and a last number, and the fault. Nothing is released."""
     of_pass, of_key, of_two = fixture.for_passphrase(b""), fixture.for_keys(b"", KEY), with_another_stanza()
     for name, secret, file, header in ("passphrase", BY_PASSPHRASE, of_pass, 150), ("key", BY_KEY, of_key, 156), ("two", BY_KEY, of_two, 230):
         yield f"{name}_cut", secret, header + 33, lambda at, file=file: file[:at], cut_rows(header)
@@ -75,7 +77,7 @@ def tables():
 
 
 def cases():
-    """The files of the tables, and those of two chunks, as test vectors."""
+    """The files of the tables and those of two chunks, as test vectors."""
     for name, secret, count, file_of, rows in tables():
         for first, last, *fault in rows:
             for at in range(first, last + 1):
@@ -85,7 +87,7 @@ def cases():
 
 
 def two_chunks():
-    """A file of two chunks that is cut at their edges, or has a byte behind its end."""
+    """A file of two chunks that is cut at their boundaries, or has a byte after its end."""
     plain = fixture.PLAIN[:65537]
     file = fixture.for_passphrase(plain) + b"x"
     for size, name, chunk in (
@@ -97,7 +99,7 @@ def two_chunks():
 
 class DamagedFiles(ProgramCase):
     def test_program(self):
-        """agep ends in the fault of each, and releases what comes before it."""
+        """agep ends with the fault of each file, and releases the chunks before it."""
         self.assertEqual(differences(Agep(), cases()), {})
 
     def test_out(self):
@@ -108,7 +110,7 @@ class DamagedFiles(ProgramCase):
                 self.assert_file("back", case.text)
 
     def test_rewrapped(self):
-        """rewrap copies the payload, whatever it is: both files end alike."""
+        """rewrap copies any payload, so both files have the same result."""
         nothing = read("empty_pass.age")
         cuts = *((size, "NonceTruncated") for size in (150, 155, 165)), *((size, "ChunkShort: 0") for size in (166, 181))
         for title, file, name, out in (

@@ -1,4 +1,4 @@
-"""Terminals, pipes whose reader is gone, signals, another /dev/urandom, and what the system is asked."""
+"""Terminals, pipes without a reader, signals, another /dev/urandom, and the system calls of a run."""
 
 import itertools
 import os
@@ -18,7 +18,7 @@ from test_progress import ERASE, drained
 
 
 def tool(name):
-    """The path of a tool; the test is skipped where it is missing."""
+    """The path of a tool; skips the test if it is missing."""
     found = shutil.which(name)
     if found is None:
         raise unittest.SkipTest(f"the command {name} is missing")
@@ -27,15 +27,15 @@ def tool(name):
 
 class Terminals(ProgramCase):
     def on_terminal(self, *words):
-        """Runs the program with standard output at a terminal; returns its status, what it said
-        there, and on standard error."""
+        """Runs the program with a terminal as standard output; returns its status, the output there, and its
+        standard error."""
         line = " ".join(map(subprocess.list2cmdline, [[AGEP], words]))
         script = [tool("script"), "-qec", f"{line} 2>err; echo $? >status", "/dev/null"]
         done = subprocess.run(script, stdin=subprocess.DEVNULL, stdout=subprocess.PIPE, timeout=60)
         return int(read("status")), done.stdout.replace(b"\r", b""), read("err").decode()
 
     def test_refused(self):
-        """Nobody wants an encrypted file on the screen."""
+        """An encrypted file is not printed on a terminal."""
         line = fault(message("OutputIsTerminal"))
         for words in (
             "encrypt -k key hello", "rewrap -k key -K other.key key.age", "encrypt -k absent -s absent nowhere",
@@ -48,7 +48,7 @@ class Terminals(ProgramCase):
                 self.assertEqual(self.on_terminal(*words.split()), (1, b"", fault(message(name))))
 
     def test_taken(self):
-        """encrypt on a terminal to a file, and decrypt to a terminal."""
+        """encrypt at a terminal to a file, and decrypt to a terminal."""
         self.assertEqual(self.on_terminal("encrypt", "-k", "key", "-s", "seed", "-o", "made", "hello"), (0, b"", ""))
         self.assert_file("made", read("key.age"))
         self.assertEqual(self.on_terminal("decrypt", "-k", "key", "key.age"), (0, HELLO, ""))
@@ -56,7 +56,7 @@ class Terminals(ProgramCase):
 
 class ClosedPipes(ProgramCase):
     def test_before(self):
-        """A pipe whose reader is gone before the program begins."""
+        """A pipe whose reader has left before the program starts."""
         for words in (
             "encrypt -k key two_chunks", "decrypt -k key two.age", "rewrap -p pass -K new.key two_pass.age", "range -k key 0 140000 plain.age",
             "salvage -k key two.age", "inspect data/three_recipients.age", "inspect -r data/three_recipients.age",
@@ -73,7 +73,7 @@ class ClosedPipes(ProgramCase):
 
 class Interrupted(ProgramCase):
     def test_signal(self):
-        """A signal in the midst of scrypt: an OUT that was there stays as it was."""
+        """A signal during scrypt: an existing OUT stays as it was."""
         write("slow.age", fixture.for_passphrase(HELLO, work=18))
         for words in ("encrypt -p pass -w 18 -o made hello", "decrypt -p pass -o made slow.age"):
             with self.subTest(words):
@@ -94,11 +94,11 @@ class Interrupted(ProgramCase):
 
 
 class ClosedStreams(ProgramCase):
-    """A standard stream that is closed stays closed: no file gets its number."""
+    """A closed standard stream stays closed: no file gets its descriptor."""
 
     def run_closed(self, words, closed, is_terminal):
-        """Runs the program with these streams closed and standard error at a terminal or in a pipe. Returns its
-        status, its output, and what standard error got."""
+        """Runs the program with these streams closed and a terminal or a pipe as standard error. Returns its
+        status, its output and its standard error."""
         controller, terminal = pty.openpty() if is_terminal else os.pipe()
         line = " ".join(f"{number}{'<' if number == 0 else '>'}&-" for number in closed)
         with open("key.age", "rb") as stdin:
@@ -109,7 +109,7 @@ class ClosedStreams(ProgramCase):
         return done.returncode, done.stdout, drained(controller).decode().replace("\r\n", "\n")
 
     def test_each(self):
-        """Each of the eight combinations, with and without -v, at a terminal and without."""
+        """All eight combinations, with and without -v and a terminal."""
         closed = "Bad file descriptor"
         saved = "chunk 0 is lost: bytes 0 to 5 of the plaintext", "the file ends after 22 bytes of chunk 0: more may be missing"
         for streams in itertools.chain.from_iterable(itertools.combinations(range(3), count) for count in range(4)):
@@ -140,16 +140,16 @@ class ClosedStreams(ProgramCase):
                                 os.remove("made")
 
     def test_by_name(self):
-        """No file is standard output or standard error by a name, either."""
+        """Nor does the name of a stream lead to a file."""
         for streams, name in ((1,), "/dev/stdout"), ((2,), "/dev/stderr"), ((1, 2), "/dev/fd/1"), ((0, 1, 2), "/dev/fd/2"):
             with self.subTest(f"-o {name}, {streams} closed"):
                 line = "" if 2 in streams else fault(message("CannotCreate", name))
                 self.assertEqual(self.run_closed(f"decrypt -k key -o {name} key.age", streams, False), (1, b"", line))
 
     def test_no_folder(self):
-        """Where no folder opens in the place of the stream nothing is done."""
+        """If no folder can be opened in place of the stream, nothing is done."""
         if os.geteuid() != 0:
-            self.skipTest("it takes the rights to change the root")
+            self.skipTest("this needs the right to change the root")
         os.makedirs("root/d")
         shutil.copy(AGEP, "root/agep")
         for library in re.findall(r"/\S+", subprocess.run(["ldd", AGEP], capture_output=True, text=True).stdout):
@@ -176,8 +176,8 @@ class ClosedStreams(ProgramCase):
 
 
 class DefaultSeed(ProgramCase):
-    """The seed is read from /dev/urandom only where that is a character device. It is replaced for
-    processes of these tests alone."""
+    """The seed is read from /dev/urandom only if that is a character device. These tests replace it for their
+    own processes."""
 
     def with_device(self, device, *words):
         done = subprocess.run(
@@ -187,14 +187,14 @@ class DefaultSeed(ProgramCase):
         return done.returncode, done.stderr.decode(), len(done.stdout) > 0
 
     def test_devices(self):
-        """A file there is not used, a character device is, and a file that -s names is."""
+        """A regular file there is refused; a character device is used, and so is the file that -s names."""
         tool("unshare")
         allowed = subprocess.run(["unshare", "-m", "mount", "--bind", "/dev/null", "/dev/urandom"], stderr=subprocess.DEVNULL)
         if allowed.returncode != 0:
-            self.skipTest("it takes rights to mount")
+            self.skipTest("this needs the right to mount")
         for words in ("encrypt -k key hello", "rewrap -k key -K other.key key.age"):
             with self.subTest(words):
-                line, more = message("CannotOpen", "/dev/urandom"), "seed file /dev/urandom: no device, so its bytes may be the same again"
+                line, more = message("CannotOpen", "/dev/urandom"), "seed file /dev/urandom: not a device, so its bytes may repeat"
                 self.assertEqual(self.with_device("seed", *words.split()), (1, fault(line), False))
                 self.assertEqual(self.with_device("seed", *words.split(), "-v"), (1, fault(line, more), False))
                 self.assertEqual(self.with_device("/dev/zero", *words.split()), (0, "", True))
@@ -202,19 +202,19 @@ class DefaultSeed(ProgramCase):
 
 
 class SameInode(ProgramCase):
-    """Two names lead to one file if device and inode are the same: one of them is not enough."""
+    """Two names are one file if both device and inode are the same."""
 
     def mounted(self, script):
-        """What a script prints that may mount, in a namespace of its own, and its status."""
+        """The output and the status of a script that may mount, in its own namespace."""
         tool("unshare")
         words = ["unshare", "-m", "bash", "-ec", script, "bash", AGEP]
         done = subprocess.run(words, stdin=subprocess.DEVNULL, capture_output=True, timeout=60)
         if b"mount: " in done.stderr or b"unshare: " in done.stderr:
-            self.skipTest("it takes rights to mount")
+            self.skipTest("this needs the right to mount")
         return done.returncode, done.stdout.decode(), done.stderr.decode()
 
     def test_two_devices(self):
-        """Files of the same inode on two devices are two files."""
+        """Files with the same inode on two devices are different."""
         status, out, err = self.mounted("""
             mkdir one two && mount -t tmpfs none one && mount -t tmpfs none two
             cp hello one/in && cp yesterday two/out && stat -c %i one/in two/out | sort -u | wc -l
@@ -224,7 +224,7 @@ class SameInode(ProgramCase):
         self.assertEqual((status, err), (0, ""))
 
     def test_one_file(self):
-        """A file that is mounted at another name is the same file."""
+        """A file mounted at another name is the same file."""
         os.link("hello", "first")
         write("second", b"")
         status, out, err = self.mounted('mount --bind first second && "$1" encrypt -k key -o second first')
@@ -232,7 +232,7 @@ class SameInode(ProgramCase):
         self.assert_file("first", HELLO)
 
     def test_one_block_device(self):
-        """A block device is itself by any node of its number; a character device may be both IN and OUT."""
+        """Any node with its number is the same block device; a character device may be both IN and OUT."""
         write("disk", PLAIN[:65536])
         for out in ("$disk", "node"):
             for option in ("-o ", ">"):
@@ -249,8 +249,8 @@ class SameInode(ProgramCase):
         self.writes(b"", "encrypt", "-k", "key", "-o", "/dev/null", "/dev/null")
 
     def test_without_proc(self):
-        """Without /proc, where no name leads to standard input, an OUT that was there is refused,
-        and one that was not is made."""
+        """Without /proc no name leads to standard input: then an existing OUT is refused, and a new one is
+        created."""
         write("in", PLAIN)
         write("in.age", fixture.for_keys(PLAIN, KEY))
         for words, name in (
@@ -272,10 +272,10 @@ class SameInode(ProgramCase):
 
 class SystemCalls(ProgramCase):
     def trace(self, *words, input=b"", calls="read,write"):
-        """The sizes that reads and writes moved, by kind and descriptor, of a run."""
+        """The sizes of the reads and writes of a run, by kind and descriptor."""
         tool("strace")
         if subprocess.run(["strace", "-o", "trace", "true"], capture_output=True).returncode != 0:
-            self.skipTest("strace may not trace")
+            self.skipTest("strace is not allowed to trace")
         done = subprocess.run(
             ["strace", "-o", "trace", "-e", f"trace={calls}", AGEP, *words], stdin=input, capture_output=True, timeout=60
         )
@@ -294,7 +294,7 @@ class SystemCalls(ProgramCase):
                 self.assertTrue(1 <= len(sizes["read0"]) <= 2 and 1 <= len(sizes["write1"]) <= 2, sizes)
 
     def test_range(self):
-        """range reads the chunks that it touches and the last, once."""
+        """range reads the chunks that it touches and the last one, once each."""
         for at, size, whole in ((65530, 12, 2), (139990, 5, 0), (0, 0, 0)):
             with self.subTest(f"{size} bytes from {at} on"):
                 sizes = self.trace("range", "-k", "key", str(at), str(size), "plain.age", input=subprocess.DEVNULL)
@@ -302,8 +302,8 @@ class SystemCalls(ProgramCase):
                 self.assertEqual((read_sizes.count(65552), read_sizes.count(8944)), (whole, 1), read_sizes)
 
     def test_whole_chunks(self):
-        """encrypt and decrypt move no less than 64 KiB in a call, but at the ends: the first two
-        reads and the last two, the header's write and the last one."""
+        """encrypt and decrypt move at least 64 KiB in a call, except in the first two and the last two reads,
+        the write of the header and the last write."""
         many = b"".join(b"%d\n" % i for i in range(1, 100001))[:450000]
         for words, text in (("encrypt -k key -s seed", many), ("decrypt -k key", fixture.for_keys(many, KEY))):
             with self.subTest(words):

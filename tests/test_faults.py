@@ -1,13 +1,13 @@
-"""The order in which each command looks for faults, and how command lines are refused. tests/cli/usage.console
-has an example of each refusal."""
+"""The order in which each command checks for faults, and refused command lines. tests/cli/usage.console has
+an example of each refusal."""
 
 from program import ProgramCase, usage_error
 from test_files import Files
 
 
 class Order(Files):
-    """The words, the secrets, the new ones, the seed, IN, OUT: what comes behind the first fault is not looked at, and
-    no file is made."""
+    """First the arguments, then the secrets, the new secrets, the seed, IN and OUT. Nothing after the first
+    fault is opened, and no file is created."""
 
     def wants(self, command, *rows):
         for name, words in rows:
@@ -45,6 +45,7 @@ class Order(Files):
             ("NoPassphrase", "-p empty -w 1 -o made nowhere"),
             ("NoPassphrase", "-p lf -w 1 -o made nowhere"),
             ("NoPassphrase", "-p /dev/null -w 1 -o made nowhere"),
+            ("UntypedPassphrase", "-p <(printf 'a\\r') -s absent.seed -o made nowhere"),
             ("CannotOpen: absent", "-k absent -s absent.seed hello"),
             ("CannotOpen: absent.seed", "-k key -s absent.seed -o made nowhere"),
             ("SeedLength", "-k key -s short.seed -o made nowhere"),
@@ -89,6 +90,7 @@ class Order(Files):
             ("NoPassphrase", "-p pass -P empty -s no3 -o made nowhere"),
             ("NoPassphrase", "-p pass -P lf -o made nowhere"),
             ("NoPassphrase", "-k key -P /dev/null -o made nowhere"),
+            ("UntypedPassphrase", "-k key -P <(printf 'a\\r') -s no3 -o made nowhere"),
             ("PassphraseLength", "-p pass -P long.pass -s no3 -o made nowhere"),
             ("KeyLength", "-p pass -K short.key -s no3 -o made nowhere"),
             ("KeyLength", "-p pass -K long.key -s no3 -o made nowhere"),
@@ -118,12 +120,12 @@ class Order(Files):
 
 class Refused(ProgramCase):
     def refuses(self, line, text, usage=None):
-        """A command line that is refused with this text."""
+        """A command line must be refused with this text."""
         with self.subTest(line):
             self.assert_ended(self.run_line(line), 2, usage_error(text, usage))
 
     def test_numbers(self):
-        """Numbers beyond their ends."""
+        """Numbers outside their ranges."""
         work, most, header = ("--work <N>", "1..=30"), ("--max-work <N>", "1..=30"), ("--max-header <N>", "1024..=16777216")
         at, length = ("<AT>", f"0..={2**63 - 1}"), ("<LEN>", f"0..={2**63 - 1}")
         for (name, ends), line, *numbers in (
@@ -139,7 +141,7 @@ class Refused(ProgramCase):
             self.refuses(line, f"invalid value 'x' for '{name}': invalid digit found in string")
 
     def test_arguments(self):
-        """Arguments that a command does not have, or has once."""
+        """Options that a command does not have, or that are given twice."""
         for line, word, tail in (
             ("encrypt -m 10", "-m", "[OPTIONS] [IN]"), ("encrypt -p pass -P new.pass hello", "-P", "[OPTIONS] [IN]"),
             ("encrypt -r key", "-r", "[OPTIONS] [IN]"), ("decrypt -w 10", "-w", "[OPTIONS] [IN]"), ("salvage -w 10", "-w", "[OPTIONS] [IN]"),
@@ -161,7 +163,7 @@ class Refused(ProgramCase):
             self.refuses(line, f"the argument '{name}' cannot be used multiple times", f"{line.split()[0]} [OPTIONS] [IN]")
 
     def test_missing(self):
-        """Arguments that range wants."""
+        """Missing arguments of range."""
         for line, tail, *names in (
             ("range 0", "<AT> <LEN> <IN>", "<LEN>", "<IN>"), ("range -p pass 0", "--passphrase <FILE> <AT> <LEN> <IN>", "<LEN>", "<IN>"),
             ("range -p pass 0 1", "--passphrase <FILE> <AT> <LEN> <IN>", "<IN>"),

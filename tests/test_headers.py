@@ -1,4 +1,4 @@
-"""Headers of many forms: the table of inspect, sizes at each limit."""
+"""Headers of many forms: the table of inspect, and sizes at the limits."""
 
 import resource
 
@@ -20,7 +20,7 @@ def header_in(file):
 
 
 def table(header, is_right=None):
-    """The table of a header, worked out from its lines; with a file key, whether its MAC is right."""
+    """The table of a header, computed from its lines; with a file key, it says whether the MAC is right."""
     version, *lines, mac, _ = header.decode().split("\n")
     stanzas = []
     for line in lines:
@@ -36,7 +36,7 @@ def table(header, is_right=None):
 
 class Tables(ProgramCase):
     def test_tables(self):
-        """inspect prints the table, also with bytes after the header, and -r the header."""
+        """inspect prints the table, even if bytes follow the header; with -r it prints the header."""
         rows = [
             (76, "-> a\n\n"), (78, "-> a\nAA\n"), (149, f"-> scrypt {ZERO_SALT} 9\n{ZERO_MAC}\n"),
             (185, f"-> X25519 {ZERO_MAC}\n{ZERO_MAC}\n-> abc-grease x\n\n"),
@@ -53,7 +53,7 @@ class Tables(ProgramCase):
                 self.writes(header, "inspect", "-r", input=header + b"xyz")
 
     def test_files_of_age(self):
-        """The headers of files that age made."""
+        """The headers of files made by age."""
         for name in ("one_recipient", "three_recipients", "recipients_668", "ssh_recipients", "passphrase"):
             with self.subTest(name):
                 file = f"data/{name}.age"
@@ -62,7 +62,7 @@ class Tables(ProgramCase):
                 self.writes(table(header), "inspect", input=read(file))
 
     def test_checks(self):
-        """With the file key the last line says whether the MAC is right."""
+        """With the file key, the last line says whether the MAC is right."""
         own, keyed, age, age_key = SEED[:16], for_keys(b"", KEY), read("data/passphrase.age"), read("data/passphrase.key")
         for is_right, title, file_key, file in (
             (True, "a key's file", own, keyed), (True, "a file of age", age_key, age), (False, "the salt as the key", SALT, keyed),
@@ -77,7 +77,7 @@ class Tables(ProgramCase):
                 self.assert_ended(ran, int(not is_right), "" if is_right else fault(message("BadMac")), table(header_in(file), is_right))
 
     def test_great_headers(self):
-        """Headers of many lines and of many arguments, up to the limit and beyond it."""
+        """Headers with many lines and with many arguments, up to the limit and above it."""
         rows = [
             ("65,536 bytes in 21,822 lines", header_of("-> a\n\n" * 10911), 65536, None),
             ("65,537 bytes", header_of("-> a\n\n" * 10910 + "-> aa\n\n"), 65537, message("HeaderTooLarge")),
@@ -92,7 +92,7 @@ class Tables(ProgramCase):
                     self.writes(table(header), "inspect", input=header)
 
     def test_memory(self):
-        """A header of 4 MiB is read with enough memory, and without it memory is out."""
+        """A header of 4 MiB is read if there is enough memory; otherwise the fault is out of memory."""
         write("great", header_of("-> a\n\n" * 699000))
         ran = self.run_agep("inspect", "-H", "16777216", "great")
         self.assert_ended(ran, 0, "", None)
@@ -100,7 +100,7 @@ class Tables(ProgramCase):
         self.says(message("OutOfMemory"), "inspect", "-H", "16777216", "great", memory=8 << 20)
 
     def processor_time(self, *words, input):
-        """The processor time of a run, the least of three, and what it said."""
+        """The processor time of a run, the least of three, and its standard error."""
         times = []
         for _ in range(3):
             before = resource.getrusage(resource.RUSAGE_CHILDREN)
@@ -110,7 +110,7 @@ class Tables(ProgramCase):
         return min(times), ran
 
     def test_time(self):
-        """What -v says of a header of a mebibyte takes no longer than to read it."""
+        """For a header of 1 MiB the second line of -v takes no longer than reading the header."""
         half = 1 << 20 >> 4
         for title, stanzas, types in (
             ("two types", "-> a\n\n" * half + "-> b\n\n" * half, "a, b"),
@@ -131,7 +131,7 @@ class Tables(ProgramCase):
 
 class Limits(ProgramCase):
     def test_limit(self):
-        """Headers around the size that -H says, and lines that go on beyond it."""
+        """Headers around the size given by -H, and lines that continue beyond it."""
         start = b"age-encryption.org/v1\n-> "
         exact, longer = header_of(f"-> {'a' * 949}\n\n"), header_of(f"-> {'a' * 950}\n\n")
         self.assertEqual((len(exact), len(longer)), (1024, 1025))

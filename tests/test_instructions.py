@@ -1,5 +1,5 @@
-"""The instructions that a chunk and scrypt cost, as valgrind counts them: a path that gives the same
-bytes by more work is seen. Where valgrind is missing, nothing is counted."""
+"""The instructions for a chunk and for scrypt, as valgrind counts them, so that a slower path to the same
+bytes fails. Without valgrind, nothing is counted."""
 
 import re
 import shutil
@@ -10,17 +10,17 @@ import fixture
 from fixture import KEY
 from program import AGEP, ProgramCase, read, write
 
-# By the level that the program was built for. A limit is a tenth above what was counted; the
+# By the level for which the program was built. Each limit is a tenth above the count; another
 # toolchain may move it.
 CHUNK = {"x86-64-v2": 1_040_000, "x86-64-v3": 348_000}
-# The header of a key's file, and the nonce behind it.
+# The header of a keyed file, and the nonce after it.
 FRONT = 172
-# Of scrypt's turns for each KiB of its memory.
+# Rounds of scrypt for each KiB of its memory.
 KIB = {"x86-64-v2": 12_700, "x86-64-v3": 10_200}
 
 
 def counted(*words, status=0):
-    """The instructions of a run."""
+    """The number of instructions of a run."""
     tool = ["valgrind", "--tool=callgrind", "--callgrind-out-file=/dev/null"]
     done = subprocess.run([*tool, AGEP, *words], stdin=subprocess.DEVNULL, stdout=subprocess.DEVNULL, stderr=subprocess.PIPE)
     if done.returncode != status:
@@ -35,7 +35,7 @@ class Instructions(ProgramCase):
         self.level = read(AGEP[: -len("agep")] + "built").split(b"\n")[0].decode()
 
     def test_chunk(self):
-        """What the second of two full chunks costs."""
+        """The cost of the second of two full chunks."""
         for name, chunks in (("one", 1), ("two", 2)):
             write(name, bytes(65536 * chunks))
             self.writes(b"", "encrypt", "-k", "key", "-s", "seed", "-o", name + ".age", name)
@@ -46,7 +46,8 @@ class Instructions(ProgramCase):
                 self.assertGreater(two - one, 65536)
 
     def test_short_text(self):
-        """400 bytes go through the lanes: beside 128, two blocks in turn, they cost less than three blocks more."""
+        """400 bytes go through the lanes: they cost less than three blocks more than 128 bytes, which are two
+        single blocks."""
         counts = []
         for size in (64, 128, 400):
             write("short", bytes(size))
@@ -56,7 +57,8 @@ class Instructions(ProgramCase):
             self.assertLess(many - two, 3 * (two - one))
 
     def test_lost_chunk(self):
-        """A lost chunk is tried twice, with either flag. What a try costs, decrypt shows; zeros cost less than one."""
+        """A lost chunk is tried with both flags. decrypt shows the cost of one attempt; writing zeros costs
+        less than one."""
         counts = []
         for size, command in ((1, "decrypt"), (65536, "decrypt"), (65536, "salvage"), (131072, "salvage")):
             file = fixture.for_keys(bytes(size), KEY)
@@ -67,7 +69,7 @@ class Instructions(ProgramCase):
         self.assertGreater(two - one, full - short)
 
     def test_scrypt(self):
-        """What work factor 10 costs beside 9: 512 KiB more."""
+        """The cost of work factor 10 above that of 9, for 512 KiB."""
         write("hello", b"hello\n")
         nine, ten = (counted("encrypt", "-p", "pass", "-w", work, "-s", "seed", "-o", "made", "hello") for work in ("9", "10"))
         self.assertLessEqual(ten - nine, 512 * KIB[self.level])

@@ -1,4 +1,4 @@
-"""Files that go from the program to the tool `age` and back, where that is installed."""
+"""Files exchanged between the program and the tool `age`, if that is installed."""
 
 import os
 import shutil
@@ -68,7 +68,7 @@ class Age(ProgramCase):
                 self.opens("pass", plain)
 
     def test_passphrases(self):
-        """Passphrases that are no plain words, in both directions."""
+        """Unusual passphrases, in both directions."""
         prefix = b" ".join(b"%d" % i for i in range(1, 101))[:64]
         for name, secret in (
             ("no ASCII", "p\xe4ssw\xf6rd \u2603 \U0001f986".encode()), ("64 bytes", prefix), ("65 bytes", prefix + b"x"),

@@ -1,5 +1,5 @@
-"""Tests of the libraries, as built, with each allocation refused in turn: scrypt, the calls in steps,
-and ranges. Each call succeeds or is out of memory."""
+"""Tests of the built libraries with each allocation refused in turn: scrypt, the calls in steps, and ranges.
+Each call succeeds or returns out of memory."""
 
 import os
 import subprocess
@@ -10,7 +10,7 @@ from program import ROOT, preload, scratch
 
 class RefusedAllocations(unittest.TestCase):
     def each_refusal(self, crate, name, least):
-        """Runs a test of a crate until a run meets no refusal, after at least so many that did."""
+        """Runs a test of a crate until a run has no refused allocation; at least so many runs must have one."""
         tests = f"{ROOT}/crates/{crate}/out/{crate}_tests"
         folder = scratch()
         if not os.access(tests, os.X_OK):
@@ -26,9 +26,9 @@ class RefusedAllocations(unittest.TestCase):
         self.assertGreaterEqual(number - 1, least)
 
     def test_scrypt(self):
-        """age_kdf: scrypt is whole, or out of memory."""
+        """age_kdf: scrypt succeeds or is out of memory."""
         self.each_refusal("age_kdf", "tests::scrypt_whole_or_out_of_memory", 1)
 
     def test_steps_and_ranges(self):
-        """age_file: steps and ranges are whole, or out of memory."""
+        """age_file: steps and ranges succeed or are out of memory."""
         self.each_refusal("age_tests", "file::failing::whole_or_out_of_memory", 20)

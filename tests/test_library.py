@@ -1,5 +1,5 @@
 """Builds and installs the library for C, and runs it from C under sanitizers: its names, its codes, its
-calls, refused allocations, threads, memory, and files that go to the program and to `age` and back.
+calls, refused allocations, threads, memory, and files exchanged with the program and with `age`.
 tests/test_packages.py runs the packages for Python and Rust over it."""
 
 import functools
@@ -34,12 +34,12 @@ SIZES = (0, 1, 65535, 65536, 65537, 131072, 131073, 200000)
 USAGE = """usage: ./install [--uninstall] [PREFIX]
        ./install --library [--libdir=DIR] [--uninstall] [PREFIX]
 """
-# 100,000 random calls take a quarter of an hour.
+# 100,000 random calls would take a quarter of an hour.
 RANDOM_CALLS = int(os.environ.get("RANDOM_CALLS", 2000))
 
 
 def run(*words, **options):
-    """Runs a command, and returns how it ended; with `status` another end is a failure."""
+    """Runs a command, and returns how it ended; with `status`, any other status fails the test."""
     status = options.pop("status", None)
     done = subprocess.run([str(word) for word in words], capture_output=True, **options)
     if status is not None and done.returncode != status:
@@ -48,7 +48,7 @@ def run(*words, **options):
 
 
 def said(*words, **options):
-    """What a command prints that ends well."""
+    """The output of a command, which must succeed."""
     return run(*words, status=0, **options).stdout.decode()
 
 
@@ -59,7 +59,7 @@ def needs(*tools):
 
 def setUpModule():
     if shutil.which("cc") is None or shutil.which("objcopy") is None:
-        raise unittest.SkipTest("there is no C compiler, or no objcopy")
+        raise unittest.SkipTest("a C compiler or objcopy is missing")
 
 
 @functools.cache
@@ -84,7 +84,7 @@ def work():
 
 @functools.cache
 def prefix():
-    """Where the library is installed: its folder has a file of somebody else's before."""
+    """A folder with the library installed, and an older file that is not the library's."""
     folder = work() / "prefix"
     (folder / "include").mkdir(parents=True)
     (folder / "include/other.h").touch(0o644)
@@ -96,7 +96,7 @@ def prefix():
 
 @functools.cache
 def texts():
-    """The folder of the texts in C that header.py makes of agefile.h."""
+    """The folder of the C files that header.py makes from agefile.h."""
     folder = work() / "texts"
     folder.mkdir()
     (folder / "stand_ins.h").write_text(header.stand_ins(header.Header()))
@@ -110,7 +110,7 @@ def archive():
 
 @functools.cache
 def older():
-    """The same on a processor without the level x86-64-v3: here cpuid tells nothing."""
+    """The same on a processor without x86-64-v3: here cpuid reports nothing."""
     (work() / "older.h").write_text("#include <cpuid.h>\n#define __get_cpuid(...) 0\n")
     (work() / "older_cc").write_text(f'#!/bin/sh\nexec cc -include {work()}/older.h "$@"\n')
     (work() / "older_cc").chmod(0o755)
@@ -123,7 +123,7 @@ def has_v3():
 
 
 def both_builds():
-    """Archives with what calls each build of the proved code that this processor can run."""
+    """For each build of the proved code that this processor can run, an archive that calls it."""
     return {"": (archive(),), "as on an older processor": (older(),)} if has_v3() else {"": (archive(),)}
 
 
@@ -141,13 +141,13 @@ def sanitizers():
     words = ("-fsanitize=address,undefined", "-fno-sanitize-recover=all")
     done = run("cc", *words, "-x", "c", "-o", work() / "empty_sanitized", "-", input=b"int main(void) { return 0; }")
     if done.returncode != 0:
-        print("skipped: sanitizers, which this C compiler lacks")
+        print("skipped: sanitizers: this C compiler lacks them")
     return words if done.returncode == 0 else ()
 
 
 @functools.cache
 def built(name, *flags, source=None, compiler="cc", library=None):
-    """A program of tests/library/, built without a warning: `name` is what it is called here."""
+    """Builds a program of tests/library/ without a warning; `name` is its name here."""
     source = source or TESTS / f"{name}.c"
     made = work() / "-".join([name, compiler, *re.findall(r"\w+", "".join(map(str, flags + (library or ()))))])[:200]
     language = ("-x", "c++", "-std=c++11") if compiler == "c++" else ()
@@ -162,7 +162,7 @@ def names_in(*words):
 
 class Installing(unittest.TestCase):
     def test_files(self):
-        """./install --library puts the library, its header and its pkg-config file under PREFIX."""
+        """./install --library installs the library, its header and its pkg-config file under PREFIX."""
         self.assertEqual(files_of(prefix()), [
             "644 include/agefile.h", "644 include/other.h", "644 lib/libagefile.a", f"lib/libagefile.so -> {SONAME}", f"755 lib/{SONAME}",
             "644 lib/pkgconfig/agefile.pc",
@@ -172,14 +172,14 @@ class Installing(unittest.TestCase):
         self.assertEqual((prefix() / "include/agefile.h").read_bytes(), HEADER.read_bytes())
 
     def test_versions(self):
-        """agefile.pc, the header and the crate for Rust have the newest version of the change log."""
+        """agefile.pc, the header and the crate for Rust have the newest version in CHANGELOG.md."""
         self.assertIn(f"Version: {version()}\n", (prefix() / "lib/pkgconfig/agefile.pc").read_text())
         self.assertIn(f'\nversion = "{version()}"\n', (ROOT / "bindings/rust/Cargo.toml").read_text())
         major, minor, patch = map(int, version().split("."))
         self.assertIn(f"#define AGEFILE_VERSION 0x{major:02x}{minor:02x}{patch:02x} ", HEADER.read_text())
 
     def test_uninstalling(self):
-        """--uninstall removes just these files, and the folders that it leaves empty."""
+        """--uninstall removes only these files, and the folders that this leaves empty."""
         other = work() / "other"
         shutil.copytree(prefix(), other, symlinks=True)
         self.assertEqual(run(ROOT / "install", "--library", "--uninstall", other, status=0).stderr, b"")
@@ -187,7 +187,7 @@ class Installing(unittest.TestCase):
         self.assertEqual(list((other / "lib").iterdir()), [])
 
     def test_refused_words(self):
-        """Words that ./install --library refuses."""
+        """Arguments that ./install --library refuses."""
         rows = [["--other"], [""]] + [[word, "refused"] for word in (
             "--libdir=", "--libdir=/lib", "--libdir=../lib", "--libdir=lib/..", "--libdir=a b", "--libdir=lib/", "--v2")]
         for words in rows:
@@ -201,19 +201,19 @@ class Installing(unittest.TestCase):
 
 class Names(unittest.TestCase):
     def test_names(self):
-        """Archive and shared library have just the names of the header."""
+        """Archive and shared library export exactly the names in the header."""
         expected = sorted(f"agefile_{function.name}" for function in header.Header().exports)
         self.assertEqual(names_in("-g", "--defined-only", archive()), expected)
         versioned = sorted([f"{name}@@AGEFILE_1" for name in expected] + ["AGEFILE_1"])
         self.assertEqual(names_in("-D", "--defined-only", prefix() / "lib" / SONAME), versioned)
 
     def test_builds(self):
-        """The archive and the shared library have code for x86-64-v3, by its registers."""
+        """The archive and the shared library contain code for x86-64-v3, as its registers show."""
         for library in (archive(), prefix() / "lib" / SONAME):
             self.assertGreater(said("objdump", "-d", library).count("%ymm"), 1000, library.name)
 
     def test_what_they_need(self):
-        """They need malloc, realloc, free and functions on memory, and libc alone."""
+        """They need malloc, realloc, free, functions on memory, and no library but libc."""
         needed = {"free", "malloc", "realloc", "memcpy", "memmove", "memset", "memcmp"}
         self.assertLessEqual(set(names_in("-u", archive())), needed)
         text = said("readelf", "-Wdl", prefix() / "lib" / SONAME)
@@ -225,7 +225,7 @@ class Names(unittest.TestCase):
 
 
 class Folders(unittest.TestCase):
-    """An installation for a package, in a folder of libraries for one architecture."""
+    """An installation for a package, in a library folder for one architecture."""
 
     def setUp(self):
         self.staged = work() / "staged"
@@ -236,7 +236,7 @@ class Folders(unittest.TestCase):
         return run(ROOT / "install", "--library", "--libdir=lib/x86_64-linux-gnu", *words, "/usr", env=self.environment, status=0)
 
     def test_folders(self):
-        """DESTDIR and --libdir: the files, and an earlier library that the loader would take."""
+        """DESTDIR and --libdir: the files, and an earlier library that the loader would prefer."""
         folder = "lib/x86_64-linux-gnu"
         second = self.libraries / "glibc-hwcaps/x86-64-v3" / SONAME
         for uninstalled in (False, True):
@@ -256,20 +256,20 @@ class Folders(unittest.TestCase):
 
 
 class Processors(unittest.TestCase):
-    """Which build of the proved code is called."""
+    """Which build of the proved code agefile.c calls."""
 
     def passed(self, *flags):
-        """A program that prints the build that agefile.c calls, and fails if it passes a null pointer."""
+        """A program that prints which build agefile.c calls, and fails if it is passed a null pointer."""
         return built("passed", *flags, f"-I{texts()}", "-Wno-unused-parameter", library=(ROOT / "bindings/c/agefile.c",))
 
     def test_this_processor(self):
-        """The build that fits is called, with no null pointer."""
+        """The build that fits the processor is called, never with a null pointer."""
         self.assertEqual(said(self.passed(*sanitizers())), "x86-64-v3\n" if has_v3() else "x86-64\n")
         self.assertEqual(said(self.passed(f"-include{older().parents[2]}/older.h")), "x86-64\n")
 
     @unittest.skipUnless(has_v3(), "this processor is not of the level x86-64-v3")
     def test_registers(self):
-        """The build for x86-64-v3 is called where the system keeps both halves of the registers of AVX."""
+        """The build for x86-64-v3 is called only if the system saves both halves of the AVX registers."""
         (work() / "system.h").write_text("#include <immintrin.h>\n#define _xgetbv(number) (0 * (number) + KEPT)\n")
         for kept in range(8):
             found = said(self.passed(f"-include{work()}/system.h", f"-DKEPT={kept}"))
@@ -277,7 +277,7 @@ class Processors(unittest.TestCase):
 
     @needs("qemu-x86_64")
     def test_other_processors(self):
-        """The build for x86-64-v3 is called where no part of that level is missing."""
+        """The build for x86-64-v3 is called only if no part of that level is missing."""
         parts = "pni ssse3 fma cx16 sse4.1 sse4.2 movbe popcnt xsave avx f16c lahf-lm abm bmi1 avx2 bmi2"
         for processor in ("Haswell", "qemu64", "Nehalem", *(f"Haswell,-{part}" for part in parts.split())):
             with self.subTest(processor):
@@ -286,7 +286,7 @@ class Processors(unittest.TestCase):
 
     @needs("qemu-x86_64")
     def test_files_of_others(self):
-        """Other processors make files, by the archive and by the shared library."""
+        """The archive and the shared library make files on other processors."""
         for program in (with_pkg_config("stream_shared", prefix() / "lib"), built("stream", "-O2", source=EXAMPLES / "stream.c")):
             for processor in ("qemu64", "Nehalem", "Haswell"):
                 with self.subTest(f"{program.name} {processor}"):
@@ -295,7 +295,7 @@ class Processors(unittest.TestCase):
 
 
 def with_pkg_config(name, libraries):
-    """The example, linked with the shared library of a folder."""
+    """The example, linked with the shared library in a folder."""
     if shutil.which("pkg-config"):
         flags = said("pkg-config", "--cflags", "--libs", "agefile", env=os.environ | {"PKG_CONFIG_PATH": str(libraries / "pkgconfig")}).split()
     else:
@@ -314,7 +314,7 @@ def opened_by(stream, file):
 
 class Languages(unittest.TestCase):
     def test_standards(self):
-        """The header is C99, C11, C17 and C++ from 98 to 20, and it links."""
+        """The header compiles as C99, C11, C17 and C++ from 98 to 20, and programs link."""
         for compiler in compilers():
             plus = compiler.endswith("++")
             for standard in ("c++98", "c++11", "c++20") if plus else ("c99", "c11", "c17"):
@@ -326,12 +326,12 @@ class Languages(unittest.TestCase):
 
 class Declarations(unittest.TestCase):
     def test_they_agree(self):
-        """agefile.h declares the functions and structs of the sources, of which ./generate makes the declarations for
-        other languages."""
+        """agefile.h declares the functions and structs of the sources, from which ./generate makes the
+        declarations for other languages."""
         self.assertEqual(header.differences(ROOT), [])
 
     def test_differences_are_found(self):
-        """Each difference is found, and its line names the function or struct."""
+        """Each difference is found, and a line names the function or struct."""
         text = HEADER.read_text()
         for name, old, new in (
             ("function ranges_open", "uint64_t file_len,\n    const", "uint32_t file_len,\n    const"),
@@ -371,7 +371,7 @@ class Diagnoses(unittest.TestCase):
         return done.stderr.decode()
 
     def test_diagnoses(self):
-        """Results that are ignored, null pointers without a length, and short keys."""
+        """Ignored results, null pointers without a length, and short keys are warnings."""
         whole = "agefile_decrypt_key(front, 9, key, front, 9, &report)"
         for compiler in compilers():
             with self.subTest(compiler):
@@ -388,14 +388,14 @@ class Diagnoses(unittest.TestCase):
 
 
 def number_in(name, constant):
-    """The number that a file gives a constant of this name, in C, Rust or Python."""
+    """The number of the constant with this name in a file in C, Rust or Python."""
     found = re.search(rf"^(?:#define |(?:pub(?:\(crate\))? )?const )?{constant}(?:: \w+)?(?: =)? (\d[\d_]*)\b", (ROOT / name).read_text(), re.M)
     return int(found[1].replace("_", ""))
 
 
 class Constants(unittest.TestCase):
     def test_codes(self):
-        """The header's codes, messages and details are those of the crates."""
+        """The codes, messages and details of the header are those of the crates."""
         text, expected = HEADER.read_text(), codes.texts(ROOT)
         for name in ("codes", "messages", "details"):
             with self.subTest(name):
@@ -406,14 +406,14 @@ class Constants(unittest.TestCase):
         self.assertEqual(parts, list(range(1, max(6, len(parts) + 1))))
 
     def test_unknown_codes(self):
-        """convert prints the message of each code and detail up to the first without one, and ends well
-        only if others have the default."""
+        """convert prints the message of each code and detail up to the first one without, and succeeds only
+        if all others have the default message."""
         lines = said(built("convert"), "messages").splitlines()
         faults = [f"{fault.code} {fault.message}" for fault in codes.faults(ROOT)]
         self.assertEqual(lines, faults + [f"detail {number} {part.text}" for number, part in codes.parts(ROOT).items()])
 
     def test_lengths(self):
-        """The lengths in the header, in Python and in Rust are the crates'."""
+        """The lengths in the header, in Python and in Rust are those of the crates."""
         chunk, tag = (number_in("crates/age_stream/src/sizes.rt", name) for name in ("CHUNK_SIZE", "TAG_SIZE"))
         front = number_in("crates/agefile/src/limits.rt", "MAX_HEADER") + 16
         header, python, rust = "bindings/c/agefile.h", "bindings/python/agefile/_library.py", "bindings/rust/src/ffi.rs"
@@ -426,7 +426,7 @@ class Constants(unittest.TestCase):
 
 
 class Calls(unittest.TestCase):
-    """The tests in C, each with faulting pages around its buffers, at their end and at their start."""
+    """The tests in C, with pages that fault right after or right before each buffer."""
 
     def each_test(self, program, title="", emulator=()):
         for name in said(program).splitlines():
@@ -450,7 +450,7 @@ class Calls(unittest.TestCase):
 
     @needs("qemu-x86_64")
     def test_older_processors(self):
-        """The same tests where an instruction of x86-64-v3 ends a program."""
+        """The same tests where an instruction of x86-64-v3 ends the program."""
         for name in ("buffers", "steps"):
             self.each_test(built(name, "-O1"), f"{name} by qemu", ("qemu-x86_64", "-cpu", "Nehalem"))
 
@@ -458,14 +458,14 @@ class Calls(unittest.TestCase):
         self.by_both_builds("refuse", *REFUSING)
 
     def test_headers_of_age(self):
-        """The stanzas of files of age are listed as the lines that they were."""
+        """The stanzas of files of age are listed as the lines of their headers."""
         for path in sorted((ROOT / "tests/data").glob("*.age")):
             with self.subTest(path.name):
                 header = re.match(rb"age-encryption.org/v1\n((?:.*\n)*?)--- ", path.read_bytes())[1]
                 self.assertEqual(run(built("headers", *sanitizers()), "stanzas", input=path.read_bytes(), status=0).stdout, header)
 
     def test_second_compiler(self):
-        """The archive as Rattle's own compiler makes it: a fault of one of the two compilers shows."""
+        """The archive as Rattle's own compiler makes it, so that a bug in one of the two compilers shows."""
         made, kept, second = ROOT / "crates/agefile/out/libagefile.a", work() / "kept.a", work() / "second"
         (second / "out").mkdir(parents=True)
         shutil.copy2(made, kept)
@@ -480,7 +480,7 @@ class Calls(unittest.TestCase):
             self.each_test(built(name, "-O1", library=(second / "libagefile.a",)), f"{name}, second compiler")
 
     def test_random_calls(self):
-        """Calls with each pointer null, and random ones, agree with a model of the library in Python."""
+        """Calls with each pointer null, and random calls, agree with a model of the library in Python."""
         for title, library in both_builds().items():
             with self.subTest(title):
                 driver = built("driver", *sanitizers(), *REFUSING, f"-I{texts()}", library=library)
@@ -489,7 +489,7 @@ class Calls(unittest.TestCase):
                 self.assertGreater(int(done.stdout.split()[0]), RANDOM_CALLS)
 
     def test_a_wrong_library_is_found(self):
-        """Random calls tell a library that takes, writes, reports or returns something else from a right one."""
+        """Random calls find a library that reads, writes, reports or returns something else."""
         text = (texts() / "driver_calls.h").read_text()
         call = "agefile_wrap_key(P(0), P(1), P(2), P(3), N(3), report)"
         self.assertIn(f" return {call};", text)
@@ -508,13 +508,14 @@ class Calls(unittest.TestCase):
                 self.assertIn(": wrap_key, flags ", done.stdout.decode())
 
     def test_threads(self):
-        """Eight threads at once and a forked child; at most 24 of 32 KiB of stack, no signal's handler changed."""
+        """Eight threads at once and a forked child, at most 24 of 32 KiB of stack, and no changed signal
+        handler."""
         for library in both_builds().values():
             self.assertGreater(int(said(built("threads", "-O2", library=library))), 0)
 
 
 class WithTheProgram(unittest.TestCase):
-    """Files go to agep and back."""
+    """Files are exchanged with agep."""
 
     def agep(self, *words, **options):
         return run(AGEP, *words, cwd=work(), **options)
@@ -523,7 +524,7 @@ class WithTheProgram(unittest.TestCase):
         return run(built("convert", "-O2"), *words, cwd=work(), **options)
 
     def test_both_ways(self):
-        """Whole buffers, steps and ranges make and open the files of agep, of each size."""
+        """Whole buffers, steps and ranges make and open the files of agep, for each size."""
         for size in SIZES:
             plain = b"".join(b"%d\n" % i for i in range(40000))[:size]
             for secret, work_factor in ((("-k", "key"), ()), (("-p", "pass"), ("-w", "3"))):
@@ -554,7 +555,7 @@ class WithTheProgram(unittest.TestCase):
                     self.assertEqual((work() / "back").read_bytes(), plain)
 
     def test_files_that_parallel_refuses(self):
-        """No file is lost, and none is made of a part of IN."""
+        """No file is lost, and none is made from a part of IN."""
         parallel = built("parallel", "-O2", source=EXAMPLES / "parallel.c")
         (work() / "keep").write_bytes(self.agep("encrypt", "-k", "key", input=b"text", status=0).stdout)
         (work() / "key.other").write_bytes(os.urandom(32))
@@ -563,7 +564,7 @@ class WithTheProgram(unittest.TestCase):
             ("key", "keep", "same", "OUT is IN"),
             ("key", "keep", "key", "OUT is KEY_FILE"),
             ("key.other", "keep", "pass", f"{message('WrongKey')} (0)"),
-            ("key", "/dev/null", "pass", "IN is no file that can be read at offsets"),
+            ("key", "/dev/null", "pass", "IN cannot be read at offsets"),
             ("key", "/proc/cpuinfo", "made", "IN is longer than its size"),
         ):
             with self.subTest(line):
@@ -574,7 +575,7 @@ class WithTheProgram(unittest.TestCase):
                 self.assertEqual({name: (work() / name).read_bytes() for name in before}, before)
 
     def test_a_closed_standard_input(self):
-        """Its number is that of the key file then, which is no plaintext."""
+        """The key file then gets its descriptor, and is not taken for the plaintext."""
         stream = built("stream", *sanitizers(), source=EXAMPLES / "stream.c")
         done = run("sh", "-c", '"$0" -e "$1" <&-', stream, work() / "key", status=2)
         self.assertEqual((done.stdout, done.stderr), (b"", b"usage: stream [-e] KEY_FILE\n"))
@@ -587,14 +588,14 @@ class WithTheProgram(unittest.TestCase):
             self.assertEqual((done.stdout, done.stderr), (b"", b"passphrase is empty 0\n"))
 
     def test_a_file_for_another(self):
-        """The example says that its key is wrong."""
+        """The example reports the wrong key."""
         (work() / "key.other").write_bytes(os.urandom(32))
         other = self.agep("encrypt", "-k", "key.other", input=b"text", status=0).stdout
         done = run(built("stream", *sanitizers(), source=EXAMPLES / "stream.c"), work() / "key", input=other, status=1)
         self.assertEqual((done.stdout, done.stderr), (b"", f"stream: {message('WrongKey')} (0)\n".encode()))
 
     def test_inputs_that_fail(self):
-        """The example makes no file of an input that fails midway, nor of a folder."""
+        """The example makes no file if its input fails midway, or is a folder."""
         stream = built("stream", *sanitizers(), source=EXAMPLES / "stream.c")
         folder = os.open(work(), os.O_RDONLY)
         self.addCleanup(os.close, folder)
@@ -626,7 +627,7 @@ class WithTheProgram(unittest.TestCase):
                     self.assertEqual((work() / "back").read_bytes(), plain)
 
     def test_memory(self):
-        """A GiB through the example and back takes at most 4 MiB of memory."""
+        """1 GiB through the example and back takes at most 4 MiB of memory."""
         stream, peak = with_pkg_config("stream_shared", prefix() / "lib"), built("peak", "-O2")
         words = f"head -c 1073741824 /dev/zero | {peak} sealing {stream} -e key | {peak} opening {stream} key | cmp - <(head -c 1073741824 /dev/zero)"
         run("bash", "-o", "pipefail", "-c", words, cwd=work(), status=0)
@@ -636,7 +637,7 @@ class WithTheProgram(unittest.TestCase):
 
 class Vectors(unittest.TestCase):
     def test_calls(self):
-        """Each call in Python and in C ends on the test vectors, and on damaged files, as they were made to."""
+        """Each call in Python and in C returns what each test vector and each damaged file says."""
         ways = testkit.library_ways(prefix(), built("convert", "-O2"))
         if testkit.x25519() is None:
             print("skipped: test vectors for X25519: Python's package cryptography is missing")
@@ -648,7 +649,7 @@ class Vectors(unittest.TestCase):
 
 class Document(unittest.TestCase):
     def test_python(self):
-        """The first programs in README.md and bindings/python/README.md run, and print what they show that they print."""
+        """The first programs in README.md and bindings/python/README.md run, and print what the pages show."""
         environment = os.environ | {"PYTHONPATH": str(ROOT / "bindings/python"), "AGEFILE_LIBRARY": str(prefix() / "lib" / SONAME)}
         for page in ("README.md", "bindings/python/README.md"):
             block = re.search(r"^```python\n(.*?)^```$", (ROOT / page).read_text(), re.M | re.S)[1]
@@ -659,7 +660,7 @@ class Document(unittest.TestCase):
                 self.assertEqual(done.stdout.decode().splitlines()[: len(lines)], lines)
 
     def test_program(self):
-        """The program in docs/C.md decrypts, by both lines that compile it, and says what is wrong."""
+        """The program in docs/C.md decrypts, built by both of its command lines, and reports errors."""
         text = (ROOT / "docs/C.md").read_text()
         (work() / "program.c").write_text(re.search(r"```c\n(.*?)```", text, re.S)[1])
         lines = re.findall(r"^cc .* program\.c .*", text, re.M)

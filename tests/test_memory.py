@@ -1,5 +1,5 @@
-"""Each allocation refused in turn. A run that is refused one says that memory is out and shows
-nothing, or got on with less and answers as ever; so does the last run, which meets no refusal."""
+"""Each allocation is refused in turn. Such a run prints out of memory and nothing else, or manages with less
+memory and gives the usual result. So does the last run, in which no allocation is refused."""
 
 import os
 
@@ -16,14 +16,14 @@ COMMANDS = [
     "salvage -p pass pass_1.age", "salvage -k key two.age", "inspect data/three_recipients.age", "inspect -r data/ssh_recipients.age",
     "inspect -f data/passphrase.key data/passphrase.age", "inspect -H 12", "help inspect",
 ]
-# How many refusals change nothing: that of the room for all words at once, without which their list
-# grows, and five while wrong words are shown, whose text is then written in parts.
+# How many refusals change nothing: that of the space for all arguments at once, without which their
+# list grows; and five while a refused argument is printed, whose text is then written in parts.
 HARMLESS = {"inspect -H 12": 6}
 
 
 class Allocations(ProgramCase):
     def refusals(self, *words):
-        """The runs with an allocation refused, up to the first that meets none; that one is last."""
+        """The runs with an allocation refused, up to the first run without a refusal, which is the last one."""
         for number in range(1, 10000):
             if os.path.exists("refused"):
                 os.remove("refused")
@@ -34,7 +34,7 @@ class Allocations(ProgramCase):
         self.fail("no end of allocations")
 
     def test_each_command(self):
-        """Out of memory, or the usual answer."""
+        """Out of memory, or the usual result."""
         for words in COMMANDS:
             with self.subTest(words):
                 usual = self.run_agep(*words.split())
@@ -49,7 +49,7 @@ class Allocations(ProgramCase):
                 self.assert_ended(last, usual.status, usual.err, usual.out)
 
     def test_header_line(self):
-        """A line of a header takes at most twice its bytes in one piece."""
+        """A line of a header is allocated in blocks of at most twice its size."""
         with open("long", "wb") as file:
             file.write(VERSION + b"-> %s\n\n--- %s\n" % (b"a" * 1_000_000, b"A" * 43))
         words = ("inspect", "-r", "-H", "16777216", "long")
@@ -59,7 +59,7 @@ class Allocations(ProgramCase):
                 self.assert_ended(ran, int(ends[0] != ""), *ends)
 
     def test_explained(self):
-        """With -v memory is out, or the second line says less, or all is as ever."""
+        """With -v: out of memory, a shorter second line, or the usual result."""
         line = message("NoMatch")
         full = fault(line, "pass.age: its stanzas are of type scrypt; -p opens it").encode()
         said = [fault(message("OutOfMemory")).encode(), fault(line, "reading pass.age").encode(), full]
@@ -71,7 +71,7 @@ class Allocations(ProgramCase):
         self.assert_ended(last, 1, full)
 
     def test_equal_counts(self):
-        """A run makes as many allocations for a small file as for a great one."""
+        """A run makes as many allocations for a small file as for a big one."""
         rows = [
             ("encrypt -k key -s seed two_chunks", "encrypt -k key -s seed great"),
             ("decrypt -k key two.age", "decrypt -k key great.age"),

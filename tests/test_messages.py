@@ -1,5 +1,5 @@
-"""Compares the messages in docs/FORMAT.md and tests/messages.txt, which are written by hand, with
-the texts of the code, and with what repeats a message and is not run."""
+"""Compares the messages in docs/FORMAT.md and tests/messages.txt, which are written by hand, with the texts
+in the code, and with pages that repeat a message and are not run."""
 
 import glob
 import itertools
@@ -23,13 +23,13 @@ def text_of(name):
 
 
 def numbered(text):
-    """A text of the code whose words are numbered, as those of a row are."""
+    """A text of the code, with its placeholders numbered like those of a row."""
     count = itertools.count()
     return re.sub(r"\{\w+\}", lambda _: f"{{{next(count)}}}", text)
 
 
 def texts_of_code():
-    """The names and texts of the faults, their parts and the roles of files."""
+    """The names and texts of the faults, of their parts, and of the roles of files."""
     crates = ROOT + "/crates"
     for source in ("age_file/src/fault.rt", "age_recipient/src/unwrapped.rt"):
         code = text_of(f"{crates}/{source}")
@@ -45,14 +45,14 @@ def texts_of_code():
 
 
 def without_example(line):
-    """A second line of an error without the name of a file, and with N for each number."""
+    """The second line of an error without the name of the file, and with N for each number."""
     line = re.sub("^2> agep: ", "", line).replace("\\-", "-").replace("\n", " ").strip()
     return re.sub(r"\d+", "N", re.sub("^([a-z ]+ )?[^ ]+: ", "", line))
 
 
 class Code(unittest.TestCase):
     def test_texts(self):
-        """Each text of the code has a row, and each row is a text of the code."""
+        """Each text in the code has a row, and each row is a text in the code."""
         code, table = set(texts_of_code()), set(rows())
         self.assertGreater(len(code), 40)
         self.assertEqual(code - table, set(), f"these have no row in {NAMES}")
@@ -68,7 +68,7 @@ class Code(unittest.TestCase):
 
 
 class Manual(unittest.TestCase):
-    """DIAGNOSTICS of the manual page: some first lines, and examples of second lines."""
+    """DIAGNOSTICS in the manual page: some first lines, and examples of second lines."""
 
     def setUp(self):
         page = text_of(ROOT + "/share/man/agep.1").split("\n.SH DIAGNOSTICS\n")[1]
@@ -81,12 +81,12 @@ class Manual(unittest.TestCase):
         self.second = [example for _, example in entries]
 
     def test_first_lines(self):
-        """Each first line is a message, up to the name of a file, or a part of a stanza."""
+        """Each first line is a message (up to the name of a file), or a part of a stanza."""
         known = {re.sub(r" \{0\}$", "", text).replace("{0}", "3") for text in TEXTS.values()}
         self.assertEqual([line for line in self.first if line not in known], [])
 
     def test_second_lines(self):
-        """Each second line stands in a transcript, for another file."""
+        """Each second line occurs in a transcript, for another file."""
         lines = [line for line in text_of(VERBOSE).split("\n") if line.startswith("2> ")]
         shown = {without_example(line) for line in lines}
         self.assertEqual([line for line in self.second if without_example(line) not in shown], [])
@@ -94,7 +94,7 @@ class Manual(unittest.TestCase):
 
 class Transcripts(unittest.TestCase):
     def test_names(self):
-        """Transcripts have the names of messages, and not their texts."""
+        """Transcripts name messages, and do not repeat their texts."""
         texts = "|".join(re.sub(r"\\\{\d\\\}", ".*", re.escape(text)) for text in TEXTS.values())
         for name in sorted(glob.glob(TESTS + "/cli/*.console")):
             with self.subTest(os.path.basename(name)):

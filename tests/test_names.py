@@ -1,5 +1,4 @@
-"""Control characters of names and words: each is shown as an escape, in every message. The rule is in
-docs/DECISIONS.md."""
+"""Control characters in names and arguments: every message escapes them, by the rule in docs/DECISIONS.md."""
 
 import os
 import re
@@ -30,7 +29,7 @@ class Names(ProgramCase):
             os.rmdir(NAME)
 
     def test_each(self):
-        """A control character alone, and all of them, in a name that can't be opened."""
+        """A single control character, and all of them, in the name of a file that cannot be opened."""
         rows = [(NAME, SHOWN), (NAME[::-1], "".join(map(escaped, CONTROLS[::-1])))]
         rows += [(f"a{chr(code)}", f"a{escaped(code)}") for code in CONTROLS]
         plain = [code for code in range(32, 127) if chr(code) != "/"] + [160, 161, 255, 0x2192, 0x1F986]
@@ -40,7 +39,8 @@ class Names(ProgramCase):
                 self.says(message("CannotOpen", shown), "inspect", name)
 
     def test_among_others(self):
-        """Control characters among others, and what looks like an escape, in a name that can't be opened or created."""
+        """Control characters among others, and text that looks like an escape, in the name of a file that
+        cannot be opened or created."""
         for name, shown in (
             ("a\nb", "a\\nb"), ("a\rb", "a\\rb"), ("a\tb", "a\\tb"), ("end\n", "end\\n"), ("\n\n", "\\n\\n"), ("a\\nb", "a\\nb"),
             ("\x01\x02", "\\x01\\x02"), ("\x7f", "\\x7f"), ("\x9b1m", "\\x9b1m"), ("\x1b[31mred\x1b[m", "\\x1b[31mred\\x1b[m"),
@@ -52,7 +52,7 @@ class Names(ProgramCase):
                     self.line_says(f"CannotCreate: absent/{shown}", f"encrypt -k key -o {shlex.quote('absent/' + name)} hello")
 
     def test_opening(self):
-        """All of them in a name that can't be opened or created."""
+        """All of them in the name of a file that cannot be opened or created."""
         for words in ("encrypt -k key", *OPENING):
             with self.subTest(words):
                 self.says(message("CannotOpen", SHOWN), *words.split(), "-v", NAME, more=f"opening {SHOWN}: {ABSENT}")
@@ -74,17 +74,17 @@ class Names(ProgramCase):
         with self.subTest("OUT is IN"):
             self.says(message("OutputIsRead", "Input", SHOWN), "encrypt", "-k", "key", "-o", NAME, NAME)
         rows = [
-            ("encrypt -k", message("KeyLength"), "key file", "6 bytes; a key file holds 32 raw bytes, no hexadecimal"),
-            ("decrypt -k", message("KeyLength"), "key file", "6 bytes; a key file holds 32 raw bytes, no hexadecimal"),
-            ("rewrap -k key -K", message("KeyLength"), "new key file", "6 bytes; a key file holds 32 raw bytes, no hexadecimal"),
+            ("encrypt -k", message("KeyLength"), "key file", "6 bytes; a key file holds 32 raw bytes, not hexadecimal"),
+            ("decrypt -k", message("KeyLength"), "key file", "6 bytes; a key file holds 32 raw bytes, not hexadecimal"),
+            ("rewrap -k key -K", message("KeyLength"), "new key file", "6 bytes; a key file holds 32 raw bytes, not hexadecimal"),
             ("encrypt -k key -s", message("SeedLength"), "seed file", "6 bytes; a seed file holds at least 48 bytes"),
-            ("inspect -f", message("FileKeyLength"), "file key file", "6 bytes; a file key file holds 16 raw bytes, no hexadecimal"),
+            ("inspect -f", message("FileKeyLength"), "file key file", "6 bytes; a file key file holds 16 raw bytes, not hexadecimal"),
         ]
         for words, line, role, why in rows:
             with self.subTest(words):
                 self.says(line, *words.split(), NAME, "-v", "hello", more=f"{role} {SHOWN}: {why}")
         for text, line, why in (
-            (bytes(65537), message("PassphraseLength"), "more than 65536 bytes"), (b"", message("NoPassphrase"), "no byte, or one LF alone"),
+            (bytes(65537), message("PassphraseLength"), "more than 65536 bytes"), (b"", message("NoPassphrase"), "it is empty, or holds only one LF"),
         ):
             with self.subTest(line):
                 write(NAME, text)
@@ -92,7 +92,7 @@ class Names(ProgramCase):
 
     def test_in(self):
         """All of them in the name of IN."""
-        end = "chunk 0, from byte 0 of the plaintext on, is the last: the file may be cut short, or have bytes behind its end"
+        end = "chunk 0, from byte 0 of the plaintext on, is the last: the file may be cut short, or have bytes after its end"
         rows = [
             (b"", "key", message("HeaderTruncated"), f"{SHOWN}: the file is empty"),
             (fixture.changed(read("key.age"), -1), "key", message("BadChunk", 0), f"{SHOWN}: {end}"),
@@ -117,7 +117,7 @@ class Names(ProgramCase):
         self.says(message("Write"), "decrypt", "-k", "key", "-v", "-o", NAME, "key.age", more=more)
 
     def test_words(self):
-        """No control character but LF is in what is said of a refused word."""
+        """The message about a refused argument has no control character except LF."""
         for words in ("", "frob", "inspect a", "inspect -H", "range -k key", "encrypt -w"):
             with self.subTest(words or "a command"):
                 ran = self.run_agep(*words.split(), NAME)

@@ -1,5 +1,5 @@
-"""What options say at their ends: the work factor that is written and the memory that it takes, the
-greatest work factor and header in each command, AT and LEN beyond 4 GiB, and 4 GiB of plaintext."""
+"""Options at their limits: the work factor that is written and its memory, the largest work factor and header
+in each command, AT and LEN beyond 4 GiB, and 4 GiB of plaintext."""
 
 import os
 import subprocess
@@ -12,13 +12,13 @@ from messages import message
 from program import AGEP, BY_PASSPHRASE, ProgramCase, preload, read, write
 from test_headers import ZERO_MAC, ZERO_SALT, header_in, header_of, table
 
-# Less than scrypt takes at the work factor 18: a work factor that is accepted is out of memory.
+# Less than scrypt needs for work factor 18, so an accepted work factor ends with out of memory.
 LITTLE_MEMORY = 100000 * 1024
 CHUNK = reference.CHUNK
 
 
 def with_header(size):
-    """A key's file of hello whose header has so many bytes: a stanza of another type comes first."""
+    """A keyed file of hello whose header has this size, by a stanza of another type before the key's."""
     grease = reference.stanza_text([b"grease", b"a" * (size - 156 - 12)], b"")
     file = reference.ended(reference.VERSION + grease + reference.wrapped(reference.key_stanza(KEY, SALT), SEED[:16]), SEED[:16])
     assert len(file) == size
@@ -31,7 +31,7 @@ def passphrase_header(factor):
 
 class WorkFactors(ProgramCase):
     def test_written(self):
-        """The work factor stands in the header, and is the one of the passphrase's key."""
+        """The work factor is in the header, and the key is derived with it."""
         for factor in ("1", "2", "17", "19"):
             expected = fixture.for_passphrase(HELLO, work=int(factor))
             with self.subTest(f"encrypt -w {factor}"):
@@ -43,7 +43,7 @@ class WorkFactors(ProgramCase):
                 self.writes(HELLO, "decrypt", "-p", "pass", "-m", factor, input=expected)
 
     def wants_table(self, factor, *words, **how):
-        """scrypt takes a table of 128 r N bytes, r = 8 and N = 2^factor (RFC 7914)."""
+        """scrypt allocates a table of 128 r N bytes, where r = 8 and N = 2^factor (RFC 7914)."""
         if os.path.exists("refused"):
             os.remove("refused")
         env = {"LARGE": "1000000000", "LD_PRELOAD": preload("refuse")}
@@ -52,7 +52,7 @@ class WorkFactors(ProgramCase):
         self.assertTrue(0 <= size - (1024 << factor) < 65536, f"a table of {size} bytes")
 
     def test_tables(self):
-        """Great work factors, told by the size of the table that is refused."""
+        """Big work factors, recognized by the size of the table whose allocation is refused."""
         for factor in (20, 21, 22, 23, 29, 30):
             with self.subTest(f"encrypt -w {factor}"):
                 self.wants_table(factor, "encrypt", "-p", "pass", "-w", str(factor), "hello")
@@ -70,7 +70,7 @@ class WorkFactors(ProgramCase):
 
 class MaxWork(ProgramCase):
     def test_limits(self):
-        """Without -m a work factor up to 22 is accepted, and with it up to the one that it says."""
+        """Without -m, work factors up to 22 are accepted; with -m, up to the one given."""
         high, good = message("Malformed", "WorkFactorTooHigh"), message("OutOfMemory")
         rows = [
             (21, None, good), (22, None, good), (23, None, high), (30, None, high), (18, 18, good), (18, 17, high), (21, 21, good),
@@ -84,7 +84,7 @@ class MaxWork(ProgramCase):
                     self.says(line, *words.split(), *options, "made", memory=LITTLE_MEMORY)
 
     def test_opens(self):
-        """-m 5 opens a file of the work factor 5, and -m 4 does not."""
+        """-m 5 opens a file with work factor 5, and -m 4 does not."""
         write("five.age", fixture.for_passphrase(HELLO, work=5))
         key_age = fixture.for_keys(HELLO, KEY)
         for words, out in (
@@ -97,7 +97,7 @@ class MaxWork(ProgramCase):
 
 class MaxHeader(ProgramCase):
     def test_limits(self):
-        """Without -H a header of 65,536 bytes is read, and with it one of as many as it says."""
+        """Without -H, a header of up to 65,536 bytes is read; with -H, up to the size given."""
         large = True
         rows = [
             (65535, None, not large), (65536, None, not large), (65537, None, large), (1024, 1024, not large), (1025, 1024, large),
@@ -126,7 +126,7 @@ class MaxHeader(ProgramCase):
                         self.writes(read("key.age") if words.startswith("rewrap") else HELLO, *run)
 
     def test_rewrapped(self):
-        """rewrap leaves the stanzas out that fit no key: -H is for the old header here."""
+        """rewrap leaves out the other stanzas, so here -H applies to the old header."""
         file = with_header(1025)
         self.says(message("HeaderTooLarge"), "rewrap", "-k", "key", "-K", "new.key", "-H", "1024", input=file)
         ran = self.run_agep("rewrap", "-k", "key", "-K", "new.key", "-H", "1025", input=file)
@@ -135,7 +135,7 @@ class MaxHeader(ProgramCase):
         self.writes(HELLO, "decrypt", "-k", "new.key", input=ran.out)
 
     def test_new_headers(self):
-        """A header of n keys has 70 + 86 n bytes: -H is also for the header that is made."""
+        """A header of n keys has 70 + 86 n bytes: -H also applies to the new header."""
         keys = []
         for i in range(1, 763):
             write(f"key.{i}", b"%032d" % i)
@@ -160,14 +160,14 @@ class MaxHeader(ProgramCase):
 
 
 def skip_unless_holes(*names):
-    """Skips a test where the files take all of their size."""
+    """Skips a test if the file system has no holes."""
     if sum(os.stat(name).st_blocks for name in names) > 2048:
         raise unittest.SkipTest("a file with a hole would take all of its size")
 
 
 class Offsets(ProgramCase):
-    """A file whose chunks are a hole, but for those on both sides of the 2^32nd and of the 2^33rd
-    byte of the plaintext, and the last. Its plaintext has 2^33 + 65,636 bytes."""
+    """A file whose chunks are a hole, except for those on both sides of the 2^32nd and of the 2^33rd byte of
+    the plaintext, and the last one. Its plaintext has 2^33 + 65,636 bytes."""
 
     END = 2**33 + CHUNK + 100
 
@@ -208,14 +208,14 @@ class Offsets(ProgramCase):
                 self.writes(self.text(at, size), "range", "-k", "key", str(at), str(size), "great.age")
 
     def test_behind_the_end(self):
-        """No byte stands behind the end."""
+        """There are no bytes after the end."""
         for at in (self.END, self.END + 1, self.END + 2**32, 2**62, 2**62 + 2**32, 2**63 - 1):
             for size in (1, 2**32, 2**62):
                 with self.subTest(f"{size} bytes from {at} on"):
                     self.writes(b"", "range", "-k", "key", str(at), str(size), "great.age")
 
     def test_hole(self):
-        """The hole is damaged, and the range before it is written."""
+        """The hole counts as damaged; the part of the range before it is written."""
         for at in (0, CHUNK - 1, 2**32 - CHUNK - 1, 2**32 + CHUNK, 2**33 - CHUNK - 1):
             with self.subTest(f"byte {at}"):
                 self.says(message("BadChunk", at // CHUNK), "range", "-k", "key", str(at), "1", "great.age")
@@ -226,7 +226,7 @@ class Offsets(ProgramCase):
 
 class FiveGib(ProgramCase):
     def test_ends(self):
-        """A file of 5 GiB whose chunks are a hole but for the first and the last."""
+        """A file of 5 GiB whose chunks are a hole, except for the first and the last one."""
         hole, plain = 81000, PLAIN[:65636]
         with open("great.age", "wb") as out:
             out.write(reference.header(SEED[:16], [reference.key_stanza(KEY, SALT)]))
@@ -239,7 +239,7 @@ class FiveGib(ProgramCase):
 
 class GreatPlaintext(ProgramCase):
     def test_zeros(self):
-        """More than 4 GiB of zeros through encrypt, rewrap and decrypt, in 32 MiB each."""
+        """More than 4 GiB of zeros through encrypt, rewrap and decrypt, with 32 MiB of memory each."""
         size = 2**32 + 5
         key = reference.hkdf(SEED[:16], SEED[16:32], b"payload")
         expected = reference.sealed_chunk(key, 65535, False, bytes(CHUNK)) + reference.sealed_chunk(key, 65536, True, bytes(5))
@@ -258,7 +258,7 @@ class GreatPlaintext(ProgramCase):
         self.assertEqual(int(read("length")), 172 + size + 16 * 65537)
 
     def test_payload(self):
-        """A payload of more than 4 GiB is rewrapped to its end: the file of Python."""
+        """A payload of more than 4 GiB is rewrapped to its end; the expected file is Python's."""
         for name, key in (("great.age", KEY), ("expected.age", OTHER_KEY)):
             with open(name, "wb") as out:
                 out.write(reference.header(SEED[:16], [reference.key_stanza(key, SALT)]))

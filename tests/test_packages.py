@@ -1,7 +1,7 @@
-"""Makes the packages twice, unpacks each, and uses what is inside; runs the tests of the packages for
-Python and Rust over the wheel and the tarball. Those of the program that chooses a build need no
-package."""
+"""Makes the packages twice, unpacks each, and uses its contents; runs the tests of the packages for Python
+and Rust over the wheel and the tarball. The tests of share/agep.c need no package."""
 
+import fcntl
 import functools
 import gzip
 import json
@@ -17,8 +17,10 @@ from pathlib import Path
 
 import fixture
 import stand_in
+import salvaged
 from packaged import functions_of, listed, members
 import test_damaged_files
+import test_salvage
 import test_vectors
 import testkit
 from program import AGEP
@@ -29,9 +31,9 @@ import model
 
 ROOT = Path(__file__).resolve().parent.parent
 SECRET = ROOT / "tests/data/passphrase.age"
-# The oldest glibc that the programs and the library need: docs/PACKAGES.md says so.
+# The oldest glibc for the programs and for the library, as docs/PACKAGES.md says.
 GLIBC, GLIBC_OF_LIBRARY = (2, 34), (2, 14)
-# What a caller's environment may say of the tools. No byte may depend on it.
+# Variables by which a caller may configure the tools. No byte may depend on them.
 ENVIRONMENT = {
     "LC_ALL": "C", "TZ": "Asia/Tokyo", "SOURCE_DATE_EPOCH": "1", "CC": "false", "CFLAGS": "-O0 -g", "CPPFLAGS": "-DX", "LDFLAGS": "-s",
     "XZ_OPT": "-0", "XZ_DEFAULTS": "-0", "GZIP": "-1", "TAR_OPTIONS": "--mode=777", "POSIXLY_CORRECT": "1", "CDPATH": "/",
@@ -43,7 +45,7 @@ ENVIRONMENT = {
 
 
 def glibc(path):
-    """The newest version of glibc that a file needs, of which it needs nothing but the C library."""
+    """The newest version of glibc that a file needs; it must need no other library."""
     needed = re.findall(r"NEEDED +(\S+)", run("objdump", "-p", path))
     if not {"libc.so.6", "ld-linux-x86-64.so.2"} >= set(needed):
         raise AssertionError(f"{path} needs {needed}")
@@ -64,13 +66,13 @@ CARGO = (1, 80)
 
 
 def is_older_cargo():
-    """Whether cargo is older than the crate for Rust takes, as Debian 12's is."""
+    """Whether cargo is too old for the crate for Rust, as Debian 12's is."""
     found = shutil.which("cargo") and re.match(r"cargo (\d+)\.(\d+)", subprocess.check_output(["cargo", "--version"], text=True))
     return bool(found) and (int(found[1]), int(found[2])) < CARGO
 
 
 def needs(*tools):
-    """Skips where one of these commands, or modules of Debian's Python, is missing."""
+    """Skips the test if one of these commands or modules of Debian's Python is missing."""
     words = ("/usr/bin/python3", "-c", "import importlib, sys; importlib.import_module(sys.argv[1])")
     modules = {tool for tool in tools if tool in MODULES and subprocess.run([*words, tool], capture_output=True).returncode == 0}
     missing = [tool for tool in tools if shutil.which(tool) is None and tool not in modules]
@@ -79,7 +81,7 @@ def needs(*tools):
 
 
 def in_a_namespace(script):
-    """The words that run a command after this script, which may mount what it likes."""
+    """The arguments that run a command after a script that may mount file systems."""
     return ["unshare", *(() if os.geteuid() == 0 else ("-r",)), "-m", "sh", "-c", f'{script}; exec "$@"', "sh"]
 
 
@@ -87,7 +89,7 @@ WITHOUT_PROC = in_a_namespace("mount -t tmpfs none /proc")
 
 
 def as_a_user():
-    """The words that run a command as a user who is not root, where the system has namespaces of users."""
+    """The arguments that run a command as a user who is not root, if the system has user namespaces."""
     words = ("unshare", "--map-user=1000", "--map-group=1000")
     return words if subprocess.run([*words, "true"], capture_output=True).returncode == 0 else ()
 
@@ -118,7 +120,7 @@ class Packages(unittest.TestCase):
         return found
 
     def unpacked(self, *patterns):
-        """A folder with what the packages of these names hold."""
+        """A folder with the contents of the packages of these names."""
         root = Path(tempfile.mkdtemp(dir=self.work))
         for path in {path for pattern in patterns for path in self.dist.glob(pattern)}:
             words = {".deb": ("dpkg-deb", "-x", path, root), ".whl": ("unzip", "-q", path, "-d", root)}
@@ -126,8 +128,8 @@ class Packages(unittest.TestCase):
         return root
 
     def test_the_same_bytes_again(self):
-        """Packing the same builds in another folder, as another user with another home. This does not show that a build
-        makes its bytes again."""
+        """Packing the same builds gives the same bytes in another folder, as another user with another home.
+        This does not show that building again gives the same bytes."""
         sums = [(folder / "SHA256SUMS").read_text() for folder in (self.dist, self.work / "other folder/again")]
         self.assertEqual(sums[0], sums[1])
         run("sha256sum", "-c", "SHA256SUMS", cwd=self.dist)
@@ -142,7 +144,8 @@ class Packages(unittest.TestCase):
         self.assertEqual(sorted(path.name for path in self.dist.iterdir()), sorted(names))
 
     def installed(self, pattern):
-        """The mode, owner and link of each file of a package, and its content; the mode and owner of each folder."""
+        """The mode, owner, link target and contents of each file of a package; the mode and owner of each
+        folder."""
         files, folders = {}, set()
         for path, mode, owner, link, content in members(self.one(pattern)):
             if pattern.endswith((".crate", ".xz")):
@@ -154,7 +157,8 @@ class Packages(unittest.TestCase):
         return files, folders
 
     def test_contents(self):
-        """Each file of each package is a line of packaged.txt: mode, owner, link and content. Folders have mode 755."""
+        """Each file of each package has its line in packaged.txt, with mode, owner, link target and contents.
+        Folders have mode 755."""
         self.maxDiff = None
         for pattern, rows in listed():
             files, folders = self.installed(pattern)
@@ -168,7 +172,7 @@ class Packages(unittest.TestCase):
                     self.assert_content(path, files[path][1], source, sign == "~")
 
     def assert_content(self, path, content, source, has_version):
-        """Compares a file with its source, but for the first line with the version, if it has one."""
+        """Compares a file with its source, except for the first line with the version, if there is one."""
         lines = (gzip.decompress(content) if path.endswith(".gz") else content).split(b"\n")
         expected = source.read_bytes().split(b"\n")
         if has_version:
@@ -183,9 +187,9 @@ class Packages(unittest.TestCase):
                 yield pattern, path
 
     def test_instructions(self):
-        """The build of the program for x86-64, which the packages link, has no instruction that a processor of this
-        level may lack, and the one for x86-64-v3 has, as the programs have. In the archives each function of the
-        proved code stands for both."""
+        """The build of the program for x86-64 has no instruction that a processor of that level may lack; the
+        build for x86-64-v3 has some, and so have the linked programs. In the archives each function of the
+        proved code occurs twice."""
         objects = [(level, ROOT / f"crates/agep/out/agep-{level}.o") for level in ("x86-64", "x86-64-v3")]
         for name, path in *objects, *self.programs():
             with self.subTest(f"{name}: {path.name}"):
@@ -227,24 +231,25 @@ class Packages(unittest.TestCase):
 
     @needs("lintian")
     def test_lintian(self):
-        """It says nothing but what an override explains, and each override is used."""
+        """lintian prints nothing except what an override explains, and each override is used."""
         packages = [*sorted(self.dist.glob("*.deb")), *self.dist.glob("*.dsc")]
         self.assertEqual(run("lintian", "--display-info", "--tag-display-limit", "0", *packages), "")
 
     def test_source_package(self):
-        """Where the toolchain is it builds the Debian packages to the last byte; else it says what it needs."""
+        """With the toolchain, it builds exactly the bytes of the Debian packages; without, it says what it
+        needs."""
         tree = self.work / "unpacked"
         run("dpkg-source", "-x", self.one("*.dsc"), tree)
         words = ("dpkg-buildpackage", "-b", "-us", "-uc", "-d")
         without = stand_in.tools_but(self.work / "tools", "rt")
         done = subprocess.run(words, cwd=tree, env=without, capture_output=True, text=True)
-        self.assertIn("package: to build the packages, the command rt of the Rattle toolchain is needed\n", done.stderr)
+        self.assertIn("package: building the packages needs the Rattle toolchain, the command rt\n", done.stderr)
         run(*words, cwd=tree, env=stand_in.toolchain(self.work / "kit"))
         for deb in self.dist.glob("*.deb"):
             self.assertEqual((self.work / deb.name).read_bytes(), deb.read_bytes(), deb.name)
 
     def test_documents(self):
-        """The links of each page lead somewhere in its package, and the licence is in each."""
+        """The links of each page lead somewhere in its package, and each package has the license."""
         whole = ("agep_*.deb", 5), ("agep-*.tar.xz", 5), ("libagefile-dev*.deb", 5)
         for name, pages in *whole, ("python3-agefile*.deb", 1), ("*.crate", 1), ("*.whl", 0):
             with self.subTest(name):
@@ -258,7 +263,8 @@ class Packages(unittest.TestCase):
                 self.assertEqual({path.name for path in tree.rglob("*.md")} >= {"USE.md", "CHANGELOG.md"}, pages == 5)
 
     def test_relations(self):
-        """What each Debian package depends on: the C library of docs/PACKAGES.md, and the library of its own version."""
+        """The dependencies of each Debian package: the C library of docs/PACKAGES.md, and the library of its
+        own version."""
         expected = {
             "agep": "libc6 (>= 2.34)", "libagefile1": "libc6 (>= 2.14)", "libagefile-dev": f"libagefile1 (= {self.for_debian})",
             "python3-agefile": f"libagefile1 (>= {self.for_debian}), python3:any",
@@ -274,7 +280,7 @@ class Packages(unittest.TestCase):
         for name in ("status", "available"):
             (root / "var/lib/dpkg" / name).touch()
         dpkg = ("dpkg", "--root", root, "--log", root / "log", "--force-depends", "--force-not-root", "--force-script-chrootless")
-        # The scripts of the package for Python work on the system's own root.
+        # The maintainer scripts of the package for Python work on the system's own root.
         debs = [deb for deb in self.dist.glob("*.deb") if not deb.name.startswith("python3-")]
         run(*dpkg, "-i", *debs)
         self.assertTrue((root / "usr/bin/agep").exists())
@@ -295,7 +301,7 @@ class Packages(unittest.TestCase):
         self.assertEqual(refused.returncode, 1)
 
     def test_limit_of_a_file_size(self):
-        """A write above it fails, where the program that ./agep runs would end by a signal."""
+        """A write above the limit fails; a signal would end the program that ./agep runs."""
         agep = self.unpacked("agep_*.deb") / "usr/bin/agep"
         (self.work / "key").write_bytes(fixture.KEY)
         (self.work / "big").write_bytes(bytes(200000))
@@ -307,10 +313,11 @@ class Packages(unittest.TestCase):
     @needs("man")
     def test_manual_page(self):
         page = self.unpacked("agep_*.deb") / "usr/share/man/man1/agep.1.gz"
-        self.assertIn(f"\nagep {self.version} ", run("man", "-l", page, env=os.environ | {"LC_ALL": "C.UTF-8", "MANWIDTH": "200"}))
+        said = run("man", "-l", page, env=os.environ | {"LC_ALL": "C.UTF-8", "MANWIDTH": "200"})
+        self.assertRegex(said, rf"\nagep {re.escape(self.version)} +\d{{4}}-\d\d-\d\d +AGEP")
 
     def test_libraries_that_are_needed(self):
-        """The oldest glibc of programs and libraries is that of the documents, and of the wheel's tag."""
+        """The oldest glibc for programs and libraries is that of docs/PACKAGES.md, and the wheel has its tag."""
         root = self.unpacked("*.deb", "*.whl")
         files = [path for path in root.rglob("*") if path.is_file() and path.read_bytes()[:4] == b"\x7fELF"]
         libraries = {path for path in files if ".so" in path.name}
@@ -339,7 +346,7 @@ class Packages(unittest.TestCase):
 
     @needs("cc")
     def test_layout(self):
-        """Structs, codes and states are those that programs of earlier releases were compiled with."""
+        """Structs, codes and states are those with which programs of earlier releases were compiled."""
         lines = (ROOT / "share/debian/libagefile.layout").read_text().splitlines()
         rows = [line.rsplit(" ", 1) for line in lines if not line.startswith("#")]
         self.assertEqual(len({name for name, _ in rows if name.startswith("sizeof")}), 6)
@@ -388,7 +395,7 @@ class Packages(unittest.TestCase):
         run("cargo", "run", "--offline", "--quiet", cwd=tree / "user", env=environment)
 
     def test_the_tarball(self):
-        """In a home, by the commands of docs/PACKAGES.md."""
+        """Installed in a home, by the commands of docs/PACKAGES.md."""
         home = self.work / "home"
         home.mkdir()
         shutil.copy(self.one("agep-*.tar.xz"), home)
@@ -424,7 +431,7 @@ class Packages(unittest.TestCase):
 
     @unittest.skipUnless(can_mount(), "no mount namespace")
     def test_static_program(self):
-        """It runs in a root that has nothing else."""
+        """It runs in a root without any other file."""
         (tree,) = self.unpacked("agep-*.tar.xz").iterdir()
         root = Path(tempfile.mkdtemp(dir=self.work))
         shutil.copy(tree / "bin/agep-static", root)
@@ -439,7 +446,7 @@ def level():
     return "x86-64-v3" if has_v3 else "x86-64"
 
 
-# Stand-ins for the builds: each prints its name and its second word.
+# Stand-ins for the builds: each prints its name and its first argument.
 STAND_INS = "".join(
     f'int main_{build}(int n, char **words) {{ return n < 2 || printf("{level} %s\\n", words[1]) < 0; }}\n'
     for build, level in (("x86_64", "x86-64"), ("x86_64_v3", "x86-64-v3"))
@@ -448,7 +455,7 @@ STAND_INS = "".join(
 
 @needs("cc")
 class Chooser(unittest.TestCase):
-    """share/agep.c, with stand-ins for the builds."""
+    """share/agep.c, linked with stand-ins for the builds."""
 
     def compile(self, *flags):
         work = tempfile.mkdtemp()
@@ -458,27 +465,27 @@ class Chooser(unittest.TestCase):
         return f"{work}/agep"
 
     def calls(self, build, *words):
-        """The words call this build, and --version names it."""
+        """The arguments must reach this build, and --version must name it."""
         self.assertEqual(run(*words, "word"), f"{build} word\n")
         for option in ("--version", "-V"):
             self.assertEqual(run(*words, option), f"agep 1.2.3 ({build})\n")
 
     def test_this_processor(self):
-        """The build that fits is called."""
+        """The build that fits the processor is called."""
         self.calls(level(), self.compile())
         for answer, build in (('__builtin_strcmp(level, "x86-64-v3") == 0', "x86-64-v3"), ("((void)level, 0)", "x86-64")):
             self.calls(build, self.compile(f"-D__builtin_cpu_supports(level)=({answer})"))
 
     @needs("qemu-x86_64")
     def test_other_processors(self):
-        """The build for x86-64-v3 is called where no part of that level is missing."""
+        """The build for x86-64-v3 is called only if no part of that level is missing."""
         agep = self.compile("-static")
         for processor in ("Haswell", "qemu64", "Nehalem", "Haswell,-avx2", "Haswell,-bmi2", "Haswell,-movbe", "Haswell,-xsave"):
             with self.subTest(processor):
                 self.calls("x86-64-v3" if processor == "Haswell" else "x86-64", "qemu-x86_64", "-cpu", processor, agep)
 
     def test_version(self):
-        """A version that cannot be written is an error, and one beside another word is the program's."""
+        """A version that cannot be written is an error; --version with another argument goes to the program."""
         agep = self.compile()
         done = subprocess.run(["sh", "-c", 'exec "$0" --version >/dev/full', agep], capture_output=True, text=True)
         self.assertEqual((done.returncode, done.stderr), (1, "agep: write failed\n"))
@@ -487,22 +494,28 @@ class Chooser(unittest.TestCase):
 
 @functools.cache
 def made():
-    """The folder of the packages, which are made once."""
-    folder = Path(tempfile.mkdtemp())
-    unittest.addModuleCleanup(shutil.rmtree, folder)
-    run(ROOT / "package", folder / "dist", umask=0o022)
+    """The folder of the packages, which are made once: under tests/packages.sh by the first process that needs them."""
+    folder = Path(os.environ.get("PACKAGES") or tempfile.mkdtemp())
+    if "PACKAGES" not in os.environ:
+        unittest.addModuleCleanup(shutil.rmtree, folder)
+    with open(folder / "lock", "w") as lock:
+        fcntl.flock(lock, fcntl.LOCK_EX)
+        if not (folder / "dist/SHA256SUMS").exists():
+            run(ROOT / "package", folder / "dist", umask=0o022)
     return folder / "dist"
 
 
 def made_one(what, pattern):
-    """The package of this name; where a tool of ./package is missing, the tests of it are skipped."""
+    """The package of this name; its tests are skipped if a tool of ./package is missing."""
     found = list(made().glob(pattern))
     if not found:
         raise unittest.SkipTest(f"{what} is not made: ./package says which tool is missing")
     return found[0]
 
 
-class ForPython(unittest.TestCase):
+class WithPython(unittest.TestCase):
+    """The tests of the package for Python, in an environment that has the wheel."""
+
     @classmethod
     def setUpClass(cls):
         wheel = made_one("the wheel", "*.whl")
@@ -521,9 +534,8 @@ class ForPython(unittest.TestCase):
         if skipped:
             self.skipTest(f"{name}: {skipped[0]}")
 
-    def test_files_and_errors(self):
-        self.run_tests("test_whole.py")
 
+class ForPython(WithPython):
     def test_opened_files(self):
         self.run_tests("test_files.py")
 
@@ -536,14 +548,14 @@ class ForPython(unittest.TestCase):
     def test_unclosed_files(self):
         self.run_tests("test_unclosed.py")
 
-    def test_ways_of_writing(self):
-        self.run_tests("test_ways.py")
-
     def test_damaged_files(self):
         self.run_tests("test_damage.py")
 
     def test_files_of_others(self):
         self.run_tests("test_others.py")
+
+    def test_salvaging(self):
+        self.run_tests("test_salvaging.py")
 
     def test_x25519(self):
         self.run_tests("test_x25519.py")
@@ -558,6 +570,14 @@ class ForPython(unittest.TestCase):
     def test_annotations(self):
         run("mypy", "--strict", "--config-file", ROOT / "bindings/python/pyproject.toml", ROOT / "bindings/python/agefile",
             "--cache-dir", self.environment_folder / "cache")
+
+
+class LongForPython(WithPython):
+    def test_files_and_errors(self):
+        self.run_tests("test_whole.py")
+
+    def test_ways_of_writing(self):
+        self.run_tests("test_ways.py")
 
 
 @needs("cargo")
@@ -598,8 +618,8 @@ class ForRust(unittest.TestCase):
         return subprocess.run([self.converter(), *words], input=file, capture_output=True, cwd=self.tree, check=True).stdout
 
     def test_files_of_others(self):
-        """Files of tests/reference.py and of agep open, and a reader of the specification and agep open
-        those of the crate."""
+        """The crate opens files of tests/reference.py and of agep; tests/reference.py and agep open those of
+        the crate."""
         (self.tree / "key").write_bytes(fixture.KEY)
         for size in (0, 1, 65535, 65536, 65537, 131072, 140000):
             plain = fixture.PLAIN[:size]
@@ -616,14 +636,37 @@ class ForRust(unittest.TestCase):
                     self.assertEqual((done.returncode, done.stdout, done.stderr), (0, plain, b""))
 
     def test_vectors(self):
-        """Each way ends on the test vectors, and on damaged files, as they were made to."""
+        """Each way of opening returns what each test vector and each damaged file says."""
         for way in (testkit.in_rust(self.converter(), kind) for kind in ("whole", "stream", "ranges", "threads")):
             with self.subTest(way.name):
                 self.assertEqual(test_vectors.differences(way), {})
                 self.assertEqual(test_vectors.differences(way, test_damaged_files.cases()), {})
 
+    def test_salvage(self):
+        """What it saves and reports of the program's small files is what the model says."""
+        (self.tree / "key").write_bytes(fixture.KEY)
+        words = (self.converter(), "files", "salvage", "-k", "key")
+        with subprocess.Popen(words, stdin=subprocess.PIPE, stdout=subprocess.PIPE, cwd=self.tree) as process:
+            def saved(file):
+                process.stdin.write(len(file).to_bytes(8, "little") + file)
+                process.stdin.flush()
+                text = process.stdout.read(int.from_bytes(process.stdout.read(8), "little"))
+                return text, json.loads(process.stdout.readline())
+
+            def assert_saved(payload):
+                text, (length, chunks, runs, *facts) = saved(test_salvage.HEADER + payload)
+                lost = tuple((range(*numbers), first, end - first, is_unread) for numbers, (first, end), is_unread in runs)
+                self.assertEqual((text, (length, chunks, lost, *facts)), salvaged.expected(payload))
+
+            files = test_salvage.Payloads()
+            files.assert_saved = assert_saved
+            for each in files.test_arrangements, files.test_edges, files.test_bytes:
+                each()
+            process.stdin.close()
+            self.assertEqual(process.wait(), 0)
+
     def test_no_threads(self):
-        """Where the system starts no thread, which here would have a stack of 4 EiB, there is one."""
+        """If the system starts no thread, because each would need a stack of 4 EiB, one thread does the work."""
         file = fixture.for_keys(fixture.PLAIN, fixture.KEY)
         (self.tree / "key").write_bytes(fixture.KEY)
         with unittest.mock.patch.dict(os.environ, {"RUST_MIN_STACK": str(1 << 62)}):
@@ -632,11 +675,12 @@ class ForRust(unittest.TestCase):
         self.assertEqual(self.convert("whole", "decrypt", "-k", "key", file=made), fixture.PLAIN)
 
     def test_folder_of_the_library(self):
-        """It is the one that AGEFILE_LIB_DIR names, else the one that pkg-config knows, else /usr/local/lib. If it has
-        no library, the build's error names it, the package and the variable."""
+        """It is the folder that AGEFILE_LIB_DIR names, else the one that pkg-config knows, else
+        /usr/local/lib. If it has no library, the error of the build names the folder, the package and the
+        variable."""
         (self.tree / "link").symlink_to("lib")
         own, first, second = (str(self.tree / name) for name in ("lib", "lib/pkgconfig", "link/pkgconfig"))
-        # Each variable changes alone once, after a build that ends well.
+        # Each variable changes once by itself, after a successful build.
         rows = [
             ({"AGEFILE_LIB_DIR": own}, own), ({"PKG_CONFIG_PATH": first}, f"{first}/../../lib"), ({"PKG_CONFIG_PATH": second}, f"{second}/../../lib"),
             ({"PKG_CONFIG_PATH": second, "AGEFILE_LIB_DIR": "/absent"}, "/absent"), ({"PKG_CONFIG_LIBDIR": "/absent"}, "/usr/local/lib"),
@@ -653,7 +697,7 @@ class ForRust(unittest.TestCase):
                     self.assertIn(error, done.stderr)
 
     def test_each_function_is_called(self):
-        """The tests of the crate call each public function: the compiler warns of each, if all are deprecated."""
+        """The tests of the crate call each public function: if all are deprecated, the compiler warns of each."""
         tree = self.tree / "deprecated"
         shutil.copytree(ROOT / "bindings/rust", tree, ignore=shutil.ignore_patterns("target"))
         names = []
@@ -668,7 +712,7 @@ class ForRust(unittest.TestCase):
         self.assertEqual(sorted(re.sub(r".*::", "", name) for name in called), sorted(names), called)
 
     def test_passphrases(self):
-        """A passphrase's file of tests/reference.py opens, and age or agep opens the crate's."""
+        """The example opens a passphrase file of tests/reference.py, and age or agep opens that of the example."""
         (self.tree / "pass").write_bytes(fixture.PASSPHRASE)
         self.assertEqual(self.convert("stream", "decrypt", "-p", "pass", file=fixture.for_passphrase(b"hello\n")), b"hello\n")
         (self.tree / "made").write_bytes(self.convert("stream", "encrypt", "-p", "pass", file=b"hello\n"))
@@ -683,7 +727,8 @@ class ForRust(unittest.TestCase):
             cwd=ROOT / "bindings/rust", env=self.environment)
 
     def test_documentation(self):
-        """It is made without a warning. Each public type has an example, which the tests run, or names one that has."""
+        """It builds without a warning. Each public type has an example, which the tests run, or names a type
+        that has one."""
         self.cargo("doc")
         types = [
             (documentation, name) for path in (ROOT / "bindings/rust/src").glob("*.rs") if path.name not in ("ffi.rs", "front.rs")

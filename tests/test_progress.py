@@ -1,9 +1,12 @@
-"""The line of -v that shows at a terminal how much was read."""
+"""The line by which -v shows at a terminal how much was read."""
 
+import fcntl
 import os
 import pty
 import re
 import subprocess
+import termios
+import threading
 import time
 
 import fixture
@@ -11,10 +14,10 @@ from fixture import HELLO, KEY
 from messages import message
 from program import AGEP, ProgramCase, fault, read, write
 
-ERASE = "\r\x1b[K"
+ERASE, CUT, WRAP = "\r\x1b[K", "\x1b[?7l", "\x1b[?7h"
 MANY = b"".join(b"%d\n" % i for i in range(1, 100001))[:450000]
 KEY_FRONT = 172
-# The size in KiB, and the lines of a pipe and of a file: how much was read, how fast, and the
+# The size in KiB, and the lines for a pipe and for a file: how much was read, how fast, and the
 # seconds that are left.
 SIZE = 439
 PIPE = r"agep: (\d+) KiB, (\d+) KiB/s"
@@ -22,7 +25,7 @@ FILE = rf"agep: (\d+) KiB of {SIZE} KiB, (\d+) KiB/s, (\d+) s left"
 
 
 def drained(controller):
-    """What a terminal or a pipe got until its last user has gone."""
+    """All that a terminal or a pipe receives until its last writer has closed it."""
     said = b""
     try:
         while more := os.read(controller, 65536):
@@ -39,14 +42,15 @@ class Progress(ProgramCase):
         write("many", MANY)
         write("many.age", fixture.for_keys(MANY, KEY))
 
-    def at_terminal(self, *words, pieces=()):
-        """Runs the program, whose standard error is a terminal, and gives these bytes slowly, or takes
-        the output slowly. Returns its status, output, what the terminal got, and the seconds."""
+    def at_terminal(self, *words, pieces=(), term="xterm"):
+        """Runs the program with a terminal as standard error, and feeds these bytes slowly or reads the
+        output slowly. Returns its status, its output, the text on the terminal, and the seconds."""
         controller, terminal = pty.openpty()
         start = time.monotonic()
+        environment = {**os.environ, "TERM": term}
         with open("out", "wb") as file:
             stdout = file if pieces else subprocess.PIPE
-            done = subprocess.Popen([AGEP, *words], stdin=subprocess.PIPE, stdout=stdout, stderr=terminal)
+            done = subprocess.Popen([AGEP, *words], stdin=subprocess.PIPE, stdout=stdout, stderr=terminal, env=environment)
         os.close(terminal)
         for piece in pieces:
             done.stdin.write(piece)
@@ -64,14 +68,14 @@ class Progress(ProgramCase):
         return status, out, drained(controller).decode(), took
 
     def assert_drawn(self, said, line, took, last=""):
-        """Whether the line was drawn, at most twice a second, and erased before what came last."""
+        """Whether the line was drawn, at most twice a second, and erased before the last output."""
         self.assertEqual(said[len(said) - len(ERASE + last) :], ERASE + last)
         drawn = said[: len(said) - len(ERASE + last)].split(ERASE)
         self.assertEqual(drawn[0], "")
         self.assertTrue(1 < len(drawn) <= 2 * took + 1, (drawn, took))
         before = 0
         for count, each in enumerate(drawn[1:], 1):
-            found = re.fullmatch(line, each)
+            found = re.fullmatch(re.escape(CUT) + line + re.escape(WRAP), each)
             self.assertIsNotNone(found, each)
             done, rate, *left = map(int, found.groups())
             self.assertTrue(before < done <= SIZE, each)
@@ -81,29 +85,29 @@ class Progress(ProgramCase):
             before = done
 
     def test_pipe(self):
-        """Of a pipe it shows how much was read, and how fast."""
+        """For a pipe it shows how much was read, and how fast."""
         pieces = [MANY[:131072], MANY[131072:262144], MANY[262144:393216], MANY[393216:]]
         status, _, said, took = self.at_terminal("encrypt", "-v", "-k", "key", "-s", "seed", pieces=pieces)
         self.assertEqual((status, read("out")), (0, read("many.age")))
         self.assert_drawn(said, PIPE, took)
 
     def test_file(self):
-        """Of a file it shows the size, too, and the time that is left."""
+        """For a file it also shows the size and the time that is left."""
         status, out, said, took = self.at_terminal("decrypt", "-v", "-k", "key", "many.age")
         self.assertEqual((status, out), (0, MANY))
         self.assert_drawn(said, FILE, took)
 
     def test_fault(self):
-        """It is gone before the message on a fault."""
+        """It is erased before the message about a fault."""
         write("damaged", fixture.changed(read("many.age"), -1))
         status, out, said, took = self.at_terminal("decrypt", "-v", "-k", "key", "damaged")
-        more = "damaged: chunk 6, from byte 393216 of the plaintext on, is the last: the file may be cut short, or have bytes behind its end"
+        more = "damaged: chunk 6, from byte 393216 of the plaintext on, is the last: the file may be cut short, or have bytes after its end"
         last = fault(message("BadChunk", 6), more).replace("\n", "\r\n")
         self.assertEqual((status, out), (1, MANY[:393216]))
         self.assert_drawn(said, FILE, took, last)
 
     def test_lost(self):
-        """A line on lost chunks takes its place: of chunk 1 in the midst, and of chunk 4 in the end."""
+        """A line about lost chunks replaces it: chunk 1 in the middle, and chunk 4 at the end."""
         text = fixture.changed(read("many.age"), KEY_FRONT + 65552)
         write("damaged", fixture.changed(text, KEY_FRONT + 4 * 65552))
         status, out, said, took = self.at_terminal("salvage", "-v", "-k", "key", "damaged")
@@ -116,7 +120,7 @@ class Progress(ProgramCase):
         self.assert_drawn(said, FILE, took)
 
     def test_closed_output(self):
-        """The terminal does not get the output if standard output is closed."""
+        """If standard output is closed, the terminal does not get the output."""
         last = fault(message("Write"), "writing standard output: Bad file descriptor").replace("\n", "\r\n")
         for words, name in (
             ("decrypt -v -k key", "key.age"), ("decrypt -v -k key key.age", "/dev/null"), ("encrypt -v -k key", "hello"),
@@ -131,14 +135,53 @@ class Progress(ProgramCase):
                 self.assertEqual((status, drained(controller).decode()), (1, last))
 
     def test_none(self):
-        """Nothing is shown without -v, or of a small file."""
+        """Nothing is shown without -v, or for a small file."""
         for words, plain in (("decrypt -k key many.age", MANY), ("decrypt -v -k key key.age", HELLO)):
             with self.subTest(words):
                 status, out, said, _ = self.at_terminal(*words.split())
                 self.assertEqual((status, out, said), (0, plain, ""))
 
+    def test_dumb(self):
+        """A terminal without escape sequences gets none: no progress is shown, and the lines about lost
+        chunks are as usual."""
+        write("damaged", fixture.changed(read("many.age"), KEY_FRONT + 65552))
+        lost = fault("chunk 1 is lost: bytes 65536 to 131071 of the plaintext").replace("\n", "\r\n")
+        expected = MANY[:65536] + bytes(65536) + MANY[131072:]
+        self.assertEqual(self.at_terminal("salvage", "-v", "-k", "key", "damaged", term="dumb")[:3], (1, expected, lost))
+        for term in ("dum", "dumber", ""):
+            with self.subTest(term):
+                self.assertIn(ERASE, self.at_terminal("decrypt", "-v", "-k", "key", "many.age", term=term)[2])
+
+    def test_out(self):
+        """Nothing is shown if OUT is a terminal by any name: it gets only the plaintext. Another OUT gets all
+        of it."""
+        pieces = [read("many.age")[at : at + 131072] for at in range(0, len(MANY), 131072)]
+        os.symlink("/dev/tty", "link")
+        for name, shows in (("/dev/tty", False), ("/dev/stderr", False), ("link", False), ("/dev/null", True), ("made", True)):
+            with self.subTest(name):
+                controller, terminal = pty.openpty()
+                done = subprocess.Popen(
+                    [AGEP, "decrypt", "-v", "-k", "key", "-o", name], stdin=subprocess.PIPE, stdout=subprocess.DEVNULL, stderr=terminal,
+                    start_new_session=True, preexec_fn=lambda: fcntl.ioctl(2, termios.TIOCSCTTY, 0), env={**os.environ, "TERM": "xterm"},
+                )
+                os.close(terminal)
+                said = bytearray()
+                reader = threading.Thread(target=lambda: said.extend(drained(controller)))
+                reader.start()
+                for piece in pieces:
+                    done.stdin.write(piece)
+                    done.stdin.flush()
+                    time.sleep(0.6)
+                done.stdin.close()
+                self.assertEqual(done.wait(timeout=60), 0)
+                reader.join()
+                if shows:
+                    self.assertTrue(said.startswith(ERASE.encode()) and said.endswith(ERASE.encode()), said)
+                else:
+                    self.assertEqual(said.replace(b"\r\n", b"\n") == MANY, True, said[:100])
+
     def test_no_terminal(self):
-        """Nothing is shown where standard error is no terminal."""
+        """Nothing is shown if standard error is not a terminal."""
         with open("out", "wb") as out:
             words = [AGEP, "encrypt", "-v", "-k", "key", "-s", "seed"]
             done = subprocess.Popen(words, stdin=subprocess.PIPE, stdout=out, stderr=subprocess.PIPE)

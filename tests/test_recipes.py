@@ -1,5 +1,5 @@
-"""The recipes of docs/USE.md that a transcript cannot run: the table of cron and the service of systemd,
-with the program as ./install puts it, in an environment like theirs."""
+"""The recipes of docs/USE.md that a transcript cannot run: the crontab and the service of systemd, with the
+program as ./install installs it, in an environment like theirs."""
 
 import os
 import re
@@ -16,14 +16,14 @@ PASSPHRASE = b"correct horse\n"
 
 @made_once
 def installed():
-    """A PREFIX with the program."""
+    """A PREFIX with the program installed."""
     prefix = scratch() + "/local"
     subprocess.run([ROOT + "/install", prefix], check=True, stdout=subprocess.DEVNULL)
     return prefix
 
 
 def block(kind):
-    """The block of this kind in docs/USE.md, with folders of a scratch folder in place of the system's."""
+    """The block of this kind in docs/USE.md, with scratch folders in place of the system's."""
     (text,) = re.findall(f"^```{kind}\n(.*?)^```$", read(ROOT + "/docs/USE.md").decode(), re.MULTILINE | re.DOTALL)
     root = scratch()
     for name in ("srv", "etc"):
@@ -54,13 +54,13 @@ class Cron(unittest.TestCase):
         self.assertEqual(said, expected)
 
     def test_backup(self):
-        """It says nothing, and the backup has the file."""
+        """It prints nothing, and the backup contains the file."""
         self.says("")
         opened = run(f"agep decrypt -p {self.secret} data.age | tar xO data/a", PATH=self.path)
         self.assertEqual(opened, b"text")
 
     def test_locked(self):
-        """While another run writes the new file, two lines say so; after a start of the machine it is removed."""
+        """While another run is writing the new file, two lines say so; it is removed when the machine starts."""
         new = "data.age.new.agep-new"
         write(new, b"half")
         self.says(f"agep: {message('NewFileExists', new)}\nagep: {new}: if no agep is writing it, remove it\n")
@@ -69,7 +69,7 @@ class Cron(unittest.TestCase):
         self.assertFalse(os.path.exists(new))
 
     def test_failure(self):
-        """The reason is said, and the old backup stays."""
+        """The reason is printed, and the old backup stays."""
         write("data.age", b"old")
         os.remove(self.secret)
         self.says(f"agep: cannot open {self.secret}\nagep: opening {self.secret}: No such file or directory\n")
@@ -77,7 +77,7 @@ class Cron(unittest.TestCase):
 
 
 class Systemd(unittest.TestCase):
-    # Where systemd looks for a program without a path.
+    # The folders where systemd looks for a program without a path.
     FOLDERS = "/usr/local/bin:/usr/bin:/bin"
 
     def test_service(self):
@@ -97,7 +97,7 @@ class Systemd(unittest.TestCase):
 
     @unittest.skipUnless(shutil.which("systemd-analyze"), "systemd-analyze missing")
     def test_unit(self):
-        """systemd finds nothing wrong with the service, and reads its credential."""
+        """systemd accepts the service, and reads its credential."""
         service = block("ini").replace("=agep ", f"={installed()}/bin/agep ")
         for text, line in (service, b""), (service.replace("Credential=key:", "Credential=key;"), b"not valid"):
             write("backup.service", text.encode())

@@ -1,5 +1,5 @@
-"""Versions, the folder of the packages, and ./release, in a repository of its own with the files at hand
-and a stand-in for the toolchain."""
+"""Versions, the folder of the packages, and ./release, in a scratch repository with the current files and a
+stand-in for the toolchain."""
 
 import re
 import shutil
@@ -14,10 +14,10 @@ from test_packages import needs, run
 
 ROOT = Path(program.ROOT)
 LAST = program.version()
-# Words for git that take this repository, whoever owns it.
+# Options by which git accepts this repository, whoever owns it.
 HERE = (f"--git-dir={ROOT}/.git", f"--work-tree={ROOT}")
 AUTHOR = ("-c", "user.name=Name", "-c", "user.email=name@host")
-# Beginnings of a change log.
+# Beginnings of CHANGELOG.md.
 RELEASED, UNRELEASED = "# Changes\n\n## 0.7.1 (2026-12-24)\n\n- This.\n", "# Changes\n\n## Unreleased\n\n- That.\n"
 
 
@@ -27,8 +27,8 @@ def setUpModule():
 
 class PastReleases(unittest.TestCase):
     def test_commits(self):
-        """Each release of the change log has a commit, that of its heading or the one in docs/PACKAGES.md, whose
-        program has this version."""
+        """Each release in CHANGELOG.md has a commit, that of its heading or the one in docs/PACKAGES.md,
+        whose program has this version."""
         if run("git", *HERE, "rev-parse", "--is-shallow-repository") == "true\n":
             self.skipTest("the repository is shallow")
         rows = dict(re.findall(r"^\| ([\d.]+) \| `(\w+)` \|$", (ROOT / "docs/PACKAGES.md").read_text(), re.MULTILINE))
@@ -43,7 +43,7 @@ class PastReleases(unittest.TestCase):
 
 @program.made_once
 def files_at_hand():
-    """A repository with all files at hand, in one commit."""
+    """A repository with all current files in one commit."""
     tree = Path(program.scratch()) / "files"
     for name in run("git", *HERE, "ls-files", "-co", "--exclude-standard", "-z", cwd=ROOT).split("\0"):
         if (ROOT / name).is_file():
@@ -56,7 +56,7 @@ def files_at_hand():
 
 
 class Case(unittest.TestCase):
-    """A clone of this repository. ./package makes no Debian packages, which takes less time."""
+    """A clone of this repository. Its ./package makes no Debian packages, to save time."""
 
     HIDDEN = ("dpkg-buildpackage",)
 
@@ -88,7 +88,7 @@ class Case(unittest.TestCase):
         (self.tree / name).write_text(text)
 
     def commit(self):
-        """Commits all, and returns the beginning of the commit's name."""
+        """Commits everything, and returns the beginning of the commit's name."""
         self.git("add", "-A")
         self.git("commit", "-q", "--allow-empty", "-m", "All")
         return self.git("rev-parse", "HEAD")[:10]
@@ -99,7 +99,8 @@ class Versions(Case):
         self.assertEqual(self.right("./package", "--version"), f"{expected}\n")
 
     def test_commits(self):
-        """A release is the commit of its heading, with nothing above it; others are of the next version."""
+        """A release is the commit of its heading, with nothing above that; other commits belong to the next
+        version."""
         self.write("CHANGELOG.md", RELEASED)
         self.commit()
         self.assert_version("0.7.1")
@@ -111,13 +112,13 @@ class Versions(Case):
         self.assert_version(f"0.8.0-dev.2+g{commit}")
 
     def test_one_commit(self):
-        """What is above the heading makes no release, also if one commit wrote both."""
+        """With text above the heading it is not a release, even if one commit wrote both."""
         self.write("CHANGELOG.md", UNRELEASED + RELEASED)
         commit = self.commit()
         self.assert_version(f"0.8.0-dev.0+g{commit}")
 
     def test_changes(self):
-        """With local changes the version names the tree, which git ignores none of."""
+        """With local changes the version names the tree of all files that git does not ignore."""
         self.write("CHANGELOG.md", RELEASED)
         commit = self.commit()
         for name in ("README.md", "bindings/python/agefile/new.py"):
@@ -131,7 +132,7 @@ class Versions(Case):
         self.assert_version("0.7.1")
 
     def test_archive(self):
-        """An archive without a repository, as a forge makes it, has the version of its commit or tag."""
+        """An archive without a repository, made by a forge, has the version of its commit or tag."""
         self.write("CHANGELOG.md", RELEASED)
         commit = self.commit()
         for tag, version in ((), f"0.8.0-dev.0+g{commit}"), (("0.7.1",), "0.7.1"):
@@ -143,11 +144,11 @@ class Versions(Case):
             self.assertEqual(self.right("./package", "--version", cwd=folder), f"{version}\n")
 
     def test_no_repository(self):
-        """A folder within a repository is not that repository."""
+        """A folder inside another repository is not that repository."""
         (self.tree / ".git").rename(self.work / ".git")
         done = self.run_here("./package", "--version")
         self.assertEqual((done.returncode, done.stdout), (1, ""))
-        self.assertIn("package: no commit of git tells the version: ", done.stderr)
+        self.assertIn("package: git cannot tell the version: ", done.stderr)
 
 
 @needs("xz")
@@ -167,7 +168,7 @@ class Folder(Case):
         return {path.name for path in self.dist.iterdir()}
 
     def test_files_of_others(self):
-        """They stay, and are in no sums; a file with the name of a package is not replaced."""
+        """They stay, and SHA256SUMS does not list them; a file with the name of a package is not replaced."""
         others, old = ["mine.deb", "backup.tar.xz", "agep_0.1.0_amd64.deb"], "agep-0.1.0-linux-x86_64.tar.xz"
         self.put(*others, old)
         (self.dist / "SHA256SUMS").write_text(f"{'0' * 64}  {old}\n")
@@ -180,14 +181,14 @@ class Folder(Case):
         self.assertEqual([(self.dist / name).read_text() for name in others], others)
 
         (self.dist / "SHA256SUMS").unlink()
-        self.refused(f"package: {self.dist} has another {made}", "./package", self.dist)
+        self.refused(f"package: {self.dist} already has a {made}, which no earlier run made", "./package", self.dist)
         self.assertEqual(self.names(), {*others, made})
 
     def test_sums_of_others(self):
-        """Nothing is removed where SHA256SUMS names what is no package, or is signed."""
+        """Nothing is removed if SHA256SUMS names a file that is not a package, or is signed."""
         self.put("debian.iso")
         (self.dist / "SHA256SUMS").write_text(f"{'0' * 64}  debian.iso\n")
-        line = f"package: SHA256SUMS in {self.dist} is of others: it names debian.iso"
+        line = f"package: SHA256SUMS in {self.dist} was not written by this script: it names debian.iso"
         self.refused(line, "./package", self.dist)
         (self.dist / "SHA256SUMS").write_text("")
         self.put("SHA256SUMS.sig")
@@ -222,7 +223,7 @@ class Release(Case):
         return ("./release", version, self.key, self.folder)
 
     def test_release(self):
-        """The gate runs over the commit of the heading, which is tagged. The sums are signed, and a fresh
+        """The gate runs over the commit of the heading, which is then tagged. The sums are signed. A fresh
         clone makes the same packages, by the commands of docs/PACKAGES.md, and so does an archive."""
         done = self.run_here(self.tree / "release", "80.9.2", "key", "release", cwd=self.work)
         self.assertEqual(done.returncode, 0, done.stdout + done.stderr)
@@ -235,7 +236,7 @@ class Release(Case):
         names = sorted(path.name for path in self.folder.iterdir())
         self.assertEqual([name for name in names if "SUMS" in name], ["SHA256SUMS", "SHA256SUMS.sig"])
         self.assertEqual([name for name in names if "SUMS" not in name and not re.search(r"[-_]80\.9\.2[-_.]", name)], [])
-        self.refused("release: 80.9.2 is not above 80.9.2", *self.release())
+        self.refused("release: 80.9.2 is not newer than 80.9.2", *self.release())
         archive = self.work / "archive"
         archive.mkdir()
         self.right("sh", "-c", f"git archive 80.9.2 | tar -xC {archive}")
@@ -243,9 +244,10 @@ class Release(Case):
         self.assertEqual((archive / "dist/SHA256SUMS").read_text(), (self.folder / "SHA256SUMS").read_text())
 
     def test_gate(self):
-        """After a gate that failed nothing is packed, and all is as before, so that a second try comes as far."""
+        """If the gate fails, nothing is packed and everything is as before, so that a second attempt gets as
+        far."""
         self.write("../wrong", "")
-        lines = ["release: the gate failed", "release: the commit, the tag and the packages are taken away again"]
+        lines = ["release: the gate failed", "release: removed the commit, the tag and the packages again"]
         for tries in (1, 2):
             done = self.run_here(*self.release())
             self.assertEqual((done.returncode, done.stderr.splitlines()[-2:]), (1, lines))
@@ -253,7 +255,7 @@ class Release(Case):
             self.assert_as_before()
 
     def test_check(self):
-        """So it is where the commands fail that check the release."""
+        """The same if the commands that check the release fail."""
         page = (self.tree / "docs/PACKAGES.md").read_text()
         self.write("docs/PACKAGES.md", page.replace("./package && cmp", "cmp package release && cmp"))
         self.before = self.commit()
@@ -263,12 +265,12 @@ class Release(Case):
         self.assert_as_before()
 
     def test_changed_meanwhile(self):
-        """A commit that somebody made during the gate stays."""
+        """A commit that somebody makes during the gate stays."""
         self.write(".ci/run", "#!/bin/sh\ngit commit -q --allow-empty -m Other\nexit 1\n")
         self.before = self.commit()
         done = self.run_here(*self.release())
         made = self.git("rev-parse", "HEAD^")
-        self.assertEqual(done.stderr.splitlines()[-1], f"release: take the commit {made} away: the repository has changed since")
+        self.assertEqual(done.stderr.splitlines()[-1], f"release: remove the commit {made} by hand: the repository has changed since")
         self.assertEqual((done.returncode, self.git("log", "-1", "--format=%s")), (1, "Other"))
 
     def assert_as_before(self):
@@ -277,32 +279,32 @@ class Release(Case):
         self.assertEqual([path.name for path in self.folder.glob("*")], [])
 
     def test_refused(self):
-        """Nothing is changed then."""
+        """Each is refused, and nothing changes."""
         usage = "usage: ./release VERSION KEY FOLDER"
         self.assertEqual(self.right("./release", "--help"), f"{usage}\n")
         self.refused(usage, "./release", "80.9.2", status=2)
-        self.refused("release: 1.2 is no version like 1.2.3", *self.release("1.2"))
-        self.refused("release: 0.0.9 is not above " + LAST, *self.release("0.0.9"))
+        self.refused("release: 1.2 is not a version such as 1.2.3", *self.release("1.2"))
+        self.refused("release: 0.0.9 is not newer than " + LAST, *self.release("0.0.9"))
         self.write("README.md", "text")
-        self.refused("release: there are local changes", *self.release())
+        self.refused("release: the repository has local changes", *self.release())
         self.git("reset", "-q", "--hard")
         self.folder.mkdir()
         (self.folder / "file").touch()
         self.refused(f"release: {self.folder} is not empty", *self.release())
         self.assertEqual((self.git("rev-parse", "HEAD")[:10], self.git("tag")), (self.before, ""))
-        self.refused("release: /absent is no SSH key", "./release", "80.9.2", "/absent", self.folder / "new")
+        self.refused("release: /absent is not a private SSH key", "./release", "80.9.2", "/absent", self.folder / "new")
         self.git("tag", "80.9.2")
-        self.refused("release: the tag 80.9.2 is there", *self.release())
+        self.refused("release: the tag 80.9.2 already exists", *self.release())
         self.git("tag", "-d", "80.9.2")
         self.write("share/project", "# This.example\nMaintainer: A <a@b.example>\nHomepage: https://c.example.org/\nVcs-Git: https://d.example/e\n")
         self.commit()
         self.refused("release: share/project still names a host in .example: Maintainer Vcs-Git", *self.release())
         self.write("share/signers", "")
         self.commit()
-        self.refused(f"release: share/signers lacks this key; first commit there the line: {self.signer}", *self.release())
+        self.refused(f"release: share/signers lacks this key; first add this line to it, and commit that: {self.signer}", *self.release())
         self.write("CHANGELOG.md", RELEASED)
         self.commit()
-        self.refused("release: CHANGELOG.md has nothing that is unreleased", *self.release())
+        self.refused("release: the first heading of CHANGELOG.md is not Unreleased", *self.release())
 
 
 if __name__ == "__main__":

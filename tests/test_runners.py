@@ -1,5 +1,5 @@
-"""The runners of the tests themselves: over a program whose output and status are known, what must
-fail does, with its last line and its status."""
+"""Tests the runners of the other tests, with a program whose output and status are known: failures are
+reported, in the last line and in the status."""
 
 import hashlib
 import os
@@ -55,7 +55,7 @@ CASES = """
 class Tree(unittest.TestCase):
     @classmethod
     def setUpClass(cls):
-        """A tree with the runners, and a program that prints and returns what is known."""
+        """A tree with the runners, and a program with known output and status."""
         cls.tree = scratch() + "/tree"
         os.makedirs(cls.tree + "/crates/agep/out")
         shutil.copytree(TESTS, cls.tree + "/tests", ignore=lambda folder, names: [name for name in names if folder == TESTS and (
@@ -101,7 +101,7 @@ class Runners(Tree):
         self.assertEqual(self.ended("unit.sh", "test_given.Given.test_skipped"), (["0 passed, 0 failed"], 0))
 
     def test_all(self):
-        """Without a name the files run in processes of their own, whose failures count too."""
+        """Without a name, each file runs in its own process, whose failures count."""
         write(self.tree + "/tests/test_given.py", textwrap.dedent(CASES).encode())
         gone = "import os\nimport unittest\n\nclass Gone(unittest.TestCase):\n    def test_gone(self):\n        os._exit(0)\n"
         write(self.tree + "/tests/test_gone.py", gone.encode())
@@ -110,7 +110,7 @@ class Runners(Tree):
 
 
 class Testkit(Tree):
-    """tests/testkit, over a program that does what the file says which it opens."""
+    """tests/testkit, with a program that does what the opened file says."""
 
     SUM = hashlib.sha256(b"out").hexdigest()
     RIGHT = ["expect: success", f"payload: {SUM}", "passphrase: x"]
@@ -121,14 +121,14 @@ class Testkit(Tree):
         write(cls.tree + "/crates/agep/out/agep", b"#!/bin/sh\nexec sh\n")
 
     def vectors(self, rows):
-        """What the runner says of vectors, each its lines and its script, whose names are numbers."""
+        """The output of the runner for vectors, given as lines and script, and named by numbers."""
         folder = scratch()
         for number, (lines, script) in enumerate(rows):
             write(f"{folder}/{number:02}", "\n".join([*lines, "", script]).encode())
         return self.said("testkit", folder, "agep")
 
     def test_expectations(self):
-        """A vector passes only with what it expects, all that is released, and nothing else."""
+        """A vector passes only with the expected result and exactly the text that is released."""
         def fails(line, status=1):
             return f"echo 'agep: {line}' >&2; exit {status}"
 
@@ -173,7 +173,7 @@ class Testkit(Tree):
         self.assertEqual(self.vectors([(lines, "") for lines, _ in rows]), ([*errors, f"0 passed, {len(rows)} failed"], 1))
 
     def test_skipped(self):
-        """A kind of identity that the program lacks is named. A folder without a vector fails."""
+        """A kind of identity that the program lacks is named. A folder without vectors fails."""
         lines = ["expect: no match", "passphrase: x", "identity: AGE-SECRET-KEY-PQ-1QQ"]
         skipped = "skipped: 00: agep: no identity of kind AGE-SECRET-KEY-PQ-"
         self.assertEqual(self.vectors([(lines, "")]), ([skipped, "0 passed, 0 failed"], 0))

@@ -1,18 +1,21 @@
-"""What salvage writes and says of small files, by a model without a cipher: a piece opens exactly if it was made as a chunk of
-its number."""
+"""Compares the output and the lines of salvage on small files with a model without a cipher: a piece opens
+exactly if it was made as the chunk of its number."""
 
 import itertools
 
-from fixture import HELLO, changed
+from fixture import HELLO, changed, with_other_mac
 from make_vectors import KEYED, MADE, NONCE, age_file, chunk, filled
+from messages import message
 from program import ProgramCase, fault
 from testkit import SEALED
 
 HEADER = age_file(KEYED, b"")
+# the line about a header whose MAC is wrong although a key fits
+CHANGED = "the header was changed: the chunks were tried with the key that fits"
 
 
 def lost_lines(losses):
-    """The lines on lost chunks, given by the number, the first and the last byte of each."""
+    """The lines about lost chunks, each given as its number, first byte and last byte."""
     runs = []
     for i, start, end in losses:
         if runs and runs[-1][1] == i - 1:
@@ -24,8 +27,8 @@ def lost_lines(losses):
         yield f"{chunks} lost: bytes {start} to {end} of the plaintext"
 
 
-def saved(payload):
-    """What salvage writes and says of a payload."""
+def saved(payload, is_changed=False):
+    """The output and the lines of salvage for a payload, with a changed header or not."""
     pieces = [payload[at : at + SEALED] for at in range(16, len(payload), SEALED)] or [b""]
     made = MADE if payload[:16] == NONCE else {}
     text, losses, early = b"", [], None
@@ -38,13 +41,13 @@ def saved(payload):
         text += opened
     is_rest = is_last is None and not opened
     is_behind = is_rest and early is not None and early == i - 1
-    lines = list(lost_lines(losses))
+    lines = [*lost_lines(losses), *[CHANGED] * is_changed]
     if early == i:
         lines.append(f"chunk {early} is empty: only an empty plaintext ends with an empty chunk")
     elif is_behind:
-        lines.append(f"there are up to 16 bytes behind chunk {early}, which is the last")
+        lines.append(f"up to 16 bytes follow chunk {early}, which is the last")
     elif early is not None:
-        lines.append(f"chunk {early} is marked as the last, and more follows: bytes behind the end, or another file")
+        lines.append(f"chunk {early} is marked as the last, and more follows: bytes after the end, or another file")
     if is_last is False or (is_rest and not is_behind):
         lines.append(f"the file is cut short: the plaintext from byte {len(text)} on is missing")
     elif is_last is None and opened and early is None:
@@ -54,7 +57,7 @@ def saved(payload):
 
 class Payloads(ProgramCase):
     def assert_saved(self, payload):
-        """Bytes and lines are the model's, and the status is 0 exactly if that of decrypt is."""
+        """Output and lines are those of the model, and the status is 0 exactly if that of decrypt is."""
         text, lines = saved(payload)
         ran = self.run_agep("salvage", "-k", "key", input=HEADER + payload)
         self.assert_ended(ran, 1 if lines else 0, "".join(map(fault, lines)), text)
@@ -66,7 +69,8 @@ class Payloads(ProgramCase):
                 self.assert_saved(payload)
 
     def test_arrangements(self):
-        """Chunks in every order, some twice or left out, of several files with one file key, and every kind of end."""
+        """Chunks of several files with one file key, in every order, some twice or left out, with every kind
+        of end."""
         full = {
             "chunk 0": filled(0, False), "chunk 1": filled(1, False), "last 0": filled(0, True), "last 1": filled(1, True),
             "damaged": bytes(SEALED),
@@ -84,24 +88,35 @@ class Payloads(ProgramCase):
         )
 
     def test_edges(self):
-        """A file of three chunks, cut or with bytes behind its end, near each place where a piece ends."""
+        """A file of three chunks, cut or with bytes after its end, near the end of each piece."""
         whole = NONCE + filled(0, False) + filled(1, False) + chunk(2, True, HELLO)
         near = [16 + i * SEALED + by for i in range(3) for by in range(-18, 19)]
         self.assert_all((f"cut at {at}", whole[:at]) for at in near if 16 <= at < len(whole))
         self.assert_all((f"{more} bytes behind", whole + b"\n" * more) for more in range(1, 40))
 
     def test_bytes(self):
-        """A file of one chunk: cut anywhere, each of its bytes changed, and bytes behind its end."""
+        """A file of one chunk: cut anywhere, with each byte changed, and with bytes after its end."""
         whole = NONCE + chunk(0, True, HELLO)
         self.assert_all((f"cut at {at}", whole[:at]) for at in range(16, len(whole)))
         self.assert_all((f"byte {at} changed", changed(whole, at)) for at in range(len(whole)))
         self.assert_all((f"{more} bytes behind", whole + bytes(more)) for more in range(1, 40))
 
     def test_headers(self):
-        """The same of its header and nonce: the fault is that of decrypt."""
+        """The same in its header and nonce: the fault is that of decrypt, except that a changed header costs
+        no chunk if a key fits."""
         file = HEADER + NONCE + chunk(0, True, HELLO)
         cuts = [(f"cut at {at}", file[:at]) for at in range(len(HEADER) + 16)]
         for name, bad in cuts + [(f"byte {at} changed", changed(file, at)) for at in range(len(HEADER))]:
             with self.subTest(name):
-                opened = self.run_agep("decrypt", "-k", "key", input=bad)
-                self.assert_ended(self.run_agep("salvage", "-k", "key", input=bad), 1, opened.err, b"")
+                opened, ran = (self.run_agep(command, "-k", "key", input=bad) for command in ("decrypt", "salvage"))
+                if opened.err == fault(message("BadMac")).encode():
+                    self.assert_ended(ran, 1, fault(CHANGED), HELLO)
+                else:
+                    self.assert_ended(ran, 1, opened.err, b"")
+
+    def test_changed_header(self):
+        """A changed header before a payload that is damaged, cut or too long."""
+        for payload in (NONCE + bytes(SEALED) + chunk(1, True, HELLO), NONCE + filled(0, False), NONCE + chunk(0, True, HELLO) + b"\n"):
+            text, lines = saved(payload, is_changed=True)
+            ran = self.run_agep("salvage", "-k", "key", input=with_other_mac(HEADER) + payload)
+            self.assert_ended(ran, 1, "".join(map(fault, lines)), text)

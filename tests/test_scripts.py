@@ -1,16 +1,17 @@
-"""./agep, ./install and ./package --build over a stand-in for the toolchain: when each builds anew what it is
-to run, install or pack, and for which processors."""
+"""./agep, ./install and ./package --build with a stand-in for the toolchain: when each of them builds again,
+and for which processors. The files that ./install installs under PREFIX."""
 
 import functools
 import os
 import shutil
 import subprocess
 import unittest
+from pathlib import Path
 
 from program import AGEP, ROOT, read, scratch, version, write
 
-# It notes what it is asked for, makes each file that is taken from it, and runs a script that tests
-# set.
+# It logs its calls, makes each file that the scripts take from it, and runs a script that a test
+# sets.
 RT = """#!/bin/sh
 folder={}
 echo "${{PWD##*/}} $*" >>"$folder/asked"
@@ -21,8 +22,8 @@ if [ -f "$folder/meanwhile" ]; then sh "$folder/meanwhile"; fi
 LEVELS = ("x86-64", "x86-64-v3")
 PROGRAM = "agep run --cpu {} -- --version"
 LIBRARIES = [f"agefile lib --cpu {level}" for level in LEVELS]
-# What each script has the toolchain build, if the processor at hand is called x86-64-v9. The last
-# one fails at the link of what the stand-in makes.
+# What each script has the toolchain build if AGEP_CPU is x86-64-v9. The last one fails when it
+# links the files of the stand-in.
 SCRIPTS = {
     "agep --version": [PROGRAM.format("x86-64-v9")],
     "install prefix": [PROGRAM.format("x86-64-v9")],
@@ -37,7 +38,7 @@ class Builds(unittest.TestCase):
         self.make_tree()
 
     def make_tree(self):
-        """A tree of scripts with this program, which no toolchain is known to have built."""
+        """A tree of the scripts with this program, which has no mark of a toolchain."""
         self.folder = scratch()
         os.chdir(self.folder)
         for name in ("agep/src/deep", "agep/specs", "agep/proofs", "agep/out", "agefile/src"):
@@ -55,7 +56,7 @@ class Builds(unittest.TestCase):
         self.environment = {**os.environ, "AGEP_CPU": "x86-64-v9", "PATH": f"{self.folder}/kit/bin:{os.environ['PATH']}"}
 
     def asked(self, script, commit="", **environment):
-        """What the toolchain is asked to build for a processor. The version is followed by this text."""
+        """What the toolchain is asked to build for a processor. This text follows the version."""
         write("asked", b"")
         environment = {**self.environment, **environment}
         done = subprocess.run(f"tree/{script}".split(), env=environment, stdin=subprocess.DEVNULL, capture_output=True)
@@ -64,8 +65,8 @@ class Builds(unittest.TestCase):
         return sorted(line for line in read("asked").decode().splitlines() if "--cpu" in line)
 
     def test_sources(self):
-        """What is built is built again where a source is newer, came or went, and so is what a source changed
-        under, or what is for another processor."""
+        """A build is repeated if a source is newer, was added or removed, or changed during the build, and if
+        it was for another processor."""
         rows = [
             ("nothing is built", "", True), ("all is current", "", False), ("crates.txt", "touch tree/crates.txt", True),
             *((name, f"touch {name}", True) for name in self.sources),
@@ -82,7 +83,7 @@ class Builds(unittest.TestCase):
                     self.assertEqual(self.asked(script), every if is_built else [])
 
     def test_processors(self):
-        """The program is built for the processor that is named, and the packages for theirs, whatever is named."""
+        """The program is built for the processor that AGEP_CPU names, and the packages always for theirs."""
         for script, level, is_built in (
             ("agep --version", "x86-64-v2", True), ("install prefix", "x86-64-v2", False), ("install prefix", "x86-64-v4", True),
             ("agep --version", "x86-64-v4", False), ("agep --version", "x86-64-v2", False),
@@ -91,8 +92,32 @@ class Builds(unittest.TestCase):
         self.assertEqual(self.asked("package --build", AGEP_CPU="x86-64-v2"), SCRIPTS["package --build"])
         self.assertEqual(self.asked("agep --version", AGEP_CPU="x86-64-v2"), [], "the program of ./agep stays")
 
+    def test_levels(self):
+        """If AGEP_CPU is not set, a build is for x86-64-v3 if the processor has all of that level."""
+        parts = "avx avx2 bmi1 bmi2 f16c fma abm movbe xsave".split()
+        script = 'root=tree; . tree/share/build.sh; sed() { echo "$FLAGS"; }; processor'
+        for part in ("", *parts):
+            flags = " ".join(["fpu", *(each for each in parts if each != part), "sse"])
+            environment = {**self.environment, "AGEP_CPU": "", "FLAGS": flags}
+            said = subprocess.check_output(["sh", "-c", script], env=environment, text=True)
+            self.assertEqual(said, "x86-64-v2\n" if part else "x86-64-v3\n", f"without {part}")
+
+    def test_failing_build(self):
+        """If a build fails, its output and a line are shown, nothing is run or installed, and the next call
+        builds again. Standard input is not read."""
+        for script, who in zip(SCRIPTS, ("agep", "agep", "package", "install")):
+            with self.subTest(script):
+                self.make_tree()
+                write("meanwhile", b"echo it is wrong; cat; exit 1")
+                done = subprocess.run(f"tree/{script}".split(), env=self.environment, input=b"input", capture_output=True)
+                self.assertEqual((done.returncode, done.stdout, os.path.exists("prefix/bin")), (1, b"", False), done.stderr)
+                self.assertIn(f"it is wrong\n{who}: the build failed\n".encode(), done.stderr)
+                self.assertNotIn(b"input", done.stderr)
+                os.remove("meanwhile")
+                self.assertEqual(self.asked(script), SCRIPTS[script])
+
     def test_commit(self):
-        """A build in a repository of git names the commit, and says whether the crates have changed since."""
+        """A build in a git repository names the commit, and says whether the crates have changed since."""
         git = ["git", "-C", "tree", "-c", "user.name=Name", "-c", "user.email=name@host"]
         for words in (["init", "-q"], ["add", "-A"], ["commit", "-qm", "All"]):
             subprocess.run([*git, *words], check=True)
@@ -107,17 +132,20 @@ class Builds(unittest.TestCase):
         self.assertEqual(self.asked("agep --version", commit=f" (commit {name}, changed)"), every)
 
     def test_words(self):
-        """./agep passes its words, standard input and folder to the program, and returns its status."""
+        """./agep passes its arguments, standard input and working directory to the program, and returns its
+        status."""
         self.asked("agep --version")
         write("some file", b"text")
-        for words in (["inspect", "some file"], ["inspect", "no  such*file"], ["inspect"], ["inspect", ""], ["inspect", "--", "-r"], []):
+        run = functools.partial(subprocess.run, input=b"input", capture_output=True, env=self.environment)
+        os.symlink("tree/agep", "linked")
+        self.assertEqual(run(["./linked", "--version"]).stdout, f"agep {version()}\n".encode())
+        for words in (["inspect", "some file"], ["inspect", "no  such*file"], ["inspect"], ["inspect", ""], ["inspect", "-H", "1"], ["inspect", "--", "-r"], []):
             with self.subTest(words):
-                run = functools.partial(subprocess.run, input=b"input", capture_output=True, env=self.environment)
                 here, program = run(["tree/agep", *words]), run([AGEP, *words])
                 self.assertEqual((here.returncode, here.stdout, here.stderr), (program.returncode, program.stdout, program.stderr))
 
     def test_toolchains(self):
-        """Another toolchain builds anew; where there is none, what is there is run and installed."""
+        """Another toolchain builds again; without a toolchain the existing build is run and installed."""
         tools = f"{self.folder}/tools"
         os.mkdir(tools)
         for name in ("cat", "chmod", "cp", "dirname", "find", "head", "mkdir", "mv", "readlink", "sed", "sh"):
@@ -129,6 +157,68 @@ class Builds(unittest.TestCase):
                 write("kit/KIT-ID", b"kit two\n")
                 self.assertEqual(self.asked(script, PATH=tools), [])
                 self.assertEqual(self.asked(script), SCRIPTS[script])
+
+
+class Installs(unittest.TestCase):
+    # Each file under PREFIX, and its source in the repository.
+    FILES = {
+        "bin/agep": "crates/agep/out/agep", "share/man/man1/agep.1": "share/man/agep.1",
+        "share/bash-completion/completions/agep": "share/completions/agep.bash",
+        "share/zsh/site-functions/_agep": "share/completions/_agep", "share/fish/vendor_completions.d/agep.fish": "share/completions/agep.fish",
+    }
+    # /usr/local has these folders from the start.
+    FOLDERS = {"bin", "share", "share/man"}
+    USAGE = "usage: ./install [--uninstall] [PREFIX]\n       ./install --library [--libdir=DIR] [--uninstall] [PREFIX]\n"
+
+    def setUp(self):
+        self.addCleanup(os.chdir, "/")
+        os.chdir(scratch())
+
+    def run_install(self, *words, **environment):
+        environment = {**os.environ, **environment}
+        done = subprocess.run([f"{ROOT}/install", *words], env=environment, umask=0o077, stdin=subprocess.DEVNULL, capture_output=True)
+        return done.returncode, done.stdout.decode(), done.stderr.decode()
+
+    def assert_modes(self, top, files):
+        """The folder must have exactly these files and their folders, with the usual modes."""
+        found = {str(path.relative_to(top)): path for path in Path(top).rglob("*")}
+        folders = {str(folder) for file in files for folder in Path(file).parents} - {"."} | self.FOLDERS
+        self.assertEqual({*found}, {*files} | folders)
+        executable = folders | {"bin/agep"}
+        self.assertEqual([name for name, path in found.items() if path.stat().st_mode & 0o777 != (0o755 if name in executable else 0o644)], [])
+
+    def test_files(self):
+        """The files are those of the repository, whatever the umask; a running program is replaced and not
+        overwritten. --uninstall removes only these, and the folders that this leaves empty."""
+        here, other = os.getcwd(), "share/man/man1/other.1"
+        rows = (f"{here}/prefix", f"{here}/prefix", {}), ("other", "other", {}), ("/usr", "staged/usr", {"DESTDIR": "staged"}), ("/usr", "again/usr", {"DESTDIR": "again/"})
+        for prefix, top, environment in rows:
+            for others in ([], [other]):
+                with self.subTest(f"{top} {others}"):
+                    for name in others:
+                        os.makedirs(f"{top}/{os.path.dirname(name)}")
+                        write(f"{top}/{name}", b"other")
+                    for _ in range(2):
+                        said = "".join(f"installed {top}/{name}\n" for name in self.FILES)
+                        self.assertEqual(self.run_install(prefix, **environment), (0, said, ""))
+                        self.assert_modes(top, [*self.FILES, *others])
+                        self.assertEqual([name for name, file in self.FILES.items() if read(f"{top}/{name}") != read(f"{ROOT}/{file}")], [])
+                        if os.path.exists("running"):
+                            self.assertFalse(os.path.samefile("running", f"{top}/bin/agep"))
+                            os.remove("running")
+                        os.link(f"{top}/bin/agep", "running")
+                    os.remove("running")
+                    self.assertEqual(self.run_install("--uninstall", f"{prefix}/", **environment)[::2], (0, ""))
+                    self.assert_modes(top, others)
+                    self.assertEqual(self.run_install("--uninstall", prefix, **environment), (0, "", ""))
+
+    def test_words(self):
+        for words in ("--help",), ("-h",):
+            self.assertEqual(self.run_install(*words), (0, self.USAGE, ""))
+        for words in ("--other",), ("a", "b"), ("",):
+            for first in ((), ("--uninstall",)):
+                with self.subTest(first + words):
+                    self.assertEqual(self.run_install(*first, *words), (2, "", self.USAGE))
 
 
 if __name__ == "__main__":

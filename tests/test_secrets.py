@@ -1,5 +1,5 @@
-"""Secrets: the parts of a new file that are random, passphrases of any bytes and lengths beside those
-of Python, key files of a wrong form, seeds."""
+"""Secrets: the random parts of new files, passphrases of any bytes and lengths compared with Python,
+malformed key files, seeds."""
 
 import base64
 import hashlib
@@ -14,14 +14,14 @@ from fixture import HELLO, KEY, OTHER_KEY, PLAIN, SALT, SEED
 from messages import message
 from program import ProgramCase, fault, preload, read, write
 
-# How many files are made anew, to see that none of their parts is like another one.
+# How many files are made, to check that no two of their random parts are equal.
 RUNS = 16
 
 
 class FreshParts(ProgramCase):
     def assert_fresh(self, runs, size):
-        """Each part of 16 bytes in these runs is there once, and each byte varies: none is cut,
-        none is a constant, none is used again."""
+        """Each part of 16 bytes occurs only once in these runs, and each of its bytes varies: none is cut,
+        constant or used again."""
         self.assertEqual({len(run) for run in runs}, {size})
         pieces = [run[at : at + 16] for run in runs for at in range(0, size, 16)]
         halves = [piece[at : at + 8] for piece in pieces for at in (0, 8)]
@@ -30,7 +30,7 @@ class FreshParts(ProgramCase):
         self.assertTrue(all(len(set(column)) > 1 for column in zip(*runs)), "a byte is always the same")
 
     def test_new_files(self):
-        """What a file is made of without -s: its parts are found with the secret by Python."""
+        """The random parts of a file made without -s, which Python finds with the secret."""
         cases = [
             (("-k", "key"), KEY, lambda salt: reference.key_stanza(KEY, salt)),
             (("-p", "pass", "-w", "1"), b"correct horse", lambda salt: reference.passphrase_stanza(b"correct horse", 1, salt)),
@@ -59,7 +59,7 @@ class FreshParts(ProgramCase):
                     self.assertNotIn(form, made)
 
     def test_rewrapped(self):
-        """What a rewrapped file has of its own without -s: the salt."""
+        """The random part of a file rewrapped without -s: the salt."""
         for words, secret in (("-K", "other.key"), OTHER_KEY), (("-P", "pass", "-w", "1"), b"correct horse"):
             salts = []
             with self.subTest(f"{words[0]}: the file key and the nonce stay"):
@@ -74,7 +74,7 @@ class FreshParts(ProgramCase):
                 self.assert_fresh([*salts, SEED[:16], SEED[16:32], SALT], 16)
 
     def test_known_device(self):
-        """What /dev/urandom gives is the file key, the nonce and the salt, in this order."""
+        """The bytes of /dev/urandom are the file key, the nonce and the salt, in this order."""
         random = os.urandom(4096)
         write("random", random)
         seed = random[:48]
@@ -108,18 +108,27 @@ class Passphrases(ProgramCase):
         "nul": b"\0",
         "nuls before": b"\0\0correct horse",
         "line ends before": b"\n\r\ncorrect horse",
-        "cr after": b"correct horse\r",
         "spaces around": b" correct horse ",
         "nfc": unicodedata.normalize("NFC", "p\xe4ssw\xf6rd \u2603 \U0001f986").encode(),
         "nfd": unicodedata.normalize("NFD", "p\xe4ssw\xf6rd \u2603 \U0001f986").encode(),
         "latin": "p\xe4ssw\xf6rd".encode("latin1"),
         "no utf8": b"\xff\xfe\xc0\xaf\xed\xa0\x80",
-        "mark": b"\xef\xbb\xbfcorrect horse",
+        "mark behind": b"correct\xef\xbb\xbfhorse\xef\xbb\xbf",
+        "cr before": b"\rcorrect\rhorse",
+        "cr and lf after": b"correct horse\r\n\n",
         "upper": b"CORRECT HORSE",
+    }
+    # Bytes that nobody types, and that an editor or a system puts around a text.
+    UNTYPED = {
+        "cr after": b"correct horse\r",
+        "mark": b"\xef\xbb\xbfcorrect horse",
+        "mark and cr": b"\xef\xbb\xbfcorrect horse\r",
+        "mark alone": b"\xef\xbb\xbf",
+        "cr alone": b"\r",
     }
 
     def test_bytes(self):
-        """Passphrases of every byte: the files of Python."""
+        """Passphrases with every byte: the files are those of Python."""
         for name, text in self.TEXTS.items():
             expected = fixture.for_passphrase(HELLO, text, 4)
             write("secret", text)
@@ -136,19 +145,34 @@ class Passphrases(ProgramCase):
                 write("secret", text + b"\n")
                 self.writes(HELLO, "decrypt", "-p", "secret", "made")
 
+    def test_untyped(self):
+        """A CR at the end and a byte-order mark are refused for a new file, but open a file made with them."""
+        for name, text in self.UNTYPED.items():
+            write("made", fixture.for_passphrase(HELLO, text, 4))
+            for end in (b"", b"\n"):
+                write("secret", text + end)
+                with self.subTest(f"{name}, then {end!r}"):
+                    self.says(message("UntypedPassphrase"), "encrypt", "-p", "secret", "-w", "4", "hello")
+                    self.says(message("UntypedPassphrase"), "rewrap", "-k", "key", "-P", "secret", "-w", "4", "key.age")
+                    self.writes(HELLO, "decrypt", "-p", "secret", "made")
+                    self.writes(HELLO, "range", "-p", "secret", "0", "9", "made")
+                    self.writes(HELLO, "salvage", "-p", "secret", "made")
+                    self.writes(read("key.age"), "rewrap", "-p", "secret", "-K", "key", "-s", "seed", "made")
+
     def test_others(self):
-        """What looks alike is another passphrase."""
+        """Texts that look alike are different passphrases."""
         write("made", fixture.for_passphrase(HELLO, self.TEXTS["nfc"], 4))
         write("secret", self.TEXTS["nfd"])
         with self.subTest("a letter and its accent apart"):
             self.says(message("WrongKey"), "decrypt", "-p", "secret", "made")
+        others = {**self.TEXTS, **self.UNTYPED}
         for name in ("nuls before", "line ends before", "cr after", "spaces around", "mark", "upper"):
             with self.subTest(name):
-                write("secret", self.TEXTS[name])
+                write("secret", others[name])
                 self.says(message("WrongKey"), "decrypt", "-p", "secret", "pass.age")
 
     def test_lengths(self):
-        """Each byte counts, the last one too: a block of the hash has 64 bytes."""
+        """Each byte counts, even the last one, around 64 bytes, the size of a block of the hash."""
         text = b" ".join(b"%d" % i for i in range(1, 20001))
         for size in (1, 63, 64, 65, 127, 128, 129, 4096, 65535, 65536):
             prefix = text[: size - 1]
@@ -169,7 +193,7 @@ class Passphrases(ProgramCase):
                     self.says(message("WrongKey"), "decrypt", "-p", "prefix", input=expected)
 
     def test_equal(self):
-        """By RFC 2104 more than 64 bytes count as their hash, and fewer as if NULs followed them."""
+        """By RFC 2104, more than 64 bytes count as their hash, and fewer as if NULs followed them."""
         text = PLAIN[:65]
         write("secret", text)
         ran = self.run_agep("encrypt", "-p", "secret", "-w", "2", "hello")
@@ -191,7 +215,7 @@ class Passphrases(ProgramCase):
 
 class KeyFiles(ProgramCase):
     def test_other_forms(self):
-        """A key is 32 raw bytes, and a file key 16: another form is refused."""
+        """A key is 32 raw bytes, and a file key 16: other forms are refused."""
         forms = {
             "lf": KEY + b"\n", "crlf": KEY + b"\r\n", "mark": b"\xef\xbb\xbf" + KEY, "hex": KEY.hex().encode(),
             "hex.lf": KEY.hex().encode() + b"\n", "base": base64.b64encode(KEY) + b"\n", "twice": KEY + KEY,
@@ -212,7 +236,7 @@ class KeyFiles(ProgramCase):
                 self.says(message("FileKeyLength"), "inspect", "-f", name, "key.age")
 
     def test_line_ends(self):
-        """A line end that is one of the 32 bytes belongs to the key."""
+        """A line end among the 32 bytes belongs to the key."""
         for title, key in ("at the end", KEY[:31] + b"\n"), ("at the start", b"\n" + KEY[:31]):
             with self.subTest(title):
                 write("made.key", key)
@@ -221,7 +245,7 @@ class KeyFiles(ProgramCase):
                 self.writes(HELLO, "decrypt", "-k", "made.key", input=expected)
 
     def test_each_byte(self):
-        """A key that differs in one byte is another one."""
+        """A key that differs in one byte is another key."""
         for at in (0, 1, 15, 16, 30, 31):
             with self.subTest(f"byte {at}"):
                 write("near", fixture.changed(KEY, at))
@@ -230,7 +254,7 @@ class KeyFiles(ProgramCase):
 
 class Seeds(ProgramCase):
     def test_longer(self):
-        """Of a seed file the first 48 bytes count."""
+        """Only the first 48 bytes of a seed file count."""
         key_age = read("key.age")
         for title, seed in ("one LF more", SEED + b"\n"), ("100,000 bytes more", SEED + bytes(100000)):
             with self.subTest(title):
@@ -243,7 +267,7 @@ class Seeds(ProgramCase):
             self.writes(key_age, "encrypt", "-k", "key", "-s", "/dev/stdin", "hello", input=SEED)
 
     def in_pieces(self, text, at):
-        """A FIFO that gives a text in two pieces."""
+        """A FIFO that returns a text in two pieces."""
         if os.path.exists("pieces"):
             os.remove("pieces")
         os.mkfifo("pieces")
@@ -258,7 +282,7 @@ class Seeds(ProgramCase):
         return "pieces"
 
     def test_pieces(self):
-        """Small files that come in two pieces."""
+        """Small files that arrive in two pieces."""
         self.writes(read("key.age"), "encrypt", "-k", "key", "-s", self.in_pieces(SEED, 1), "hello")
         self.writes(HELLO, "decrypt", "-p", self.in_pieces(b"correct horse\n", 7), "pass.age")
         self.writes(HELLO, "decrypt", "-k", self.in_pieces(KEY, 31), "key.age")

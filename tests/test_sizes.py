@@ -1,4 +1,4 @@
-"""Plaintexts of sizes around those of a chunk: the files are those of reference.py, and come back."""
+"""Plaintexts of sizes around that of a chunk: the files are those of reference.py, and decrypt to the plaintext."""
 
 import fixture
 import reference
@@ -6,12 +6,13 @@ from fixture import KEY, NEW_KEY, OTHER_KEY, PLAIN, SEED
 from program import ProgramCase, preload, write
 
 SIZES = [0, 1, 32, 65535, 65536, 65537, 131072, 131073]
-# A header of a passphrase's stanza with a work factor of two digits, and one of a key's.
+# The sizes of a header with a passphrase stanza (a work factor of two digits), and with a keyed
+# stanza.
 PASSPHRASE_HEADER, KEY_HEADER = 150, 156
 
 
 def file_size(header, size):
-    """Of a plaintext of this size: a nonce, and a tag of 16 bytes for each chunk."""
+    """The size of the payload: a nonce, and for each chunk a tag of 16 bytes."""
     return header + 16 + size + 16 * max(1, -(-size // 65536))
 
 
@@ -30,7 +31,7 @@ class Sizes(ProgramCase):
         self.assert_file("back", plain)
 
     def test_there_and_back(self):
-        """encrypt writes the file of Python, and decrypt its plaintext."""
+        """encrypt writes the same file as Python, and decrypt its plaintext."""
         for size in SIZES:
             with self.subTest(f"{size} bytes, -p"):
                 expected = fixture.for_passphrase(PLAIN[:size])
@@ -39,7 +40,7 @@ class Sizes(ProgramCase):
                 self.comes_back(size, KEY_HEADER, fixture.for_keys(PLAIN[:size], KEY), ("-k", "key"), ())
 
     def test_rewrapped(self):
-        """rewrap writes the file of Python for the new secret, and leaves the rest as it was."""
+        """rewrap writes the same header for the new secret as Python, and keeps the rest of the file."""
         for size in SIZES:
             plain = PLAIN[:size]
             by_passphrase = fixture.for_passphrase(plain), ("-p", "pass"), PASSPHRASE_HEADER
@@ -56,7 +57,7 @@ class Sizes(ProgramCase):
                         self.writes(plain, "decrypt", options[0].lower(), options[1], "made")
 
     def test_other_seeds(self):
-        """Of rewrap's seed the salt alone is used."""
+        """rewrap uses only the salt of its seed."""
         other = PLAIN[:48]
         write("other.seed", other)
         mixed = SEED[:32] + other[32:]
@@ -72,7 +73,7 @@ class Sizes(ProgramCase):
                     self.writes(expected, "rewrap", "-p", "pass", *options, "-s", "other.seed", "old")
 
     def test_several_keys(self):
-        """For several keys encrypt and rewrap write the file of Python."""
+        """For several keys, encrypt and rewrap write the same file as Python."""
         names = {"key": KEY, "other.key": OTHER_KEY, "third.key": PLAIN[:32], "new.key": NEW_KEY}
         for row in ("key other.key", "other.key key", "key other.key third.key", "new.key third.key key"):
             keys = row.split()
@@ -86,7 +87,7 @@ class Sizes(ProgramCase):
                     self.writes(PLAIN[:65537], "decrypt", "-k", key, input=expected)
 
     def test_slices(self):
-        """range writes the plaintext's bytes from AT on, at most LEN."""
+        """range writes at most LEN bytes of the plaintext, from AT on."""
         most = 2**63 - 1
         rows = [
             (0, 10), (5, 10), (0, 0), (65530, 12), (65535, 1), (65535, 2), (65536, 65536), (131071, 2), (139990, 10),
@@ -99,10 +100,10 @@ class Sizes(ProgramCase):
 
 
 class Pieces(ProgramCase):
-    """Reads of standard input that give a few bytes, or a chunk and one more."""
+    """Reads of standard input that return a few bytes, or a chunk and one byte more."""
 
     def test_short_reads(self):
-        """The same file and plaintext where reads are short."""
+        """Short reads give the same file and plaintext."""
         devices = preload("devices")
         for size in (65535, 65536, 65537, 131072, 131073):
             plain, file = PLAIN[:size], fixture.for_passphrase(PLAIN[:size])

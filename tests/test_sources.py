@@ -1,6 +1,6 @@
-"""What the repository's texts hold themselves to: lines of at most 100 columns, the blocks of code and
-links of documents, words that users do not know, the toolchain, the words of each clause, the clause
-and the text of each planted bug, programs that the compiler has to refuse."""
+"""Rules for the texts of the repository: lines of at most 100 columns, blocks of code and links in documents,
+words that users do not know, the toolchain, the sentence of each clause, the clause and the text of each
+planted bug, programs that the compiler must refuse."""
 
 import ast
 import concurrent.futures
@@ -22,8 +22,8 @@ def text_of(name):
 
 
 def wide_lines(name, text, most=100):
-    """The numbers of the lines of more than `most` columns, but for those that may be wider: imports,
-    long literals, tables, blocks of code; of scripts all but the comments."""
+    """The numbers of the lines wider than `most` columns, except those that may be wider: imports, long
+    literals, tables, blocks of code, and in scripts everything except comments."""
     found, is_code = [], False
     for number, line in enumerate(text.split("\n"), 1):
         if name.endswith(".md"):
@@ -68,14 +68,14 @@ class Columns(unittest.TestCase):
         self.assert_narrow(names)
 
     def test_itself(self):
-        """A line of 101 columns is found, and not in a block of code or a table."""
+        """A line of 101 columns is found, except in a block of code or a table."""
         wide = "0" * 101
         self.assertEqual(wide_lines("wide.md", wide), [1])
         self.assertEqual(wide_lines("block.md", f"```\n{wide}\n```\n| {wide}"), [])
 
 
 def quoted_clauses(start, text):
-    """The clauses that a text quotes, each behind this start of a line."""
+    """The clauses that a text quotes, each after this start of a line."""
     found = re.findall(start + r"((?:requires|ensures) \w+ \{ .*? \})(?:`|$)", text, re.MULTILINE | re.DOTALL)
     return [" ".join(clause.split()) for clause in found]
 
@@ -88,7 +88,7 @@ def anchors(page):
 
 class Documents(unittest.TestCase):
     def test_code(self):
-        """Each block of Rust or of a proof in these pages stands in a source."""
+        """Each block of Rust or of a proof in these pages occurs in a source."""
         pages = text_of(ROOT + "/README.md") + text_of(ROOT + "/docs/PROOFS.md")
         for kind, files in (("rust", "src/**/*.rt"), ("antt", "proofs/**/*.antt")):
             sources = "".join(text_of(name) for name in sorted(glob.glob(f"{ROOT}/crates/*/{files}", recursive=True)))
@@ -99,7 +99,7 @@ class Documents(unittest.TestCase):
                     self.assertTrue("\n" + block in "\n" + sources, f"not in a source:\n{block}")
 
     def test_open_chunk(self):
-        """docs/PROOFS.md has the clauses of `open_chunk`, all and in order; README.md has some of them."""
+        """docs/PROOFS.md has all clauses of `open_chunk`, in order; README.md has some of them."""
         source = text_of(ROOT + "/crates/age_stream/src/opening.rt")
         contract = re.search(r"^pub fn open_chunk\(.*?^\{$", source, re.MULTILINE | re.DOTALL)[0]
         clauses = quoted_clauses("^ *", contract)
@@ -109,8 +109,8 @@ class Documents(unittest.TestCase):
         self.assertEqual((len(shown), [clause for clause in shown if clause not in clauses]), (3, []))
 
     def test_links(self):
-        """Each link leads to a page of the packages that have the documents, and to a heading of it. The
-        packages for Python and Rust have their README.md alone: its links are absolute."""
+        """In the packages with the documents, each link leads to a page, and to a heading of it. The packages
+        for Python and Rust contain only their README.md, so its links must be absolute."""
         stage = re.search(r"^stage_documents\(\) \{\n.*?^\}\n", text_of(ROOT + "/package"), re.MULTILINE | re.DOTALL)[0]
         folder = scratch()
         subprocess.run(["bash", "-euc", f'{stage}stage_documents "$0"', folder], env={**os.environ, "root": ROOT}, check=True)
@@ -127,7 +127,8 @@ class Documents(unittest.TestCase):
                     self.assertIn(anchor, {"", *anchors(text_of(target) if anchor else "")})
 
     def test_paths(self):
-        """Each path that a page names is in the repository, in a crate, or where packages put their documents."""
+        """Each path that a page names exists in the repository, in a crate, or where packages put their
+        documents."""
         for page in sorted(glob.glob(ROOT + "/*.md") + glob.glob(ROOT + "/*/*.md")):
             names = set(re.findall(r"`((?:crates|tests|docs|share|bindings|bench|specs|src|proofs|must-fail)/[\w./*-]+)`", text_of(page)))
             names = [name for name in sorted(names - {"share/man", "share/signers"}) if not re.search("NAME|CRATE|^share/doc/", name)]
@@ -135,7 +136,7 @@ class Documents(unittest.TestCase):
             self.assertEqual(missing, [], os.path.basename(page))
 
     def test_commands(self):
-        """The commands of docs/PROMISES.md run, and those of CONTRIBUTING.md name what there is."""
+        """The commands of docs/PROMISES.md run, and those of CONTRIBUTING.md name tests that exist."""
         commands = re.findall(r"^\$ (share/promises.*?) *#", text_of(ROOT + "/docs/PROMISES.md"), re.MULTILINE)
         self.assertEqual(len(commands), 3)
         for command in commands:
@@ -150,7 +151,7 @@ class Documents(unittest.TestCase):
             self.assertIn(f"class {case}", text_of(f"{TESTS}/{module}.py"))
 
     def test_faults(self):
-        """What docs/FORMAT.md calls each fault stands in its text too, where it says when the fault comes."""
+        """The name that docs/FORMAT.md gives each fault also occurs in its text, which says when it is returned."""
         document = text_of(ROOT + "/docs/FORMAT.md")
         terms = re.findall(r"^\| \d+ \| `\w+` \| (.*?)(?: \(.*\))? \| `.*` \|$", document, re.MULTILINE)
         text = " ".join(line for line in document.lower().split("\n") if not line.startswith("|"))
@@ -159,9 +160,11 @@ class Documents(unittest.TestCase):
 
 
 def prose(name):
-    """What users read in a file: of code the docstrings, doc comments or texts; no blocks or names of code."""
+    """What users read of a file: of code only docstrings, doc comments or texts, and no code blocks or names."""
     text = text_of(f"{ROOT}/{name}")
-    if name.endswith(".py"):
+    if name.endswith(".h"):
+        text = re.sub(r"\n \* ?", "\n", "\n".join(re.findall(r"/\*.*?\*/", text, re.DOTALL)))
+    elif name.endswith(".py"):
         kinds = ast.Module, ast.ClassDef, ast.FunctionDef
         text = "\n".join(ast.get_docstring(node) or "" for node in ast.walk(ast.parse(text)) if isinstance(node, kinds))
     elif name.endswith(".rs"):
@@ -172,7 +175,7 @@ def prose(name):
 
 
 class Dialect(unittest.TestCase):
-    """Words that only this project uses, or uses as nobody else does, and what to write on a page for users."""
+    """Words that only this project uses, or uses in its own way, and what to write instead on a page for users."""
 
     WORDS = {
         "front": "header and nonce", "gather(s|ed)?": "collect", "gave": "returned", "told": "known", "headings?": "header",
@@ -182,9 +185,10 @@ class Dialect(unittest.TestCase):
         "planted|edits": "bugs that tests must find", "also (after|if|when|where)": "even",
         "(is|are|was) no (key|number|file|chunk|passphrase|recipient)": "is not a",
         "what is (printed|written|read)": "the output", "as the last one|as another": "as the last chunk",
+        "behind": "after", "the same of": "the same for",
     }
-    PAGES = ("README.md", "docs/USE.md", "docs/C.md", "share/man/agep.1", "bindings/*/README.md", "bindings/python/agefile/*.py",
-             "bindings/rust/src/*.rs", "crates/age_words/src/texts.rt", "crates/age_words/src/options.rt")
+    PAGES = ("README.md", "SECURITY.md", "docs/USE.md", "docs/C.md", "share/man/agep.1", "bindings/c/agefile.h", "bindings/*/README.md",
+             "bindings/python/agefile/*.py", "bindings/rust/src/*.rs", "crates/age_words/src/texts.rt", "crates/age_words/src/options.rt")
 
     def test_words(self):
         found = [os.path.relpath(name, ROOT) for page in self.PAGES for name in sorted(glob.glob(f"{ROOT}/{page}"))]
@@ -205,13 +209,13 @@ def load_promises():
 
 
 PROMISES = load_promises()
-# Labels that say all that their clause says.
+# Labels that say everything that their clause says.
 PLAIN = {"bound", "err", "handed_back", "len", "none", "ok", "same_reference", "some", "unchanged", "value"}
 
 
 class Promises(unittest.TestCase):
     def test_words(self):
-        """Each public clause has its words: above it or above the relation that it cites, or its label."""
+        """Each public clause has a sentence, above it or above the relation that it cites, or a plain label."""
         every = PROMISES.modules()
         for folder in sorted(glob.glob(ROOT + "/crates/*/src/lib.rt")):
             crate = folder.split("/")[-3]
@@ -221,7 +225,7 @@ class Promises(unittest.TestCase):
                 self.assertEqual(silent, [])
 
     def test_each_is_seen(self):
-        """The script sees each clause of the sources."""
+        """The script finds each clause of the sources."""
         for folder in sorted(glob.glob(ROOT + "/crates/*/src/lib.rt")):
             crate = folder.split("/")[-3]
             sources = "".join(text_of(name) for name in glob.glob(f"{ROOT}/crates/{crate}/src/**/*.rt", recursive=True))
@@ -229,7 +233,7 @@ class Promises(unittest.TestCase):
                 self.assertEqual(len(list(PROMISES.clauses(crate))), len(re.findall("^ *ensures", sources, re.MULTILINE)))
 
     def test_reading(self):
-        """What docs/PROOFS.md says of how much a contract rests on is what the script prints."""
+        """The counts of definitions in docs/PROOFS.md are those that the script prints."""
         said = re.findall(r"^- `(\w+::\w+)` rests on (\d+ definitions in \d+ lines)", text_of(ROOT + "/docs/PROOFS.md"), re.MULTILINE)
         self.assertEqual(len(said), 3)
         for name, count in said:
@@ -239,7 +243,7 @@ class Promises(unittest.TestCase):
 
 
 def planted_bugs():
-    """The planted bugs: the crate of each, or none if it is one of the program, its name, its lines."""
+    """For each planted bug its crate (None if it is one of the program), its name and its lines."""
     for name in sorted(glob.glob(ROOT + "/crates/*/must-fail/*.edit")):
         yield name.split("/")[-3], os.path.basename(name)[:-5], text_of(name).rstrip("\n").split("\n")
     for name in sorted(glob.glob(TESTS + "/planted/*.edits")) + [TESTS + "/planted/plants"]:
@@ -250,7 +254,7 @@ def planted_bugs():
 
 
 def changes(lines):
-    """The changes of a planted bug, in order: file, old text and new text. A text may have several lines."""
+    """The changes of a planted bug, in order: file, old text and new text, each of one or more lines."""
     found, file, part = [], None, None
     for line in lines:
         word, _, rest = line.partition(": ")
@@ -269,7 +273,8 @@ def changes(lines):
     return found
 
 
-# Mistakes that an implementer of the format would make. The gate must have each of them.
+# Mistakes that an implementer of the format would make. The gate must have an edit for each of
+# them.
 WRONG_BODIES = """
 aead_buffer_decrypted_on_refusal base64_trailing_bits_accepted
 buffer_zeroed_after_a_damaged_chunk byte_after_a_full_last_piece_ignored
@@ -291,7 +296,7 @@ work_factor_with_a_leading_zero_accepted write_fault_invented_for_a_long_piece
 
 
 class PlantedBugs(unittest.TestCase):
-    """Those that the prover has to refuse, and those of the program, which a script has to."""
+    """The planted bugs that the prover must refuse, and those of the program, which a script must refuse."""
 
     @classmethod
     def setUpClass(cls):
@@ -304,7 +309,7 @@ class PlantedBugs(unittest.TestCase):
                 cls.clauses[crate] = {(clause.function, clause.label) for clause in PROMISES.clauses(crate)}
 
     def has_clause(self, crate, function, label):
-        """Whether the crate or one below it has the clause, or implements a trait's function by that name."""
+        """Whether the crate or one below it has the clause, or implements a trait function of that name."""
         if (function, label) in self.clauses.get(crate, ()):
             return True
         kind, _, name = function.rpartition("::")
@@ -315,7 +320,7 @@ class PlantedBugs(unittest.TestCase):
         return any(self.has_clause(lower, function, label) for lower in self.below.get(crate, []))
 
     def test_names(self):
-        """No two of the prover's have one name, and no two of the program's."""
+        """No two bugs for the prover have the same name, nor any two of the program."""
         names = [(crate is None, name) for crate, name, _ in self.bugs]
         self.assertTrue(names)
         self.assertEqual({name for name in names if names.count(name) > 1}, set())
@@ -327,7 +332,7 @@ class PlantedBugs(unittest.TestCase):
         self.assertEqual(set(WRONG_BODIES) - in_gate, set())
 
     def test_clauses(self):
-        """The first line of each that the prover has to refuse names a clause of its crate, or of one below."""
+        """The first line of each bug for the prover names a clause of its crate, or of one below."""
         for crate, name, lines in self.bugs:
             if crate:
                 with self.subTest(f"{crate}: {name}"):
@@ -336,7 +341,7 @@ class PlantedBugs(unittest.TestCase):
                     self.assertTrue(self.has_clause(crate, found[1], found[2] or ""), lines[0])
 
     def test_texts(self):
-        """The text that each replaces stands once in its file, after the changes before it."""
+        """The text that each change replaces occurs once in its file, after the changes before it."""
         for crate, name, lines in self.bugs:
             folder, texts = f"{ROOT}/crates/{crate}/" if crate else ROOT + "/", {}
             with self.subTest(f"{crate or 'agep'}: {name}"):
@@ -349,7 +354,8 @@ class PlantedBugs(unittest.TestCase):
 
 class Toolchain(unittest.TestCase):
     def test_line(self):
-        """README.md names the toolchain at hand. Another one is named as a skip, and fails nothing."""
+        """README.md names the installed toolchain. Another toolchain is reported as a skip, and is not a
+        failure."""
         named = re.findall(r"^rattle-kit-.*$", text_of(ROOT + "/README.md"), re.MULTILINE)
         self.assertTrue(named)
         at_hand = subprocess.run(["rt", "version"], capture_output=True, text=True).stdout.strip()
@@ -368,7 +374,8 @@ def code_of(text):
 
 
 def around(code, at):
-    """The pattern of the arm that a place stands in, what opens its block, and where it opens."""
+    """For a position its match arm's pattern, the text that opens its block, and the offset where the block
+    opens."""
     depth, pattern, stop = 0, None, at
     for place in range(at - 1, -1, -1):
         sign = code[place]
@@ -393,20 +400,20 @@ def around(code, at):
 
 
 def sources():
-    """The name and the code of each source, but for tests."""
+    """The name and the code of each source except tests."""
     for name in sorted(glob.glob("crates/*/src/**/*.rt", root_dir=ROOT, recursive=True)):
         if not re.search("_tests/|/test", name):
             yield name, code_of(text_of(f"{ROOT}/{name}"))
 
 
 class OutOfMemory(unittest.TestCase):
-    """Out of memory is returned only by the arm of a call that allocates, and by no condition of its
-    own. No clause can say it, since no clause knows when an allocation is refused."""
+    """Out of memory is returned only in the error arm of a call that allocates. No clause can say so, because
+    no clause knows when an allocation is refused."""
 
     NAMES = r"\b(?:OutOfMemory|OUT_OF_MEMORY|Memory|AllocError(?=\))|out_of_memory(?=\(\)\)))"
-    # A call that is passed an allocator, or grows a vector or a text.
+    # A call that takes an allocator, or grows a vector or a text.
     ALLOCATES = r"\balloc\b|\.(push|insert|append|extend_from_slice)\(|\bwrite_\w+\(.*&mut \w+\)"
-    # What has the name of out of memory and returns it nowhere, or converts it.
+    # Places that name out of memory without returning it, or convert it.
     DECLARED = (
         r"(pub enum \w+(<'a>)?|pub\(crate\) const|impl From<Alloc\w+(<T>)?> for .*"
         r"|fn from\(_?error: Alloc\w+(<T>)?\) ->|match (self|error|fault)|\w+::Memory =>)$"
@@ -415,11 +422,11 @@ class OutOfMemory(unittest.TestCase):
         r"(Err\()?([\w:]+::)?(Memory|OutOfMemory)\)?$"
         r"|Err\(reason\) if reason\.kind\(\) == ErrorKind::OutOfMemory$"
     )
-    # The arms in which a function returns it for a reason that is looked at elsewhere.
+    # The arms in which a function returns it for a reason that is checked elsewhere.
     OTHERS = {
-        # The capacity that was requested is another: no vector of the standard library does so.
+        # The vector has another capacity than requested, which the standard library never does.
         "if bytes.capacity() != CHUNK_BUF_SIZE",
-        # The error of a parser, or of the arguments, whose kind is out of memory.
+        # An error of the parser or of the arguments, whose kind is out of memory.
         "if error.kind() == ErrorKind::OutOfMemory", "if kind == io::ErrorKind::OutOfMemory",
     }
 
@@ -431,7 +438,7 @@ class OutOfMemory(unittest.TestCase):
             return bool(re.match(self.CONVERTED, pattern)) or (
                 pattern == "Err(_)" and "match" in head and bool(re.search(self.ALLOCATES, head)))
         if re.match(r"let .*\bOk\(.* else$", head):
-            # A pair of results, each of which was given a name.
+            # A pair of results, each of which has a name.
             return bool(re.search(self.ALLOCATES, head) or re.search(r"= \(\w+, \w+\) else$", head))
         parts = head.removeprefix("if ").split(" || ")
         return all(re.search(f"(?:{self.ALLOCATES}).*[.]is_err[(][)]$", part) for part in parts)
@@ -447,13 +454,13 @@ class OutOfMemory(unittest.TestCase):
                     self.assertTrue(is_good, around(code, found.start())[:2])
 
 
-    # How much room a call asks for: a constant, a length, or a number that is named here. A list of
-    # values has no size.
+    # The capacity that a call requests: a constant, a length, or a number that is named here. A
+    # list of values has no size.
     SIZE = r"([A-Z_]+|[\w.]+\.len\(\)|len|spaces|range\.len|params\.work_len\(\))"
     ROOM = rf"with_capacity\(alloc, {SIZE}(, \w+)?\)|vec!\[in [\w.()]+; (\w+; {SIZE}|[^;]+)\]"
 
     def test_sizes(self):
-        """A call asks for as much room as it needs, and not for too much at one count of things alone."""
+        """A call requests the capacity that it needs, and never too much for particular counts only."""
         for name, code in sources():
             for line in re.findall(".*(?:with_capacity|vec!).*", code):
                 with self.subTest(f"{name}: {line.strip()}"):
@@ -461,15 +468,15 @@ class OutOfMemory(unittest.TestCase):
 
 
 class FailedCalls(unittest.TestCase):
-    """A device fails only where its reader, writer or vector failed: in an arm of a `match` on one
-    call of it. No clause can say it, since the standard library counts no failures."""
+    """A device fails only if its reader, writer or vector failed: in an arm of a `match` on a call of it. No
+    clause can say so, because the standard library does not count failures."""
 
     NAMES = r"\b(?:count_failure\(&mut \w|DeviceFault(?=\)$)|self\.fail\()"
     CALLS = re.compile(
         r"match (self\.(reader|file)\.(read|seek)\(.*\)|self\.writer\.(write\(piece\)|flush\(\))"
         r"|read_from\(.*\)|self\.out\.extend_from_slice\(piece\))$"
     )
-    # An Ok that is a failure too: of no byte, though some were wanted, and not at the end.
+    # An Ok that is also a failure: no bytes, although some were requested before the end.
     REFUSED = {
         "Ok(n) if n > 0 || piece.is_empty()",
         "Ok(n) if n > 0 || buf.is_empty() || self.size.is_none_or(|size| size <= at)",
@@ -490,7 +497,7 @@ class FailedCalls(unittest.TestCase):
                         first = " ".join(block[block.index("{\n") + 1 : block.index("=>")].split())
                         self.assertIn(first, self.REFUSED)
                 count += 1
-        self.assertEqual(count, 8)
+        self.assertEqual(count, 9)
 
 
 LIBRARIES = ["age_cipher", "age_kdf", "age_header", "age_recipient", "age_stream", "age_file"]
@@ -502,8 +509,8 @@ class MustNotCompile(unittest.TestCase):
     its file is `// ` and the error's name."""
 
     def compile(self, name, folder):
-        """What the compiler says of the program, a crate of its own over a copy of the libraries'
-        sources: it stops at an error in them."""
+        """The output of the compiler for the program, as a crate of its own over a copy of the sources of the
+        libraries, where it stops at the error."""
         for library in LIBRARIES:
             for part in ("src", "specs", "proofs"):
                 if os.path.isdir(f"{ROOT}/crates/{library}/{part}"):
@@ -520,7 +527,7 @@ class MustNotCompile(unittest.TestCase):
         return done.returncode, done.stdout.decode("utf-8", "replace")
 
     def test_refused(self):
-        """The compiler refuses it, with this error alone."""
+        """The compiler refuses each, with this error alone."""
         names = sorted(os.path.basename(name)[:-4] for name in glob.glob(TESTS + "/must_not_compile/*.txt"))
         room = scratch()
         self.assertTrue(names)

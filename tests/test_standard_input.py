@@ -1,4 +1,4 @@
-"""Standard input by each of its names, from a file and from a pipe, or closed; and in which roles it is
+"""Standard input by each of its names, from a file, from a pipe and closed; and the roles in which it is
 refused."""
 
 import os
@@ -13,7 +13,7 @@ NAMES = ["/dev/stdin", "/dev/fd/0", "/proc/self/fd/0"]
 
 class StandardInput(ProgramCase):
     def both(self, title, expected, name, *words):
-        """Runs the program with a file at standard input, and with a pipe that gives the same."""
+        """Runs the program with a file as standard input, and with a pipe that returns the same bytes."""
         with self.subTest(f"a file: {title}"), open(name, "rb") as stdin:
             self.writes(expected, *words, input=stdin)
         with self.subTest(f"a pipe: {title}"):
@@ -30,7 +30,7 @@ class StandardInput(ProgramCase):
                 self.both(f"{words} {name or ''}", expected, file, *words.split(), *([name] if name else []))
 
     def test_range(self):
-        """range reads a file at standard input, and no pipe."""
+        """range reads standard input from a file, but not from a pipe."""
         for name in NAMES:
             with self.subTest(f"a file: {name}"), open("key.age", "rb") as stdin:
                 self.writes(b"ell", "range", "-k", "key", "1", "3", name, input=stdin)
@@ -38,7 +38,7 @@ class StandardInput(ProgramCase):
                 self.says(message("CannotOpen", name), "range", "-k", "key", "1", "3", name, input=read("key.age"))
 
     def test_secrets(self):
-        """A secret is standard input, and IN is named."""
+        """A secret is standard input, and IN is given."""
         key_age, pass_1_age = read("key.age"), read("pass_1.age")
         rows = [
             ("decrypt -k", "key.age", "key", HELLO), ("decrypt -p", "pass.age", "pass", HELLO),
@@ -59,7 +59,7 @@ class StandardInput(ProgramCase):
                 self.writes(expected, "inspect", "-f", name, "key.age", input=stdin)
 
     def test_device(self):
-        """A character device is standard input by its names alone, and refused as two files."""
+        """A character device is standard input only by the names of that, and refused as two files."""
         for name in NAMES:
             for words, role in (("decrypt -k", "Key"), ("encrypt -k key -s", "Seed")):
                 with self.subTest(f"{words} {name}"), open("/dev/zero", "rb") as stdin:
@@ -70,13 +70,13 @@ class StandardInput(ProgramCase):
 
 class Refused(ProgramCase):
     def refused(self, name, line):
-        """A line that ends with this fault, and makes no OUT."""
+        """Runs a line, which must end with this fault and create no OUT."""
         with self.subTest(line):
             self.line_says(name, line)
             self.assertFalse(os.path.exists("made"))
 
     def test_in_and_another(self):
-        """Where IN is not named, no file that an option names may be standard input."""
+        """If IN is not given, no option may name standard input."""
         rows = [
             ("Key", ("encrypt -k NAME", "encrypt -k key -k NAME", "decrypt -k NAME", "salvage -k NAME", "rewrap -K new.key -k NAME")),
             ("NewKey", ("rewrap -p pass -K NAME",)),
@@ -89,7 +89,7 @@ class Refused(ProgramCase):
                 self.refused(f"StandardInputTwice: Input, {role}", f"{words.replace('NAME', name)} -o made {stdin}")
 
     def test_in_by_a_name(self):
-        """IN is standard input where a name of it is IN, and so is a secret by a link."""
+        """IN is standard input by any of its names, and a secret even by a link."""
         os.symlink("key", "linked.key")
         for role, line in (
             ("Passphrase", "decrypt -p /dev/stdin <pass.age"),
@@ -104,7 +104,7 @@ class Refused(ProgramCase):
             self.refused(f"StandardInputTwice: Input, {role}", line)
 
     def test_two_options(self):
-        """Two files that options name may not be standard input either."""
+        """Nor may two options name standard input."""
         rows = [
             ("Key", "encrypt -k /dev/stdin -k /dev/stdin hello"),
             ("Key", "decrypt -k key -k /dev/stdin -k /dev/fd/0 key.age"),
@@ -129,7 +129,7 @@ class Refused(ProgramCase):
                 self.refused(f"StandardInputTwice: {roles}", f"{words} -o made {stdin}")
 
     def test_dash(self):
-        """`-` is no name of standard input."""
+        """`-` is not a name of standard input."""
         for words in (
             "decrypt -k key -", "salvage -k key -", "range -k key 0 1 -", "inspect -", "decrypt -k - key.age", "salvage -k - key.age",
             "encrypt -p - hello", "encrypt -k key -s - hello", "inspect -f - key.age", "rewrap -k key -K - key.age", "rewrap -k key -P - key.age",
@@ -137,7 +137,7 @@ class Refused(ProgramCase):
             self.refused("CannotOpen: -", f"{words} <key.age")
 
     def test_closed(self):
-        """A standard input that is closed can't be read, by whatever name."""
+        """A closed standard input cannot be read, by any name."""
         for words in ("encrypt -k key", "decrypt -k key", "salvage -k key", "rewrap -k key -K key", "inspect"):
             self.refused("Read", f"{words} <&-")
         for name in NAMES:

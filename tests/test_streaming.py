@@ -1,4 +1,4 @@
-"""A program that works chunk by chunk: what comes out while the input is still fed, and its memory."""
+"""The program works chunk by chunk: its output while the input is still fed, and its memory."""
 
 import fcntl
 import os
@@ -15,7 +15,7 @@ from messages import message
 from program import AGEP, TESTS, ProgramCase, fault, read, write
 from test_options import skip_unless_holes
 
-# A key's header with the nonce, and without it.
+# The header of a keyed file with the nonce, and without it.
 KEY_FRONT, KEY_HEADER, PASSPHRASE_HEADER = 172, 156, 150
 CHUNK, SEALED = 65536, 65552
 MANY = b"".join(b"%d\n" % i for i in range(1, 100001))[:450000]
@@ -23,12 +23,12 @@ MANY = b"".join(b"%d\n" % i for i in range(1, 100001))[:450000]
 
 class FeedCase(ProgramCase):
     def feed(self, *words):
-        """Runs feed.py on these words, of which the last are a command line of the program."""
+        """Runs feed.py with these arguments, which end with a command line of the program."""
         words = [sys.executable, TESTS + "/feed.py", *map(str, words)]
         return subprocess.run(words, capture_output=True, timeout=600)
 
     def assert_small(self, most, *words):
-        """Whether a run ends well with at most so many KiB resident."""
+        """A run must succeed with at most so many KiB resident."""
         done = self.feed(*words)
         self.assertEqual((done.returncode, done.stderr), (0, b""))
         self.assertTrue(0 < int(done.stdout) <= most, f"{int(done.stdout)} KiB resident, and not {most}")
@@ -46,19 +46,19 @@ class Lockstep(FeedCase):
         self.assertEqual((done.returncode, done.stdout, done.stderr), (0, b"", b""))
 
     def test_decrypt(self):
-        """decrypt: chunk i is out before chunk i + 2 is fed."""
+        """decrypt: chunk i is written before chunk i + 2 is fed."""
         self.assert_lockstep(KEY_FRONT, SEALED, 0, CHUNK, "many.age", "many", AGEP, "decrypt", "-k", "key")
 
     def test_salvage(self):
-        """salvage: chunk i is out before chunk i + 2 is fed."""
+        """salvage: chunk i is written before chunk i + 2 is fed."""
         self.assert_lockstep(KEY_FRONT, SEALED, 0, CHUNK, "many.age", "many", AGEP, "salvage", "-k", "key")
 
     def test_encrypt(self):
-        """encrypt: sealed chunk i is out before chunk i + 2 is fed."""
+        """encrypt: sealed chunk i is written before chunk i + 2 is fed."""
         self.assert_lockstep(0, CHUNK, KEY_FRONT, SEALED, "many", "many.age", AGEP, "encrypt", "-k", "key", "-s", "seed")
 
     def test_rewrap(self):
-        """rewrap: all but the newest 128 KiB are out before more are fed."""
+        """rewrap: everything except the newest 128 KiB is written before more is fed."""
         words = [AGEP, "rewrap", "-k", "key", "-K", "new.key", "-s", "seed"]
         self.assert_lockstep(KEY_HEADER + CHUNK, CHUNK, KEY_HEADER, CHUNK, "many.age", "new.age", *words)
 
@@ -71,10 +71,10 @@ class Lockstep(FeedCase):
 
 
 class NonBlocking(ProgramCase):
-    """Standard output is a pipe that another program made non-blocking."""
+    """Standard output is a pipe that another program has made non-blocking."""
 
     def run_full(self, command, ends):
-        """Runs a command of the shell, and reads what it wrote once it ends, or the pipe is full."""
+        """Runs a shell command, and reads its output once it has ended or the pipe is full."""
         reading, writing = os.pipe()
         os.set_blocking(writing, False)
         environment = dict(os.environ, PATH=os.path.dirname(AGEP) + ":" + os.environ["PATH"])
@@ -90,13 +90,13 @@ class NonBlocking(ProgramCase):
         return done.returncode, err, out
 
     def test_full(self):
-        """A write that would have to wait fails, of agep as of cat."""
+        """A write that would have to wait fails, in agep as in cat."""
         write("many.age", fixture.for_keys(MANY, KEY))
         expected = (1, fault(message("Write")).encode(), MANY[:CHUNK])
         self.assertEqual(self.run_full("agep decrypt -k key many.age", True), expected)
 
     def test_helped(self):
-        """The command in docs/USE.md makes them wait again."""
+        """The command in docs/USE.md makes both wait again."""
         write("many.age", fixture.for_keys(MANY, KEY))
         use = read(os.path.join(TESTS, "../docs/USE.md")).decode()
         (helps,) = re.findall(r"`(python3 -c 'import os; [^`]*)`", use)
@@ -118,7 +118,7 @@ class Memory(FeedCase):
             subprocess.run(["cmp", "empty", "back"], check=True)
 
     def test_rewrap(self):
-        """rewrap: 1 GiB through pipes, with at most 8 MiB resident; what follows the header stays."""
+        """rewrap: 1 GiB through pipes, with at most 8 MiB resident; the payload is unchanged."""
         with open("great.age", "wb") as out:
             out.write(reference.header(SEED[:16], [reference.key_stanza(KEY, SALT)]))
             reference.write_payload(out, SEED[:16], SEED[16:32], [b"hello\n"], 16384)
@@ -135,7 +135,7 @@ class Memory(FeedCase):
 
 
     def test_salvage(self):
-        """salvage: 256 MiB of lost chunks through pipes, with at most 4 MiB resident, make one line."""
+        """salvage: 256 MiB of lost chunks through pipes, with at most 4 MiB resident, give one line."""
         with open("great.age", "wb") as out:
             out.write(reference.header(SEED[:16], [reference.key_stanza(KEY, SALT)]))
             reference.write_payload(out, SEED[:16], SEED[16:32], [b"hello\n"], 4096)
@@ -148,7 +148,7 @@ class Memory(FeedCase):
 
 class DamagedFile(ProgramCase):
     def test_unread(self):
-        """Of a file whose first chunk is damaged no more is read than that chunk and one byte."""
+        """If the first chunk is damaged, only that chunk and one more byte are read."""
         file = fixture.changed(fixture.for_passphrase(fixture.PLAIN[:131073]), 166)
         write("damaged", file)
         with open("damaged", "rb") as stdin:

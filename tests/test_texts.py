@@ -1,16 +1,20 @@
-"""Compares what tells users of the program with the built program: the texts of help and their
-examples, the manual page, the completions, the change log."""
+"""Compares the texts for users with the built program: help and its examples, the manual page, the
+completions, CHANGELOG.md."""
 
 import os
 import re
+import shlex
 import shutil
 import subprocess
 import unittest
 
 from program import AGEP, ROOT, ProgramCase, read, scratch, version, write
-from shells import offered
+from shells import FOLDER, offered
 
 PAGE = ROOT + "/share/man/agep.1"
+
+# An option in help: its letter, if it has one, its name and its value.
+OPTION = r"^ {2,6}(?:(-[a-zA-Z]), )?(--[a-z-]+)(?: <(\w+)>)?"
 
 
 def help_of(*words):
@@ -18,28 +22,35 @@ def help_of(*words):
 
 
 def commands():
-    """The commands that help shows, but for help itself."""
+    """The commands that help shows, except help itself."""
     shown = help_of().split("\nCommands:\n")[1].split("\n\n")[0]
     return [line.split()[0] for line in shown.split("\n") if line.split()[0] != "help"]
 
 
 def option_rows(*words):
-    """The letter, or an empty text, and the name of each option that help shows."""
-    return re.findall("^ {2,6}(?:(-[a-zA-Z]), )?(--[a-z-]+)", help_of(*words), re.MULTILINE)
+    """The letter, if it has one, the name and the value of each option that help shows."""
+    return re.findall(OPTION, help_of(*words), re.MULTILINE)
 
 
 def options_of(*words):
     """The letters and names of the options that help shows."""
-    return sorted(word for pair in option_rows(*words) for word in pair if word)
+    return sorted(word for letter, name, _ in option_rows(*words) for word in (letter, name) if word)
+
+
+def texts_of(command):
+    """The sentences of help for each option, by its name; the default is the last one."""
+    options = help_of(command).split("\nOptions:\n")[1].split("\n\n")[0]
+    rows = re.findall(OPTION + r" +(\S.*(?:\n {20,}.*)*)", options, re.MULTILINE)
+    return {name: re.sub(r"\.? \[default: (.*)\]$", r". The default is \1", " ".join(text.split())) + "." for _, name, _, text in rows}
 
 
 def section(heading):
-    """The part of the manual page between this heading and the next."""
+    """The section of the manual page with this heading."""
     return read(PAGE).decode().replace("\\-", "-").split(f"\n.SH {heading}\n")[1].split("\n.SH ")[0]
 
 
 def enter_examples():
-    """Enters a folder that has the files which examples name, beside a folder for programs."""
+    """Enters a folder with the files that the examples name, beside a folder for programs."""
     folder = scratch()
     for name in ("bin", "work", "work/folder"):
         os.mkdir(f"{folder}/{name}")
@@ -55,7 +66,7 @@ def enter_examples():
 
 
 def run_example(line, *options, status=0):
-    """Runs a line in the folder, which ends so, and returns what it writes."""
+    """Runs a line in the folder, which must end with this status, and returns its output."""
     env = {**os.environ, "PATH": f"../bin:{os.environ['PATH']}"}
     done = subprocess.run(["bash", *options, "-c", line], env=env, stdin=subprocess.DEVNULL, capture_output=True, timeout=60)
     if (done.returncode, done.stderr) != (status, b""):
@@ -65,7 +76,7 @@ def run_example(line, *options, status=0):
 
 class Helps(ProgramCase):
     def test_form(self):
-        """Help fits 80 columns of ASCII, and ends with the statuses and examples."""
+        """Help is ASCII, fits 80 columns, and ends with the statuses and examples."""
         self.assertGreaterEqual(len(commands()), 4)
         for words in [[]] + [[command] for command in commands()]:
             with self.subTest(" ".join(words) or "agep"):
@@ -78,7 +89,7 @@ class Helps(ProgramCase):
                     self.assertEqual([line.split()[0] for line in lines if line.split()], ["0", "1", "2"])
 
     def test_same(self):
-        """Help by the word help and by options is the same."""
+        """The word help and the options give the same help."""
         for first, *others in (["--help"], ["help"], ["help", "--help"], ["help", "-h"]), (["inspect", "--help"], ["help", "inspect"]):
             expected = self.run_agep(*first)
             self.assert_ended(expected, 0, "", None)
@@ -87,7 +98,7 @@ class Helps(ProgramCase):
                     self.writes(expected.out, *words)
 
     def test_versions(self):
-        """The version is the newest of the change log."""
+        """The version is the newest in CHANGELOG.md."""
         self.assertRegex(version(), r"^\d+\.\d+\.\d+$")
         for option in ("-V", "--version"):
             for words in [[]] + [[command] for command in commands()]:
@@ -96,8 +107,27 @@ class Helps(ProgramCase):
         with self.subTest("the manual page"):
             self.assertIn(f'"agep {version()}"', read(PAGE).decode())
 
+    def test_other_words(self):
+        """Options and commands of other programs are refused. The help named by the refusal says what to use."""
+        lines = help_of().split("\nIf you are looking for:\n")[1].split("\n\n")[0]
+        rows = dict(re.findall(r"^  (\S.*?)  +(\S.*)$", lines, re.MULTILINE))
+        words = [word for row in rows for word in row.split(", ")]
+        self.assertEqual(words, ["-d", "-r", "-i", "keygen", "verify", "test"])
+        for word in words:
+            ran = self.run_agep(word)
+            self.assertEqual((ran.status, ran.out), (2, b""))
+            self.assertTrue(ran.err.endswith(b"\nFor more information, try '--help'.\n"), ran.err)
+        self.assertEqual(rows["-d"], "agep decrypt")
+        self.assertIn("no public keys", rows["-r, -i"])
+        enter_examples()
+        run_example("agep encrypt -p passphrase -w 10 -o notes.age notes")
+        os.remove("key")
+        for row in ("keygen", "verify, test"):
+            run_example(rows[row])
+        self.assertEqual(len(read("key")), 32)
+
     def test_examples(self):
-        """The examples of help run, in a folder that has the files which they name."""
+        """The examples in help run, in a folder with the files that they name."""
         enter_examples()
         for command in commands():
             for name in os.listdir("."):
@@ -117,27 +147,48 @@ class Helps(ProgramCase):
 
 
 class Manual(unittest.TestCase):
+    def test_synopsis(self):
+        """Each command with its options and arguments, as in help."""
+        page = re.sub(r'^\.\\".*\n?', "", section("SYNOPSIS"), flags=re.MULTILINE)
+        lines = [[shlex.split(line) for line in entry.strip().split("\n")] for entry in page.split("\n.br\n")]
+        shown = [" ".join((" " if len(macro) == 2 else "").join(words).strip() for macro, *words in entry) for entry in lines]
+        expected = []
+        for command in commands():
+            pairs = {"-p": "{-p FILE | -k FILE...}", "-P": "{-P FILE | -K FILE...}"}
+            rows = [row for row in option_rows(command) if row[0] not in ("-k", "-K", "-h", "-V")]
+            words = [pairs.get(letter, f"[{letter or name} {value}]".replace(" ]", "]")) for letter, name, value in rows]
+            usage = re.search(r"^Usage: agep \w+ \[OPTIONS\] (.*)", help_of(command), re.MULTILINE)[1]
+            expected.append(" ".join(["agep", command, *words, re.sub("[<>]", "", usage)]))
+        self.assertEqual(shown, [*expected, "agep help [COMMAND]", "agep {-h | -V}"])
+
     def test_options(self):
-        """The manual page has each option, in SYNOPSIS and once in OPTIONS."""
+        """OPTIONS has each option once, with its value."""
+        rows = re.findall(r'^\.TP\n\.BR (?:(-[a-zA-Z]) ", " )?(--[a-z-]+)(?: " \\fI(\w+)\\fR")?', section("OPTIONS"), re.MULTILINE)
+        every = {row for words in [[], *([command] for command in commands())] for row in option_rows(*words)}
+        self.assertEqual(sorted(rows), sorted(every))
+        self.assertNotRegex(read(PAGE).decode(), r"(?<![\\\w])-(-|[a-zA-Z]\b)", "a hyphen in place of a minus, which a shell does not know")
+
+    def test_texts(self):
+        """OPTIONS has the text that the help of each command has for the option."""
+        said, page = {}, re.sub(r"\\f[BIR]", "", section("OPTIONS"))
+        for name, paragraphs in re.findall(r'^\.TP\n\.BR (?:-[a-zA-Z] ", " )?(--[a-z-]+).*\n((?:[^.].*\n|\.IP\n)*)', page, re.MULTILINE):
+            for paragraph in paragraphs.split(".IP\n"):
+                users, text = re.fullmatch(r"(?:\((.*)\)\n)?(.*)", paragraph, re.DOTALL).groups()
+                for command in re.split(", | and ", users) if users else commands():
+                    said.setdefault(command, {}).setdefault(name, []).extend(text.split())
         for command in commands():
             with self.subTest(command):
-                synopsis = re.search(rf"^\.B agep {command}$(.*?)(?=^\.B agep|\Z)", section("SYNOPSIS"), re.MULTILINE | re.DOTALL)[1]
-                briefs = {letter or name for letter, name in option_rows(command)} - {"-h", "-V"}
-                self.assertEqual(sorted(re.findall(r"(?<!-)-[a-zA-Z]\b|--[a-z-]+", synopsis)), sorted(briefs))
-        with self.subTest("OPTIONS"):
-            rows = re.findall(r'^\.TP\n\.BR (?:(-[a-zA-Z]) ", " )?(--[a-z-]+)', section("OPTIONS"), re.MULTILINE)
-            every = {word for words in [[]] + [[command] for command in commands()] for word in options_of(*words)}
-            self.assertEqual(sorted(word for row in rows for word in row if word), sorted(every))
+                self.assertEqual({name: " ".join(words) for name, words in said[command].items()}, texts_of(command))
 
     def enter_backups(self):
-        """Enters a folder for EXAMPLES that has files which earlier ones made."""
+        """Enters a folder for EXAMPLES, with files like those that earlier examples made."""
         self.addCleanup(os.chdir, "/")
         enter_examples()
         run_example("agep encrypt -p passphrase -w 10 -o notes.age notes && agep encrypt -k key -o disk.age disk")
         run_example("tar c folder | agep encrypt -k key -o folder.tar.age")
 
     def test_examples(self):
-        """Each of EXAMPLES runs in a plain shell. Its files open; after a tar that fails the old backup is there."""
+        """Each of EXAMPLES runs in a plain shell. Its files open; if tar fails, the old backup stays."""
         secrets = ("-p passphrase", "-p passphrase.new", "-k key", "-k recovery.key")
         opened = {"notes.age": "agep decrypt {} notes.age", "folder.tar.age": "agep decrypt {} folder.tar.age | tar xO folder/notes"}
         blocks = re.findall(r"^\.nf\n(.*?)^\.fi$", section("EXAMPLES"), re.MULTILINE | re.DOTALL)
@@ -175,10 +226,10 @@ class Manual(unittest.TestCase):
 
 
 class Completions(unittest.TestCase):
-    """What each shell offers, by its own completion."""
+    """The completions of each shell."""
 
     def assert_offered(self, rows, shells=("bash", "zsh", "fish")):
-        """Compares what the shells offer for the last word of lines, in a folder that has the file some.age."""
+        """Compares what the shells offer for the last word of lines, in a folder with the file some.age."""
         folder = scratch()
         write(folder + "/some.age", b"")
         for shell in shells:
@@ -188,7 +239,7 @@ class Completions(unittest.TestCase):
                 self.assertEqual(offered(shell, list(rows), folder), {line: sorted(words) for line, words in rows.items()})
 
     def test_commands(self):
-        """The commands, and for help too."""
+        """The commands, also after help."""
         every = [*commands(), "help"]
         own = ["-V", "-h", "--help", "--version"]
         self.assert_offered({"agep ": every + own, "agep help ": every, "agep e": ["encrypt"]}, ["bash"])
@@ -196,11 +247,12 @@ class Completions(unittest.TestCase):
         self.assert_offered({"agep ": every, "agep -": own, "agep help ": commands(), "agep e": ["encrypt"]}, ["fish"])
 
     def test_options(self):
-        """Each option of each command, and after it a file where its value is one, and nothing where it is a number."""
+        """Each option of each command, and after it a file if its value is a file, and nothing if it is a
+        number."""
         options, values, short_joined, long_joined = {}, {}, {}, {}
         for command in commands():
             options[f"agep {command} -"] = options_of(command)
-            for short, long, value in re.findall(r"^ +(-[a-zA-Z]), (--[a-z-]+) <(\w+)>", help_of(command), re.MULTILINE):
+            for short, long, value in (row for row in option_rows(command) if row[2]):
                 file = ["some.age"] * (value != "N")
                 values |= {f"agep {command} {option} so": file for option in (short, long)}
                 short_joined[f"agep {command} {short}so"] = [short + name for name in file]
@@ -210,15 +262,29 @@ class Completions(unittest.TestCase):
         self.assert_offered(long_joined, ["zsh", "fish"])
         self.assert_offered(short_joined, ["zsh"])
 
+    def test_descriptions(self):
+        """zsh and fish describe each option by the first words of its help."""
+        for name, pattern in ("_agep", r"--([a-z-]+)=?\}?(['\"])\[(.*)\](?::(?:number|file):\w*)?\2"), ("agep.fish", r" -l ([a-z-]+) .*-d (')(.*)'$"):
+            text = read(f"{FOLDER}/{name}").decode()
+            for command in commands():
+                part = re.search(rf"^        {command}\)\n((?:            .*\n)*)", text, re.MULTILINE)
+                lines = part[1] if part else "\n".join(line for line in text.split("\n") if re.search(rf"[ ']{command}[ '].* -l | -s [hV] ", line))
+                found = {"--" + option: words.replace("\\'", "'") for option, _, words in re.findall(pattern, lines, re.MULTILINE)}
+                expected = {option: re.split(r"[.;:] |\.$", words)[0] for option, words in texts_of(command).items()}
+                if part:
+                    expected = {option: words[0].lower() + words[1:] for option, words in expected.items()}
+                with self.subTest(f"{name} {command}"):
+                    self.assertEqual(found, expected)
+
     def test_arguments(self):
-        """A file where IN is to follow, and no option behind --."""
+        """A file for IN, and no option after --."""
         lines = [f"agep {command}{' 0 1' * (command == 'range')} so" for command in commands()]
         self.assert_offered({line: ["some.age"] for line in lines})
         self.assert_offered({f"agep {words} -- -": [] for words in ("decrypt", "encrypt -k key")}, ["bash", "zsh"])
         self.assert_offered({"agep range so": [], "agep range 0 so": []}, ["zsh"])
 
     def test_options_that_are_given(self):
-        """zsh offers -k and -K again, no other option, and none that excludes one that is given."""
+        """zsh offers -k and -K again, no other option twice, and none that a given option excludes."""
         rows = {}
         for words, gone in {
             "encrypt -k a": "-p --passphrase", "encrypt -p a": "-p --passphrase -k --key", "decrypt -k a -m 3": "-p --passphrase -m --max-work",

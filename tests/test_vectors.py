@@ -1,6 +1,6 @@
 """The test vectors of tests/make_vectors.py: their sum is the one in tests/vectors/README.md; agep ends on
-each in the fault, with its number or part, that it was made for; and Debian's Go library of age ends
-as expected, but for the differences that the README lists."""
+each with the expected fault and its number or part; and Debian's Go library of age gives the expected
+results, except for the differences that the README lists."""
 
 import os
 import re
@@ -19,7 +19,8 @@ README = read(f"{TESTS}/vectors/README.md").decode()
 GO = "/usr/share/gocode"
 AGE = "src/filippo.io/age"
 HAS_GO = shutil.which("go") and all(os.path.exists(f"{GO}/{name}") for name in (f"{AGE}/testkit_test.go", "src/golang.org/x/crypto"))
-# Beside the reader of the library, which the Debian package skips, since it would download vectors.
+# Runs the library's own reader of vectors; the Debian package skips it, because it would download
+# vectors.
 FOLDER_TEST = b"""package age_test
 
 import (
@@ -45,7 +46,7 @@ func TestFolder(t *testing.T) {
 
 
 def expected(case, way):
-    """What a vector that was made so ends in, in a way that names the first fault."""
+    """The expected result of a vector, for a way of opening that returns the first fault."""
     if case.is_armored:
         return testkit.Found("NotAge", None, b"")
     fault, *words = case.fault
@@ -56,7 +57,7 @@ def expected(case, way):
 
 
 def differences(way, cases=None):
-    """How vectors end in another way than they were made for."""
+    """How the results of vectors differ from the expected ones."""
     found = {}
     for case in cases or make_vectors.cases():
         vector = testkit.parse(case.name, case.stored)
@@ -75,7 +76,7 @@ class Made(unittest.TestCase):
         self.assertEqual(re.findall(r"\b[0-9a-f]{64}\b", README), [make_vectors.sum_of_all()])
 
     def test_folder(self):
-        """It makes a folder that tests/testkit reads, of at most 300 KB, and refuses one that is there."""
+        """It makes a folder that tests/testkit reads, of at most 300 KB, and refuses an existing folder."""
         folder = f"{scratch()}/vectors"
         make_vectors.make(folder)
         vectors, wrong = testkit.load(folder)
@@ -88,32 +89,36 @@ class Made(unittest.TestCase):
             make_vectors.make(folder)
 
     def test_faults(self):
-        """Each fault that a file alone can have is among them, and each part of a malformed stanza."""
+        """The vectors have each fault that a file alone can have, and each part of a malformed stanza."""
         words = {word for case in make_vectors.cases() for word in case.fault if isinstance(word, str)}
         self.assertEqual(words, {*testkit.NAMES.values(), "ArgCount", "Salt", "WorkFactorText", "WorkFactorTooHigh", "BodyLength"})
 
 
 class Program(ProgramCase):
     def test_decrypt(self):
-        """agep ends in the fault of each vector, and releases what comes before it."""
+        """agep ends with the fault of each vector, and releases the chunks before it."""
         self.assertEqual(differences(testkit.Agep()), {})
 
     def test_salvage(self):
-        """salvage writes the chunks that open and zeros for the others, and says what is missing."""
+        """salvage writes the chunks that open and zeros for the others, and reports what is missing."""
         for case in make_vectors.cases():
             (kind, secret), *others = case.secrets
             if others or case.is_armored or case.secrets == make_vectors.BY_X25519:
                 continue
-            if testkit.EXPECT[case.fault[0]] not in ("success", "payload failure"):
+            expected = testkit.EXPECT[case.fault[0]]
+            if expected not in ("success", "payload failure", "HMAC failure"):
                 continue
             with self.subTest(case.name):
-                text, lines = saved(case.file[len(header_in(case.file)) :])
+                payload = case.file[len(header_in(case.file)) :]
+                text, lines = saved(payload, expected == "HMAC failure")
                 option, value = ("-p", secret.encode()) if kind == "passphrase" else ("-k", bytes.fromhex(secret.split()[1]))
                 ran = self.run_agep("salvage", option, testkit.secret_file(value), input=case.file)
+                if len(payload) < 16:
+                    text, lines = b"", [message("NonceTruncated")]
                 self.assert_ended(ran, 1 if lines else 0, "".join(map(fault, lines)), text)
 
     def test_inspect(self):
-        """inspect ends in the fault of each malformed header, and writes each other one as it is."""
+        """inspect ends with the fault of each malformed header, and prints every other header as it is."""
         for case in make_vectors.cases():
             fault_of = ("NotAge",) if case.is_armored else case.fault
             with self.subTest(case.name):
@@ -126,11 +131,11 @@ class Program(ProgramCase):
 
 @unittest.skipUnless(HAS_GO, "Go, or its library of age or x/crypto, is missing")
 class Go(unittest.TestCase):
-    """Debian's Go library of age, by its own reader of vectors."""
+    """Debian's Go library of age, with its own reader of vectors."""
 
     def put(self, folder):
-        """The vectors as that reader takes them: in its version none is compressed, and each is for an
-        identity that it has. Returns their names."""
+        """Writes the vectors that this reader takes: uncompressed, as its version needs, and for identities
+        that it has. Returns their names."""
         names = []
         for case in make_vectors.cases():
             if not any("example.org/key" in value for _, value in case.secrets):
@@ -139,7 +144,7 @@ class Go(unittest.TestCase):
         return names
 
     def test_differences(self):
-        """It ends on each vector as expected, but for those in the README's table."""
+        """It gives the expected result for each vector, except for those in the README's table."""
         folder = scratch()
         os.makedirs(f"{folder}/vectors")
         shutil.copytree(f"{GO}/{AGE}", f"{folder}/{AGE}")

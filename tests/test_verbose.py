@@ -1,32 +1,35 @@
-"""`-v`: which second line follows the line of each fault, in each command. Each run is made without -v
-too, where the first line is the only one. tests/cli/verbose.console has an example of each kind."""
+"""`-v`: the second line for each fault, in each command. Each run is repeated without -v, where the first
+line is the only one. tests/cli/verbose.console has an example of each kind."""
 
 import resource
 import shlex
 import signal
 
 from fixture import PASSPHRASE, PLAIN, SEED, changed, with_other_mac
-from program import BY_PASSPHRASE, OPENING, ProgramCase, read, write
+from program import BY_PASSPHRASE, OPENING, ProgramCase, preload, read, write
 from test_headers import ZERO_MAC, ZERO_SALT, header_in, header_of, table
 
-# The commands that read the header of IN, which is to follow.
+# The commands that read the header of IN, which must follow.
 READING = ("inspect", *OPENING)
 NO_FILE, FULL, CLOSED = "No such file or directory", "No space left on device", "Bad file descriptor"
-RAW_KEY, RAW_FILE_KEY = "a key file holds 32 raw bytes, no hexadecimal", "a file key file holds 16 raw bytes, no hexadecimal"
-SHORT_SEED, NO_BYTE = "a seed file holds at least 48 bytes", "no byte, or one LF alone"
-CUT_OR_LONGER = "is the last: the file may be cut short, or have bytes behind its end"
+RAW_KEY, RAW_FILE_KEY = "a key file holds 32 raw bytes, not hexadecimal", "a file key file holds 16 raw bytes, not hexadecimal"
+SHORT_SEED, NO_BYTE = "a seed file holds at least 48 bytes", "it is empty, or holds only one LF"
+CUT_OR_LONGER = "is the last: the file may be cut short, or have bytes after its end"
 FRONT, SEALED = 172, 65552
+# Unicode Standard Annex 9, section 2
+DIRECTING = "\u061c\u200e\u200f\u202a\u202b\u202c\u202d\u202e\u2066\u2067\u2068\u2069"
+MARK, A_MARK = b"\xef\xbb\xbf", "a byte-order mark"
 
 
 def no_growth():
-    """No file of this process may grow, and no signal says so."""
+    """Lets no file of this process grow, without a signal."""
     signal.signal(signal.SIGXFSZ, signal.SIG_IGN)
     resource.setrlimit(resource.RLIMIT_FSIZE, (0, 0))
 
 
 class Verbose(ProgramCase):
     def explains(self, name, more, *lines, out=b"", **how):
-        """Lines that end with the fault of this name, and with -v with a second line."""
+        """Lines must end with the fault of this name, and with -v have a second line."""
         for line in lines:
             command, _, rest = line.partition(" ")
             with self.subTest(line.replace("\n", "\\n")):
@@ -36,7 +39,7 @@ class Verbose(ProgramCase):
 
 class Files(Verbose):
     def test_opening(self):
-        """Files that can't be opened."""
+        """Files that cannot be opened."""
         lines = [
             "encrypt -k key absent", "encrypt -k key -k absent hello", "encrypt -k key -s absent hello", "rewrap -k key -P absent key.age",
             "inspect -f absent key.age", *(f"{command} absent" for command in READING),
@@ -45,14 +48,14 @@ class Files(Verbose):
         self.explains("CannotOpen: hello/a", "opening hello/a: Not a directory", *(f"{it} hello/a" for it in READING))
 
     def test_creating(self):
-        """OUT that can't be created."""
+        """OUTs that cannot be created."""
         for name, why in ("absent/a", NO_FILE), ("folder", "Is a directory"), ("n" * 300, "File name too long"):
             lines = [f"encrypt -k key -o {name} hello", *(f"{it} -o {name} key.age" for it in OPENING)]
             self.explains(f"CannotCreate: {name}", f"creating {name}: {why}", *lines)
 
     def test_names(self):
-        """The second line tells each name from all others: it stands in quotation marks where it is empty or has a
-        blank at an end, and what sets the direction of writing is an escape."""
+        """The second line shows no two names alike: a name that is empty or has a blank at an end is quoted. Both lines
+        escape characters that set the direction of writing."""
         for name, first, second in (
             ("", "", '""'),
             (" ", " ", '" "'),
@@ -62,7 +65,8 @@ class Files(Verbose):
             ('" a"', '" a"', '\\" a\\"'),
             ("a\\nb", "a\\nb", "a\\\\nb"),
             ("a\nb", "a\\nb", "a\\nb"),
-            ("a\u202eb", "a\u202eb", "a\\u{202e}b"),
+            *((f"a{c}b", f"a\\u{{{ord(c):x}}}b", f"a\\u{{{ord(c):x}}}b") for c in DIRECTING),
+            ("a\u200db\u2065", "a\u200db\u2065", "a\u200db\u2065"),
         ):
             self.explains(f"CannotOpen: {first}", f"opening {second}: {NO_FILE}", f"inspect {shlex.quote(name)}")
         write(" key", b"")
@@ -86,7 +90,7 @@ class Files(Verbose):
             self.explains("Read", f"reading the {role} file folder: Is a directory", line)
 
     def test_writing(self):
-        """What can't be written to: a full device, a closed standard output, and a file that may not grow."""
+        """Outputs that cannot be written: a full device, a closed standard output, and a file that may not grow."""
         few = ("encrypt -k key hello", "range -k key 0 5 key.age", *(f"{command} key.age" for command in OPENING))
         many = (
             "encrypt -k key two_chunks", "decrypt -k key two.age", "range -k key 0 140000 key.age", "salvage -k key two.age",
@@ -102,7 +106,7 @@ class Files(Verbose):
 
 class SmallFiles(Verbose):
     def test_sizes(self):
-        """Secrets and seeds of a wrong size."""
+        """Secrets and seeds of the wrong size."""
         for size in (12, 15, 64, 65):
             write(f"size.{size}", PLAIN[:size])
         write("most", PLAIN[:65536])
@@ -125,7 +129,7 @@ class SmallFiles(Verbose):
             self.explains("FileKeyLength", f"file key file {name}: {size} bytes; {RAW_FILE_KEY}", f"inspect -f {name} key.age")
 
     def test_passphrases(self):
-        """Passphrase files that are too long, or hold none."""
+        """Passphrase files that are too long, or empty."""
         for role, line in (
             ("passphrase", "decrypt -p long.pass pass.age"),
             ("passphrase", "range -p long.pass 0 1 pass.age"),
@@ -137,14 +141,25 @@ class SmallFiles(Verbose):
             self.explains("NoPassphrase", f"passphrase file {name}: {NO_BYTE}", f"encrypt -p {name} hello")
             self.explains("NoPassphrase", f"new passphrase file {name}: {NO_BYTE}", f"rewrap -k key -P {name} key.age")
 
+    def test_untyped(self):
+        """Passphrases for a new file that nobody types."""
+        for name, text, why in (
+            ("cr", b"word\r", "ends in CR"), ("cr.lf", b"word\r\n", "ends in CR"), ("mark", MARK + b"word\n", f"begins with {A_MARK}"),
+            ("both", MARK + b"word\r\n", f"begins with {A_MARK} and ends in CR"), ("lines", MARK + b"word\n\n", f"begins with {A_MARK} and ends in LF"),
+        ):
+            write(name, text)
+            self.explains("UntypedPassphrase", f"passphrase file {name}: the passphrase {why}", f"encrypt -p {name} hello")
+            self.explains("UntypedPassphrase", f"new passphrase file {name}: the passphrase {why}", f"rewrap -k key -P {name} key.age")
+
 
 class Headers(Verbose):
     def test_fronts(self):
-        """What is no header, or a greater one than is accepted."""
+        """Files that do not begin with a header, or with a bigger one than is accepted."""
         key_age = read("key.age")
         for name, text in (
             ("armor", b"-----BEGIN AGE ENCRYPTED FILE-----\n"),
-            ("mark", b"\xef\xbb\xbfage-encryption.org/v1\n"),
+            ("mark", MARK + b"age-encryption.org/v1\n"),
+            ("crlf", key_age.replace(b"\n", b"\r\n")),
             ("version", b"age-encryption.org/v2\n"),
             ("long", b"age-encryption.org/v1\n-> a" + b"a" * 70000),
             *((f"cut.{size}", key_age[:size]) for size in (1, 21, 120)),
@@ -156,8 +171,9 @@ class Headers(Verbose):
             ("HeaderTruncated", "cut.1", "the file ends after 1 byte, within its header"),
             ("HeaderTruncated", "cut.21", "the file ends after 21 bytes, within its header"),
             ("HeaderTruncated", "cut.120", "the file ends after 120 bytes, within its header"),
-            ("NotAge", "armor", "ASCII armor stands at its start; age decrypts such a file"),
-            ("NotAge", "mark", "a byte-order mark stands at its start"),
+            ("NotAge", "armor", "it begins with ASCII armor; age decrypts such a file"),
+            ("NotAge", "mark", f"it begins with {A_MARK}"),
+            ("NotAge", "crlf", "its line ends are CR LF: it was changed by a text tool"),
             ("NotAge", "version", first_line),
             ("NotAge", "plain", first_line),
             ("HeaderTooLarge", "long", "the header is longer than 65536 bytes; -H accepts up to 16777216"),
@@ -170,7 +186,7 @@ class Headers(Verbose):
         self.explains("HeaderTruncated", "empty: the file is empty", "inspect -r empty")
 
     def test_new_header(self):
-        """A new header that is larger than the limit is that of OUT."""
+        """If the new header is larger than the limit, the line names OUT."""
         keys = [f"new.{at}" for at in range(920)]
         for at, name in enumerate(keys):
             write(name, PLAIN[32 * at : 32 * at + 32])
@@ -182,7 +198,7 @@ class Headers(Verbose):
             self.explains("HeaderTooLarge", f"{out}: {why}", f"{words} {' '.join(f'{option} {name}' for name in keys)} {rest}")
 
     def test_stanzas(self):
-        """Which tool opens a file of these stanzas."""
+        """The tool that opens a file with these stanzas."""
         for name, types, tool in (
             ("pass.age", "scrypt", "-p"),
             ("data/three_recipients.age", "X25519", "another tool"),
@@ -199,7 +215,7 @@ class Headers(Verbose):
         self.explains("NoMatch", f"standard input: {own}", "decrypt -p pass <key.age")
 
     def test_secrets(self):
-        """Which secrets do not open a file whose stanzas are for them."""
+        """The secrets that failed to open a file with stanzas of their type."""
         other = "key file other.key (32 bytes)"
         lines = [f"{command.replace('-k key', '-k other.key')} key.age" for command in OPENING]
         self.explains("WrongKey", f"key.age: not opened by {other}", *lines)
@@ -212,6 +228,8 @@ class Headers(Verbose):
             ("pass.txt", PASSPHRASE + b"\r\n", "15 bytes; the passphrase ends in CR"),
             (" cr", PASSPHRASE + b"\r", "14 bytes; the passphrase ends in CR"),
             ("lines", PASSPHRASE + b"\n\n", "15 bytes; the passphrase ends in LF"),
+            ("mark", MARK + PASSPHRASE, f"16 bytes; the passphrase begins with {A_MARK}"),
+            ("both", MARK + PASSPHRASE + b"\r\n", f"18 bytes; the passphrase begins with {A_MARK} and ends in CR"),
         ):
             write(name, text)
             word, shown = shlex.quote(name), f'"{name}"' if " " in name else name
@@ -220,7 +238,7 @@ class Headers(Verbose):
             self.explains("WrongKey", f"pass.age: not opened by passphrase file {shown} ({size})", *lines)
 
     def test_work_factors(self):
-        """A work factor above the one that is accepted, with the memory that it takes."""
+        """A work factor above the accepted one, with the memory that it needs."""
         for factor in (2, 23, 24, 30, 31, 99, 10**39):
             write(f"work.{factor}" if factor < 100 else "digits", header_of(f"-> scrypt {ZERO_SALT} {factor}\n{ZERO_MAC}\n"))
         for name, why, *lines in (
@@ -235,11 +253,32 @@ class Headers(Verbose):
         ):
             self.explains("Malformed: WorkFactorTooHigh", f"{name}: its work factor {why}", *(f"{line} {name}" for line in lines))
 
+    def test_memory(self):
+        """The memory that scrypt needed, if it was out of memory: for the header that was read, or for a new
+        one that takes more."""
+        for factor in (18, 19):
+            write(f"work.{factor}", header_of(f"-> scrypt {ZERO_SALT} {factor}\n{ZERO_MAC}\n"))
+        old, new = "; a lower -m refuses it", "; a lower -w takes less"
+        takes_18, takes_19 = "its work factor is 18, which takes 256 MiB of memory", "its work factor is 19, which takes 512 MiB of memory"
+        for more, *lines in (
+            (f"standard output: {takes_18}{new}", "encrypt -p pass hello", "rewrap -k key -P pass key.age", "rewrap -p pass -P pass pass.age"),
+            (f"made: {takes_19}{new}", "encrypt -p pass -w 19 -o made hello", "rewrap -p pass -P pass -w 19 -o made work.18"),
+            (f"work.18: {takes_18}{old}", *(f"{command} work.18" for command in BY_PASSPHRASE), "rewrap -p pass -P pass work.18"),
+            (f"work.19: {takes_19}{old}", "rewrap -p pass -P pass work.19", "decrypt -p pass -o made work.19"),
+            (f"standard input: {takes_18}{old}", "decrypt -p pass <work.18"),
+        ):
+            self.explains("OutOfMemory", more, *lines, memory=100000 * 1024)
+
+    def test_shrunk(self):
+        """A file with fewer bytes than its size said: its last read returns none."""
+        env = {"LD_PRELOAD": preload("calls"), "CALL": "read", "NUMBER": "LAST", "DO": "none"}
+        self.explains("Read", "key.age: the file became shorter while it was read", "range -k key 0 5 key.age", env=env)
+
 
 class Chunks(Verbose):
     def test_chunks(self):
-        """Damaged and missing chunks: the file has its header and nonce, 172 bytes, and then chunks of 65,552, the
-        last of 8,944."""
+        """Damaged and missing chunks: the file has 172 bytes of header and nonce, then chunks of 65,552
+        bytes, and a last one of 8,944."""
         plain_age, end = read("plain.age"), FRONT + 2 * SEALED
         first = "made: chunk 0 holds the plaintext from byte 0 to 65535"
         second = "made: chunk 1 holds the plaintext from byte 65536 to 131071"
@@ -274,23 +313,24 @@ class Others(Verbose):
         key_end, salt = key_age.index(b"\n--- ") + 5, pass_age.split(b" ")[2]
         a_key = "a key fits, but the header was changed after it was written"
         nonce = "the file ends within the 16 bytes that follow its header"
-        line = "the file is damaged, or was changed as a text: line 4 is not valid"
+        line = "the file is damaged, or was changed by a text tool: line 4 is not valid"
         stanza = "the file is damaged, or another program made it: a stanza for -p or -k is not valid"
         for fault, text, why, commands in (
             ("BadLine: 4", key_age[:key_end] + b"_" + key_age[key_end + 1 :], line, READING),
-            ("BadMac", with_other_mac(key_age), a_key, OPENING),
+            ("BadMac", with_other_mac(key_age), a_key, [it for it in OPENING if "salvage" not in it]),
             ("Malformed: Salt", pass_age.replace(salt, b"AAAA"), stanza, BY_PASSPHRASE),
             ("NonceTruncated", key_age[:160], nonce, [it for it in OPENING if "rewrap" not in it]),
         ):
             write("made", text)
             self.explains(fault, f"made: {why}", *(f"{command} made" for command in commands))
-        self.explains("BadMac", f"mac.age: {a_key}", *(f"{command} mac.age" for command in BY_PASSPHRASE))
+        by_passphrase = [f"{command} mac.age" for command in BY_PASSPHRASE if "salvage" not in command]
+        self.explains("BadMac", f"mac.age: {a_key}", *by_passphrase)
         write("nonce", SEED[16:32])
         more = "key.age: the file key is not the one of this file, or the header was changed"
         self.explains("BadMac", more, "inspect -f nonce key.age", out=table(header_in(key_age), False))
 
     def test_no_second_line(self):
-        """Faults whose line says all have no second line."""
+        """Faults whose first line says everything have no second line."""
         for name, line in (
             ("KeyChoice", "encrypt hello"),
             ("NewKeyChoice", "rewrap -k key key.age"),
@@ -299,4 +339,5 @@ class Others(Verbose):
             *(("OutputIsRead: Input, key.age", f"{command} -o key.age key.age") for command in OPENING),
         ):
             self.explains(name, None, line)
-        self.explains("OutOfMemory", None, "encrypt -p pass -w 18 hello", memory=100000 * 1024)
+        write("great", header_of(f"-> {'a' * 4000000}\n\n"))
+        self.explains("OutOfMemory", None, "inspect -H 16777216 great", memory=8 << 20)

@@ -1,21 +1,12 @@
 #!/usr/bin/env python3
-"""Runs the age test vectors of a folder, as those of C2SP CCTV, against the program and the libraries.
+"""Runs a folder of age test vectors, such as those of C2SP CCTV, against the program and the libraries.
 
 usage: tests/testkit FOLDER [agep | python | c]..
 
-A vector begins with lines `key: value`. After an empty line come the bytes of the age file:
+tests/vectors/README.md describes the form. A program refuses ASCII armor as not an age file.
 
-    expect      what opening the file ends in: one of the keys of FAULTS, or armor failure
-    payload     the SHA-256 of all plaintext that may be released, also before a payload failure
-    file key    the file key, in hex
-    passphrase  a passphrase; it may stand several times
-    identity    an identity; it may stand several times. `example.org/key HEX` is a key of this project
-    armored     yes: the bytes are ASCII armor, which this project refuses as no age file
-    compressed  zlib: the bytes are compressed
-    comment     what the vector is about
-
-A vector with an identity that a program lacks is skipped there. What was skipped is listed before the
-last line, which is 'N passed, M failed'.
+A program skips vectors with an identity that it lacks. The skipped ones are listed before the last line,
+which is 'N passed, M failed'.
 """
 
 import functools
@@ -34,7 +25,8 @@ import messages
 import program
 from reference import CHUNK, hkdf, sealed_chunk
 
-# The faults of docs/FORMAT.md that are each failure. A file whose nonce is cut has no payload yet.
+# The faults of docs/FORMAT.md for each kind of failure. A file whose nonce is cut has no payload
+# yet.
 FAULTS = {
     "success": [None],
     "no match": ["NoMatch", "WrongKey"],
@@ -54,7 +46,7 @@ SEALED = CHUNK + 16
 
 
 class Unreadable(Exception):
-    """What is wrong in a vector, with its name and line."""
+    """An error in a vector, with its name and line."""
 
 
 class Secret(NamedTuple):
@@ -74,13 +66,13 @@ class Vector(NamedTuple):
 
     @property
     def tried(self):
-        """The secrets to open it with: armor is refused whatever they are."""
+        """The secrets for opening it; armor is refused with any of them."""
         return (Secret("passphrase", b"x"),) if self.is_armored else self.secrets
 
 
 class Found(NamedTuple):
-    """What opening a file ended in: the name of the fault or None, the number or the part that it names,
-    and the plaintext that was released."""
+    """The result of opening a file: the name of the fault or None, the number or the part that it names, and
+    the released plaintext."""
 
     fault: str
     word: str
@@ -97,7 +89,7 @@ def secret_of(key, value):
 
 
 def parse(name, data):
-    """The vector of a file's bytes."""
+    """The vector in the bytes of a file."""
     fields, secrets, number = {}, [], 0
     while True:
         line, end, data = data.partition(b"\n")
@@ -120,7 +112,7 @@ def parse(name, data):
 
 
 def whole(name, number, fields, secrets, data):
-    """The vector of the lines before the empty line of this number, and of the bytes behind it."""
+    """The vector with the lines before the empty line of this number, and the bytes after it."""
     needed = ("expect", "payload") if fields.get("expect") == "success" else ("expect",)
     for key in needed:
         if key not in fields:
@@ -137,7 +129,7 @@ def whole(name, number, fields, secrets, data):
 
 
 def load(folder):
-    """The vectors of a folder, and what is wrong in those that can't be read."""
+    """The vectors of a folder, and the errors in those that cannot be read."""
     vectors, wrong = [], []
     for name in sorted(os.listdir(folder)):
         try:
@@ -155,15 +147,15 @@ PATTERNS = {name: re.compile(re.escape(text).replace(r"\{0\}", "(.*)")) for _, n
 
 
 def found_of(code, place, part, text):
-    """What a library found, by its code."""
+    """The result of a library, by its code."""
     fault = NAMES.get(code, f"code {code}") if code else None
     return Found(fault, part if fault == "Malformed" else str(place) if (fault, 1) in messages.TEXTS else None, text)
 
 
-# A way to open files has `releases`: whether the chunks before a fault come out; and `is_exact`:
-# whether the fault is the first of docs/FORMAT.md, which that of ranges need not be.
+# A way to open files has `releases`, whether it releases the chunks before a fault, and `is_exact`,
+# whether it returns the first fault of docs/FORMAT.md, as ranges need not do.
 class InTurn:
-    """A program that takes one secret a run: the first that fits, or finds a fault, decides."""
+    """A program that takes one secret per run: the first secret that fits, or finds a fault, decides."""
 
     def lacks(self, secret):
         return secret.kind not in ("passphrase", KEY)
@@ -185,7 +177,7 @@ def secret_file(value):
 
 
 class Agep(InTurn):
-    """agep, or another program with its options and its lines, by the words before them."""
+    """agep, or another program with the same options and messages; `words` start it."""
 
     def __init__(self, name="agep", words=(program.AGEP, "decrypt"), releases=True, is_exact=True):
         self.name, self.words, self.releases, self.is_exact = name, words, releases, is_exact
@@ -203,12 +195,12 @@ class Agep(InTurn):
 
 
 def in_rust(path, kind):
-    """A kind of call of tests/library/convert.rs, by the path of the program."""
+    """A kind of call of tests/library/convert.rs, given the path of the program."""
     return Agep(f"rust {kind}", (path, kind, "decrypt"), kind == "stream", kind != "ranges")
 
 
 class InC(InTurn):
-    """A kind of call of tests/library/convert.c, by the path of the program."""
+    """A kind of call of tests/library/convert.c, given the path of the program."""
 
     def __init__(self, path, kind):
         self.path, self.kind, self.name = path, kind, f"c {kind}"
@@ -221,7 +213,7 @@ class InC(InTurn):
 
 
 class InPython:
-    """A call of the package: it is passed all secrets at once."""
+    """A call of the package, which takes all secrets at once."""
 
     def __init__(self, name, call, releases, is_exact):
         self.name, self.call, self.releases, self.is_exact = f"python {name}", call, releases, is_exact
@@ -254,7 +246,7 @@ def agefile():
 
 @functools.cache
 def x25519():
-    """The example for X25519, or None where its library is missing."""
+    """The example for X25519, or None if its library is missing."""
     try:
         import x25519
 
@@ -270,7 +262,7 @@ def calls_in_python():
 
 
 def why_skipped(vector, way):
-    """Why a vector is not run in a way, or None."""
+    """Why a vector cannot be opened in a way, or None."""
     lacking = [secret.kind for secret in vector.tried if way.lacks(secret)]
     if lacking:
         return f"no identity of kind {lacking[0]}"
@@ -278,23 +270,23 @@ def why_skipped(vector, way):
 
 
 def next_chunk(vector, size):
-    """The text of the full chunk behind these bytes of the plaintext, if it opens under the flag that its
-    place does not have. A reader that tries both flags may release it, and so it is in `payload`."""
+    """The text of the full chunk after these bytes of the plaintext, if it opens only under the wrong flag
+    for its position. A reader that tries both flags may release it, so it counts in `payload`."""
     payload = vector.file.partition(b"\n---")[2].partition(b"\n")[2]
     chunks = payload[16 + size // CHUNK * SEALED :]
     if len(vector.file_key) != 16 or len(chunks) < SEALED:
         return b""
     key, place = hkdf(vector.file_key, payload[:16], b"payload"), (size // CHUNK, len(chunks) > SEALED)
-    # The cipher is an XOR, so sealing opens.
+    # The cipher is an XOR, so sealing also opens.
     text = sealed_chunk(key, *place, chunks[:CHUNK])[:CHUNK]
     return text if sealed_chunk(key, *place, text) == chunks[:SEALED] else b""
 
 
 def differs(vector, found, way):
-    """How what was found differs from what is expected, or None."""
+    """How the result differs from the expected one, or None."""
     expect = "header failure" if vector.is_armored else vector.expect
     if EXPECT.get(found.fault) != expect or (vector.is_armored and found.fault != "NotAge"):
-        return f"{'no age file' if vector.is_armored else expect} was expected, not {found.fault or 'success'} {found.word or ''}"
+        return f"{'not an age file' if vector.is_armored else expect} was expected, not {found.fault or 'success'} {found.word or ''}"
     if expect == "success" or (expect == "payload failure" and vector.payload and way.releases):
         texts = [found.text] if expect == "success" else [found.text, found.text + next_chunk(vector, len(found.text))]
         sums = [hashlib.sha256(text).hexdigest() for text in texts]
@@ -303,13 +295,14 @@ def differs(vector, found, way):
 
 
 def library_ways(prefix, convert):
-    """The calls of the library that is installed in a folder, in Python and in C, by the path of convert."""
+    """The calls of the library installed in a folder, in Python and in C; `convert` is the path of the
+    program for C."""
     os.environ["AGEFILE_LIBRARY"] = f"{prefix}/lib/libagefile.so.1"
     return {"python": list(calls_in_python()), "c": [InC(convert, kind) for kind in ("whole", "steps", "ranges")]}
 
 
 def built_library():
-    """A scratch folder with the library, and convert there."""
+    """A scratch folder with the library and convert."""
     prefix = f"{program.scratch()}/prefix"
     subprocess.run([f"{program.ROOT}/install", "--library", prefix], stdout=subprocess.DEVNULL, check=True)
     source, made = f"{program.TESTS}/library/convert.c", f"{prefix}/convert"
@@ -318,7 +311,7 @@ def built_library():
 
 
 def ways_of(names):
-    """The ways of these names; what they run is built."""
+    """The ways with these names; builds what they run."""
     ways = {}
     if "agep" in names:
         program.build()
@@ -329,8 +322,8 @@ def ways_of(names):
 
 
 def run(vectors, way):
-    """Runs vectors in a way. Returns how many passed, the lines of those that failed, and the names of
-    those that were skipped, by the reason."""
+    """Opens vectors in a way. Returns how many passed, the lines of those that failed, and by the reason the
+    names of those that were skipped."""
     passed, failed, skipped = 0, [], {}
     for vector in vectors:
         if reason := why_skipped(vector, way):

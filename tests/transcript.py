@@ -1,22 +1,22 @@
 #!/usr/bin/env python3
-"""Runs the commands of transcripts, and compares what each prints with what stands below it.
+"""Runs the commands of transcripts, and compares the output of each with the lines below it.
 
 usage: tests/transcript.py [NAME..]     tests/cli/NAME.console, README or USE; or all of them
        tests/transcript.py --list       the names
 
 A transcript is text with blocks that begin with ```console and end with ```. In a block a line that
-begins with `$ ` is a command for bash; where it ends with &&, | or \\ the next line goes on with it.
-Below it stand the lines of its standard output, those of its standard error, each after `2> `, and
-[status N] where it does not end with 0. [no line end] follows a last line of output without one.
-`agep: <NAME>` and `agep: <NAME: WORD>` are the messages that docs/FORMAT.md and tests/messages.txt
-have for a fault; below a command that fails their texts are shown.
+begins with `$ ` is a command for bash; if it ends with &&, | or \\, the next line continues it. Below
+the command are the lines of its standard output, those of its standard error, each after `2> `, and
+[status N] if the status is not 0. [no line end] follows a last line of output without a line end.
+`agep: <NAME>` and `agep: <NAME: WORD>` stand for the messages that docs/FORMAT.md and
+tests/messages.txt have for a fault; a failed check shows their texts.
 
-The commands of a transcript run one after another in one shell with `pipefail`, in a copy of the
-folder that fixture.py makes, with nothing on standard input. ROOT is the repository's folder.
+The commands of a transcript run one after another in one shell with `pipefail`, in a copy of the folder that
+fixture.py makes, with an empty standard input. ROOT is the folder of the repository.
 
-README.md and docs/USE.md are transcripts too: their commands run in a folder like a clone, standard
-error stands among the standard output, and no status is shown. The gate itself is not run, and what
-a build says is left out.
+README.md and docs/USE.md are transcripts, too: their commands run in a folder like a clone, standard error is
+mixed with standard output, and no status is shown. The gate itself is not run, and the output of a build is
+left out.
 
 The last line is 'N passed, M failed', over all commands.
 """
@@ -35,7 +35,7 @@ import program
 
 CLI = program.TESTS + "/cli"
 DOCUMENTS = {"README": "README.md", "USE": "docs/USE.md"}
-# Seconds for a whole transcript.
+# The time limit of a transcript in seconds.
 PATIENCE = 300
 GOES_ON = ("&&", "|", "\\")
 
@@ -62,7 +62,7 @@ def read_text(name):
 
 
 def commands_of(name):
-    """The commands of a transcript, with what each is to print."""
+    """The commands of a transcript, each with its expected output."""
     commands, inside = [], False
     for number, line in enumerate(read_text(name).split("\n"), 1):
         if line.startswith("```"):
@@ -82,7 +82,7 @@ def commands_of(name):
 
 
 def lines_of(text, mark=""):
-    """Lines as a transcript shows them."""
+    """Lines, as a transcript shows them."""
     if not text:
         return []
     *lines, rest = text.split("\n")
@@ -91,7 +91,7 @@ def lines_of(text, mark=""):
 
 
 class Session:
-    """A shell that has run some commands, and what they left."""
+    """A shell that has run some commands, and their output."""
 
     def __init__(self, commands, folder, room, is_merged):
         self.room = room
@@ -114,7 +114,7 @@ class Session:
         subprocess.run(words, cwd=folder, env=environment, stdin=subprocess.DEVNULL)
 
     def printed(self, number):
-        """What a command printed, or nothing where the shell was gone before it ended."""
+        """The output of a command, or `[not run]` if the shell ended before it."""
         if not os.path.exists(f"{self.room}/status.{number}"):
             return ["[not run]"]
         lines = lines_of(read_text(f"{self.room}/out.{number}"))
@@ -126,7 +126,7 @@ class Session:
 
 
 def compare(command, printed):
-    """Prints the line of a check, and where it fails a diff; returns whether it passes."""
+    """Prints the line of a check and, if it fails, a diff; returns whether it passes."""
     title = f"{command.where}: {command.lines[0]}"
     passes = command.expected == printed
     lines = [f"{'ok' if passes else 'FAILED'}: {title}"]
@@ -137,7 +137,7 @@ def compare(command, printed):
 
 
 def run_transcript(name):
-    """The commands of a transcript, and what each printed."""
+    """The commands of a transcript, and the output of each."""
     room = program.scratch()
     folder = room + "/work"
     if name in DOCUMENTS:

@@ -1,9 +1,9 @@
 #!/usr/bin/env python3
-"""Runs a command on a terminal of its own, and types a passphrase at each of its prompts.
+"""Runs a command at a terminal of its own, and types a passphrase at each of its prompts.
 
 usage: tests/type_passphrase.py PASSPHRASE_FILE COMMAND..
 
-Ends with the command's status, and shows on standard error what it said where that is not 0.
+Ends with the status of the command; if that is not 0, prints its output on standard error.
 """
 
 import os
@@ -23,14 +23,14 @@ def main():
     while True:
         try:
             piece = os.read(terminal, 1024)
-        except OSError:  # the command is gone
+        except OSError:  # the command has ended
             break
         if not piece:
             break
         said += piece
         if said.count(b": ") > answered:
             answered += 1
-            time.sleep(0.1)  # until the command no longer echoes
+            time.sleep(0.1)  # until the terminal no longer echoes
             os.write(terminal, line)
     status = os.waitstatus_to_exitcode(os.waitpid(process, 0)[1])
     if status != 0:

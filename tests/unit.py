@@ -4,8 +4,8 @@
 usage: tests/unit.py [NAME..]     test_FILE, test_FILE.Class or test_FILE.Class.test_name; or all
        tests/unit.py --list       the names of all classes
 
-A subtest counts as a check, and a test that has none as one. Without a name the files run some at a
-time, each in a process of its own. The last line is 'N passed, M failed'.
+Each subtest is a check, and so is a test without subtests. With no name or several, the files, classes or
+tests run in parallel, each in its own process. The last line is 'N passed, M failed'.
 """
 
 import concurrent.futures
@@ -20,7 +20,7 @@ sys.dont_write_bytecode = True
 
 import program
 
-# They build something first, which takes long, or test this file: each has a script of its own.
+# These build something first, which takes long, or test this file: each has its own script.
 ALONE = {"test_avx2", "test_library", "test_packages", "test_releases", "test_runners"}
 
 
@@ -93,16 +93,16 @@ def classes(suite):
 
 
 def run_apart(name):
-    """What the tests of a file print, in a process of their own."""
+    """The output of the tests of this name, which run in their own process."""
     done = subprocess.run([sys.executable, __file__, name], stdin=subprocess.DEVNULL, stdout=subprocess.PIPE, stderr=subprocess.STDOUT)
     return done.stdout.decode("utf-8", "backslashreplace")
 
 
-def run_all():
-    """Runs the files, some at a time, and adds up what their last lines say."""
+def run_all(names):
+    """Runs the tests of these names in parallel, and adds up their last lines."""
     passed = failed = 0
     with concurrent.futures.ThreadPoolExecutor(program.AT_A_TIME) as pool:
-        for name, text in zip(modules(), pool.map(run_apart, modules())):
+        for name, text in zip(names, pool.map(run_apart, names)):
             *lines, last = text.rstrip("\n").split("\n")
             counts = re.fullmatch(r"(\d+) passed, (\d+) failed", last)
             print(*lines, sep="\n", flush=True)
@@ -115,18 +115,18 @@ def run_all():
 def main():
     os.chdir(program.TESTS)
     sys.path.insert(0, program.TESTS)
-    loader = unittest.TestLoader()
-    suite = loader.loadTestsFromNames([name for name in sys.argv[1:] if name != "--list"] or modules())
+    names = [name for name in sys.argv[1:] if name != "--list"] or modules()
+    suite = unittest.TestLoader().loadTestsFromNames(names)
     if "--list" in sys.argv[1:]:
         print(*dict.fromkeys(classes(suite)), sep="\n")
         return 0
     program.build()
-    if len(sys.argv) > 1:
+    if len(names) == 1:
         result = Result()
         suite.run(result)
         passed, failed = result.passed, result.failed
     else:
-        passed, failed = run_all()
+        passed, failed = run_all(names)
     print(f"{passed} passed, {failed} failed")
     return failed > 0
 

@@ -1,12 +1,13 @@
-/* agefile.c: the functions of agefile.h, as the library exports them. The proved code is in the
- * library twice, built for any x86-64 and for x86-64-v3. Each function looks for null pointers, as
- * agefile.h says, and calls the build that fits the processor. This file is not proved. */
+/* agefile.c: the functions of agefile.h, as the library exports them. The library contains the
+ * proved code twice, built for any x86-64 and for x86-64-v3. Each function checks for null
+ * pointers, as agefile.h says, and calls the build that fits the processor. This file is not
+ * proved. */
 #include "agefile.h"
 #include <cpuid.h>
 #include <immintrin.h>
 
-/* Asks the processor for all of x86-64-v3, and the system whether it keeps the registers of AVX. The
- * attribute is for _xgetbv, which runs only if the processor has it (OSXSAVE). */
+/* Whether the processor has all of x86-64-v3, and the system saves the AVX registers. The attribute
+ * is for _xgetbv, which runs only if the processor has it (OSXSAVE). */
 __attribute__((target("xsave"))) static bool find_v3(void)
 {
     const unsigned first = bit_SSE3 | bit_SSSE3 | bit_FMA | bit_CMPXCHG16B | bit_SSE4_1 |
@@ -20,7 +21,7 @@ __attribute__((target("xsave"))) static bool find_v3(void)
     return (_xgetbv(0) & 6) == 6;
 }
 
-/* Whether the build for x86-64-v3 is called. The processor is asked once; threads that do so at the
+/* Whether to call the build for x86-64-v3. The processor is asked once; threads that do so at the
  * same time store the same answer. */
 static bool has_v3(void)
 {
@@ -34,7 +35,7 @@ static bool has_v3(void)
     return answer == YES;
 }
 
-/* Where a null pointer with the length 0 points instead. It is neither read nor written. */
+/* Replaces a null pointer with the length 0. It is neither read nor written. */
 static const agefile_stanza_summary nothing;
 
 /* Checks a pointer that a length follows, in the body of a function. */
@@ -53,7 +54,7 @@ static const agefile_stanza_summary nothing;
         return has_v3() ? x86_64_v3_agefile_##name arguments : x86_64_agefile_##name arguments; \
     }
 
-/* Closes a struct that a function is to open, which stays closed if a pointer is refused. */
+/* Closes a struct that a function will open; it stays closed if a pointer is refused. */
 #define CLOSE(opened) *opened = (__typeof__(*opened)){.state = AGEFILE_CLOSED};
 
 #define IN(bytes) const uint8_t *bytes, size_t bytes##_len
@@ -140,6 +141,10 @@ FUNCTION(uint32_t, part_seal_next,
          (agefile_part *part, OUT(chunk), REPORT),
          { CHECK(chunk) },
          (part, chunk, chunk_len, report))
+FUNCTION(uint32_t, salvage_next,
+         (agefile_payload *payload, OUT(chunk), bool last, REPORT),
+         { CHECK(chunk) },
+         (payload, chunk, chunk_len, last, report))
 FUNCTION(uint32_t, ranges_open,
          (IN(front), uint64_t file_len, const uint8_t file_key[16], agefile_ranges *ranges, REPORT),
          { CLOSE(ranges) CHECK(front) },

@@ -171,8 +171,9 @@ uint32_t agefile_version(void) AGEFILE_USED;
 /* ---- Headers. Reading a header needs no passphrase or key, so its MAC is not verified.
  *
  * Here and below, `front` is any beginning of the file that contains its header; every such
- * beginning has the same result. AGEFILE_FRONT bytes, or all of a shorter file, always suffice. For
- * a shorter front the calls return AGEFILE_HEADER_TRUNCATED: read on, if the file has more. */
+ * beginning has the same result. AGEFILE_FRONT bytes, or all of a shorter file, always suffice. If
+ * the header is not complete, the calls return AGEFILE_HEADER_TRUNCATED: read on, if the file has
+ * more. */
 typedef struct agefile_summary {
     uint64_t header_len;
     uint64_t stanzas;
@@ -314,6 +315,26 @@ uint32_t agefile_part_seal_next(
     agefile_part *part, uint8_t *chunk, size_t chunk_len, agefile_report *report)
     AGEFILE_CALL((1, 4));
 
+/* ---- What is left of a damaged payload: agefile_open, then agefile_salvage_next for each chunk in
+ * order, with the lengths and `last` of agefile_open_next. What was saved of a chunk: */
+enum agefile_saved {
+    AGEFILE_SAVED_CHUNK = 1, /* the text of a chunk that others follow */
+    AGEFILE_SAVED_LAST = 2,  /* the text of the last chunk */
+    AGEFILE_SAVED_EARLY = 3, /* the text of a chunk marked as the last that cannot be it */
+    AGEFILE_SAVED_ZEROS = 4, /* zeros: the chunk is lost */
+    AGEFILE_SAVED_NONE = 5   /* nothing: at most 16 bytes are left, and they do not open */
+};
+
+/* Opens the next sealed chunk in place, whether it is marked as the last or not. On 0 report.len
+ * bytes at the start of the chunk are its text, or zeros if it does not open, report.place is an
+ * agefile_saved, and the payload continues after the chunk. Otherwise the chunk is unchanged.
+ *
+ * Each text is genuine. The plaintext is whole exactly if agefile_open_next opens all chunks: the
+ * last one is then an AGEFILE_SAVED_LAST, and every other one an AGEFILE_SAVED_CHUNK. */
+uint32_t agefile_salvage_next(
+    agefile_payload *payload, uint8_t *chunk, size_t chunk_len, bool last, agefile_report *report)
+    AGEFILE_CALL((1, 5));
+
 /* ---- Ranges in steps: open, verify the last sealed chunk, then locate and open the chunks needed.
  * Damage in other chunks is not noticed.
  *
@@ -352,9 +373,9 @@ uint32_t agefile_ranges_chunk(
     agefile_report *report) AGEFILE_CALL((1, 5));
 
 /* ---- Whole buffers under a file key. report.len is the number of bytes written to the start of
- * `out`. On AGEFILE_TOO_SMALL it is the number needed, and `out` is unchanged. For the front, the
- * stanzas, the file key and the nonce see above. After a fault of the payload `out` begins with the
- * plaintext of the verified chunks before it: use the output only after AGEFILE_OK. */
+ * `out`. On AGEFILE_TOO_SMALL it is the number needed, and `out` is unchanged. See above for
+ * `front`, the stanzas, the file key and the nonce. After a fault of the payload `out` begins with
+ * the plaintext of the verified chunks before it: use the output only after AGEFILE_OK. */
 uint32_t agefile_decrypt(
     const uint8_t *file, size_t file_len, const uint8_t file_key[AGEFILE_LEAST 16], uint8_t *out,
     size_t out_len, agefile_report *report) AGEFILE_CALL((3, 6));

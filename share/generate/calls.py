@@ -1,5 +1,5 @@
-"""The exports and structs of the library for C, as agefile.c, Python, Rust and the lists of share/debian have
-them. tests/test_library.py compares them with agefile.h, which is written by hand."""
+"""The exports and structs of the library for C: their declarations for agefile.c, Python, Rust and the lists
+of share/debian. tests/test_library.py compares them with agefile.h, which is written by hand."""
 
 import re
 import sys
@@ -16,8 +16,8 @@ SYMBOLS, LAYOUT = "share/debian/libagefile.symbols", "share/debian/libagefile.la
 
 
 class Value(NamedTuple):
-    """A parameter or a field: its name, `const` or `mut` where it is a pointer, the type of a number or struct,
-    how many there are where it is an array, and whether a length follows it."""
+    """A parameter or a field: its name, `const` or `mut` if it is a pointer, the type of a number or a struct,
+    the number of elements if it is an array, and whether a length follows it."""
 
     name: str
     access: str
@@ -71,13 +71,13 @@ def _names(parameters):
 
 
 def nonnull(export):
-    """The places, from 1, of the pointers that no length follows, where each length has a place."""
+    """The positions, from 1, of the pointers without a length. A length has a position of its own."""
     places = [v for v in export.parameters for _ in range(1 + v.has_length)]
     return [place for place, v in enumerate(places, 1) if v.access and not v.has_length]
 
 
 def _opened(export, fields):
-    """The struct that a call opens: one with a state, behind what it reads."""
+    """The struct that a call opens: it has a state, and comes after the arguments that the call reads."""
     return [v.name for v in export.parameters[1:] if v.kind in fields and any(field.name == "state" for field in fields[v.kind])]
 
 
@@ -91,7 +91,7 @@ def _parameter_in_c(v):
 
 
 def _lines(text):
-    """A list in lines of at most 100 columns, which end after a comma."""
+    """A list, wrapped after commas to at most 100 columns."""
     joined = text.replace(" ", "\0").replace(",\0", ", ")
     lines = textwrap.wrap(joined, 100, initial_indent=" " * 9, subsequent_indent=" " * 10, break_long_words=False)
     return [line.replace("\0", " ") for line in lines]
@@ -118,7 +118,7 @@ def _function_in_rust(export):
 
 
 def _struct_in_rust(name, fields):
-    """A struct that holds a key is not copied: a copy would seal another chunk under a nonce that was used."""
+    """A struct with a key cannot be copied, because a copy would seal another chunk under a nonce that was used."""
     derived = "Default" if any(field.name == "key" for field in fields) else "Clone, Copy, Default"
     feature = '#[cfg(feature = "parallel")]\n' * (name == "Part")
     lines = "".join(f"    pub {v.name}: {f'[{v.kind}; {v.count}]' if v.count else v.kind},\n" for v in fields)
@@ -151,17 +151,17 @@ def _layout(name, fields):
 
 
 def grown(root, region, rows):
-    """A part of the layout, which only grows: its lines, and one for each name that it lacks. A name keeps its number."""
+    """A part of the layout, which only grows: its lines, and a line for each name that it lacks. A name keeps its number."""
     kept = (root / LAYOUT).read_text().partition(f"generated: {region}\n")[2].partition(f"# end of {region}\n")[0]
     known = dict(line.rsplit(" ", 1) for line in kept.splitlines())
     for name, number in rows:
         if known.setdefault(name, str(number)) != str(number):
-            sys.exit(f"{LAYOUT}: {name} is {known[name]} there, and now {number}")
+            sys.exit(f"{LAYOUT} has {known[name]} for {name}, the sources have {number}")
     return "".join(f"{name} {number}\n" for name, number in known.items())
 
 
 def _symbols(root, names):
-    """Each name with the release that brought it. A new one comes with the next release."""
+    """Each name with the release that introduced it. A new name gets the next release."""
     kept = dict(re.findall(r"^ agefile_(\w+)@\S+ (\S+)$", (root / SYMBOLS).read_text(), re.M))
     released = re.search(r"^## (\d+)\.(\d+)", (root / "CHANGELOG.md").read_text(), re.M)
     coming = f"{released[1]}.{int(released[2]) + 1}.0"

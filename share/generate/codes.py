@@ -7,15 +7,15 @@ from typing import NamedTuple
 import calls
 
 FAULT, PART, CODE = "age_file/src/fault.rt", "age_recipient/src/unwrapped.rt", "agefile/src/code.rt"
-# The faults of files that no call of the crate for Rust returns as a fault of its own.
+# The faults of files for which the crate for Rust has no variant.
 NOT_IN_RUST = {"Read", "Write", "Refused", "IncompatibleRecipients"}
-# The parts of a stanza that have another name in the crate for Rust.
+# The parts of a stanza that the crate for Rust names differently.
 PARTS_IN_RUST = {"ArgCount": "ArgumentCount", "WorkFactorText": "WorkFactor"}
 
 
 class Fault(NamedTuple):
-    """A code: its number, its name in CamelCase, the text of the program for it, in which a number is
-    {0}, what a report tells of it (`place`, `part` or nothing), and its comment in the source."""
+    """A code: its number, its name in CamelCase, its text in the program, with {0} for a number, what a
+    report holds for it (`place`, `part` or nothing), and its comment in the source."""
 
     code: int
     name: str
@@ -36,7 +36,7 @@ class Fault(NamedTuple):
         return self.text.replace("{0}", f"{{{word}}}") if self.held else self.message
 
 
-# What the header's functions return; the library's own never do.
+# Only the C in front of the library returns this code.
 NULL_POINTER = Fault(24, "NullPointer", "null pointer with a length")
 
 
@@ -58,8 +58,8 @@ def _numbers(root, kind):
 
 
 def own(root):
-    """The codes that the library itself returns, and that are no fault of a file: constants of code.rt
-    whose comments begin with their texts in backquotes."""
+    """The codes of the library that are not faults of a file: constants of code.rt whose comments begin
+    with their texts in backquotes."""
     of_faults, found = _numbers(root, "Fault").values(), [NULL_POINTER]
     for comment, constant, number in re.findall(r"((?:///.*\n)+)pub\(crate\) const (\w+): u32 = (\d+);", _source(root, CODE)):
         if int(number) not in of_faults:
@@ -69,10 +69,10 @@ def own(root):
 
 
 def faults(root):
-    """All codes in order, those of files and those of the library."""
+    """All codes in order: those of files and those of the library."""
     numbers, variants, code = _numbers(root, "Fault"), _variants(root, FAULT), _source(root, CODE)
     if other := set(numbers) ^ {name for _, _, name in variants}:
-        sys.exit(f"fault.rt and fault_code in code.rt: {', '.join(sorted(other))} stands in one alone")
+        sys.exit(f"{', '.join(sorted(other))}: not in both fault.rt and fault_code of code.rt")
     bodies = re.findall(r"^pub\(crate\) fn fault_(place|detail)\b(.*?)^}", code, re.M | re.S)
     held = {name: kind.replace("detail", "part") for kind, body in bodies for name in re.findall(r"\bFault::(\w+)", body)}
     found = [Fault(numbers[name], name, text, held.get(name, ""), comment) for comment, text, name in variants]
@@ -80,7 +80,7 @@ def faults(root):
 
 
 def parts(root):
-    """The parts of a stanza, by the detail of a report."""
+    """The parts of a stanza by the detail that a report has for them."""
     texts = {name: text for _, text, name in _variants(root, PART)}
     return {number: Fault(number, name, texts[name]) for name, number in _numbers(root, "StanzaFault").items()}
 

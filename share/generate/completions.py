@@ -1,4 +1,4 @@
-"""What the completions for bash, zsh and fish have of the commands and options."""
+"""The commands and options in the completions for bash, zsh and fish."""
 
 from program import OWN
 
@@ -26,7 +26,7 @@ def _quoted(text):
 
 
 def _zsh_option(command, option):
-    """One option: what it does not go with, its names, its text and its value."""
+    """One option: the options that exclude it, its names, its text and its value."""
     if option in OWN:
         return f"'(- *)'{{{option.short},--{option.long}}}'[{option.brief}]'"
     others = [option] * (not option.is_repeated) + command.rivals(option)

@@ -8,7 +8,7 @@ def _escaped(text):
 
 
 def _usage(command):
-    """The lines of a command: the pairs of which one must be given, the options, the words."""
+    """The lines of a command: pairs of options of which one is required, other options, arguments."""
     done = []
     for option in (option for option in command.options if option not in OWN):
         rivals = command.rivals(option)
@@ -34,14 +34,14 @@ def texts(commands):
 
 
 def _sentences(option):
-    """Each sentence on a line of its own, as troff wants it."""
+    """Each sentence on its own line, as troff expects."""
     parts = option.text.split(". ") + [f"The default is {option.default}"] * bool(option.default)
     return [_escaped(part.rstrip(".") + ".") for part in parts]
 
 
 def _options(commands):
-    """Each option once. Where its text depends on the command, each text with its commands; of one
-    that begins with the first text only the rest."""
+    """Each option once. If its text depends on the command, each text comes with its commands; of a text
+    that continues the first one, only the continuation."""
     found = {}
     for command in commands:
         for option in command.options:

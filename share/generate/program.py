@@ -1,14 +1,14 @@
-"""The commands of agep with their options and words, as crates/age_words/src/options.rt builds them."""
+"""The commands of agep with their options and arguments, as crates/age_words/src/options.rt builds them."""
 
 import re
 from typing import NamedTuple
 
-# The pairs of options of which one is given, which age_job refuses otherwise.
+# The pairs of options of which exactly one is required. age_job refuses both and neither.
 RIVALS = [{"passphrase", "key"}, {"new-pass", "new-key"}]
 
 
 class Option(NamedTuple):
-    """An option; or a word of a command, which has no name. What is missing is an empty text."""
+    """An option, or an argument of a command, which has no name. A missing text is empty."""
 
     short: str
     long: str
@@ -25,7 +25,7 @@ class Option(NamedTuple):
 
     @property
     def brief(self):
-        """The text up to its first stop, beginning with a small letter."""
+        """The text up to its first full stop, colon or semicolon, with a lower-case first letter."""
         return self.text[0].lower() + re.split(r"[.;:] |\.$", self.text)[0][1:]
 
 
@@ -36,7 +36,7 @@ class Command(NamedTuple):
     arguments: list[Option]
 
     def rivals(self, option):
-        """The options that do not go with this one."""
+        """The options that exclude this one."""
         return [each for each in self.options if {each.long, option.long} in RIVALS]
 
 
@@ -44,7 +44,7 @@ OWN = [Option("-h", "help", "", "Print help"), Option("-V", "version", "", "Prin
 
 
 def call(text):
-    """A call that a text begins with: the function, its arguments, and the text after it."""
+    """The call at the start of a text: the function, its arguments, and the text after it."""
     name, parts, depth = re.match(r"[\w:.]+(?=\()", text)[0], [""], 0
     for found in re.compile(r'"(?:[^"\\]|\\.)*"|.', re.S).finditer(text, len(name)):
         sign = found[0]
@@ -67,7 +67,7 @@ class Source:
         self.functions = {n: (re.findall(r"(\w+): ", p), body) for n, p, body in re.findall(pattern, whole, re.M | re.S)}
 
     def filled(self, name, arguments):
-        """The body of a function with these arguments in the place of its parameters."""
+        """The body of a function, with its parameters replaced by these arguments."""
         parameters, body = self.functions[name]
         values = dict(zip(parameters, arguments))
         return re.sub(rf"(?<![.\w])(?:{'|'.join(values)})\b(?!\()", lambda found: values[found[0]], body)
@@ -91,7 +91,7 @@ class Source:
         return Option(short, names["long"], names["value_name"], names["help"], names["default_value"], *kinds)
 
     def options(self, body):
-        """The options and words that the body of a function adds to a command, in order."""
+        """The options and arguments that the body of a function adds to a command, in order."""
         local = dict(re.findall(r"let (\w+) = (\w+_\w+\(.*?|flag\(.*?);\n", body, re.S))
         for found in re.finditer(r"\bwith_\w+\(", body):
             name, arguments, _ = call(body[found.start() :])
@@ -108,6 +108,6 @@ class Source:
 
 
 def commands(root):
-    """The commands, but for `help`, in the order of the help."""
+    """The commands except `help`, in the order of the help."""
     source = Source(root)
     return [source.command(name) for name in re.findall(r"\.subcommand\((\w+)\(", source.functions["whole_command"][1])]

@@ -1,4 +1,4 @@
-// The allocations of the library under test: counted, and one of them refused. For a program that is
+// Counts the allocations of the library under test, and refuses one of them. For a program that is
 // linked with --wrap=malloc, --wrap=realloc and --wrap=free.
 #ifndef ALLOCATIONS_H
 #define ALLOCATIONS_H
@@ -9,7 +9,8 @@ void *__real_malloc(size_t size);
 void *__real_realloc(void *old, size_t size);
 void __real_free(void *old);
 
-// Of this thread: allocations since the call began, the one that is refused, and blocks not freed.
+// For this thread: allocations since the call began, the one to be refused, and blocks not yet
+// freed.
 static __thread long allocations, refused, live;
 static __thread bool is_counting;
 

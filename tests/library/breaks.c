@@ -1,5 +1,6 @@
-// Runs a command whose standard input gives so many bytes, all of them 'x', and then fails: breaks LEN COMMAND.. Ends with the command's status.
-// The input is this process's memory, up to a page that is not mapped.
+// Runs a command whose standard input returns LEN bytes 'x' and then fails: breaks LEN COMMAND..
+// Ends with the command's status. The input is the memory of this process, up to a page that is not
+// mapped.
 #define _GNU_SOURCE
 #include <fcntl.h>
 #include <stdint.h>

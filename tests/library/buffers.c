@@ -1,4 +1,5 @@
-// Tests of the calls on whole buffers and headers. Without an argument it lists its tests, with one it runs the test of that name.
+// Tests of the calls on whole buffers and headers. Without an argument it lists its tests; with one
+// it runs the test of that name.
 #include "check.h"
 
 static void whole_files(void)
@@ -111,7 +112,7 @@ static void work_factors(void)
     CHECK(agefile_decrypt_passphrase(out, len, pass, pass_len, 3, out + len, 4, &report) == AGEFILE_OK && report.len == 4);
 }
 
-// Before the work factor and the room are looked at.
+// Before the work factor and the size of the buffer are checked.
 static void empty_passphrase(void)
 {
     static const uint8_t factors[] = {0, work, 31};

@@ -1,5 +1,5 @@
-// What the C programs beside it share: checks that count, memory with faulting pages around it, and a
-// text, a key and a seed that are always the same.
+// Shared by the C programs beside it: checks that count, memory with faulting pages around it, and
+// a fixed text, key and seed.
 #ifndef CHECK_H
 #define CHECK_H
 #ifndef _GNU_SOURCE
@@ -13,7 +13,7 @@
 
 static int failed;
 
-// Counts and shows a condition that does not hold.
+// Counts and prints a condition that does not hold.
 #define CHECK(condition)                                              \
     do {                                                              \
         if (!(condition)) {                                           \
@@ -22,13 +22,13 @@ static int failed;
         }                                                             \
     } while (0)
 
-// A test, and the name by which an argument asks for it.
+// A test, and the name by which an argument selects it.
 typedef struct named_test {
     const char *name;
     void (*run)(void);
 } named_test;
 
-// Runs the test that the argument names; without one it prints the names.
+// Runs the test that the argument names; without an argument it prints the names.
 static inline int run_test(const named_test *tests, size_t count, int argc, char **argv)
 {
     for (size_t i = 0; i < count; i++)
@@ -39,7 +39,7 @@ static inline int run_test(const named_test *tests, size_t count, int argc, char
     return failed != 0;
 }
 
-// A report in which every byte is one that no call leaves there.
+// A report filled with a byte that no call leaves in it.
 static inline agefile_report unset_report(void)
 {
     agefile_report report;
@@ -52,9 +52,10 @@ static inline bool has_fields(const agefile_report *report, uint64_t len, uint64
     return report->len == len && report->place == place && report->detail == detail;
 }
 
-// Memory of exactly this size between two pages that no access may touch, at the end of its own pages
-// or, with the variable AT_START, at their start. The library is not instrumented, so a sanitizer
-// doesn't see what it reads and writes. Two pages before lies how long all that is.
+// Memory of exactly this size between two pages without access, at the end of its own pages or,
+// with the variable AT_START, at their start. The library is not instrumented, so a sanitizer does
+// not see its reads and writes. The length of the whole mapping is stored two pages before the
+// memory.
 static const size_t page = 4096;
 
 static inline uint8_t *room(size_t len)
@@ -111,11 +112,11 @@ static const uint8_t seed[49] = "forty-eight bytes, which no real file may share
 static const uint8_t *const pass = (const uint8_t *)"correct horse";
 enum { pass_len = 13, work = 2, tag = 16 };
 
-// Plaintexts around the edges of chunks.
+// Sizes of plaintexts around the boundaries of chunks.
 static const size_t sizes[] = {0, 1, 16, 65535, 65536, 65537, 131071, 131072, 131073, 200000};
 enum { size_count = sizeof sizes / sizeof *sizes };
 
-// A file under the key, and how long its front is: the header and the payload's nonce.
+// A file for the key, and the length of its header and nonce.
 typedef struct made_file {
     uint8_t *bytes;
     size_t len;
@@ -138,7 +139,7 @@ static inline made_file made(size_t len)
     return file;
 }
 
-// Opens a payload with the key: both steps, with the code of the one that fails.
+// Opens a payload with the key in both steps; returns the code of the step that fails.
 static inline uint32_t open_with(const uint8_t *file, size_t len, const uint8_t *with, agefile_payload *payload, agefile_report *report)
 {
     uint8_t file_key[16];

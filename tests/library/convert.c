@@ -1,8 +1,9 @@
-// Encrypts or decrypts standard input to standard output by one kind of call, for comparisons with other programs:
+// Encrypts or decrypts standard input to standard output with one kind of call, for comparisons
+// with other programs:
 //   convert (whole | steps | ranges) (encrypt | decrypt) (-k | -p) SECRET_FILE [WORK [SEED_FILE]]
 //   convert messages
-// The status is the call's code, whose message is shown on standard error. messages prints the code and the message of each code, and the
-// detail and the text of each detail.
+// The status is the code of the call, whose message it prints on standard error. messages prints
+// the code and the message of each code, and the detail and the text of each detail.
 #include "check.h"
 #include <sys/random.h>
 
@@ -137,7 +138,7 @@ int main(int argc, char **argv)
     uint32_t code = strcmp(argv[1], "whole") == 0   ? is_encrypting ? encrypt_whole() : decrypt_whole()
                     : strcmp(argv[1], "steps") == 0 ? is_encrypting ? encrypt_steps() : decrypt_steps()
                                                     : decrypt_ranges();
-    // no byte that is not verified is left in the caller's buffer
+    // no unverified byte may be left in the caller's buffer
     if (!is_encrypting && output_len < input_len && !are_all(output + output_len, input_len - output_len, 0))
         return 95;
     if (fwrite(output, 1, output_len, stdout) != output_len || fflush(stdout) != 0)

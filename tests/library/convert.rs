@@ -1,14 +1,18 @@
-//! Encrypts or decrypts standard input to standard output by one way of the crate for Rust, for comparisons with
-//! other programs:
+//! Encrypts or decrypts standard input to standard output by one API of the crate for Rust, for
+//! comparisons with other programs:
 //!   convert (whole | stream | ranges | threads) (encrypt | decrypt) (-k | -p) SECRET_FILE
-//! After a fault it writes what came before, and ends with the line and the status of agep.
+//! After a fault it has written the plaintext before the fault, and ends with the line and the
+//! status of agep.
+//!   convert files salvage (-k | -p) SECRET_FILE
+//! salvages files from standard input, each after its length. For each it writes the length of the
+//! plaintext, the plaintext, and a line of JSON: the report, or the error as a text.
 
 use std::io::{self, Cursor, Read, Write};
 use std::{env, fs, process};
 
-use agefile::{Identity, Key, Passphrase, RangeReader, Reader, Recipient, Writer};
+use agefile::{Identity, Key, Passphrase, RangeReader, Reader, Recipient, Salvaged, Writer};
 
-/// By pieces of this length, so that chunks come in several.
+/// In pieces of this length, so that a chunk takes several.
 const PIECE: usize = 50_000;
 
 fn encrypted(way: &str, plain: &[u8], recipient: &dyn Recipient) -> io::Result<Vec<u8>> {
@@ -33,6 +37,33 @@ fn decrypt_to(plain: &mut Vec<u8>, way: &str, file: &[u8], identity: &dyn Identi
     Ok(())
 }
 
+fn json(saved: Salvaged) -> String {
+    let Salvaged { len, chunks, early, trailing, is_cut, is_whole, .. } = saved;
+    let early = early.map_or("null".into(), |early| early.to_string());
+    let runs = saved.lost.iter().map(|lost| {
+        format!("[[{:?}], [{:?}], {}]", lost.chunks, lost.bytes, lost.is_unread).replace("..", ", ")
+    });
+    let runs: Vec<_> = runs.collect();
+    format!("[{len}, {chunks}, [{}], {early}, {trailing}, {is_cut}, {is_whole}]", runs.join(", "))
+}
+
+fn salvage_files(identity: &dyn Identity) -> io::Result<()> {
+    let (mut input, mut output, mut len) = (io::stdin(), io::stdout(), [0; 8]);
+    while input.read_exact(&mut len).is_ok() {
+        let (mut file, mut plain) = (vec![0; u64::from_le_bytes(len) as usize], Vec::new());
+        input.read_exact(&mut file)?;
+        let report = match agefile::salvage(Cursor::new(file), &mut plain, &[identity]) {
+            Ok(saved) => json(saved),
+            Err(error) => format!("{:?}", error.to_string()),
+        };
+        output.write_all(&(plain.len() as u64).to_le_bytes())?;
+        output.write_all(&plain)?;
+        writeln!(output, "{report}")?;
+        output.flush()?;
+    }
+    Ok(())
+}
+
 fn main() -> io::Result<()> {
     let words: Vec<String> = env::args().skip(1).collect();
     let [way, task, kind, secret] = &words[..] else { panic!("four words are needed") };
@@ -48,6 +79,9 @@ fn main() -> io::Result<()> {
             (&passphrase, &passphrase)
         }
     };
+    if task == "salvage" {
+        return salvage_files(identity);
+    }
     let mut input = Vec::new();
     io::stdin().read_to_end(&mut input)?;
     let mut output = Vec::new();

@@ -1,5 +1,5 @@
-"""What agefile.h declares: its functions and structs, in the form of share/generate/calls.py, and the texts in C
-that the programs here include, with a line for each function."""
+"""The declarations in agefile.h: its functions and structs, in the form of share/generate/calls.py, and the C
+texts that the programs here include, with a line for each function."""
 
 import re
 import sys
@@ -13,7 +13,7 @@ from calls import IN_C, LAYOUT, Export, Value, nonnull, snake
 WORDS = {word: kind for kind, word in IN_C.items()}
 FUNCTION = re.compile(r"(AGEFILE_CALL\(\([\d, ]+\)\) )?(static inline )?(uint\d+_t) agefile_(\w+)\(([^)]*)\)( AGEFILE_\w+(?:\(\([\d, ]+\)\))?;| \{)")
 STRUCT = re.compile(r"typedef struct agefile_(\w+) \{ (.*?) \} agefile_\1;")
-# The struct that a call opens, which is closed where the call refuses a null pointer.
+# The struct that a call opens; it is closed if the call refuses a null pointer.
 OPENING = {"begin": "payload", "open": "payload", "ranges_open": "ranges"}
 DECLARED = re.compile(r"(const )?(?:agefile_)?(\w+) (\*?)(\w+)(?:\[(?:AGEFILE_LEAST )?(\d+)\])?")
 
@@ -25,7 +25,7 @@ def _value(text):
 
 
 def _parameters(text):
-    """The parameters; a pointer and the length behind it are one."""
+    """The parameters; a pointer and the length after it count as one."""
     values = []
     for value in map(_value, text.split(", ") if text != "void" else ()):
         if values and value[:3] == (f"{values[-1].name}_len", "", "usize"):
@@ -36,7 +36,7 @@ def _parameters(text):
 
 
 class Header:
-    """The exports, the functions that are in the header alone, the structs, and the functions that do not have the
+    """The exports, the functions that are only in the header, the structs, and the functions without the
     attribute that fits their parameters."""
 
     def __init__(self, root=ROOT):
@@ -60,7 +60,7 @@ class Header:
 
 
 def differences(root):
-    """Where the header is not what the sources of agefile say, a line for each."""
+    """The differences between the header and the sources of agefile, a line for each."""
     import calls
 
     header = Header(root)
@@ -73,7 +73,7 @@ def differences(root):
     ]
 
 
-# ---- What the programs in C include
+# ---- Texts that the programs in C include
 
 
 def _word(value):
@@ -86,8 +86,8 @@ def _in_c(value):
 
 
 def _arguments(function):
-    """Each argument in C: its name, its type, and its kind: `c` a pointer that a length follows, `l` that length,
-    `p` another pointer, `b` a bool, `n` a number."""
+    """For each argument in C its name, its type and its kind: `c` a pointer that a length follows, `l` that
+    length, `p` another pointer, `b` a bool, `n` a number."""
     for value in function.parameters:
         pointer = "const void *" if value.access == "const" else "void *"
         kind = "c" if value.has_length else "p" if value.access else "b" if value.kind == "bool" else "n"
@@ -117,8 +117,8 @@ def stand_ins(header):
 
 
 def driver_calls(header):
-    """For driver.c: each call by its number in Header.functions, and which of its arguments is a struct to be opened. A
-    pointer and its length are one argument there."""
+    """For driver.c: each call by its index in Header.functions, and which argument is a struct to be opened.
+    A pointer and its length are one argument there."""
     cases = []
     for number, function in enumerate(header.functions):
         passed = []

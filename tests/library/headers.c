@@ -1,5 +1,6 @@
-// Headers that are written here, by the rules of C2SP age.md, and what the library says of them. Without an argument it lists its tests, with
-// one it runs the test of that name. `headers stanzas` prints the stanzas of the file on standard input as the lines of a header.
+// Headers that are written here by the rules of C2SP age.md, and the results of the library for
+// them. Without an argument it lists its tests; with one it runs the test of that name. `headers
+// stanzas` prints the stanzas of the file on standard input as the lines of a header.
 #include "check.h"
 #include <time.h>
 
@@ -16,7 +17,8 @@ static void add(const void *bytes, size_t len)
     header_len += len;
 }
 
-// Writes the base64 of some bytes without padding, with an LF after each 64 characters and at the end. Returns the number of bytes.
+// Writes the base64 of some bytes without padding, with an LF after each 64 characters and at the
+// end. Returns the number of bytes.
 static size_t base64_lines(const uint8_t *bytes, size_t len, uint8_t *out)
 {
     static const char digits[] = "ABCDEFGHIJKLMNOPQRSTUVWXYZabcdefghijklmnopqrstuvwxyz0123456789+/";
@@ -39,7 +41,7 @@ static void begin(void)
     add("age-encryption.org/v1\n", 22);
 }
 
-// Adds a stanza to the header, and to what is expected.
+// Adds a stanza to the header, and to the expected stanzas.
 static void add_stanza(const char *args, const uint8_t *body, size_t body_len)
 {
     size_t args_len = strlen(args), words = 1;
@@ -106,7 +108,8 @@ static void lists(void)
     release(body);
 }
 
-// Each front that holds the header gives the same, and each shorter one says so.
+// Each beginning of the file that contains the header gives the same result, and each shorter one
+// is reported as such.
 static void fronts(void)
 {
     agefile_summary summary, first;
@@ -127,7 +130,7 @@ static void fronts(void)
     CHECK(first.header_len == end_of_header && first.stanzas == 2 && are_all(first.mac, 32, 0));
 }
 
-// What wrap writes, and the header of what it wrote, one behind the other: the lines that are written here.
+// The stanzas that wrap writes, and the header of these stanzas: the lines must be the ones here.
 static void made_of_stanzas(void)
 {
     static const uint8_t file_key[17] = "sixteen bytes...";
@@ -165,7 +168,8 @@ static void made_of_stanzas(void)
     release(body);
 }
 
-// Texts that are no stanzas, none, one too many, and arguments that are no words.
+// Texts that are not stanzas, no stanza, one stanza too many, and arguments with bytes that are not
+// allowed.
 static void refused_stanzas(void)
 {
     static const uint8_t file_key[17] = "sixteen bytes...";
@@ -226,7 +230,8 @@ static void no_header(void)
     CHECK(has_fields(&report, 0, 0, 0) && are_unset(0, 0));
 }
 
-// The seed's first 16 bytes are the file key. Unlocking ends as opening does, and a MAC that is wrong gives no file key.
+// The first 16 bytes of the seed are the file key. Unlocking returns the same codes as opening, and
+// returns no file key if the MAC is wrong.
 static void unlocks(void)
 {
     static const uint8_t factors[] = {1, work, 30, 0, 31};
@@ -272,7 +277,7 @@ static void unlocks(void)
     release(file.bytes);
 }
 
-// The header of the most stanzas: 6 bytes each.
+// The header with the most stanzas, of 6 bytes each.
 static void most_of_all(void)
 {
     begin();

@@ -1,8 +1,8 @@
-"""What each call of the library for C returns and writes, worked out from docs/FORMAT.md, the comments
-of agefile.h and the functions of tests/reference.py, with nothing of the library.
+"""What each call of the library for C must return and write, by docs/FORMAT.md and the comments of agefile.h.
+It uses tests/reference.py and shares nothing with the library.
 
-Each function takes the arguments of the call of its name: numbers, and for a pointer and its length a
-bytearray, which it changes as the call does, or a NULL. It returns the code and the report."""
+Each function takes the arguments of the call of the same name: numbers, and for a pointer and its length a
+bytearray, which it changes as the call does, or NULL. It returns the code and the report."""
 
 import base64
 import functools
@@ -34,7 +34,7 @@ class Fault(Exception):
 
 
 def decoded(text):
-    """The bytes of a canonical base64 without padding, or None."""
+    """The bytes of a canonical base64 text without padding, or None."""
     if not re.fullmatch(rb"[A-Za-z0-9+/]*", text) or len(text) % 4 == 1:
         return None
     found = base64.b64decode(text + b"=" * (-len(text) % 4))
@@ -42,7 +42,7 @@ def decoded(text):
 
 
 def header_of(data):
-    """The stanzas of a header, pairs of arguments and body, its MAC and its length."""
+    """The stanzas of a header as pairs of arguments and body, its MAC, and its length."""
     head = data[:MAX_HEADER]
     if not VERSION.startswith(head[:22]):
         raise Fault(NOT_AGE)
@@ -90,14 +90,14 @@ def mac_of(stanzas, file_key):
 
 @functools.lru_cache(maxsize=256)
 def opened(key, nonce, data):
-    """What was sealed, or None."""
-    # The cipher is an XOR, so sealing opens.
+    """The plaintext, or None if the tag is wrong."""
+    # The cipher is an XOR, so sealing also opens.
     text = reference.sealed(key, nonce, data[:-TAG])[:-TAG]
     return text if reference.sealed(key, nonce, text) == data else None
 
 
 def answer(arguments, body, kind, wrap_key_of):
-    """What an identity finds in a stanza of its kind; None if it doesn't open it."""
+    """What an identity finds in a stanza of its kind; None if it does not open the stanza."""
     count = {b"scrypt": 3, b"example.org/key": 2}[kind]
     if len(arguments) != count:
         raise Fault(MALFORMED, 0, 1)
@@ -131,7 +131,7 @@ def scrypt(passphrase, salt, work):
 
 
 def unlocked(front, identity):
-    """The file key of a header by an identity, and the header's length."""
+    """The file key that an identity finds in a header, and the length of the header."""
     stanzas, mac, length = header_of(front)
     if is_mixed(stanzas):
         raise Fault(MIXED_PASSPHRASE)
@@ -149,7 +149,7 @@ def unlocked(front, identity):
 
 
 def started(front, file_key):
-    """The payload's key under a file key, and the offset of its first chunk."""
+    """The key of the payload for a file key, and the offset of its first chunk."""
     stanzas, mac, length = header_of(front)
     if is_mixed(stanzas):
         raise Fault(MIXED_PASSPHRASE)
@@ -176,7 +176,7 @@ def chunk_text(key, number, is_last, data):
 
 
 def made_header(text, file_key):
-    """The header of a text of stanzas."""
+    """The header with these stanzas, given as text."""
     if not text:
         raise Fault(NO_RECIPIENTS)
     probe = VERSION + text + b"--- " + b"A" * 43 + b"\n"
@@ -194,7 +194,7 @@ def made_header(text, file_key):
 
 
 def given(out, text):
-    """A text is written where it fits."""
+    """Writes a text if it fits."""
     if len(text) > len(out):
         return TOO_SMALL, (len(text), 0, 0)
     out[: len(text)] = text
@@ -314,7 +314,7 @@ def is_chunk_length(length, is_last):
 
 
 def in_place(owner, chunk, is_last, is_opening):
-    """Opens or seals the next chunk of a payload or part, and goes on to the chunk behind it."""
+    """Opens or seals the next chunk of a payload or part, and advances to the chunk after it."""
     try:
         if is_opening:
             text = chunk_text(owner.key, owner.number, is_last, chunk)
@@ -380,6 +380,36 @@ def part_open_next(part, chunk):
 
 def part_seal_next(part, chunk):
     return next_of_part(part, chunk, WRITING)
+
+
+SAVED_CHUNK, SAVED_LAST, SAVED_EARLY, SAVED_ZEROS, SAVED_NONE = range(1, 6)
+
+
+def saved(key, number, is_last, data):
+    """What is saved of a sealed chunk: its text or zeros, and which of these."""
+    for is_marked in (is_last, not is_last):
+        text = opened(key, number.to_bytes(11, "big") + bytes([is_marked]), data) if len(data) >= TAG else None
+        if text is not None and not is_marked:
+            return text, SAVED_CHUNK
+        if text is not None:
+            return text, SAVED_LAST if is_last and (text or number == 0) else SAVED_EARLY
+    return bytes(max(len(data) - TAG, 0)), SAVED_ZEROS if len(data) > TAG else SAVED_NONE
+
+
+def salvage_next(data, chunk, is_last):
+    payload, is_last = payload_of(data), bool(is_last)
+    if payload.state != READING or not is_chunk_length(len(chunk), is_last):
+        raise Fault(OUT_OF_ORDER)
+    if payload.number == MOST:
+        payload.state = FAILED
+        payload.write()
+        raise Fault(TOO_MANY_CHUNKS)
+    text, kind = saved(payload.key, payload.number, is_last, bytes(chunk))
+    chunk[: len(text)] = text
+    payload.number += 1
+    payload.state = ENDED if is_last else READING
+    payload.write()
+    return OK, (len(text), kind, 0)
 
 
 def last_index(sealed):

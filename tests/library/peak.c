@@ -1,4 +1,5 @@
-// Runs a command, and writes the most memory that it had resident, in KiB, to a file: peak FILE COMMAND.. Ends with the command's status.
+// Runs a command, and writes its peak resident memory in KiB to a file: peak FILE COMMAND.. Ends
+// with the command's status.
 #include <stdio.h>
 #include <sys/resource.h>
 #include <sys/wait.h>

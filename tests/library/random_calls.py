@@ -1,14 +1,14 @@
 #!/usr/bin/env python3
-"""Makes random calls of the library for C, and compares all that they return and write with model.py.
+"""Makes random calls of the library for C, and compares everything that they return and write with model.py.
 
 usage: tests/library/random_calls.py DRIVER [COUNT [SEED]]
 
-DRIVER is tests/library/driver.c, built with the library and the calls of header.py. First each pointer
-that a length follows is null, with the length 0 and with another. Then files, headers, structs, lengths
-and numbers are right or wrong in many ways; structs come from earlier calls, or are random. Each buffer
-lies at the end or at the start of its pages, shifted by up to 15 bytes. Some calls are made with each
-allocation refused in turn, some on eight threads at once. Prints how many calls returned which code;
-with a difference it prints the call, and the status is 1.
+DRIVER is tests/library/driver.c, built with the library and the calls of header.py. First, each pointer that
+a length follows is null, with length 0 and with another length. Then files, headers, structs, lengths and
+numbers are right or wrong in many ways; structs come from earlier calls, or are random. Each buffer lies at
+the end or at the start of its pages, shifted by up to 15 bytes. Some calls are made with each allocation
+refused in turn, some on eight threads at once. Prints how many calls returned each code. If the results
+differ, it prints the call, and the status is 1.
 """
 
 import collections
@@ -36,8 +36,8 @@ SIZES = {name: int(size) for name, size in re.findall(r"sizeof\(agefile_(\w+)\) 
 
 
 def kind_of(value):
-    """A struct's or an array's size, or "n" for a number, "b" for bytes with a length, "o" for bytes that are written,
-    "s" for an array of structs."""
+    """The size of a struct or an array, or "n" for a number, "b" for bytes with a length, "o" for bytes that
+    are written, "s" for an array of structs."""
     if value.has_length:
         return "s" if value.kind in SIZES else "b" if value.access == "const" else "o"
     return value.count or SIZES.get(value.kind, "n")
@@ -45,11 +45,11 @@ def kind_of(value):
 
 CALLS = {e.name: tuple(kind_of(value) for value in e.parameters if value.kind != "report") for e in HEADER.functions}
 INDEX = {name: index for index, name in enumerate(CALLS)}
-# Those that allocate nothing.
-CHUNKS = ("open_next", "seal_next", "take_part", "part_open_next", "part_seal_next", "ranges_last", "ranges_locate", "ranges_chunk")
-# Those without a report.
+# The calls that allocate nothing.
+CHUNKS = ("open_next", "seal_next", "take_part", "part_open_next", "part_seal_next", "salvage_next", "ranges_last", "ranges_locate", "ranges_chunk")
+# The calls without a report.
 NUMBERS = [e.name for e in HEADER.functions if not any(value.kind == "report" for value in e.parameters)]
-# Those that open a struct, and which argument it is.
+# The calls that open a struct, with the index of that argument.
 OPENING = {name: len(CALLS[name]) - 1 for name in header.OPENING}
 
 
@@ -64,7 +64,7 @@ class Driver:
         return data
 
     def call(self, name, flags, arguments, shifts):
-        """The result, whether the driver found nothing wrong, the report, and what the buffers then hold."""
+        """The result, whether the driver found no error, the report, and the buffers after the call."""
         parts = [bytes((INDEX[name], flags, len(arguments)))]
         for argument, shift in zip(arguments, shifts):
             if isinstance(argument, int):
@@ -102,7 +102,7 @@ class Maker:
         return self.random.choice(values)
 
     def length(self):
-        """Of a plaintext: mostly short, since the model is slow."""
+        """The size of a plaintext: mostly short, because the model is slow."""
         if self.is_rare(400):
             return self.choice(TEXT - 1, TEXT, TEXT + 1, 2 * TEXT, 2 * TEXT + 5)
         return self.choice(0, 0, 1, 15, 16, 17, 63, 64, 65, self.random.randrange(600))
@@ -130,7 +130,7 @@ class Maker:
         return text
 
     def stanza(self, file_key):
-        """A stanza's text: grease, for one of the keys or passphrases, or malformed."""
+        """The text of a stanza: grease, for one of the keys or passphrases, or malformed."""
         salt = self.bytes(16)
         kind = self.random.randrange(7)
         if kind < 3:
@@ -190,7 +190,7 @@ class Maker:
         return file_key, data
 
     def file(self):
-        """A file of those that were made; now and then a new one."""
+        """One of the files made so far; now and then a new one."""
         if len(self.files) < 20 or self.is_rare(10):
             self.files.append(self.new_file())
             del self.files[:-60]
@@ -211,7 +211,7 @@ class Maker:
         return bytes([0xEE]) * size
 
     def struct(self, size):
-        """The struct of an earlier call, or any."""
+        """A struct of an earlier call, or a random one."""
         known = self.payloads[size]
         if known and not self.is_rare(6):
             kept = bytearray(self.choice(*known))
@@ -296,6 +296,8 @@ class Maker:
     def for_seal_next(self):
         return self.for_open_next(False)
 
+    for_salvage_next = for_open_next
+
     def for_take_part(self):
         return self.struct(64), self.choice(1, 2, 3, self.number()), self.bytes(64)
 
@@ -316,7 +318,7 @@ class Maker:
         return data, self.choice(len(data), len(data), self.number()), file_key, self.bytes(56)
 
     def ranges(self):
-        """A struct of ranges, and the file that it is of, if there is one."""
+        """A struct of ranges, and its file, if there is one."""
         file_key, data = self.file()
         try:
             key, first = model.started(data, file_key)
@@ -328,7 +330,7 @@ class Maker:
         return struct.pack("<32s3Q", key, first, sealed, self.choice(1, 2, 2, 2)), data
 
     def piece(self, ranges, data, index):
-        """The bytes of a piece, about."""
+        """A buffer of about the size of a piece."""
         first, sealed = struct.unpack_from("<2Q", ranges, 32)
         length = model.piece_length(sealed, index)
         piece = data[first + SEALED * index : first + SEALED * index + min(length, SEALED)] if first < len(data) else b""
@@ -391,7 +393,7 @@ class Maker:
         return [a if isinstance(a, int) else bytearray(a) for a in getattr(self, "for_" + name)()]
 
     def null_calls(self):
-        """Each call with each pointer that a length follows null, as `call` returns it."""
+        """Each call with each pointer that a length follows null, in the form of `call`."""
         for name, kinds in CALLS.items():
             for at in (i for i, kind in enumerate(kinds) if kind in ("b", "o", "s")):
                 for length in (0, 24, 2**62 // 24 * 24):
@@ -409,13 +411,14 @@ class Maker:
         # Structs are aligned.
         shifts = [0 if isinstance(kind, int) and kind > 48 or kind in ("s", 48) else self.choice(0, 0, self.random.randrange(16)) for kind in kinds]
         flags = self.random.randrange(2) | (THREADS if self.is_rare(16) else 0)
-        # A header of 10,911 stanzas makes as many allocations: refusing each takes too long.
+        # A header of 10,911 stanzas makes as many allocations, and refusing each would take too
+        # long.
         if self.is_rare(8) and (name in CHUNKS or sum(len(a) for a in arguments if isinstance(a, bytearray)) < 10000):
             flags |= REFUSING
         return name, flags, arguments, shifts
 
     def learn(self, name, code, after):
-        """Keeps the structs that a call left, for the calls after it."""
+        """Keeps the structs of a call for later calls."""
         for argument, size in zip(after, CALLS[name]):
             if size in self.payloads and argument is not None and (code == 0 or self.is_rare(4)):
                 self.payloads[size].append(argument)
@@ -423,7 +426,7 @@ class Maker:
 
 
 def expected(name, arguments):
-    """What the model says: the result, the report, and what the buffers then hold."""
+    """By the model: the result, the report, and the buffers after the call."""
     if name in NUMBERS:
         return (VERSION if name == "version" else getattr(model, name)(*arguments)), None, []
     if any(isinstance(a, NULL) and a.length > 0 for a in arguments):

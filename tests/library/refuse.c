@@ -1,9 +1,10 @@
-// Refuses the library each allocation in turn, in each call that allocates: it returns out of memory and leaves its output as it was. Linked
-// with --wrap=malloc, --wrap=realloc and --wrap=free. Without an argument it lists its tests, with one it runs the test of that name.
+// Refuses the library each allocation in turn, in each call that allocates: the call must return
+// out of memory and leave its output unchanged. Must be linked with --wrap=malloc, --wrap=realloc
+// and --wrap=free. Without an argument it lists its tests; with one it runs the test of that name.
 #include "allocations.h"
 #include "check.h"
 
-// What all calls here read and write.
+// The arguments of all calls here.
 static uint8_t plain[70000], keyed[80000], locked[1000], out[80000], chunk[AGEFILE_SEALED_CHUNK];
 static size_t keyed_len, locked_len;
 static agefile_report report;
@@ -11,10 +12,11 @@ static agefile_summary summary;
 static agefile_stanza_summary stanza;
 static agefile_payload payload;
 static agefile_ranges ranges;
-// The stanza of the file under the key, whose header begins with a line of 22 bytes and ends with one of 48.
+// The stanza of the file under the key, whose header begins with a line of 22 bytes and ends with
+// one of 48.
 static const uint8_t *const stanza_text = keyed + 22;
 static size_t stanza_len;
-// The file key, nonce and salt are those of the seed.
+// The file key, the nonce and the salt are those of the seed.
 static const uint8_t *const file_key = seed, *const nonce = seed + 16, *const salt = seed + 32;
 
 static uint32_t encrypt_key(void) { return agefile_encrypt_key(plain, sizeof plain, key, seed, out, sizeof out, &report); }
@@ -44,7 +46,7 @@ static uint32_t begin(void) { return agefile_begin(stanza_text, stanza_len, file
 static uint32_t open_file(void) { return agefile_open(keyed, front_of(keyed_len), file_key, &payload, &report); }
 static uint32_t open_ranges(void) { return agefile_ranges_open(keyed, front_of(keyed_len), keyed_len, file_key, &ranges, &report); }
 
-// The calls after an opening, none of which allocates.
+// The calls after opening, none of which allocates.
 static uint32_t all_chunks(void)
 {
     agefile_part part;
@@ -73,7 +75,7 @@ static uint32_t all_chunks(void)
 static const struct {
     const char *name;
     uint32_t (*call)(void);
-    long least; // how many allocations are known to be made
+    long least; // how many allocations the calls make at least
 } tests[] = {
     {"encrypt with a key", encrypt_key, 1},
     {"decrypt with a key", decrypt_key, 1},
@@ -95,8 +97,8 @@ static const struct {
     {"the chunks' calls allocate nothing", all_chunks, 0},
 };
 
-// Runs a call with each allocation refused in turn, until it meets no refusal. It is out of memory, or
-// gets on with less and does what it does otherwise.
+// Runs a call with each allocation refused in turn, until none is refused. Each run is out of
+// memory, or manages with less memory and gives the usual result.
 static void each_allocation(uint32_t (*call)(void), long least)
 {
     static uint8_t usual[sizeof out];

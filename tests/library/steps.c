@@ -1,7 +1,8 @@
-// Tests of payloads, parts and ranges in steps. Without an argument it lists its tests, with one it runs the test of that name.
+// Tests of payloads, parts and ranges in steps. Without an argument it lists its tests; with one it
+// runs the test of that name.
 #include "check.h"
 
-// The file of a text, sealed in steps; its length goes to `len`.
+// The file of a text, sealed in steps; `len` gets its length.
 static uint8_t *written(const uint8_t *text, size_t text_len, size_t *len)
 {
     agefile_payload payload;
@@ -29,7 +30,8 @@ static uint8_t *written(const uint8_t *text, size_t text_len, size_t *len)
     return file;
 }
 
-// The text of a file, opened in steps, its first `count` chunks as a part; its length goes to `len`. Returns the first code that is not 0.
+// The text of a file, opened in steps, its first `count` chunks as a part; `len` gets its length.
+// Returns the first code that is not 0.
 static uint32_t read_back(const uint8_t *file, size_t file_len, size_t count, uint8_t *text, size_t *len)
 {
     agefile_payload payload;
@@ -87,7 +89,7 @@ static void the_same_files(void)
     }
 }
 
-// Whether this call is refused as out of order, with payload and chunk as they were.
+// Whether this call is refused as out of order, with payload and chunk unchanged.
 static bool is_refused(uint32_t (*call)(agefile_payload *, uint8_t *, size_t, bool, agefile_report *), agefile_payload payload, size_t len, bool last)
 {
     uint8_t *chunk = text_of(len), *old = copy_of(chunk, len);
@@ -110,7 +112,8 @@ static bool seals_nothing(agefile_payload payload, size_t len, bool last)
     return is_refused(agefile_seal_next, payload, len, last);
 }
 
-// Whether in this state neither a chunk nor a last one is opened or sealed, and no part is taken.
+// Whether in this state no chunk can be opened or sealed, as the last one or not, and no part can
+// be taken.
 static bool accepts_nothing(agefile_payload payload)
 {
     agefile_report report = unset_report();
@@ -137,7 +140,7 @@ static void reading_out_of_order(void)
     CHECK(open_with(file.bytes, front_of(file.len), key, &payload, &report) == AGEFILE_OK);
     CHECK(opens_nothing(payload, AGEFILE_SEALED_CHUNK - 1, false) && opens_nothing(payload, AGEFILE_SEALED_CHUNK + 1, false));
     CHECK(opens_nothing(payload, AGEFILE_SEALED_CHUNK + 1, true) && opens_nothing(payload, 0, false));
-    CHECK(seals_nothing(payload, AGEFILE_SEALED_CHUNK, false) && seals_nothing(payload, 100, true)); // its nonces were used
+    CHECK(seals_nothing(payload, AGEFILE_SEALED_CHUNK, false) && seals_nothing(payload, 100, true)); // its nonces are used
     agefile_payload bad = payload;
     for (uint64_t state = 5; state != 0; state <<= 3) {
         bad.state = state;
@@ -150,7 +153,7 @@ static void reading_out_of_order(void)
     release(file.bytes);
 }
 
-// A chunk that is opened with the wrong flag, or as another one, is refused, and so is all after it.
+// A chunk that is opened with the wrong flag or number is refused, and so is every call after it.
 static void reading_fails(void)
 {
     made_file file = made(140000);
@@ -188,7 +191,7 @@ static void writing_out_of_order(void)
     CHECK(seals_nothing(payload, tag - 1, true) && seals_nothing(payload, 0, true));
     CHECK(opens_nothing(payload, AGEFILE_SEALED_CHUNK, false) && opens_nothing(payload, 100, true));
     CHECK(agefile_seal_next(&payload, chunk, AGEFILE_SEALED_CHUNK, false, &report) == AGEFILE_OK && payload.number == 1);
-    CHECK(seals_nothing(payload, tag, true)); // an empty chunk is the only one of its file
+    CHECK(seals_nothing(payload, tag, true)); // an empty chunk must be the only one of its file
     CHECK(agefile_seal_next(&payload, chunk, 100, true, &report) == AGEFILE_OK && accepts_nothing(payload));
     payload.state = AGEFILE_WRITING;
     payload.number = UINT64_MAX;
@@ -213,8 +216,8 @@ static void small_header_rooms(void)
     }
 }
 
-// Seals or opens all of a file's chunks in place, the first `count` by a part and the others by the payload. The part goes last where that
-// is wanted. Returns whether each call returned 0 and both ended.
+// Seals or opens all chunks of a file in place, the first `count` by a part and the others by the
+// payload; on request the part goes last. Returns whether each call returned 0 and both ended.
 static bool goes_by_parts(agefile_payload *payload, uint8_t *const *chunks, size_t chunk_count, size_t last_len, size_t count, bool is_part_last)
 {
     bool is_sealing = payload->state == AGEFILE_WRITING, is_good = true;
@@ -267,7 +270,8 @@ static void parts_of_a_file(void)
     release(file.bytes);
 }
 
-// A part accepts its own chunks in order, of their length and in its direction, and fails as a payload does.
+// A part accepts its own chunks in order, with the right length and direction, and fails as a
+// payload does.
 static void parts_out_of_order(void)
 {
     made_file file = made(3 * AGEFILE_TEXT_CHUNK);
@@ -294,7 +298,7 @@ static void parts_out_of_order(void)
     release(file.bytes);
 }
 
-// The number of the last piece, if all have so many bytes.
+// The number of the last piece of this many sealed bytes.
 static uint64_t last_piece(uint64_t sealed_len)
 {
     return sealed_len == 0 ? 0 : (sealed_len - 1) / AGEFILE_SEALED_CHUNK;
@@ -322,7 +326,7 @@ static uint32_t open_ranges(const uint8_t *file, size_t len, agefile_ranges *ran
     return code;
 }
 
-// The code of opening the chunk that holds a byte, whose text is then compared from that byte on.
+// Opens the chunk that holds a byte, compares its text from that byte on, and returns the code.
 static uint32_t look(const agefile_ranges *ranges, const made_file *file, const uint8_t *text, size_t text_len, size_t at)
 {
     agefile_report report = unset_report();
@@ -363,13 +367,15 @@ static void ranges_of_each_place(void)
     }
 }
 
-// What is found in a file: after how many good chunks reading in order ends, with which code, and the code of the last chunk, which ranges open first.
+// The expected result for a file: the number of good chunks when reading in order, the code after
+// them, and the code of the last chunk, which ranges open first.
 typedef struct finding {
     size_t good;
     uint32_t code, last;
 } finding;
 
-// The whole buffer, steps, parts and ranges find this in a file whose bytes and text begin so.
+// Whole buffers, steps, parts and ranges must give this result for a file whose bytes and text
+// begin like this.
 static void all_find(const uint8_t *bytes, size_t len, size_t front, const uint8_t *text, finding expected)
 {
     made_file file = {copy_of(bytes, len), len, front};
@@ -417,11 +423,11 @@ static void damage(void)
     }
 }
 
-// What is found in a file that ends after so many chunks, and these bytes of the next one.
+// The expected result for a file that ends after so many chunks and these bytes of the next one.
 static finding cut_finding(size_t chunk, size_t rest)
 {
     if (rest == 0 && chunk > 0)
-        return (finding){chunk - 1, AGEFILE_BAD_CHUNK, AGEFILE_BAD_CHUNK}; // it is not the last
+        return (finding){chunk - 1, AGEFILE_BAD_CHUNK, AGEFILE_BAD_CHUNK}; // it is not the last chunk
     uint32_t code = rest < tag ? AGEFILE_CHUNK_SHORT : rest == tag && chunk > 0 ? AGEFILE_EMPTY_FINAL : AGEFILE_BAD_CHUNK;
     return (finding){chunk, code, code};
 }
@@ -443,7 +449,8 @@ static void truncation(void)
     }
 }
 
-// Bytes behind the last chunk: it is no longer the last if it is full, and otherwise they seem to belong to it.
+// Bytes after the last chunk: if it is full, it is no longer the last one; otherwise they seem to
+// belong to it.
 static void bytes_behind_the_end(void)
 {
     for (size_t i = 0; i < 2; i++) {
@@ -463,7 +470,8 @@ static void bytes_behind_the_end(void)
     }
 }
 
-// Another chunk's bytes are refused: of the same file, and of the same place in another file.
+// The bytes of another chunk are refused: one of the same file, and one with the same number in
+// another file.
 static void ranges_with_other_bytes(void)
 {
     made_file file = made(200000);

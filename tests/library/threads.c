@@ -1,5 +1,5 @@
-// Eight threads that call the library at once, each on a stack of 32 KiB, and a forked child; and which signals' handlers it changes. Prints
-// how much stack the calls took at most.
+// Eight threads that call the library at once, each on a stack of 32 KiB, and a forked child.
+// Checks that no signal handler changes, and prints how much stack the calls took at most.
 #include "check.h"
 #include <pthread.h>
 #include <signal.h>
@@ -67,7 +67,7 @@ static void *run(void *unused)
     return unused;
 }
 
-// Makes the calls in a forked child, while the threads make them here.
+// Makes the calls in a forked child while the threads make them here.
 static void in_a_child(void)
 {
     int status;
@@ -81,7 +81,7 @@ static void in_a_child(void)
     fail_if(child < 0 || waitpid(child, &status, 0) != child || status != 0);
 }
 
-// Runs the calls on painted stacks, and looks how deep they went.
+// Runs the calls on stacks filled with a pattern, and measures how deep they went.
 static void run_all(void)
 {
     static uint8_t stacks[threads][stack_size] __attribute__((aligned(4096)));

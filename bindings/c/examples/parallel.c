@@ -1,6 +1,6 @@
-/* Decrypts a file on N threads, or encrypts it with -e: parallel [-e] KEY_FILE N IN OUT. The 32 bytes
- * of KEY_FILE are the key. Use OUT only after status 0.
- * cc -O2 -pthread -o parallel parallel.c $(pkg-config --cflags --libs agefile) */
+/* Decrypts a file on N threads, or encrypts it with -e: parallel [-e] KEY_FILE N IN OUT. The 32
+ * bytes of KEY_FILE are the key. Use OUT only after status 0. cc -O2 -pthread -o parallel
+ * parallel.c $(pkg-config --cflags --libs agefile) */
 #define _FILE_OFFSET_BITS 64
 #include <agefile.h>
 #include <fcntl.h>
@@ -13,8 +13,9 @@
 #include <unistd.h>
 #define MOST_THREADS 64
 
-/* One thread's chunks: a part of the payload, or the payload itself with what is left. `from` and
- * `to` are the offsets of its next chunk in both files, `left` what IN has from there on. */
+/* The chunks of one thread: a part of the payload, or the payload itself with the rest. `from` and
+ * `to` are the offsets of its next chunk in both files, `left` is the number of bytes that IN has
+ * from there on. */
 struct work {
     pthread_t thread;
     bool is_sealing, is_part, is_done;
@@ -90,7 +91,7 @@ static void *run(void *argument)
     return NULL;
 }
 
-/* Makes the header of OUT, of all->to bytes, or reads the one of IN. */
+/* Makes the header of OUT, whose length is then all->to, or reads that of IN. */
 static bool start(struct work *all, const uint8_t key[32])
 {
     uint8_t fresh[48], stanza[AGEFILE_STANZA_ROOM]; /* a file key, a nonce and a salt */
@@ -112,7 +113,7 @@ static bool start(struct work *all, const uint8_t key[32])
     return true;
 }
 
-/* Opens OUT, which is no file that is read, and empties it. */
+/* Opens OUT, which must not be a file that is read, and truncates it. */
 static bool open_out(const char *name, const struct stat *source, int key)
 {
     struct stat sink, other;
@@ -137,12 +138,12 @@ int main(int argc, char **argv)
     if (count < 1 || count > MOST_THREADS || fread(key, 1, sizeof key, file) != 32)
         return fputs("usage: parallel [-e] KEY_FILE N IN OUT\n", stderr), 2;
     if ((in = open(words[2], O_RDONLY)) < 0 || fstat(in, &source) != 0 || !S_ISREG(source.st_mode))
-        return fail("IN is no file that can be read at offsets"), 1;
+        return fail("IN cannot be read at offsets"), 1;
     rest.left = (uint64_t)source.st_size;
     bool is_well = start(&rest, key) && open_out(words[3], &source, fileno(file)) && write_at(front, rest.to, 0);
     uint64_t full = rest.is_sealing ? AGEFILE_TEXT_CHUNK : AGEFILE_SEALED_CHUNK;
     uint64_t gives = rest.is_sealing ? AGEFILE_SEALED_CHUNK : AGEFILE_TEXT_CHUNK;
-    uint64_t share = rest.left / full / (uint64_t)count; /* the last thread has what is left over too */
+    uint64_t share = rest.left / full / (uint64_t)count; /* the last thread also gets the remainder */
     for (int i = 0; i < count; i++) {
         agefile_report report;
         works[i] = rest;
@@ -155,7 +156,7 @@ int main(int argc, char **argv)
     }
     for (int i = 0; is_well && i < count; i++)
         is_well = pthread_join(works[i].thread, NULL) == 0 && works[i].is_done;
-    if (is_well && pread(in, key, 1, source.st_size) != 0) /* as the files of /proc, or one that grows */
+    if (is_well && pread(in, key, 1, source.st_size) != 0) /* such as a file in /proc, or one that grows */
         is_well = fail("IN is longer than its size");
     return is_well && close(out) == 0 ? 0 : 1;
 }

@@ -6,7 +6,7 @@
 #include <string.h>
 #include <sys/random.h>
 
-static uint8_t buf[AGEFILE_SEALED_CHUNK + 1]; /* a sealed chunk, and a byte that tells whether it is the last */
+static uint8_t buf[AGEFILE_SEALED_CHUNK + 1]; /* a sealed chunk, and one more byte, without which it is the last */
 
 /* Whether a call succeeded; otherwise it prints why on standard error. */
 static bool is_ok(uint32_t code, const agefile_report *report)
@@ -16,9 +16,9 @@ static bool is_ok(uint32_t code, const agefile_report *report)
     return code == AGEFILE_OK;
 }
 
-/* Reads after the first `have` bytes of `buf`, up to `most`, and adds what it read to `have`: it is
- * below `most` only at the end. False if a read failed, which is no end: a chunk sealed as the last
- * one then would make a whole file of a part of the input. */
+/* Fills `buf` after its first `have` bytes, up to `most`, and increases `have`, which stays below
+ * `most` only at the end of the input. Returns false if a read failed. That is not the end: sealing
+ * the chunk as the last one would make a complete file of a part of the input. */
 static bool fill(size_t *have, size_t most)
 {
     *have += fread(buf + *have, 1, most - *have, stdin);
@@ -32,14 +32,14 @@ static bool put(const uint8_t *bytes, size_t len)
     return fwrite(bytes, 1, len, stdout) == len;
 }
 
-/* Whether a front of the file is too short. */
+/* Whether more of the file is needed. */
 static bool wants_more(uint32_t code)
 {
     return code == AGEFILE_HEADER_TRUNCATED || code == AGEFILE_NONCE_TRUNCATED;
 }
 
-/* Opens the payload with as little of the file as that takes, so that a wrong key is told while a
- * pipe still waits. `buf` has then the bytes after the nonce. */
+/* Opens the payload with as little of the file as that needs, so that a wrong key is reported while
+ * a pipe still waits. Afterwards `buf` has the bytes after the nonce. */
 static bool open_payload(const uint8_t key[32], agefile_payload *payload, size_t *have)
 {
     agefile_report report;

@@ -10,8 +10,8 @@ r"""Reads and writes age v1 encrypted files (age-encryption.org/v1).
 
 `open` opens a file as a seekable file of its plaintext, or a new file to be written. `encrypt`,
 `decrypt`, `inspect` and `rewrap` work on bytes in memory, `copy` and `rewrap_copy` from a file or
-pipe to another. Files for a `Passphrase` are exchanged with `age`; only agep and this library open
-files for a `Key`.
+pipe to another; `salvage` saves what is left of a damaged file. Files for a `Passphrase` are
+exchanged with `age`; only agep and this library open files for a `Key`.
 
 Calls may run in any number of threads. Threads may share an open file and then take turns, but only
 one of them may read its lines. Memory is not wiped, and constant time is not promised. The code of
@@ -24,6 +24,7 @@ from ._errors import AgeChangedError, AgeError, AgeMemoryError, Code
 from ._files import open
 from ._library import version as library_version
 from ._reader import Reader, _reopen
+from ._salvage import Lost, Salvaged, salvage
 from ._secrets import Header, Identity, Key, Passphrase, Recipient, Stanza
 from ._version import __version__
 from ._whole import copy, decrypt, encrypt, inspect, rewrap, rewrap_copy
@@ -38,9 +39,11 @@ __all__ = [
     "Header",
     "Identity",
     "Key",
+    "Lost",
     "Passphrase",
     "Reader",
     "Recipient",
+    "Salvaged",
     "Stanza",
     "Writer",
     "copy",
@@ -51,6 +54,7 @@ __all__ = [
     "open",
     "rewrap",
     "rewrap_copy",
+    "salvage",
 ]
 
 # Tracebacks and pickles name this package, and not its files.

@@ -86,7 +86,7 @@ _DETAILS = {
 
 # The second line of `agep -v` for faults that need no look into the file.
 _HINTS = {
-    Code.BAD_LINE: "the file is damaged, or was changed as a text: line {place} is not valid",
+    Code.BAD_LINE: "the file is damaged, or was changed by a text tool: line {place} is not valid",
     Code.HEADER_TOO_LARGE: "the header is longer than 65536 bytes",
     Code.MALFORMED: "the file is damaged, or another program made it: "
     "a stanza for a Passphrase or a Key is not valid",
@@ -110,7 +110,7 @@ def chunk_hint(code: int, place: int, left: int | None) -> str | None:
     if left < 16:
         where = f"chunk {place}, which starts at byte {first} of the plaintext"
         return f"the file ends {count_of(left)} into {where}"
-    what = "the file may be cut short, or have bytes behind its end"
+    what = "the file may be cut short, or have bytes after its end"
     return f"chunk {place}, from byte {first} of the plaintext on, is the last: {what}"
 
 

@@ -129,6 +129,7 @@ _SIGNATURES: dict[str, tuple[Any, ...]] = {
     "take_part": (_pointer(Payload), number, _pointer(Part), _report),
     "part_open_next": (_pointer(Part), *_bytes, _report),
     "part_seal_next": (_pointer(Part), *_bytes, _report),
+    "salvage_next": (_pointer(Payload), *_bytes, ctypes.c_bool, _report),
     "ranges_open": (*_bytes, number, address, _pointer(Ranges), _report),
     "ranges_last": (_pointer(Ranges), *_bytes, _report),
     "ranges_locate": (_pointer(Ranges), number, _report),

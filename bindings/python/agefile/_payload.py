@@ -110,22 +110,28 @@ OPENING = _Step(lib.SEALED_CHUNK, lib.TEXT_CHUNK, "open_next", "part_open_next")
 SEALING = _Step(lib.TEXT_CHUNK, lib.SEALED_CHUNK, "seal_next", "part_seal_next")
 
 
+def pieces(source: BinaryIO, length: int) -> Iterator[tuple[Chunk, int, bool]]:
+    """A source in pieces of this length: each with the number of its bytes, and whether it is the
+    last. The next piece overwrites the one before the last."""
+    chunk, ahead = Chunk(), Chunk()
+    count = read_into(source, chunk.view[:length])
+    # A byte behind a chunk says that it is not the last: it waits for no more.
+    while count == length and (more := read_into(source, ahead.view[:1])):
+        yield chunk, count, False
+        count = more + read_into(source, ahead.view[more:length])
+        chunk, ahead = ahead, chunk
+    yield chunk, count, True
+
+
 def one_by_one(step: _Step, payload: lib.Payload, source: BinaryIO, sink: Any) -> int:
     """Seals or opens a source to its end, chunk by chunk. Returns the length of the result."""
-    chunk, ahead = Chunk(), Chunk()
-    convert = lib.for_chunks(step.one, payload)
-    length, total = read_into(source, chunk.view[: step.take]), 0
-    # A byte behind a chunk says that it is not the last: it waits for no more.
-    while length == step.take and (more := read_into(source, ahead.view[:1])):
-        convert(chunk.base, lib.SEALED_CHUNK, False)
-        write_all(sink, chunk.view[: step.give])
-        total += step.give
-        length = more + read_into(source, ahead.view[more : step.take])
-        chunk, ahead = ahead, chunk
-    sealed = length if step is OPENING else length + lib.TAG
-    text = chunk.view[: convert(chunk.base, sealed, True)]
-    write_all(sink, text)
-    return total + len(text)
+    convert, total = lib.for_chunks(step.one, payload), 0
+    for chunk, count, is_last in pieces(source, step.take):
+        sealed = count if step is OPENING else count + lib.TAG
+        converted = chunk.view[: convert(chunk.base, sealed, is_last)]
+        write_all(sink, converted)
+        total += len(converted)
+    return total
 
 
 class _Batch:

@@ -12,6 +12,7 @@ from collections.abc import Iterable, Sequence
 from typing import Any, Callable, NamedTuple, Protocol, TypeVar, Union, cast, runtime_checkable
 
 _Call = TypeVar("_Call", bound=Callable[..., Any])
+_MARK = b"\xef\xbb\xbf"
 
 from . import _library as lib
 from ._errors import AgeError, Code, count_of
@@ -113,6 +114,8 @@ class Passphrase(_Secret):
     passphrase can open files but not make them.
     """
 
+    _untyped = False
+
     def __init__(self, passphrase: str | bytes, *, work: int = 18, max_work: int = 22) -> None:
         if isinstance(passphrase, str):
             passphrase = passphrase.encode()
@@ -124,20 +127,28 @@ class Passphrase(_Secret):
     @classmethod
     def from_file(cls, file: Any, *, work: int = 18, max_work: int = 22) -> Passphrase:
         """Reads a passphrase file as `agep -p` does: at most 65,536 bytes, without one LF at the
-        end. `file` is a path, a descriptor or a binary file object."""
+        end. `file` is a path, a descriptor or a binary file object. A passphrase that ends in CR or
+        begins with a byte-order mark, which nobody types, can open files but not make them:
+        ValueError."""
         room = bytearray(lib.TEXT_CHUNK + 1)
         with reading(file) as source:
             length = read_into(source, memoryview(room))
         if length > lib.TEXT_CHUNK:
             raise ValueError(f"a passphrase file has at most {lib.TEXT_CHUNK} bytes")
-        return cls(bytes(room[:length]).removesuffix(b"\n"), work=work, max_work=max_work)
+        made = cls(bytes(room[:length]).removesuffix(b"\n"), work=work, max_work=max_work)
+        made._untyped = made._secret.startswith(_MARK) or made._secret.endswith(b"\r")
+        return made
 
     def _wrong(self) -> str:
-        ends = {b"\r": " (the passphrase ends in CR)", b"\n": " (the passphrase ends in LF)"}
-        return super()._wrong() + ends.get(self._secret[-1:], "")
+        found = ["begins with a byte-order mark"] if self._secret.startswith(_MARK) else []
+        ends = (b"\r", "ends in CR"), (b"\n", "ends in LF")
+        found += [text for end, text in ends if self._secret.endswith(end)]
+        return super()._wrong() + (f" (the passphrase {' and '.join(found)})" if found else "")
 
     @_interruptible
     def _text(self, file_key: bytes) -> bytes:
+        if self._untyped:
+            raise ValueError("passphrase ends in CR or begins with a byte-order mark")
         salt = os.urandom(lib.SALT)
         with lib.Bytes(self._secret) as secret, lib.Bytes(file_key) as key, lib.Bytes(salt) as fresh:
             return _text_of("wrap_passphrase", key.address, *secret.pair, self._work, fresh.address)
@@ -172,7 +183,7 @@ class Key(_Secret):
             length = read_into(source, memoryview(room))
         if length != 32:
             found = "more" if length > 32 else str(length)
-            raise ValueError(f"a key file holds 32 raw bytes, no hexadecimal; this one has {found}")
+            raise ValueError(f"a key file holds 32 raw bytes, not hexadecimal; this one has {found}")
         return cls(bytes(room[:32]))
 
     def _text(self, file_key: bytes) -> bytes:
@@ -274,9 +285,11 @@ def _front_hint(code: int, front: bytes) -> str | None:
     if code != Code.NOT_AGE:
         return None
     if front.startswith(b"-----BEGIN AGE"):
-        return "ASCII armor stands at its start; age decrypts such a file"
-    if front.startswith(b"\xef\xbb\xbf"):
-        return "a byte-order mark stands at its start"
+        return "it begins with ASCII armor; age decrypts such a file"
+    if front.startswith(_MARK):
+        return "it begins with a byte-order mark"
+    if front.startswith(b"age-encryption.org/v1\r\n"):
+        return "its line ends are CR LF: it was changed by a text tool"
     return "the first line of an age file is age-encryption.org/v1"
 
 

@@ -84,11 +84,13 @@ def write_all(sink: Any, data: Any) -> None:
 
 class Counted:
     """A source that reports its progress after each 64 KiB and at its end: the bytes read, and how
-    many there are from its position on, or None."""
+    many there are from its position on, or None. `file` is the file from which the source reads, if
+    it is not one itself."""
 
-    def __init__(self, source: Any, progress: Progress) -> None:
+    def __init__(self, source: Any, progress: Progress, file: Any = None) -> None:
         self._source, self._readinto, self._progress = source, readinto_of(source), progress
-        self._done, self._told, self._total = 0, -1, _length_of(source)
+        total = _length_of(source if file is None else file)
+        self._done, self._told, self._total = 0, -1, total
 
     def _count(self, count: int) -> None:
         self._done += count

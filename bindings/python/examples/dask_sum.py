@@ -2,7 +2,7 @@
 
     dask_sum.py KEY_FILE FILE
 
-KEY_FILE holds 32 bytes. Each worker opens the chunks of its own blocks alone. Damage in one block fails
+KEY_FILE holds 32 bytes. Each worker opens only the chunks of its own blocks. Damage in one block fails
 its task with the file and the number of the chunk."""
 
 import sys

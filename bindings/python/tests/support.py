@@ -1,4 +1,4 @@
-"""What the tests of the package share: a key, texts, damage, threads, and the messages of agep."""
+"""Shared by the tests of the package: a key, texts, damage, threads, and the messages of agep."""
 
 import concurrent.futures
 import functools
@@ -36,7 +36,7 @@ def damaged(file, *chunks):
 
 
 def in_threads(work, count=4):
-    """The results of the function in so many threads at once."""
+    """The results of the function in this many threads at once."""
     start = threading.Barrier(count)
     with concurrent.futures.ThreadPoolExecutor(count) as pool:
         futures = [pool.submit(lambda: (start.wait(), work())[1]) for _ in range(count)]
@@ -44,7 +44,7 @@ def in_threads(work, count=4):
 
 
 def in_time(work, seconds=20):
-    """The result of the function, or its exception; an AssertionError where it does not end."""
+    """The result of the function, or its exception; an AssertionError if it does not return."""
     found = []
 
     def run():
@@ -62,7 +62,7 @@ def in_time(work, seconds=20):
 
 
 class InFolder(unittest.TestCase):
-    """A test in a folder of its own, where it makes files."""
+    """A test with its own folder, where it makes files."""
 
     def setUp(self):
         folder = tempfile.TemporaryDirectory()

@@ -1,5 +1,5 @@
-"""Damaged and cut files, in each way of reading: what gzip refuses is refused here too, no call
-returns less than it was asked for but at the end, and what is whole stays readable."""
+"""Damaged and cut files, read in every way: everything that gzip refuses is refused here, too; no
+call returns less than requested except at the end; and undamaged chunks stay readable."""
 
 import csv
 import functools
@@ -26,7 +26,7 @@ try:
 except ImportError:
     numpy = pandas = None
 
-# Five chunks, of which the last is not full.
+# Five chunks, the last of which is not full.
 LENGTH = 4 * TEXT + 1000
 
 
@@ -35,7 +35,7 @@ def until_empty(read):
 
 
 def into_room(call):
-    """What a call puts to a room that is as long as the plaintext."""
+    """What a call writes into a buffer as long as the plaintext."""
     room = bytearray(LENGTH)
     return room[: call(room)]
 
@@ -60,7 +60,7 @@ def words():
 
 
 def packed(make):
-    """The bytes of an archive that holds one member of four chunks, which is not compressed."""
+    """The bytes of an archive with one uncompressed member of four chunks."""
     out = io.BytesIO()
     make(out)
     return out.getvalue()
@@ -88,7 +88,7 @@ def of_tar(file):
         return archive.extractfile("member").read()
 
 
-# Each way of reading, by the plaintext that it takes; a function of an open file.
+# Each way of reading, as a function of an open file, by the plaintext that it needs.
 BYTES = {
     "read": lambda file: file.read(),
     "read(None)": lambda file: file.read(None),
@@ -146,7 +146,8 @@ def raises(work):
 
 
 def faults(length):
-    """Where an age file's chunks, and a gzip file's bytes, are damaged, or where both are cut."""
+    """Positions of damage in an age file (chunks) and a gzip file (bytes), and where both are
+    cut."""
     last = (length - 1) // TEXT
     for name, chunk in (("first", 0), ("middle", last // 2), ("last", last)):
         at = min(chunk * TEXT + 100, length - 1)
@@ -180,7 +181,8 @@ class Ways(unittest.TestCase):
         ])
 
     def compare_with_gzip(self, rows):
-        """Each damage is refused. gzip refuses as much but where it does not come to its sum."""
+        """Each damage is refused. gzip also refuses it, except where it does not reach its
+        checksum."""
         refused = 0
         for name, plain, read in rows:
             whole = read(io.BytesIO(plain))
@@ -228,7 +230,7 @@ class Positions(unittest.TestCase):
         cls.file = damaged(agefile.encrypt(cls.PLAIN, recipients=KEY), *cls.BAD)
 
     def needed(self, kind, at, size):
-        """The end of the bytes that a call at this position returns of a file without damage."""
+        """The end of the bytes that a call at this position returns from an undamaged file."""
         most = len(self.PLAIN) if size in (-1, None) else min(at + size, len(self.PLAIN))
         if kind in ("readline", "next"):
             return min(self.PLAIN.find(b"\n", at) + 1 or most, most)
@@ -244,7 +246,7 @@ class Positions(unittest.TestCase):
         return next(file) if kind == "next" else getattr(file, kind)(size)
 
     def test_calls_in_random_order(self):
-        """A call raises for what it was asked for and nothing else, and then leaves the position."""
+        """A call raises only for the bytes that it was asked for, and then keeps the position."""
         choose, file = random.Random(48), agefile.open(io.BytesIO(self.file), identities=KEY)
         raised = 0
         for number in range(6000):
@@ -260,7 +262,7 @@ class Positions(unittest.TestCase):
 
     def check(self, file, kind, size, at):
         if kind in ("peek", "read1"):
-            # How much these return is theirs to choose; size is a hint for peek.
+            # These may choose how much they return; for peek, size is a hint.
             end = at + 1 if kind == "peek" or size else at
         else:
             end = self.needed(kind, at, size)
@@ -319,7 +321,8 @@ class Positions(unittest.TestCase):
         self.assertEqual((file.raw.readinto(room), bytes(room)), (TEXT, self.PLAIN[:TEXT]))
 
     def test_an_error_between_two_chunks(self):
-        """One of a signal's handler, say, makes no end of the plaintext of a short result."""
+        """For example one in a signal handler: a short result is then not taken for the end of the
+        plaintext."""
         file = agefile.encrypt(words(), recipients=KEY)
         for name, read in (
             ("read", lambda file: file.read(LENGTH)),
@@ -342,7 +345,8 @@ class Positions(unittest.TestCase):
                 self.assertEqual((whole.tell(), whole.read()), (0, words()))
 
     def test_no_error_is_kept(self):
-        """It would keep the frames of its traceback, and be taken for that of another thread's read."""
+        """A kept exception would keep the frames of its traceback, and be raised for another
+        thread's read."""
         with agefile.open(io.BytesIO(damaged(agefile.encrypt(words(), recipients=KEY), 1)), identities=KEY) as file:
             self.assertEqual(file.raw.readinto(bytearray(LENGTH)), TEXT)
             self.assertEqual(file.raw.chunks.errors, {})
@@ -379,7 +383,7 @@ class EachChunk(unittest.TestCase):
                     self.assertEqual(out.getvalue() == self.plain[: chunk * TEXT], True)
 
     def test_by_ranges(self):
-        """Forwards and backwards; after each fault the chunk that was read before is asked again."""
+        """Forwards and backwards; after each fault the chunk read before is read again."""
         for bad in range(49):
             file = agefile.open(io.BytesIO(damaged(self.file, bad)), identities=KEY)
             for order in (range(50), range(49, -1, -1)):
@@ -405,10 +409,10 @@ class EachChunk(unittest.TestCase):
 
 
 class Below(InFolder):
-    """The file below changes, or its system's calls give less than they were asked for."""
+    """The file below changes, or its system calls return less than requested."""
 
     def test_cut_while_open(self):
-        """Chunks that are gone are told, also after a chunk that is still there."""
+        """Missing chunks are reported, even after a chunk that still exists."""
         plain = text(500000)
         with agefile.open(self.made(plain), identities=KEY) as file:
             os.truncate("a.age", 300000)
@@ -443,7 +447,7 @@ class Below(InFolder):
                     self.assertEqual(file.read() if most > 1 else file.read(10), plain if most > 1 else plain[:10])
 
     def test_a_file_that_fails_for_a_while(self):
-        """After any error of the file below, reading goes on where it was."""
+        """After any error of the file below, reading continues where it was."""
         class Broken(io.BytesIO):
             works = True
 

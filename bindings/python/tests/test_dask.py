@@ -29,7 +29,7 @@ BLOCK = 1 << 20
 
 
 def failure_of(work):
-    """The error with which a task ends, as text."""
+    """The error of a task, as text."""
     try:
         work()
     except agefile.AgeError as error:
@@ -38,7 +38,7 @@ def failure_of(work):
 
 
 class Logged:
-    """A recipient and identity whose file key stands in the file; it logs each time that it is asked."""
+    """A recipient and identity whose file key is in the file; it logs each call."""
 
     def __init__(self, log):
         self.log = log
@@ -86,12 +86,13 @@ class Tables(unittest.TestCase):
     def test_a_sum_on_two_processes(self):
         found = dask_sum.sums(self.name, SECRET, workers=2, blocksize=max(BLOCK, self.length // 64))
         self.assertEqual(int(found["number"]), ROWS * (ROWS - 1) // 2)
-        # Of 64 bits, as the numbers of the table.
+        # 64 bits, like the numbers in the table.
         square = (ROWS - 1) * ROWS * (2 * ROWS - 1) // 6
         self.assertEqual(int(found["square"]) % 2**64, square % 2**64)
 
     def test_one_block_reads_its_own_chunks(self):
-        """A task reads the chunks of its block, the next ones up to a line's end, and the last one of the file."""
+        """A task reads the chunks of its block, the next ones up to the end of a line, and the last
+        one of the file."""
         blocks = dask_sum.table(self.name, SECRET, BLOCK).to_delayed()
         offsets, read_at = [], _reader._Source.read_at
 
@@ -104,13 +105,13 @@ class Tables(unittest.TestCase):
         with open(self.name, "rb") as file:
             first = agefile.inspect(file.read(1000)).length + 16
         chunks = {(offset - first) // SEALED for offset in offsets}
-        # From both ends of its block it looks for the end of a line, in pieces of 64 KiB.
+        # From both ends of its block it searches the end of a line, in pieces of 64 KiB.
         own = set(range(3 * 16 - 1, 4 * 16 + 2))
         self.assertLessEqual(chunks, own | {(self.length - 1) // TEXT})
         self.assertGreaterEqual(chunks, set(range(3 * 16, 4 * 16)))
 
     def test_damage_in_one_block(self):
-        """Damage fails the task of its block alone, with its chunk's number."""
+        """Damage fails only the task of its block, with the number of its chunk."""
         damaged = self.name + ".damaged.age"
         self.addCleanup(os.remove, damaged)
         with open(self.name, "rb") as file, open(damaged, "wb") as copy:
@@ -135,7 +136,7 @@ class Tables(unittest.TestCase):
         self.assertEqual({index: text for index, text in failures.items() if text}, {2: said})
 
     def test_a_file_is_unlocked_once(self):
-        """The workers' processes read with the key that the first opening found."""
+        """The worker processes read with the key that was found when the file was first opened."""
         log, name = self.name + ".log", self.name + ".logged.age"
         identity = Logged(log)
         self.addCleanup(os.remove, name), self.addCleanup(os.remove, log)

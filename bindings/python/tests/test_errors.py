@@ -1,4 +1,4 @@
-"""AgeError: what it is no subclass of, its hints beside the second line of `agep -v`, its pickles."""
+"""AgeError: its base classes, its hints compared with the second line of `agep -v`, its pickles."""
 
 import io
 import json
@@ -30,7 +30,7 @@ class Kinds(InFolder):
         self.assertEqual(AgeError.__mro__[1:], Exception.__mro__)
 
     def test_the_module(self):
-        """No pickle and no traceback names a private file."""
+        """Pickles and tracebacks name no private module."""
         for name in agefile.__all__:
             if hasattr(getattr(agefile, name), "__qualname__"):
                 self.assertEqual(getattr(agefile, name).__module__, "agefile", name)
@@ -50,7 +50,7 @@ class Kinds(InFolder):
 
 
 class Hints(InFolder):
-    """Each fault of a file: the hint is the second line of `agep -v`, with the words of Python."""
+    """For each fault of a file, the hint is the second line of `agep -v` in terms of Python."""
 
     WORDS = (("-p opens it", "a Passphrase opens it"), ("-k opens it", "a Key opens it"), ("another tool opens it", "another tool or identity opens it"),
              ("for -p or -k is not", "for a Passphrase or a Key is not"), ("agep accepts at most 30", "at most 30 is accepted"),
@@ -58,7 +58,7 @@ class Hints(InFolder):
              ("key file key (32 bytes)", "Key"))
 
     def files(self):
-        """The faults: a name, the file, and the secret that opens it, or does not."""
+        """The faults: a name, the file, and the secret that opens it or not."""
         plain = agefile.encrypt(text(140000), recipients=KEY)
         by_word = agefile.encrypt(b"text", recipients=Passphrase("pass", work=2))
         header = agefile.inspect(plain)
@@ -67,7 +67,7 @@ class Hints(InFolder):
         mac[at - 5] ^= 1
         salt = by_word.split(b" ")[2]
         for name, file in (
-            ("empty", b""), ("no age", b"text"), ("a mark", b"\xef\xbb\xbf" + plain), ("armor", b"-----BEGIN AGE ENCRYPTED FILE-----\n"),
+            ("empty", b""), ("no age", b"text"), ("a mark", b"\xef\xbb\xbf" + plain), ("CR LF", plain.replace(b"\n", b"\r\n", 3)), ("armor", b"-----BEGIN AGE ENCRYPTED FILE-----\n"),
             ("cut header", plain[:50]), ("1 byte", plain[:1]), ("line", plain.replace(b"\n--- ", b"\n--- _", 1)), ("mac", bytes(mac)),
             ("large header", b"age-encryption.org/v1\n-> " + b"x" * 70000 + b"\n"),
             ("nonce", plain[: at + 5]), ("no chunk", plain[: at + 16]), ("1 byte of a chunk", plain[: at + 17]), ("cut", plain[:-5]), ("cut at a chunk", plain[: at + 16 + 65552]),
@@ -79,6 +79,8 @@ class Hints(InFolder):
         yield "wrong key", plain, Key(bytes(32))
         yield "wrong passphrase", by_word, Passphrase("word")
         yield "CR", by_word, Passphrase("passphrase word"[:13] + "\r")
+        yield "mark", by_word, Passphrase("\ufeffpassphrase!")
+        yield "mark and LF", by_word, Passphrase("\ufeffpassphrase\n")
         yield "salt", by_word.replace(salt, b"AAAA"), Passphrase("pass")
         for work in ("23", "24", "30", "31", "9" * 40):
             yield f"work {work}", SCRYPT.format("A" * 22, work, "A" * 43, "A" * 43).encode(), Passphrase("pass")
@@ -87,7 +89,7 @@ class Hints(InFolder):
             yield types, f"age-encryption.org/v1\n{stanzas}--- {'A' * 43}\n".encode(), KEY
 
     def hints(self, file, secret):
-        """The hint by each way of reading."""
+        """The hint from each way of reading."""
         for name, call in (
             ("decrypt", lambda: agefile.decrypt(file, identities=secret)),
             ("decrypt on threads", lambda: agefile.decrypt(file, identities=secret, threads=2)),

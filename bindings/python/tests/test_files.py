@@ -1,4 +1,4 @@
-"""Opened files: reading by ranges, writing chunk by chunk, and what becomes of them."""
+"""Open files: reading by ranges, writing chunk by chunk, closing, copies, threads and forks."""
 
 import contextlib
 import copy
@@ -28,17 +28,17 @@ from support import KEY, InFolder, damaged, in_threads, message, text
 
 
 class PathThatWrites:
-    """A path with a method `write`, as those of the package py."""
+    """A path with a method `write`, like those of the package py."""
 
     def __fspath__(self):
         return "path.age"
 
     def write(self, data):
-        raise AssertionError("a path is no open file")
+        raise AssertionError("a path is not an open file")
 
 
 class FileWithPath(io.FileIO):
-    """An open file that is a path too, as local ones of fsspec."""
+    """An open file that is also a path, like the local ones of fsspec."""
 
     def __fspath__(self):
         raise AssertionError("an open file is not opened by its path")
@@ -75,7 +75,7 @@ class Reading(InFolder):
                 self.assertEqual((file.readinto(room), room[:length]), (length, plain))
 
     def test_like_a_file_that_is_not_encrypted(self):
-        """Random calls, short ones and long ones in turn, give what they give over the plaintext."""
+        """Random calls, short and long ones in turn, return the same as over the plaintext."""
         plain = b"".join(b"%d\n" % number for number in range(60000))
         choose = random.Random(1)
         with agefile.open(self.made(plain), identities=KEY) as file:
@@ -98,7 +98,7 @@ class Reading(InFolder):
         elif kind in ("read", "readline"):
             self.assertEqual(getattr(file, kind)(size), getattr(other, kind)(size))
         else:
-            # How much these return is theirs to choose.
+            # These may choose how much they return.
             room = bytearray(1000)
             found = {"peek": file.peek, "read1": file.read1, "readinto1": lambda: room[: file.readinto1(room)]}[kind]()
             rest = other.read(len(found) or 1)
@@ -118,7 +118,7 @@ class Reading(InFolder):
             self.assertEqual(b"".join(file), plain.getvalue().encode())
 
     def test_errors_name_their_file(self):
-        """The text of an error, and its `filename`, say which file it is about."""
+        """The text of an error and its `filename` name the file."""
         plain = text(300000)
         self.put(damaged(self.got(self.made(plain)), 2))
         with self.assertRaises(AgeError) as caught, agefile.open("a.age", identities=KEY) as file:
@@ -190,7 +190,7 @@ class Reading(InFolder):
         self.assertRaises(AgeError, pickle.loads, pickled)
 
     def test_copies(self):
-        """A copy of an opened file is a file of its own, which asks for no secret."""
+        """A copy of an open file is an independent file that needs no secret."""
         plain = text(300000)
         with agefile.open(self.made(plain), identities=KEY) as file:
             file.seek(70000)
@@ -200,7 +200,7 @@ class Reading(InFolder):
             self.assertEqual(file.read(100), plain[70000:70100])
 
     def test_each_chunk_is_read_once(self):
-        """Short reads and lines take their bytes from a buffer of a chunk."""
+        """Short reads and lines are served from a buffer of one chunk."""
         plain, offsets = b"some text\n" * 30000, []
         for read in (lambda file: file.read(1000), lambda file: file.readline(), lambda file: file.read1(100)):
             with agefile.open(self.made(plain), identities=KEY) as file:
@@ -213,7 +213,7 @@ class Reading(InFolder):
             offsets.clear()
 
     def test_no_descriptor_is_left(self):
-        """Files that nobody closed are closed, also those that were refused."""
+        """Files that nobody closed get closed, even those that were refused."""
         name, before = self.made(b"text\n" * 1000), os.listdir("/proc/self/fd")
         with warnings.catch_warnings():
             warnings.simplefilter("ignore", ResourceWarning)
@@ -229,7 +229,7 @@ class Reading(InFolder):
         self.assertEqual(os.listdir("/proc/self/fd"), before)
 
     def test_views_of_a_traceback(self):
-        """The frames of a traceback keep no view of memory that is not an object's."""
+        """The frames of a traceback keep no view of memory that no object owns."""
 
         class Broken(io.FileIO):
             breaks = False
@@ -271,7 +271,8 @@ class Reading(InFolder):
         self.assertEqual(sorted(sum(found, [])), sorted(pieces + [b""] * 100))
 
     def test_a_thread_on_the_raw_file(self):
-        """The file and its `raw` share one chunk: neither takes that of the other for its own."""
+        """The file and its `raw` share one chunk buffer; neither mistakes the other's chunk for its
+        own."""
         plain = text(300000)
         with agefile.open(self.made(plain), identities=KEY) as file:
             read = file.raw.chunks._read
@@ -297,7 +298,7 @@ class Reading(InFolder):
                 in_threads(lambda: next(works)(), 2)
 
     def test_lines_beside_a_bad_chunk(self):
-        """A thread that reads lines gets its own errors, and not those of another's reads."""
+        """A thread that reads lines gets its own errors, and not those of another thread."""
         lines = [b"%0999d\n" % number for number in range(300)]
         self.put(damaged(agefile.encrypt(b"".join(lines), recipients=KEY), 3))
         with agefile.open("a.age", identities=KEY) as file:
@@ -320,7 +321,7 @@ class Reading(InFolder):
 
             works = iter((read_lines, read_on))
             in_threads(lambda: next(works)(), 2)
-            # The line that the bad chunk cuts is never handed out in part, nor taken for the end.
+            # The line that the bad chunk cuts is never returned in part, nor taken for the end.
             for is_iterator in (True, False):
                 file.seek(0)
                 found, it = [], iter(file) if is_iterator else file
@@ -328,13 +329,14 @@ class Reading(InFolder):
                     with self.assertRaises(AgeError):
                         while True:
                             found.append(next(it))
-                            # An error of another thread's read that came meanwhile.
+                            # An error that another thread's read raised in the meantime.
                             file.raw.chunks.errors[0] = AgeError(Code.BAD_CHUNK)
                 self.assertEqual((found, file.tell()), (lines[:before], 1000 * before))
         self.assertRaises(ValueError, iter, file)
 
     def test_a_bad_chunk_beside_a_thread_that_seeks(self):
-        """The other thread goes to the end. The short result before the chunk is still an error."""
+        """The other thread seeks to the end. The short result before the chunk is still an
+        error."""
         self.put(damaged(self.got(self.made(text(200000))), 1))
         with agefile.open("a.age", identities=KEY) as file:
             buffer = file._buffer
@@ -352,7 +354,7 @@ class Reading(InFolder):
             thread.join()
 
     def test_fork(self):
-        """A child and its parent go on with one open file, and neither moves the other's position."""
+        """A child and its parent both use an open file, and neither moves the other's position."""
         plain = text(3000000)
         with agefile.open(self.made(plain), identities=KEY) as file:
             self.assertEqual(file.read(70000), plain[:70000])
@@ -363,7 +365,7 @@ class Reading(InFolder):
             self.assertEqual(os.waitpid(child, 0)[1], 0)
 
     def test_readers_of_one_file_object(self):
-        """Readers over one file object go on where each was."""
+        """Each of several readers over one file object continues at its own position."""
         plain = text(500000)
         for buffering in (0, -1):
             with open(self.made(plain), "rb", buffering) as below:
@@ -375,7 +377,7 @@ class Reading(InFolder):
 
 
     def test_descriptors_that_forked_readers_share(self):
-        """A file object of the system is read at offsets, so its position belongs to nobody."""
+        """A file object of the system is read at offsets, so its position does not matter."""
         plain = text(2000000)
         self.made(plain)
         for kind, opened in (
@@ -461,6 +463,28 @@ class Reading(InFolder):
         self.assertEqual(agefile.copy("plain", os.open("b.age", os.O_WRONLY | os.O_CREAT), recipients=KEY), len(plain))
         self.assertEqual(agefile.decrypt(self.got("b.age"), identities=KEY), plain)
 
+    def test_descriptors(self):
+        """`open` closes the descriptor it is given, as the built-in function does. The other functions leave
+        it open, even after an error."""
+        self.made(b"text"), self.put(bytes(32), "key")
+        other = Key(bytes(32))
+        for stays, name, call in (
+            (False, "a.age", lambda given: agefile.open(given, identities=KEY).close()),
+            (False, "a.age", lambda given: agefile.open(given, identities=other)),
+            (False, "new", lambda given: agefile.open(given, "wb", recipients=KEY).close()),
+            (True, "a.age", lambda given: agefile.copy(given, "plain", identities=KEY)),
+            (True, "a.age", lambda given: agefile.copy(given, "plain", identities=other)),
+            (True, "new", lambda given: agefile.copy("a.age", given, identities=KEY)),
+            (True, "a.age", lambda given: agefile.rewrap_copy(given, "plain", identities=KEY, recipients=other)),
+            (True, "new", lambda given: agefile.rewrap_copy("a.age", given, identities=KEY, recipients=other)),
+            (True, "a.age", agefile.inspect), (True, "key", agefile.inspect), (True, "key", Key.from_file), (True, "key", Passphrase.from_file),
+        ):
+            given = os.open(name, os.O_RDWR | os.O_CREAT)
+            with contextlib.suppress(AgeError):
+                call(given)
+            with contextlib.nullcontext() if stays else self.assertRaises(OSError):
+                os.close(given)
+
     def test_what_is_not_opened(self):
         """A TypeError says what to pass."""
         for wrong, words in ((None, "path"), (5.0, "path"), (io.StringIO(), "binary"), ([], "path")):
@@ -479,7 +503,7 @@ class Reading(InFolder):
             agefile.open(wrong, identities=KEY)
 
     def test_names(self):
-        """`name`, `mode` and `repr`, as files have them."""
+        """`name`, `mode` and `repr` are like those of files."""
         self.made(b"text")
         for mode, words in (("rb", {"identities": KEY}), ("r", {"identities": KEY}), ("wb", {"recipients": KEY}), ("w", {"recipients": KEY})):
             for name in ("a.age", b"a.age", pathlib.Path("a.age")):
@@ -530,8 +554,8 @@ def by_mode(mode: str) -> None:
 @unittest.skipIf(shutil.which("mypy") is None, "mypy is missing")
 class Types(InFolder):
     def test_open(self):
-        """A checker knows what `open` returns in each mode, takes a mode that is known only when the
-        program runs, and refuses words that no mode takes."""
+        """A type checker knows what `open` returns in each mode, accepts a mode that is known only
+        at run time, and refuses arguments that no mode takes."""
         self.put(TYPED.encode(), "typed.py")
         os.symlink(os.path.dirname(agefile.__file__), "agefile")
         done = subprocess.run(["mypy", "--strict", "typed.py"], capture_output=True, text=True)

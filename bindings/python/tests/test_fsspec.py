@@ -1,4 +1,4 @@
-"""The file system for fsspec: what it opens and what it keeps, other files beside, chains, writing."""
+"""The file system for fsspec: files and keys, files that are not age files, chains, writing."""
 
 import contextlib
 import gc
@@ -37,7 +37,7 @@ from support import KEY, TEXT, InFolder, damaged, message, text
 
 
 class Counted:
-    """A recipient and identity whose file keys stand in the file; it counts how often it is asked."""
+    """A recipient and identity whose file key is in the file; it counts its calls."""
 
     def __init__(self):
         self.asked = 0
@@ -75,7 +75,7 @@ class Lists(InSystem):
             self.put(b"no age file" * (name != "empty"), name)
 
     def test_lists_open_nothing(self):
-        """Files of others are listed too, and nothing is opened or unlocked."""
+        """Other files are listed, too, and nothing is opened or unlocked."""
         below = fsspec.filesystem("file")
         system, folder = self.system, self.folder
         with mock.patch.object(type(below), "open", side_effect=AssertionError("opened")), mock.patch.object(type(below), "_open", side_effect=AssertionError("opened")):
@@ -128,7 +128,7 @@ class Reads(InSystem):
         self.assertEqual(self.identity.asked, 1)
 
     def test_damage(self):
-        """A read fails only where a chunk is bad that it needs, and names file and chunk."""
+        """A read fails only if it needs a bad chunk, and names the file and the chunk."""
         plain = text(5 * TEXT)
         path = self.path(self.put(damaged(agefile.encrypt(plain, recipients=self.identity), 2)))
         for begin, end in ((0, 100), (10, 2 * TEXT), (2 * TEXT - 1, 2 * TEXT), (3 * TEXT, 5 * TEXT), (4 * TEXT - 1, 4 * TEXT + 1)):
@@ -140,7 +140,7 @@ class Reads(InSystem):
 
 
 class Keys(InSystem):
-    """The key that is kept belongs to a file as it was."""
+    """A kept key belongs to the file as it was."""
 
     def asked_for(self, work):
         before = self.identity.asked
@@ -168,7 +168,7 @@ class Keys(InSystem):
                 self.assertEqual(again.cat_file(path), expected)
 
     def test_a_file_for_others_now(self):
-        """A file that was rewrapped for another key is not opened by the key that was kept."""
+        """A file that was rewrapped for another key is not opened by the kept key."""
         path = self.new("a.age", b"text", KEY)
         self.assertEqual(self.system.cat_file(path), b"text")
         new = agefile.rewrap(self.got("a.age"), identities=KEY, recipients=Key(bytes(32)))
@@ -179,7 +179,7 @@ class Keys(InSystem):
         self.assertEqual(caught.exception.code, Code.WRONG_KEY)
 
     def test_a_file_system_that_says_nothing_of_a_file(self):
-        """Where the state below tells nothing, a fault makes the file be unlocked anew."""
+        """If the file system below reports no state, a fault makes the file be unlocked again."""
         path = self.new("a.age", text(200000))
         with mock.patch.object(type(self.system.fs), "ukey", lambda *_: "the same"):
             self.assertEqual(self.asked_for(lambda: self.system.cat_file(path)), (text(200000), 1))
@@ -201,7 +201,8 @@ class Keys(InSystem):
         self.assertEqual([call.args for call in below.call_args_list], [(path,), (None,)])
 
     def test_a_key_of_the_state(self):
-        """`ukey`, by which Dask and the caches of fsspec know a file, is another after each write."""
+        """`ukey`, by which Dask and the caches of fsspec identify a file, changes with each
+        write."""
         path, found = self.new("a.age", b"text"), set()
         system = fsspec.filesystem("age", identities=KEY, recipients=KEY)
         for number in range(3):
@@ -212,7 +213,8 @@ class Keys(InSystem):
         self.assertEqual(len(found), 3)
 
     def test_two_keys(self):
-        """File systems with two keys are two, for fsspec and for Dask, and a pickle is the same."""
+        """File systems with different keys differ for fsspec and for Dask; a pickled one equals its
+        original."""
         path, other = self.new("a.age", b"one", KEY), Key(bytes(32))
         first, second = (fsspec.filesystem("age", identities=key) for key in (KEY, other))
         self.assertEqual(first.cat_file(path), b"one")
@@ -258,8 +260,18 @@ class Chains(InSystem):
         with fsspec.open(f"simplecache::age::file://{path}", "rb", age=words, simplecache={"cache_storage": self.path("cache")}) as file:
             self.assertEqual(file.read(), plain)
 
+    def test_the_system_below(self):
+        """The file system below is that of a protocol and its options; over two of them, the file systems
+        differ."""
+        options = {"target_protocol": "file", "cache_storage": self.path("cache")}
+        system = fsspec.filesystem("age", identities=self.identity, target_protocol="simplecache", target_options=options)
+        self.assertEqual(system.cat_file(self.new("a.age", b"text")), b"text")
+        self.assertEqual(len(os.listdir("cache")), 1)
+        first, second = (DirFileSystem(folder, fsspec.filesystem("file")) for folder in (self.folder, "/"))
+        self.assertNotEqual(*(fsspec.filesystem("age", fs=fs, identities=KEY) for fs in (first, second)))
+
     def test_a_file_system_that_streams(self):
-        """As over HTTP, a file that is opened with the block size 0 can't seek."""
+        """As over HTTP, a file opened with block size 0 cannot seek."""
         path, files = self.new("a.age", b"text"), type(self.system.fs)
         opened = files._open
 
@@ -301,7 +313,7 @@ def can_mount():
 @unittest.skipUnless(can_mount(), "fusepy, /dev/fuse or the right to mount is missing")
 class Mounts(InSystem):
     def test_a_mount(self):
-        """Any program reads the plaintexts, and fails where a chunk is damaged."""
+        """Any program can read the plaintexts, and fails where a chunk is damaged."""
         plain = text(300000)
         os.mkdir("files"), os.mkdir("mount")
         self.new("files/whole", plain, KEY), self.put(damaged(self.got("files/whole"), 2), "files/bad")
@@ -351,7 +363,8 @@ class Writes(InSystem):
         self.assertEqual(agefile.decrypt(self.got(path), identities=KEY), b"other")
 
     def test_a_body_that_raises(self):
-        """What was there stays until the first byte is due; what is written then is no whole file."""
+        """The old file stays until the first byte is written; what is written then is not a
+        complete file."""
         path = self.path("a.age")
         for mode, data, is_kept in (("wb", b"text", True), ("w", "text", True), ("wb", text(100000), False), ("w", "x" * 100000, False)):
             self.new("a.age", b"old")
@@ -364,7 +377,7 @@ class Writes(InSystem):
                 self.assertRaises(AgeError, self.system.cat_file, path)
 
     def test_what_would_be_lost(self):
-        """Compressed files, whose end a close would leave out, and transactions are refused."""
+        """Compressed files, whose end `close` would lose, and transactions are refused."""
         path = self.new("a.age", b"old")
         for mode, compression in (("wb", "gzip"), ("w", "infer"), ("xb", "gzip")):
             self.assertRaises(ValueError, self.system.open, path, mode, compression=compression)
@@ -398,15 +411,22 @@ class Writes(InSystem):
         self.system.makedirs(self.path("new/deep/er"))
         self.system.pipe_file(self.path("new/deep/er/a.age"), b"text")
         self.assertEqual(agefile.decrypt(self.got("new/deep/er/a.age"), identities=self.identity), b"text")
-        with mock.patch.object(type(self.system.fs), "mkdir") as below:
-            self.system.mkdir("/new", create_parents=False, acl="private")
-        below.assert_called_once_with("/new", create_parents=False, acl="private")
         self.system.mkdir(self.path("empty"))
         self.system.rmdir(self.path("empty"))
         self.assertFalse(os.path.exists("empty"))
 
+    def test_what_is_passed_on(self):
+        """The file system below gets the arguments, too, and its result is returned."""
+        for name in "mkdir makedirs rmdir rm rm_file created modified exists isfile isdir du ukey cp_file mv".split():
+            paths = ("/old", "/new")[: 1 + (name in ("cp_file", "mv"))]
+            with self.subTest(name), mock.patch.object(type(self.system.fs), name) as below:
+                found = getattr(self.system, name)(*(f"age://{path}" for path in paths), acl="private")
+                self.assertIs(found, below.return_value if len(paths) == 1 else None)
+                below.assert_called_once_with(*paths, acl="private")
+
     def systems(self):
-        """Over local files, over these without their class, and over memory: a system, and a path."""
+        """File systems with a path: over local files, over these behind another class, and over
+        memory."""
         memory = fsspec.filesystem("memory")
         self.addCleanup(lambda: memory.exists("/agefile") and memory.rm("/agefile", recursive=True))
         words = {"identities": self.identity, "recipients": self.identity}
@@ -437,13 +457,15 @@ class Writes(InSystem):
                 self.assertEqual([system.exists(path + end) for end in ("", "3", "4")], [False] * 3)
         self.system.makedirs(self.path("deep/er"))
         self.system.pipe_file(self.path("deep/er/a.age"), b"text")
+        os.utime("deep/er/a.age", (1, 1))
         self.system.touch(self.path("deep/er/a.age"), truncate=False)
+        self.assertGreater(os.stat("deep/er/a.age").st_mtime, 1)
         self.assertEqual(self.system.cat_file(self.path("deep/er/a.age")), b"text")
         self.system.rm(self.path("deep"), recursive=True)
         self.assertFalse(os.path.exists("deep"))
 
     def test_atomic(self):
-        """By call and by file system: the old file stays until the new one is whole."""
+        """For a call and for the file system: the old file stays until the new one is complete."""
         for system, path in self.systems():
             by_default = fsspec.filesystem("age", fs=system.fs, identities=self.identity, recipients=self.identity, atomic=True)
             for used, words in ((system, {"atomic": True}), (by_default, {}), (pickle.loads(pickle.dumps(by_default)), {})):
@@ -467,7 +489,7 @@ class Writes(InSystem):
             system.rm(path)
 
     def test_atomic_that_fails(self):
-        """Whatever fails in the file system below, the old file stays, and nothing beside it."""
+        """Whatever fails in the file system below, the old file stays, and no other file."""
         system = fsspec.filesystem("age", fs=DirFileSystem(self.folder, fsspec.filesystem("file")), identities=self.identity, recipients=self.identity, atomic=True)
 
         def fails(*_, **words):
@@ -480,7 +502,7 @@ class Writes(InSystem):
             self.assertEqual((self.got("a.age"), os.listdir()), (old, ["a.age"]), name)
 
     def test_open_files_of_fsspec(self):
-        """An OpenFile does not tell the file of an exception."""
+        """An OpenFile does not tell its file about an exception."""
         path, words = self.path("a.age"), {"identities": self.identity, "recipients": self.identity}
         for mode, data in (("wb", text(200000)), ("w", "x" * 200000)):
             with self.assertWarnsRegex(RuntimeWarning, "KeyError was handled"), self.assertRaises(KeyError):
@@ -509,12 +531,17 @@ class Writes(InSystem):
                 fsspec.filesystem("age", **words)
         for mode, words in (("rb", {"atomic": True}), ("r", {"identities": KEY}), ("wb", {"identities": KEY}), ("w", {"word": 1})):
             self.assertRaises(TypeError, self.system.open, path, mode, **words)
-        for words in ({"block_size": 100}, {"cache_type": "none"}):
+        for words in ({"block_size": 100}, {"cache_type": "none"}, {"cache_options": {}}, {"size": 3}, {"autocommit": True}):
             self.assertEqual(self.system.open(path, **words).read(), b"old")
+        for words in ({"asynchronous": False}, {"loop": None}, {"batch_size": 5}, {"max_paths": 5}, {"listings_expiry_time": 5}, {"use_listings_cache": True}):
+            self.assertEqual(fsspec.filesystem("age", identities=self.identity, **words).cat_file(path), b"old")
+        self.new("a.age", b"a\r\n\xff")
+        with self.system.open(path, "r", newline="", errors="replace") as file:
+            self.assertEqual(file.read(), "a\r\n\ufffd")
 
     @unittest.skipIf(pandas is None, "pandas is missing")
     def test_pandas(self):
-        """An export that breaks leaves no whole half, and with `atomic` the old file."""
+        """A broken export leaves an incomplete file, and with `atomic` the old file."""
         class Bad:
             def __str__(self):
                 raise RuntimeError("bad")

@@ -1,9 +1,12 @@
-"""Files of others, which are not this package: tests/reference.py, agep and age. What they make is
-read here, and what is made here they read; and what of a new file has to be fresh, or unknown."""
+"""Files exchanged in both directions with tests/reference.py, agep and age; and the parts of a new
+file that must be fresh or secret."""
 
 import base64
+import errno
 import io
+import itertools
 import os
+import pickle
 import shutil
 import subprocess
 import sys
@@ -11,20 +14,20 @@ import unittest
 from unittest import mock
 
 import agefile
-from agefile import Key, Passphrase, Stanza
-from support import AGEP, KEY, ROOT, InFolder, message, text
+from agefile import AgeError, Key, Passphrase, Stanza
+from support import AGEP, KEY, ROOT, InFolder, message, pattern, text
 
 import reference
 
 SIZES = (0, 1, 65536, 65537, 150000)
-# of the reference, which takes a second for some chunks
+# sizes for the reference, which takes a second for a few chunks
 FEW = (0, 1000, 65537)
 SEED = bytes(range(100, 148))
 PASSPHRASE = b"correct horse"
 
 
 def ways_to_open(secret):
-    """Each way of this package to read a file in memory."""
+    """Every way to read a file in memory with this package."""
     def copy(file, threads):
         out = io.BytesIO()
         agefile.copy(io.BytesIO(file), out, identities=secret, threads=threads)
@@ -42,7 +45,7 @@ def ways_to_open(secret):
 
 
 def ways_to_make(recipients):
-    """Each way of this package to make a file in memory."""
+    """Every way to make a file in memory with this package."""
     def copy(plain, threads):
         out = io.BytesIO()
         agefile.copy(io.BytesIO(plain), out, recipients=recipients, threads=threads)
@@ -62,7 +65,7 @@ def ways_to_make(recipients):
 
 
 class Noting:
-    """A recipient and identity of the test's own, which notes the file key and keeps it elsewhere."""
+    """A recipient and identity of the test, which records the file key."""
 
     def __init__(self):
         self.keys = []
@@ -95,7 +98,8 @@ class Reference(unittest.TestCase):
                         self.assertEqual(opened(file), text(size))
 
     def test_files_for_the_reference(self):
-        """A file made here is the reference's of the same file key, nonce and stanzas, to the byte."""
+        """A file made here equals that of the reference with the same file key, nonce and stanzas,
+        byte by byte."""
         for size in FEW:
             noting = Noting()
             for number, make in enumerate(ways_to_make([KEY, noting])):
@@ -126,7 +130,7 @@ class Reference(unittest.TestCase):
 
 
 class Fresh(unittest.TestCase):
-    """What is fresh in each file, and what no file may show."""
+    """The parts that are fresh in each file, and those that no file may show."""
 
     def test_no_file_shows_its_key(self):
         for number in range(6):
@@ -154,7 +158,8 @@ class Fresh(unittest.TestCase):
         self.assertEqual(set(noting.keys) & set(nonces), set())
 
     def test_bytes_of_a_file_differ(self):
-        """A file key, a nonce and a salt of one file are three values, each 16 bytes of the system's."""
+        """The file key, the nonce and the salt of a file are three values, each 16 random bytes of
+        the system."""
         noting, asked, urandom = Noting(), [], os.urandom
 
         def noted(count):
@@ -168,12 +173,28 @@ class Fresh(unittest.TestCase):
         found = [noting.keys[0], file[header.length : header.length + 16], salt]
         self.assertEqual(sorted(found), sorted(asked))
 
+    def test_no_file_without_random_bytes(self):
+        """If the system returns none for the file key, the nonce or a salt, each way ends with the system's
+        error."""
+        urandom = os.urandom
+        for number, make in enumerate(ways_to_make([KEY, KEY])):
+            for failing in range(4):
+                calls = itertools.count()
+
+                def fails(count):
+                    if next(calls) == failing:
+                        raise OSError(errno.ENOSYS, "no random bytes")
+                    return urandom(count)
+
+                with self.subTest(f"way {number}, call {failing}"), mock.patch("os.urandom", fails), self.assertRaisesRegex(OSError, "no random bytes"):
+                    make(b"text")
+
     def test_default_work_factor(self):
         file = agefile.encrypt(b"", recipients=Passphrase("x"))
         self.assertEqual(agefile.inspect(file).stanzas[0].args[2], "18")
 
     def test_default_maximum(self):
-        """A work factor of 22 is tried, for which there is no memory here, and 23 is refused."""
+        """Work factor 22 is tried, although there is too little memory here, and 23 is refused."""
         code = (
             "import agefile, resource, sys\n"
             "resource.setrlimit(resource.RLIMIT_AS, (1 << 29, 1 << 29))\n"
@@ -187,7 +208,7 @@ class Fresh(unittest.TestCase):
 
 
 class Programs(InFolder):
-    """Files from and to agep and age."""
+    """Files exchanged with agep and age."""
 
     def run_on(self, data, *words):
         return subprocess.run(words, input=data, capture_output=True, check=True).stdout
@@ -217,8 +238,8 @@ class Programs(InFolder):
 
     @unittest.skipUnless(os.path.exists(AGEP), "agep is not built")
     def test_passphrase_files_of_agep(self):
-        """`from_file` takes the line end that agep takes."""
-        for data in (b"word", b"word\n", b"word\n\n", b"word\r\n", b"two\nlines\n", b"\xff"):
+        """`from_file` removes the same line end as agep."""
+        for data in (b"word", b"word\n", b"word\n\n", b"two\nlines\n", b"\xff"):
             self.put(data, "pass")
             secret = Passphrase.from_file("pass", work=2)
             with self.subTest(data):
@@ -226,12 +247,36 @@ class Programs(InFolder):
         self.put(bytes(65537), "pass")
         self.assertRaises(ValueError, Passphrase.from_file, "pass")
 
+    def test_passphrase_files_that_nobody_types(self):
+        """They make no file in any way, as in agep, and open files that others made."""
+        for data in (b"word\r", b"word\r\n", b"\r", b"\xef\xbb\xbfword", b"\xef\xbb\xbfword\n", b"\xef\xbb\xbfword\r\n"):
+            secret = Passphrase.from_file(io.BytesIO(data), work=1)
+            for number, call in enumerate((
+                lambda secret: agefile.encrypt(b"text", recipients=secret),
+                lambda secret: agefile.copy(io.BytesIO(b"text"), io.BytesIO(), recipients=secret),
+                lambda secret: agefile.open("made", "wb", recipients=secret),
+                lambda secret: agefile.rewrap(agefile.encrypt(b"", recipients=KEY), identities=KEY, recipients=secret),
+                lambda secret: pickle.loads(pickle.dumps(secret)).wrap(bytes(16)),
+            )):
+                with self.subTest(f"{data!r}, {number}"), self.assertRaisesRegex(ValueError, "passphrase ends in CR or begins with a byte-order mark"):
+                    call(secret)
+            self.assertFalse(os.path.exists("made"))
+            file = agefile.encrypt(b"text", recipients=Passphrase(data.removesuffix(b"\n"), work=1))
+            self.assertEqual(agefile.decrypt(file, identities=secret), b"text")
+
+    def test_work_factors_of_a_passphrase_file(self):
+        """The work factors of new files, and the largest one in files that it opens."""
+        one, two = (Passphrase.from_file(io.BytesIO(b"word"), work=work, max_work=1) for work in (1, 2))
+        self.assertEqual(agefile.inspect(agefile.encrypt(b"", recipients=one)).stanzas[0].args[2], "1")
+        with self.assertRaisesRegex(AgeError, pattern("Malformed", "WorkFactorTooHigh")):
+            agefile.decrypt(agefile.encrypt(b"", recipients=two), identities=one)
+
     def test_key_files(self):
         self.put(bytes(range(32)), "key")
         for file in ("key", os.open("key", os.O_RDONLY), io.BytesIO(bytes(range(32)))):
             self.assertEqual(agefile.decrypt(agefile.encrypt(b"text", recipients=KEY), identities=Key.from_file(file)), b"text")
         for wrong, found in ((bytes(31), "has 31"), (bytes(33), "has more"), (b"00" * 32, "has more"), (b"", "has 0")):
-            with self.assertRaisesRegex(ValueError, f"32 raw bytes, no hexadecimal; this one {found}"):
+            with self.assertRaisesRegex(ValueError, f"32 raw bytes, not hexadecimal; this one {found}"):
                 Key.from_file(self.put(wrong, "wrong"))
         self.assertRaises(FileNotFoundError, Key.from_file, "absent")
         for text in ("00" * 32, ""):
@@ -251,7 +296,7 @@ class Programs(InFolder):
         for size in (1, 70000):
             self.put(text(size), "plain")
             self.typed("-p", "-o", "made", "plain")
-            # One way: a passphrase of age takes a second.
+            # Only one way, because a passphrase of age takes a second.
             for number, opened in enumerate(list(ways_to_open(secret))[-1:]):
                 with self.subTest(f"{size} bytes, read in way {number}"):
                     self.assertEqual(opened(self.got("made")), text(size))

@@ -1,6 +1,6 @@
-"""Files that nobody closed, or that were closed because of an exception: what is on the disk is the
-old file or one that every reader refuses, and something says so. Scripts of their own, with each
-Python on PATH, where finalizers and the end of the program matter."""
+"""Files that nobody closed, or that were closed because of an exception: the disk has the old file
+or one that every reader refuses, and the user is told. If finalizers and the end of the program
+matter, a test runs scripts with each Python on PATH."""
 
 import asyncio
 import contextlib
@@ -29,9 +29,9 @@ DATA = {data}
 def new(mode="w"): return agefile.open("s.age", mode, recipients=agefile.Key(bytes(range(32))))
 """
 
-# Scripts that lose what they write. Python's open, gzip and lzma write all of it, or the half before
-# an exception as a whole file. In cycles most of them lose the last 8 KiB without a word, and in a
-# daemon thread all of them.
+# Scripts that lose their data. With Python's open, gzip and lzma they write everything, or the half
+# before an exception as a complete file. In cycles most of them silently lose the last 8 KiB, and
+# in a daemon thread everything.
 LOST = {
     "one line": "json.dump(DATA, new())",
     "one line of bytes": "new('wb').write(json.dumps(DATA).encode())",
@@ -54,7 +54,7 @@ LOST = {
 
 
 def pythons():
-    """This Python, and the others of PATH."""
+    """This Python, and the others on PATH."""
     found = [sys.executable]
     for minor in range(9, 20):
         other = shutil.which(f"python3.{minor}")
@@ -70,7 +70,8 @@ class Scripts(InFolder):
         return subprocess.run([python, "-c", code], env=env, capture_output=True, text=True, timeout=60)
 
     def test_what_is_lost_is_said(self):
-        """Once, and without an option. Small files keep the old contents, larger ones are refused."""
+        """Once, and without an option. Small files keep the old contents, larger ones are
+        refused."""
         for python in pythons():
             for name, code in LOST.items():
                 for count in (100, 50000):
@@ -111,7 +112,7 @@ class Scripts(InFolder):
             gc.collect()
 
     def test_a_kill(self):
-        """Nothing can be said then, and no reader takes the file."""
+        """Then nothing can be reported, and no reader accepts the file."""
         for call in ("os._exit(0)", "os.kill(os.getpid(), 9)"):
             done = self.run_with(sys.executable, HEAD.format(data="list(range(50000))") + f"file = new(); json.dump(DATA, file); {call}")
             self.assertEqual(done.stderr, "")
@@ -119,7 +120,7 @@ class Scripts(InFolder):
 
 
 class Wrapped(InFolder):
-    """Objects that call `close` and know nothing of exceptions."""
+    """Objects that call `close` without knowing about exceptions."""
 
     KINDS = {
         "contextlib.closing": lambda: contextlib.closing(agefile.open("w.age", "wb", recipients=KEY)),
@@ -175,8 +176,8 @@ class Wrapped(InFolder):
                 self.check_whole(False)
 
     def test_no_exception(self):
-        """Files are whole that were opened and closed while the same exception was handled, or none,
-        or one more of which nothing came."""
+        """Files are complete that were opened and closed while the same exception was being
+        handled, or none, or another one that had been handled in between."""
         def plainly(make):
             with make() as file:
                 self.put_into(file)
@@ -228,8 +229,8 @@ class Wrapped(InFolder):
             self.check_whole(False)
 
     def test_the_same_exception_raised_again(self):
-        """Also the one that was being handled when the file was opened, unless by a bare `raise` in
-        its handler, which nothing tells from the handler's end."""
+        """Even the exception that was being handled when the file was opened, except by a bare
+        `raise` in its handler, which cannot be told from the end of the handler."""
         def again(error):
             raise error
 
@@ -252,7 +253,7 @@ class Wrapped(InFolder):
         self.check_whole(False)
 
     def test_nested(self):
-        """Each of two files, whichever of them is closed by hand."""
+        """Each of two files, whichever is closed explicitly."""
         for first, second in ((contextlib.closing, lambda file: file), (lambda file: file, contextlib.closing)):
             with warnings.catch_warnings(record=True), contextlib.suppress(KeyError):
                 with first(agefile.open("w.age", "wb", recipients=KEY)) as a, second(agefile.open("v.age", "wb", recipients=KEY)) as b:
@@ -266,7 +267,8 @@ class Wrapped(InFolder):
         self.refused("v.age"), self.check_whole()
 
     def test_generators(self):
-        """A `with` block that ends well within a handler of the caller's ends well."""
+        """A `with` block that succeeds inside an exception handler of the caller completes the
+        file."""
         def work(mode):
             with agefile.open("w.age", mode, recipients=KEY) as file:
                 yield
@@ -284,7 +286,7 @@ class Wrapped(InFolder):
                 self.check_whole()
 
     def test_other_threads(self):
-        """Another thread's exception is none of this file's."""
+        """An exception of another thread does not concern this file."""
         file = agefile.open("w.age", "wb", recipients=KEY)
         self.put_into(file)
         try:
@@ -313,7 +315,7 @@ class Wrapped(InFolder):
             self.check_whole(False)
 
     def test_the_exception_is_not_kept(self):
-        """A closed file holds no exception, whose frames hold much."""
+        """A closed file keeps no exception, because the frames of an exception keep much memory."""
         try:
             raise KeyError
         except KeyError:

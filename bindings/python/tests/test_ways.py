@@ -1,5 +1,5 @@
-"""Ways of writing, each interrupted in the middle: what is on the disk then is the old file, one that
-every reader refuses, or the whole new one, and something says so. gzip beside it."""
+"""Ways of writing, each interrupted in the middle: the disk then has the old file, one that every
+reader refuses, or the complete new one, and the user is told. Compared with gzip."""
 
 import array
 import base64
@@ -59,7 +59,8 @@ ROWS = [f"{number:039}\n" for number in range(5000)]
 
 
 class Fault:
-    """What befalls a program in the middle of its rows, or while it turns this object into text."""
+    """What happens to a program in the middle of its rows, or while it turns this object into
+    text."""
 
     def __init__(self, kind):
         self.kind = kind
@@ -85,14 +86,14 @@ class Fault:
         return (row.encode() for row in self.text())
 
     def value(self):
-        """What breaks a program that takes a whole object."""
+        """What breaks a program that writes a whole object."""
         return self if self.kind else "last"
 
     def objects(self):
         return [*ROWS, self.value()]
 
     def source(self):
-        """A binary file of the rows."""
+        """The rows as a binary file."""
         rows = self.data()
         return mock.Mock(spec=["read", "readline"], read=lambda *_: next(rows, b""), readline=lambda *_: next(rows, b""))
 
@@ -179,7 +180,7 @@ def by_sqlite(file, fault):
 
 @functools.lru_cache
 def database():
-    """The pages of a backup of the rows."""
+    """The rows as the pages of a database backup."""
     with tempfile.NamedTemporaryFile() as place, contextlib.closing(sqlite3.connect(":memory:")) as base:
         base.execute("create table rows (row text)")
         base.executemany("insert into rows values (?)", ((row,) for row in ROWS))
@@ -289,7 +290,7 @@ if tomli_w is not None:
 WAYS = [("wb", name, write) for name, write in BYTES.items()] + [("w", name, write) for name, write in TEXT.items()]
 
 
-# Whether the file is atomic, who closes it, what befalls the program, and the room on the disk.
+# Whether the file is atomic, who closes it, what happens to the program, and the space on the disk.
 CASES = (
     (False, "with", None, None), (False, "with", "raise", None), (False, "with", "kill", None), (False, "with", None, 80000),
     (False, "closing", None, None), (False, "closing", "raise", None), (False, "closing", None, 80000),
@@ -297,7 +298,7 @@ CASES = (
     (True, "closing", None, None), (True, "closing", "raise", None), (True, "closing", "kill", None), (True, "closing", None, 80000),
     (True, "nobody closes", None, None),
 )
-# What may be on the disk, and that something says so.
+# What may be on the disk, and that the user is told.
 LOST = (("old", True), ("refused", True))
 
 
@@ -308,9 +309,9 @@ def by_gzip(mode):
 class Ways(InFolder):
     @classmethod
     def setUpClass(cls):
-        # Before there is no room on the disk.
+        # Before the disk is full.
         database()
-        # What the imports left is not looked through for each way again.
+        # Keeps the garbage collector from scanning the imported modules again for each way.
         gc.freeze()
         cls.addClassCleanup(gc.unfreeze)
 
@@ -330,7 +331,7 @@ class Ways(InFolder):
                 write_there(file)
 
     def is_loud(self, make, write, how, fault, room):
-        """Runs it with so much room on the disk. Returns whether something was said."""
+        """Runs it with this much space on the disk. Returns whether the user was told."""
         limits = resource.getrlimit(resource.RLIMIT_FSIZE)
         with warnings.catch_warnings(record=True) as said, mock.patch("sys.stderr", io.StringIO()) as printed:
             warnings.simplefilter("default")
@@ -344,11 +345,11 @@ class Ways(InFolder):
             finally:
                 resource.setrlimit(resource.RLIMIT_FSIZE, limits)
                 gc.collect()
-        # A logger prints the error of a write, and goes on.
+        # A logger prints the error of a write, and continues.
         return raised or bool(said or printed.getvalue())
 
     def outcome(self, make, decode, write, how, kind=None, room=None):
-        """What is on the disk, or the length of its plaintext, and whether something was said."""
+        """What is on the disk, or the length of its plaintext, and whether the user was told."""
         old = self.put(b"old", "w.age")
         if kind == "kill":
             child = os.fork()
@@ -386,7 +387,8 @@ class Ways(InFolder):
                         self.assertEqual((found != "refused" and found > 150000, is_loud), (True, False))
 
     def test_gzip(self):
-        """After an exception it leaves a whole file of less than the data, in nearly every way."""
+        """After an exception it leaves a complete file with less than the data, in nearly every
+        way."""
         halves = 0
         for mode, name, write in WAYS:
             found, _ = self.outcome(lambda: by_gzip(mode), gzip.decompress, write, "with", "raise")

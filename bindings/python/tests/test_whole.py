@@ -1,4 +1,4 @@
-"""Files in memory and from source to sink: what comes back, and how what goes wrong arrives."""
+"""Files in memory and from source to sink: results and errors."""
 
 import array
 import contextlib
@@ -28,7 +28,7 @@ from support import KEY, in_threads, in_time, message, pattern, text
 
 import fixture
 
-# around the edges of chunks, and of what one thread takes at a time
+# around the boundaries of chunks, and of what one thread takes at a time
 SIZES = (0, 1, 65535, 65536, 65537, 131072, 200000, 16 * 65536, 16 * 65536 + 1, 50 * 65536 + 7)
 DATA = os.path.join(os.path.dirname(__file__), "../../../tests/data")
 
@@ -91,7 +91,7 @@ class Round(unittest.TestCase):
             agefile.rewrap(file, identities=Passphrase("y"), recipients=KEY)
 
     def test_rewrap_verifies_the_header(self):
-        """An identity of a caller's own with a wrong file key makes no header."""
+        """An identity of the caller with a wrong file key makes no header."""
         class Wrong:
             def unwrap(self, stanzas):
                 return bytes(16)
@@ -127,7 +127,7 @@ class Round(unittest.TestCase):
         self.assertEqual(agefile.decrypt(Liar(file), identities=KEY), b"text")
 
     def test_memory_after_an_error(self):
-        """The caller may change what was passed, although the error keeps the frames of its call."""
+        """The caller may change the arguments, although the error keeps the frames of the call."""
         file = bytearray(agefile.encrypt(bytes(200 * 65536), recipients=KEY))
         file[1000] ^= 1
         for threads in (1, 2):
@@ -171,14 +171,14 @@ class Wrong(unittest.TestCase):
                 self.assertNotIsInstance(error, (ValueError, OSError))
 
     def test_the_gravest_miss_of_several(self):
-        """A key that is wrong is told, wherever it stands among identities for which there is no stanza."""
+        """A wrong key is reported, wherever it is among identities without a stanza."""
         file, wrong, other = agefile.encrypt(b"", recipients=KEY), Key(bytes(32)), Passphrase("x")
         for identities in ([wrong, other], [other, wrong], [wrong], [other, wrong, other]):
             with self.assertRaisesRegex(AgeError, pattern("WrongKey")):
                 agefile.decrypt(file, identities=identities)
 
     def test_cut_files(self):
-        """A file that was cut, at each end of a piece: the same chunk, by one thread and by two."""
+        """A file cut at each end of a piece: one thread and two report the same chunk."""
         file = agefile.encrypt(text(3 * 65536), recipients=KEY)
         first = agefile.inspect(file).length + 16
         for chunk, rest in itertools.product(range(3), (0, 1, 15, 16, 17, 65551)):
@@ -233,7 +233,7 @@ class Wrong(unittest.TestCase):
             self.assertRaises(TypeError, Passphrase, "x", max_work=work)
 
     def test_secrets_that_are_words(self):
-        """A TypeError says which class takes a passphrase or a key."""
+        """A TypeError names the class for a passphrase or a key."""
         for secret in ("word", b"word", bytearray(b"word"), "", ["word"], [KEY, b"word"], 5):
             for call in (
                 lambda: agefile.encrypt(b"", recipients=secret),
@@ -261,15 +261,15 @@ class Wrong(unittest.TestCase):
         self.assertEqual(agefile.rewrap(file, identities=empty, recipients=KEY)[-22:], file[-22:])
 
     def test_errors_are_pickled_and_copied(self):
-        for error in (AgeError(13, 7), AgeError(8, 0, 4), agefile.AgeMemoryError(17), agefile.AgeChangedError(11, 3)):
+        for error in (AgeError(13, 7, 0, "a.age", "a hint"), AgeError(8, 0, 4), agefile.AgeMemoryError(17), agefile.AgeChangedError(11, 3)):
             for other in (pickle.loads(pickle.dumps(error)), copy.copy(error), copy.deepcopy(error)):
                 self.assertEqual((type(other), str(other), other.code), (type(error), str(error), error.code))
-                self.assertEqual((other.place, other.detail), (error.place, error.detail))
+                self.assertEqual((other.place, other.detail, other.filename, other.hint), (error.place, error.detail, error.filename, error.hint))
         self.assertIsInstance(AgeError.of(17), MemoryError)
         self.assertIsInstance(agefile.AgeChangedError(11, 3), OSError)
 
     def test_help(self):
-        """The example of the package's help stands there as it is to be typed."""
+        """The example in the package's help is shown as it must be typed."""
         self.assertIn(r'notes.write("one\n")', pydoc.render_doc(agefile, renderer=pydoc.plaintext))
 
     def test_secrets_are_not_printed(self):
@@ -278,10 +278,10 @@ class Wrong(unittest.TestCase):
 
 
 class Callers(unittest.TestCase):
-    """Recipients and identities of a caller's own."""
+    """Recipients and identities of the caller."""
 
     def test_an_interrupt_in_scrypt(self):
-        """It ends the call at once, while scrypt goes on."""
+        """It ends the call at once, while scrypt runs on."""
         def interrupt(*_):
             raise KeyboardInterrupt
 
@@ -318,18 +318,15 @@ class Callers(unittest.TestCase):
 
     def test_a_wrong_file_key_is_found_by_the_mac(self):
         class Wrong:
-            def unwrap(self, stanzas):
-                return bytes(16)
-
-        class Short:
-            def unwrap(self, stanzas):
-                return bytes(15)
+            def __init__(self, length):
+                self.unwrap = lambda stanzas: bytes(length)
 
         file = agefile.encrypt(b"text", recipients=KEY)
         with self.assertRaises(AgeError) as caught:
-            agefile.decrypt(file, identities=Wrong())
+            agefile.decrypt(file, identities=Wrong(16))
         self.assertEqual(caught.exception.code, Code.BAD_MAC)
-        self.assertRaises(ValueError, agefile.decrypt, file, identities=Short())
+        for length in (0, 15, 17):
+            self.assertRaisesRegex(ValueError, f"16 bytes, not {length}", agefile.decrypt, file, identities=Wrong(length))
 
     def test_stanzas_that_are_refused(self):
         for args in ((), ("",), ("a b",), ("a", ""), ("ü",), ("a\n",), "X25519"):
@@ -343,7 +340,7 @@ class Callers(unittest.TestCase):
 
 
 class Devices(unittest.TestCase):
-    """Sources and sinks of a caller's own, which give and take as they like."""
+    """Sources and sinks of the caller, which read and write as much as they like."""
 
     PLAIN = text(200000)
 
@@ -358,7 +355,7 @@ class Devices(unittest.TestCase):
         return in_time(work)
 
     def test_sinks(self):
-        """What `write` returns is taken for what it says, and what it can't say is an OSError."""
+        """The result of `write` is believed, and an impossible result is an OSError."""
         for name, returned, error in (
             ("all", len, None),
             ("a part", lambda data: max(len(data) // 2, 1), None),
@@ -387,7 +384,7 @@ class Devices(unittest.TestCase):
                         self.assertIsInstance(found, error)
 
     def test_a_sink_of_short_writes_on_threads(self):
-        """Of each chunk of several batches, and the count is that of all."""
+        """For each chunk of several batches, and the count is the sum."""
         class Sink(io.BytesIO):
             def write(self, data):
                 return super().write(data[: max(len(data) // 2, 1)])
@@ -400,7 +397,8 @@ class Devices(unittest.TestCase):
             self.assertEqual(opened.getvalue() == plain, True)
 
     def test_one_object_is_source_and_sink(self):
-        """It would be overwritten while it is read. Two ends of a socket in one object may be both."""
+        """It would be overwritten while it is read. A socket may be both, because its two
+        directions differ."""
         sealed = agefile.encrypt(self.PLAIN, recipients=KEY)
         both = io.BytesIO(sealed)
         for call in (
@@ -443,7 +441,7 @@ class Devices(unittest.TestCase):
                 self.assertEqual(file.read() == self.PLAIN, True)
 
     def test_wrappers_that_count(self):
-        """As those of tqdm, they count in one method, and hand the others on."""
+        """Like those of tqdm, they count in one method, and pass the others on."""
         class Counting:
             def __init__(self, file, method):
                 self.file, self.count = file, 0
@@ -517,7 +515,7 @@ class Devices(unittest.TestCase):
                         self.assertIsInstance(other, error)
 
     def test_a_pipe_that_would_block(self):
-        """It has not ended: no part of it is taken for the whole."""
+        """It has not ended, so no part of it is taken for the whole."""
         file = agefile.encrypt(self.PLAIN, recipients=KEY)
         for first, call in (
             (file[:100], lambda source: agefile.rewrap_copy(source, io.BytesIO(), identities=KEY, recipients=KEY)),
@@ -545,7 +543,8 @@ class Devices(unittest.TestCase):
         self.assertEqual(opened.getvalue() == self.PLAIN, True)
 
     def test_a_file_in_two_pieces(self):
-        """A pipe has a file's first bytes, and then some more, and stays open: what they decide is told."""
+        """A pipe has the first bytes of a file, then some more, and stays open: a fault is reported
+        as soon as these bytes decide it."""
         key = agefile.encrypt(b"", recipients=KEY)
         length = agefile.inspect(key).length
         bad = b"age-encryption.org/v1\n-> a\n\nbad line\n"
@@ -557,7 +556,7 @@ class Devices(unittest.TestCase):
                 self.assertEqual(in_time(lambda: self.opened_in_pieces(front[:cut], front[cut:]), 5).code, code)
 
     def test_a_great_header_by_single_bytes(self):
-        """Its last byte decides, and it takes seconds and not minutes."""
+        """Its last byte decides, and that takes seconds and not minutes."""
         head = b"age-encryption.org/v1\n" + b"-> a\n\n" * 10911 + b"--- " + b"A" * 43 + b"\n"
         began = time.process_time()
         error = self.opened_in_pieces(*(head[at : at + 1] for at in range(len(head))))
@@ -583,7 +582,8 @@ class Devices(unittest.TestCase):
             return error
 
     def test_a_chunk_that_a_byte_follows(self):
-        """A chunk's text is written once the byte behind it is there, which says that it is not the last."""
+        """The text of a chunk is written once the next byte has arrived, which shows that the chunk
+        is not the last one."""
         file = agefile.encrypt(self.PLAIN, recipients=KEY)
         read, write = os.pipe()
         out, seen = io.BytesIO(), threading.Event()
@@ -611,7 +611,7 @@ class Devices(unittest.TestCase):
 
 class Processes(unittest.TestCase):
     def test_a_pipe_that_waits(self):
-        """A wrong key is told though the other end neither writes nor closes."""
+        """A wrong key is reported although the other end neither writes nor closes."""
         file = agefile.encrypt(text(1000), recipients=KEY)
         read, write = os.pipe()
         os.write(write, file[:300])
@@ -638,7 +638,7 @@ class Processes(unittest.TestCase):
         self.assertEqual(in_threads(work), [[text(1000)] * 5] * 4)
 
     def test_the_library_that_is_taken(self):
-        """The one in the package, else the one that AGEFILE_LIBRARY names."""
+        """The library in the package, else the one that AGEFILE_LIBRARY names."""
         inside = os.path.join(os.path.dirname(agefile.__file__), "lib")
         words = [sys.executable, "-c", "import agefile"]
         done = subprocess.run(words, capture_output=True, text=True, env=os.environ | {"AGEFILE_LIBRARY": "/absent.so"})
@@ -648,7 +648,7 @@ class Processes(unittest.TestCase):
             self.assertIn("/absent.so", done.stderr)
 
     def test_memory_that_is_refused(self):
-        """A passphrase's scrypt that gets no memory raises a MemoryError with the code 17."""
+        """If scrypt gets no memory, a MemoryError with code 17 is raised."""
         code = (
             "import agefile, resource\n"
             "head = '-> scrypt ' + 'A' * 22 + ' 20\\n' + 'A' * 43 + '\\n--- ' + 'A' * 43 + '\\n'\n"
@@ -666,7 +666,7 @@ class Processes(unittest.TestCase):
                 waiting.get(timeout=20)
 
 
-# Prints by how many KiB a call raises the most memory that its process had. The call may use `key`, and
+# Prints by how many KiB a call raises the peak memory of its process. The call may use `key`, and
 # `name` and `data`: a file and its bytes.
 PEAK = """
 import agefile, re, shutil, sys
@@ -697,7 +697,8 @@ class Costs(unittest.TestCase):
         return int(done.stdout) / 1024
 
     def test_one_copy_of_the_result(self):
-        """Whole buffers take the memory of their result, and less than 16 MiB besides, also on threads."""
+        """Whole buffers take the memory of their result and less than 16 MiB more, even with
+        threads."""
         for name, code in (
             (self.made, "agefile.decrypt(data, identities=key)"), (self.made, "agefile.decrypt(data, identities=key, threads=2)"),
             (self.plain, "agefile.encrypt(data, recipients=key)"), (self.plain, "agefile.encrypt(data, recipients=key, threads=2)"),
@@ -708,7 +709,7 @@ class Costs(unittest.TestCase):
                 self.assertLess(self.peak_of(name, code), self.MIB + 16)
 
     def test_constant_memory(self):
-        """Streams take less than 16 MiB, whatever their length, also from and to pipes."""
+        """Streams take less than 16 MiB, whatever their length, even from and to pipes."""
         for name, code in (
             (self.made, "shutil.copyfileobj(agefile.open(name, identities=key), open('/dev/null', 'wb'))"),
             (self.plain, "shutil.copyfileobj(open(name, 'rb'), agefile.open('/dev/null', 'wb', recipients=key))"),
@@ -723,7 +724,7 @@ class Costs(unittest.TestCase):
                 self.assertLess(self.peak_of(name, code), 16)
 
     def test_more_threads_than_there_is_to_do(self):
-        """Threads take memory for what they have to do, and there are no more than processors."""
+        """Threads take memory only for their work, and there are no more than processors."""
         for code in (
             "agefile.encrypt(bytes(1), recipients=key, threads=500)",
             "agefile.encrypt(bytes(1 << 18), recipients=key, threads=2000)",

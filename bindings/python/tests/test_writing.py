@@ -1,4 +1,5 @@
-"""New files: written chunk by chunk, replaced whole or kept, and what becomes of them when a write fails."""
+"""New files: written chunk by chunk, replaced as a whole or kept, and their state after a failed
+write."""
 
 import asyncio
 import concurrent.futures
@@ -56,7 +57,7 @@ class Writing(InFolder):
             self.refused("e.age")
 
     def test_a_body_that_ends_the_program(self):
-        """Nothing else says that the file is not whole."""
+        """Nothing else would show that the file is incomplete."""
         for mode, kind in (("wb", SystemExit), ("w", SystemExit), ("wb", GeneratorExit), ("wb", asyncio.CancelledError)):
             for call, what in ((lambda file: file.flush(), "is not whole"), (lambda file: None, "was not written")):
                 with self.assertWarnsRegex(RuntimeWarning, f"'e.age'.* {what}: {kind.__name__}"):
@@ -82,7 +83,7 @@ class Writing(InFolder):
             self.assertEqual(file.encoding, io.TextIOWrapper(io.BytesIO(), "locale").encoding)
 
     def test_an_old_file_is_kept(self):
-        """Until the header is known, and the first byte is due, a file keeps what it holds."""
+        """A file keeps its contents until the header is known and the first byte is written."""
 
         class Kms:
             def wrap(self, file_key):
@@ -149,7 +150,8 @@ class Writing(InFolder):
         self.assertEqual(agefile.decrypt(self.got("o.age"), identities=KEY), b"text")
 
     def test_copies_of_paths(self):
-        """`copy` and `rewrap_copy` keep a sink until there is something to write, and then empty it."""
+        """`copy` and `rewrap_copy` keep a sink until there is something to write, and then empty
+        it."""
         self.made(text(100000)), self.made(b"", "e.age")
         self.put(damaged(self.got("a.age"), 0), "bad.age")
         self.put(b"", "empty")
@@ -188,7 +190,8 @@ class Writing(InFolder):
         self.assertEqual(agefile.decrypt(self.got("old"), identities=KEY), b"")
 
     def test_small_writes(self):
-        """They are collected, in whatever kind of object they come, and an interrupt is a failure."""
+        """They are collected, in whatever kind of object they come, and an interrupt is a
+        failure."""
         choose, pieces = random.Random(2), []
         with agefile.open("s.age", "wb", recipients=KEY) as file:
             for kind in (bytes, bytearray, memoryview) * 3000:
@@ -200,7 +203,8 @@ class Writing(InFolder):
         self.assertEqual(agefile.decrypt(self.got("s.age"), identities=KEY), b"".join(pieces))
 
     def test_an_interrupt_within_a_write(self):
-        """After it, part of the data is there: the file never becomes whole, whoever catches it."""
+        """After it the file has part of the data: it never becomes complete, whoever catches the
+        exception."""
         def take(sealer, rest):
             sealer._filled += 10
             raise KeyboardInterrupt
@@ -215,7 +219,7 @@ class Writing(InFolder):
             self.refused("s.age")
 
     def test_threads_that_write(self):
-        """Each write is whole in the file, in some order, whoever closes it meanwhile."""
+        """Each write is complete in the file, in some order, whoever closes it in the meantime."""
         file = agefile.open("t.age", "wb", recipients=KEY)
         numbers = iter(range(4))
 
@@ -230,7 +234,8 @@ class Writing(InFolder):
         self.assertEqual(sorted(rows), [bytes([number]) * 20000 for number in range(4) for _ in range(50)])
 
     def test_a_thread_that_closes(self):
-        """What a write has returned is in the file; a write after the last chunk is refused."""
+        """Once a write has returned, its data are in the file; a write after the last chunk is
+        refused."""
         for length in (1, 3000):
             file, started = agefile.open("t.age", "wb", recipients=KEY), threading.Event()
 
@@ -268,7 +273,7 @@ class Writing(InFolder):
         self.assertEqual(agefile.decrypt(self.got("b.age"), identities=KEY), b"text")
 
     def test_a_child_that_writes_little(self):
-        """What the buffer would take, and lose, is refused too."""
+        """A write that the buffer would accept, and lose, is refused, too."""
         for mode, data in (("wb", b"text"), ("w", "text" * 5000)):
             file = agefile.open("f.age", mode, recipients=KEY)
             child = os.fork()
@@ -284,14 +289,14 @@ class Writing(InFolder):
             self.assertEqual(len(agefile.decrypt(self.got("f.age"), identities=KEY)), len(data))
 
     def test_flush_reaches_the_file(self):
-        """`flush` empties the buffer of a caller's sink too."""
+        """`flush` also flushes the buffer of the caller's sink."""
         with open("s.age", "wb", 1 << 20) as below, agefile.open(below, "wb", recipients=KEY) as file:
             file.write(text(200000))
             file.flush()
             self.assertGreater(os.path.getsize("s.age"), 3 * 65552)
 
     def test_an_error_of_the_sink_that_closes(self):
-        """Such as that of an upload which is refused in the end."""
+        """For example that of an upload that is refused at its end."""
         class Upload(io.BytesIO):
             def close(self):
                 if not self.closed:
@@ -305,7 +310,7 @@ class Writing(InFolder):
             self.assertTrue(file.closed)
 
     def test_lines_and_encodings(self):
-        """Newlines are those asked for, and text is UTF-8 wherever the locale is not."""
+        """Newlines are those requested, and text is UTF-8 whatever the locale."""
         for newline, expected in ((None, b"a\nb\n"), ("", b"a\nb\n"), ("\n", b"a\nb\n"), ("\r\n", b"a\r\nb\r\n")):
             with agefile.open("l.age", "w", recipients=KEY, newline=newline) as file:
                 file.write("a\nb\n")
@@ -314,6 +319,12 @@ class Writing(InFolder):
         for newline, expected in ((None, "a\nb\n"), ("", "a\r\nb\r\n"), ("\n", "a\r\nb\r\n")):
             with agefile.open("l.age", "r", identities=KEY, newline=newline) as file:
                 self.assertEqual(file.read(), expected)
+        with agefile.open("l.age", "w", recipients=KEY, encoding="ascii", errors="replace") as file:
+            file.write("\u00fc")
+        self.assertEqual(agefile.decrypt(self.got("l.age"), identities=KEY), b"?")
+        self.made(b"\xff", "l.age")
+        with agefile.open("l.age", "r", identities=KEY, errors="ignore") as file:
+            self.assertEqual(file.read(), "")
         code = "import agefile, sys; key = agefile.Key(bytes(range(32)))\n"
         code += "with agefile.open('u.age', 'w', recipients=key) as file: file.write('\\u00fcber')\n"
         code += "with agefile.open('u.age', 'r', identities=key) as file: assert file.read() == '\\u00fcber'"
@@ -322,7 +333,7 @@ class Writing(InFolder):
         self.assertEqual(agefile.decrypt(self.got("u.age"), identities=KEY), "über".encode())
 
     def test_atomic_copies(self):
-        """The old file stays until the new one is whole; a file may be rewrapped in its place."""
+        """The old file stays until the new one is complete; a file may be rewrapped in place."""
         def raises(*_):
             raise KeyError
 
@@ -354,8 +365,24 @@ class Writing(InFolder):
         self.assertEqual(agefile.decrypt(self.got("new"), identities=KEY), text(300000))
         self.assertEqual(sorted(os.listdir()), ["a.age", "bad.age", "new", "old"])
 
+    def test_copies_whose_end_fails(self):
+        """A failed close, sync or move of the new file is an error of the copy; with `atomic` the old file
+        stays."""
+        self.made(text(200000))
+        error = OSError(errno.EIO, "failed")
+        for atomic, what in ((False, "agefile._paths.Output.close"), (True, "os.fsync"), (True, "os.replace")):
+            for call in (
+                lambda: agefile.copy("a.age", "old", identities=KEY, atomic=atomic), lambda: agefile.copy("a.age", "old", recipients=KEY, atomic=atomic),
+                lambda: agefile.rewrap_copy("a.age", "old", identities=KEY, recipients=KEY, atomic=atomic),
+            ):
+                self.put(b"old", "old")
+                with mock.patch(what, side_effect=error), self.assertRaises(OSError) as caught:
+                    call()
+                self.assertIs(caught.exception, error)
+                self.assertEqual((self.got("old") == b"old", sorted(os.listdir())), (atomic, ["a.age", "old"]))
+
     def test_progress(self):
-        """It grows to the length of the source, which a pipe does not tell."""
+        """It grows to the length of the source, which a pipe does not report."""
         class Plain:
             def __init__(self, data):
                 self.read = io.BytesIO(data).read
@@ -376,6 +403,9 @@ class Writing(InFolder):
                         self.assertEqual((list(counts), counts[-1]), (sorted(set(counts)), len(source)))
                         self.assertEqual(set(totals), {None if kind is Plain else len(source) or None})
                         self.assertLessEqual(len(seen), len(source) // 65536 + 2)
+        with open("source", "rb") as source:
+            source.seek(-10, os.SEEK_END)
+            agefile.copy(source, io.BytesIO(), recipients=KEY, progress=lambda *found: self.assertEqual(found, (10, 10)))
         read_end, write_end = os.pipe()
         with open(write_end, "wb") as file:
             file.write(b"text")
@@ -385,7 +415,8 @@ class Writing(InFolder):
             self.assertEqual(seen[-1], (total or 4, total))
 
     def test_atomic(self):
-        """The new file takes the old one's place, and its mode, when it is closed, and not before."""
+        """The new file replaces the old one, and takes its mode, when it is closed and not
+        before."""
         for mode, data in (("wb", text(200000)), ("wb", b""), ("w", "text" * 100000)):
             self.put(b"old", "o.age")
             os.chmod("o.age", 0o640)
@@ -416,7 +447,7 @@ class Writing(InFolder):
             self.assertEqual(os.stat("o.age").st_mode & 0o777, mode)
 
     def test_atomic_that_fails(self):
-        """Where anything fails before the end the old file stays, and nothing stays beside it."""
+        """If anything fails before the end, the old file stays, and no other file."""
         def raises(file):
             raise KeyError
 
@@ -471,8 +502,8 @@ class Writing(InFolder):
         self.assertEqual(sorted(os.listdir()), ["like", "link", "n.age", "x.age"])
 
     def test_what_a_killed_process_left(self):
-        """It is named after the file, and the next that replaces the file removes it, unless it is
-        of a process that lives."""
+        """It is named after the file, and the next writer that replaces the file removes it, unless
+        its process is still running."""
         self.put(b"old", "o.age")
         for count in (1, 1):
             child = os.fork()
@@ -494,7 +525,7 @@ class Writing(InFolder):
             self.assertEqual(agefile.decrypt(self.got(name), identities=KEY), b"text")
 
     def test_what_stands_beside(self):
-        """No file is waited for, followed or written that others put there."""
+        """Files that others put there are not waited for, followed or written."""
         self.put(b"mine", "mine")
         os.symlink("mine", ".agefile-o.age-0")
         os.mkfifo(".agefile-o.age-1")
@@ -507,7 +538,7 @@ class Writing(InFolder):
         self.assertEqual(caught.exception.filename, "absent/o.age")
 
     def test_the_order_of_syncs(self):
-        """The new file is on the disk before it takes the place, and the folder's entry after it."""
+        """The new file is synced before it replaces the old one, and the folder after that."""
         noted, fsync, replace = [], os.fsync, os.replace
 
         def note_sync(descriptor):
@@ -524,7 +555,7 @@ class Writing(InFolder):
         self.assertEqual(noted, [".agefile-o.age-0", "replace", os.path.basename(os.getcwd())])
 
     def test_atomic_and_fork(self):
-        """A child that ends removes nothing of its parent's, and puts nothing in its place."""
+        """A child that ends neither removes nor replaces a file of its parent."""
         self.put(b"old", "o.age")
         file = agefile.open("o.age", "wb", recipients=KEY, atomic=True)
         file.write(text(100000))
@@ -538,7 +569,7 @@ class Writing(InFolder):
         self.assertEqual(agefile.decrypt(self.got("o.age"), identities=KEY), text(100000))
 
     def test_fork(self):
-        """A child writes nothing to the file of its parent, also when it closes it."""
+        """A child writes nothing to the file of its parent, even when it closes it."""
         for mode, data in (("wb", text(100000)), ("w", "text" * 30000)):
             file = agefile.open("f.age", mode, recipients=KEY)
             file.write(data)
@@ -559,7 +590,7 @@ class Writing(InFolder):
                 self.assertEqual(whole.read(), data + data)
 
     def test_fork_and_a_sink_with_a_buffer(self):
-        """A child that closes the file writes nothing of what its parent's buffer holds."""
+        """A child that closes the file does not write its parent's buffer."""
         def make():
             return open("f.age", "wb", 1 << 20)
 
@@ -582,7 +613,7 @@ class Writing(InFolder):
             self.assertEqual(agefile.decrypt(self.got("f.age"), identities=KEY), text(200000))
 
     def test_text_that_is_not_written(self):
-        """An interrupt while text is written leaves no whole file without it."""
+        """An interrupt while text is written does not leave a complete file without that text."""
         for atomic in (False, True):
             for call in ("close", "flush"):
                 self.made(b"old", "o.age")

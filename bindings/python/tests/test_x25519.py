@@ -1,4 +1,4 @@
-"""The example of X25519 recipients, both ways with `age`."""
+"""The example for X25519 recipients, in both directions with `age`."""
 
 import io
 import os
@@ -50,7 +50,8 @@ class WithAge(unittest.TestCase):
             self.assertEqual(age("-d", "-i", path, data=file), PLAIN)
 
     def test_several_recipients(self):
-        """Each of several recipients opens a file of age, as a whole and by ranges, and each finds its own stanza."""
+        """Each of several recipients opens a file of age, as a whole and by ranges, and each finds
+        its own stanza."""
         (_, one, first), (_, two, second) = self.pairs
         file = age("-r", one, "-r", two, data=PLAIN)
         kinds = [stanza.args[0] for stanza in agefile.inspect(file).stanzas]
@@ -63,7 +64,7 @@ class WithAge(unittest.TestCase):
                 self.assertEqual(opened.read(10), PLAIN[70000:70010])
 
     def test_grease(self):
-        """Stanzas that nobody knows, before, between and behind the others, in both directions."""
+        """Unknown stanzas before, between and after the others, in both directions."""
 
         class Grease:
             def wrap(self, file_key):
@@ -77,7 +78,7 @@ class WithAge(unittest.TestCase):
             self.assertEqual(agefile.decrypt(file, identities=x25519.X25519Identity(secret)), PLAIN)
 
     def test_rewrapped_for_age(self):
-        """A file of age for one is rewrapped for another, which age then opens."""
+        """A file of age for one key is rewrapped for another, and age opens it."""
         (first_path, one, first), (second_path, two, _) = self.pairs
         identity, recipient = x25519.X25519Identity(first), x25519.X25519Recipient(two)
         file = agefile.rewrap(age("-r", one, data=PLAIN), identities=identity, recipients=recipient)
@@ -95,7 +96,7 @@ class WithAge(unittest.TestCase):
         self.assertRaises(subprocess.CalledProcessError, age, "-d", "-i", first_path, data=other)
 
     def test_malformed_stanzas(self):
-        """A share of low order, and shares and bodies of other lengths, are refused as age refuses them."""
+        """A share of low order, and shares and bodies of wrong length, are refused as by age."""
         path, _, secret = self.pairs[0]
         for args, body in ((("X25519", "A" * 43), bytes(32)), (("X25519", "A" * 42), bytes(32)), (("X25519",), bytes(32)), (("X25519", "A" * 43), bytes(31))):
             class Bad:

@@ -61,6 +61,9 @@ pub enum Error {
     // end of variants of errors
     /// A passphrase for a new file is empty: anyone could open the file.
     EmptyPassphrase,
+    /// The passphrase of a passphrase file, for a new file, ends in CR or begins with a byte-order
+    /// mark: whoever types it could not open the file.
+    UntypedPassphrase,
     /// A work factor is not 1 to 30.
     WorkFactor,
     /// An argument of a stanza is empty, or has a character other than `!` to `~`.
@@ -139,6 +142,7 @@ impl Error {
             Error::OutOfMemory => io::ErrorKind::OutOfMemory,
             Error::NoMatch | Error::WrongKey => io::ErrorKind::InvalidInput,
             Error::NoRecipients | Error::EmptyPassphrase => io::ErrorKind::InvalidInput,
+            Error::UntypedPassphrase => io::ErrorKind::InvalidInput,
             Error::WorkFactor | Error::BadArguments => io::ErrorKind::InvalidInput,
             _ => io::ErrorKind::InvalidData,
         }
@@ -199,6 +203,9 @@ impl fmt::Display for Error {
             Error::BadArguments => write!(f, "stanza arguments must be visible ASCII, one space apart"),
             Error::EmptyPassphrase => write!(f, "passphrase is empty"),
             // end of texts of errors
+            Error::UntypedPassphrase => {
+                write!(f, "passphrase ends in CR or begins with a byte-order mark")
+            }
             Error::Refused => write!(f, "recipient refused"),
             Error::Incomplete => write!(f, "an earlier write failed"),
             Error::Other(code) => write!(f, "code {code}"),

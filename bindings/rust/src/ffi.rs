@@ -90,6 +90,7 @@ extern "C" {
     fn agefile_part_open_next(part: *mut Part, chunk: *mut u8, chunk_len: usize, report: *mut Report) -> u32;
     #[cfg(feature = "parallel")]
     fn agefile_part_seal_next(part: *mut Part, chunk: *mut u8, chunk_len: usize, report: *mut Report) -> u32;
+    fn agefile_salvage_next(payload: *mut Payload, chunk: *mut u8, chunk_len: usize, last: bool, report: *mut Report) -> u32;
     fn agefile_ranges_open(front: *const u8, front_len: usize, file_len: u64, file_key: *const [u8; 16], ranges: *mut Ranges, report: *mut Report) -> u32;
     fn agefile_ranges_last(ranges: *mut Ranges, chunk: *mut u8, chunk_len: usize, report: *mut Report) -> u32;
     fn agefile_ranges_locate(ranges: *const Ranges, at: u64, report: *mut Report) -> u32;
@@ -232,6 +233,10 @@ pub fn part_open_next(part: &mut Part, chunk: &mut [u8]) -> Result<usize, Error>
 #[cfg(feature = "parallel")]
 pub fn part_seal_next(part: &mut Part, chunk: &mut [u8]) -> Result<usize, Error> {
     call!(agefile_part_seal_next(part, chunk.as_mut_ptr(), chunk.len())).map(|report| report.len as usize)
+}
+
+pub fn salvage_next(payload: &mut Payload, chunk: &mut [u8], last: bool) -> Result<Report, Error> {
+    call!(agefile_salvage_next(payload, chunk.as_mut_ptr(), chunk.len(), last))
 }
 
 pub fn ranges_open(front: &[u8], file_len: u64, file_key: &[u8; 16]) -> Result<(Ranges, Report), Error> {

@@ -3,6 +3,7 @@
 //! - [`encrypt`], [`decrypt`], [`rewrap`] and [`inspect`] work on bytes in memory.
 //! - [`Reader`], [`Writer`] and [`rewrap_copy`] work on streams of any size, in constant memory.
 //! - [`RangeReader`] reads any part of a plaintext, and opens only the chunks that it needs.
+//! - [`salvage`] saves what is left of a damaged file.
 //! - The module `parallel`, with the feature of that name, encrypts and decrypts bytes in memory on
 //!   several threads.
 //!
@@ -39,6 +40,7 @@ mod header;
 pub mod parallel;
 mod range_reader;
 mod reader;
+mod salvage;
 mod secret;
 mod whole;
 mod writer;
@@ -47,6 +49,7 @@ pub use error::{Error, Part};
 pub use header::{inspect, Header, Stanza};
 pub use range_reader::RangeReader;
 pub use reader::{Opening, Reader};
+pub use salvage::{salvage, Lost, Salvaged};
 pub use secret::{FileKey, Identity, Key, Passphrase, Recipient};
 pub use whole::{decrypt, encrypt, library_version, rewrap, rewrap_copy};
 pub use writer::{FinishError, Writer};

@@ -1,6 +1,9 @@
 //! Recipients and identities.
 
 use std::fmt;
+use std::fs::File;
+use std::io::{self, Read};
+use std::path::Path;
 
 use crate::ffi;
 use crate::header::{header_of, inspect, written, Header, Stanza};
@@ -8,6 +11,9 @@ use crate::Error;
 
 /// The size of a buffer for the stanza of a passphrase or a key.
 const STANZA_ROOM: usize = 128;
+
+/// The maximum size of a passphrase file in bytes.
+const MOST_BYTES: u64 = 65_536;
 
 /// The 16 bytes from which a file's keys are derived. [`Recipient`] and [`Identity`] have examples.
 #[derive(Clone, Copy, PartialEq, Eq)]
@@ -100,6 +106,8 @@ pub struct Passphrase {
     text: Vec<u8>,
     work: u8,
     max_work: u8,
+    /// Whether a file has it, and nobody types it.
+    is_untyped: bool,
 }
 
 /// A secret key of 32 bytes, as a recipient and as an identity. Only `agep` and `libagefile` open
@@ -120,7 +128,26 @@ impl Passphrase {
     /// Makes a passphrase with the usual work factors: 18 for new files, and at most 22 to open
     /// files.
     pub fn new(text: impl Into<Vec<u8>>) -> Passphrase {
-        Passphrase { text: text.into(), work: 18, max_work: 22 }
+        Passphrase { text: text.into(), work: 18, max_work: 22, is_untyped: false }
+    }
+
+    /// Reads a passphrase file as `agep -p` does: at most 65,536 bytes, without one LF at the end. A
+    /// passphrase that ends in CR or begins with a byte-order mark, which nobody types, can open
+    /// files but not make them ([`Error::UntypedPassphrase`]).
+    ///
+    /// # Errors
+    /// That of the system, or `InvalidInput` if the file has more bytes.
+    pub fn from_file(path: impl AsRef<Path>) -> io::Result<Passphrase> {
+        let mut text = Vec::new();
+        File::open(path)?.take(MOST_BYTES + 1).read_to_end(&mut text)?;
+        if text.len() as u64 > MOST_BYTES {
+            return Err(io::Error::new(io::ErrorKind::InvalidInput, "passphrase file is too long"));
+        }
+        if text.last() == Some(&b'\n') {
+            text.pop();
+        }
+        let is_untyped = text.starts_with(b"\xef\xbb\xbf") || text.ends_with(b"\r");
+        Ok(Passphrase { is_untyped, ..Passphrase::new(text) })
     }
 
     /// Sets the work factor of new files, 1 to 30. Each attempt to open one takes 2^work KiB of
@@ -164,6 +191,9 @@ fn found(result: Result<[u8; 16], Error>) -> Result<Option<FileKey>, Error> {
 
 impl Recipient for Passphrase {
     fn wrap(&self, file_key: &FileKey) -> Result<Vec<Stanza>, Error> {
+        if self.is_untyped {
+            return Err(Error::UntypedPassphrase);
+        }
         let salt = fresh_salt()?;
         let text = written(STANZA_ROOM, |out| {
             Ok(ffi::wrap_passphrase(&file_key.0, &self.text, self.work, &salt, out)?.len as usize)

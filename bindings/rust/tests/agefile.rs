@@ -160,7 +160,9 @@ fn great_header_may_come_in_single_bytes() {
 #[test]
 fn ranges_are_slices() {
     for plain in SIZES.map(text) {
-        let file = Cursor::new(encrypt(&plain, &[&key()]).unwrap());
+        let mut file = Cursor::new(encrypt(&plain, &[&key()]).unwrap());
+        // Whatever its position, the whole source is the file.
+        file.set_position(7);
         let mut reader = RangeReader::new(file, &[&key()]).unwrap();
         assert_eq!((reader.len(), reader.is_empty()), (plain.len() as u64, plain.is_empty()));
         for at in [0, 1, 65535, 65536, 131071, 199999, 300000] {
@@ -171,36 +173,47 @@ fn ranges_are_slices() {
         }
         assert_eq!(reader.seek(SeekFrom::End(0)).unwrap(), plain.len() as u64);
         assert_eq!(reader.seek(SeekFrom::End(-1 - plain.len() as i64)).unwrap_err().kind(), ErrorKind::InvalidInput);
-        assert_eq!(reader.seek(SeekFrom::Current(5)).unwrap(), plain.len() as u64 + 5);
-        assert_eq!(reader.read(&mut [0; 10]).unwrap(), 0);
+        for _ in 1..3 {
+            reader.seek(SeekFrom::Current(5)).unwrap();
+            assert_eq!(reader.read(&mut [0; 10]).unwrap(), 0);
+        }
+        assert_eq!(reader.stream_position().unwrap(), plain.len() as u64 + 10);
     }
 }
 
 #[test]
-fn each_fault_of_a_file_has_its_text() {
-    for (error, text) in [
-        (Error::NotAge, "not an age file"),
-        (Error::BadLine(1), "bad header line 1"),
-        (Error::HeaderTruncated, "header is cut short"),
-        (Error::HeaderTooLarge, "header is too large"),
-        (Error::MixedPassphrase, "a passphrase stanza must stand alone"),
-        (Error::NoMatch, "no key fits this file"),
-        (Error::WrongKey, "wrong passphrase or key"),
-        (Error::Malformed(Part::ArgumentCount), "malformed stanza: argument count"),
-        (Error::Malformed(Part::Salt), "malformed stanza: salt"),
-        (Error::Malformed(Part::WorkFactor), "malformed stanza: work factor"),
-        (Error::Malformed(Part::WorkFactorTooHigh), "malformed stanza: work factor is too high"),
-        (Error::Malformed(Part::BodyLength), "malformed stanza: body length"),
-        (Error::BadMac, "header check failed"),
-        (Error::NonceTruncated, "payload nonce is cut short"),
-        (Error::ChunkShort(1), "chunk 1 is cut short"),
-        (Error::EmptyFinal(1), "chunk 1 is empty"),
-        (Error::BadChunk(1), "chunk 1 is damaged"),
-        (Error::TooManyChunks, "too many chunks"),
-        (Error::OutOfMemory, "out of memory"),
-        (Error::NoRecipients, "no recipients"),
+fn each_fault_has_its_text_and_its_kind() {
+    use ErrorKind::{InvalidData, InvalidInput, Other, OutOfMemory, UnexpectedEof};
+    for (kind, error, text) in [
+        (InvalidData, Error::NotAge, "not an age file"),
+        (InvalidData, Error::BadLine(1), "bad header line 1"),
+        (UnexpectedEof, Error::HeaderTruncated, "header is cut short"),
+        (InvalidData, Error::HeaderTooLarge, "header is too large"),
+        (InvalidData, Error::MixedPassphrase, "a passphrase stanza must stand alone"),
+        (InvalidInput, Error::NoMatch, "no key fits this file"),
+        (InvalidInput, Error::WrongKey, "wrong passphrase or key"),
+        (InvalidData, Error::Malformed(Part::ArgumentCount), "malformed stanza: argument count"),
+        (InvalidData, Error::Malformed(Part::Salt), "malformed stanza: salt"),
+        (InvalidData, Error::Malformed(Part::WorkFactor), "malformed stanza: work factor"),
+        (InvalidData, Error::Malformed(Part::WorkFactorTooHigh), "malformed stanza: work factor is too high"),
+        (InvalidData, Error::Malformed(Part::BodyLength), "malformed stanza: body length"),
+        (InvalidData, Error::BadMac, "header check failed"),
+        (UnexpectedEof, Error::NonceTruncated, "payload nonce is cut short"),
+        (InvalidData, Error::ChunkShort(1), "chunk 1 is cut short"),
+        (InvalidData, Error::EmptyFinal(1), "chunk 1 is empty"),
+        (InvalidData, Error::BadChunk(1), "chunk 1 is damaged"),
+        (InvalidData, Error::TooManyChunks, "too many chunks"),
+        (OutOfMemory, Error::OutOfMemory, "out of memory"),
+        (InvalidInput, Error::NoRecipients, "no recipients"),
+        (InvalidInput, Error::EmptyPassphrase, "passphrase is empty"),
+        (InvalidInput, Error::WorkFactor, "work factor must be 1 to 30"),
+        (InvalidInput, Error::BadArguments, "stanza arguments must be visible ASCII, one space apart"),
+        (Other, Error::Refused, "recipient refused"),
+        (Other, Error::Incomplete, "an earlier write failed"),
+        (InvalidData, Error::Other(99), "code 99"),
     ] {
         assert_eq!(error.to_string(), text);
+        assert_eq!(io::Error::from(error).kind(), kind, "{text}");
     }
 }
 
@@ -252,6 +265,39 @@ fn empty_passphrase_opens_old_files_and_makes_none() {
     let old = encrypt(b"", &[&key()]).unwrap();
     assert_eq!(rewrap(&old, &[&key()], &[&empty]), Err(Error::EmptyPassphrase));
     assert_eq!(decrypt(EMPTY_PASSPHRASE, &[&empty]).unwrap(), b"hello\n");
+}
+
+#[test]
+fn passphrase_files_are_those_of_the_program() {
+    let path = std::env::temp_dir().join(format!("passphrase.{}", std::process::id()));
+    let read = |bytes: &[u8]| {
+        std::fs::write(&path, bytes).unwrap();
+        Passphrase::from_file(&path).map(|passphrase| passphrase.with_work(1))
+    };
+    let opens = |bytes: &[u8], text: &[u8]| {
+        let file = encrypt(b"text", &[&Passphrase::new(text).with_work(1)]).unwrap();
+        assert_eq!(decrypt(&file, &[&read(bytes).unwrap()]).unwrap(), b"text");
+    };
+    for (bytes, text) in [(&b"word"[..], &b"word"[..]), (b"word\n", b"word"), (b"\n\n", b"\n"), (b"a\nb\n", b"a\nb"), (b"\xff", b"\xff")] {
+        opens(bytes, text);
+        let file = encrypt(b"text", &[&read(bytes).unwrap()]).unwrap();
+        assert_eq!(decrypt(&file, &[&Passphrase::new(text)]).unwrap(), b"text");
+    }
+    for (bytes, text) in [
+        (&b"word\r"[..], &b"word\r"[..]),
+        (b"word\r\n", b"word\r"),
+        (b"\xef\xbb\xbfword\n", b"\xef\xbb\xbfword"),
+    ] {
+        opens(bytes, text);
+        let error = Writer::new(Vec::new(), &[&read(bytes).unwrap()]).unwrap_err();
+        let said = "passphrase ends in CR or begins with a byte-order mark";
+        assert_eq!((error.kind(), error.to_string().as_str()), (ErrorKind::InvalidInput, said));
+    }
+    let most = [b'a'; 65_536];
+    opens(&most, &most);
+    assert_eq!(read(&[b'a'; 65_537]).unwrap_err().kind(), ErrorKind::InvalidInput);
+    std::fs::remove_file(&path).unwrap();
+    assert_eq!(Passphrase::from_file(&path).unwrap_err().kind(), ErrorKind::NotFound);
 }
 
 /// The passphrase, as an identity that counts how often it is asked.
@@ -505,6 +551,10 @@ fn sink_that_takes_nothing_or_fails_to_flush() {
     assert_eq!((failed.error().kind(), failed.to_string()), (ErrorKind::TimedOut, failed.error().to_string()));
     let (error, sink) = failed.into_parts();
     assert_eq!((error.kind(), sink.flushed), (ErrorKind::TimedOut, sink.bytes.len()));
+    let mut room = [0; 180];
+    let failed = Writer::new(&mut room[..], &[&key()]).unwrap().finish().unwrap_err();
+    let text = failed.to_string();
+    assert_eq!(io::Error::from(failed).to_string(), text);
 }
 
 /// A source that fails after these bytes.

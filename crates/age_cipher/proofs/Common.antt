@@ -1,10 +1,10 @@
 -- The names that the proofs of this crate cite, passed on from one place.
-pub use Rattle.std.proofs.Common.{Fits, List, None, Some, [], add-one, ap, append_assoc, ap₂, arith, bit_and, bit_or, bit_xor, drop, get_or, inl, inr, length, length-append, map, refl, replicate, rules, set, slice_index, slice_index_or, suc, sym, take, true, w32, w64, zero, zero-add, ℕ, ◌%◌, ◌*◌, ◌++◌, ◌+◌, ◌-◌, ◌/◌, ◌<◌, ◌^◌, ◌↔◌, ◌∙◌, ◌∷◌, ◌≡◌, ◌≢◌, ◌≤◌}
+pub use Rattle.std.proofs.Common.{Fits, List, None, Some, [], add-one, ap, append_assoc, ap₂, arith, bit_and, bit_or, bit_xor, drop, get_or, inl, inr, length, length-append, map, refl, replicate, rules, set, slice_index, slice_index_or, suc, sym, take, true, w32, w64, zero, zero-add, ℕ, ◌%◌, ◌*◌, ◌++◌, ◌+◌, ◌-◌, ◌/◌, ◌<◌, ◌^◌, ◌↔◌, ◌∙◌, ◌∷◌, ◌≡◌, ◌≢◌, ◌≤◌, length-take}
 pub use Rattle.std.proofs.Math.Nat.{add-mul-mod_self_left, mod-eq_of_lt, pow-suc, pow-zero}
-pub use Rattle.std.proofs.Math.Seq.{take-append_seam}
+pub use Rattle.std.proofs.Math.Seq.{take-append_seam, set-append_seam}
 pub use Rattle.std.proofs.lemmas.Bool.{cases_Bool, cases_lt}
-pub use Rattle.std.proofs.lemmas.Grind.{flat_map-append}
-pub use Rattle.std.proofs.lemmas.List.{append-nil, drop-drop, drop_at, get_or-append_right, get_or-map, get_or-set_other, get_or_append_left, length-drop, length-map, length-set, length-take-le, map-set, take-append-drop, take-replicate, take_all, take_at}
+pub use Rattle.std.proofs.lemmas.Grind.{common_steps, flat_map-append}
+pub use Rattle.std.proofs.lemmas.List.{append-nil, drop-drop, drop_at, get_or-append_right, get_or-map, get_or-set_other, get_or_append_left, length-drop, length-map, length-set, length-take-le, map-set, take-append-drop, take-replicate, take_all, take_at, drop-replicate}
 pub use Rattle.std.proofs.lemmas.List.FromFn.{fill_by_all, get_or-map-range_with_len, length-map-range_with_len}
 pub use Rattle.std.proofs.lemmas.List.Sums.{sum_by-cons}
 pub use Rattle.std.proofs.lemmas.Nat.{and_mask, mul-le, mul-mod_first}

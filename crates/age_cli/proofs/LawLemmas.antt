@@ -1,6 +1,6 @@
--- What a job that is done has written, where input and output are known.
+-- What a finished job has written, if input and output are known.
 use Rattle.std.proofs.Common.{◌≡◌, ◌≤◌, ◌⊎◌, ◌∙◌, ◌++◌, ℕ, ap, arith, cond, false, inl, inr, length, refl, subst, sym, true, List, None, Some, Result, Ok, Err}
-use Rattle.std.specs.Prelude.{⊤, ◌↔◌, Bool, Option}
+use Rattle.std.specs.Prelude.{⊤, ◌↔◌, ◌&&◌, Bool, Option}
 use Rattle.std.specs.Io.KnownBytes.{Appends, Keeps}
 use Rattle.age_header.specs.Device.{Bytes, Known, move_of}
 use Rattle.age_header.specs.Header.{HeaderParts, StanzaParts}
@@ -8,9 +8,8 @@ use Rattle.age_header.specs.Verdict.{HeaderVerdict}
 use Rattle.age_header.specs.declared.file_key.FileKey.{FileKey}
 use Rattle.age_recipient.specs.Choice.{choice}
 use Rattle.age_stream.specs.declared.done.Done.{Done}
-use Rattle.age_stream.specs.declared.salvaged.Salvaged.{Salvaged}
 use Rattle.age_stream.specs.Reading.{Reading, whole}
-use Rattle.age_stream.specs.Salvage.{LossesMoved, is_whole}
+use Rattle.age_stream.specs.Salvage.{LossesMoved}
 use Rattle.age_file.specs.declared.fault.Fault.{Fault}
 use Rattle.age_file.specs.declared.fault.Fault.TheVariants.{BadChunk}
 use Rattle.age_file.specs.declared.limits.Fresh.{Fresh}
@@ -18,7 +17,8 @@ use Rattle.age_file.specs.AgeFile.{AgeFile, Bounds}
 use Rattle.age_file.specs.Decrypt.{DecryptsText}
 use Rattle.age_file.specs.NewFile.{EncryptsText, Gathering}
 use Rattle.age_file.specs.Rewrap.{RewrapsText, Rewrapped}
-use Rattle.age_file.specs.Salvage.{SalvagesText, SavesFile}
+use Rattle.age_file.specs.Salvage.{SalvagesText, SavesFile, is_whole_file}
+use Rattle.age_file.specs.declared.salvaging.SalvagedFile.{SalvagedFile}
 use Rattle.age_file.specs.Verdict.{Answering, IsVerdict, finding}
 use Rattle.age_file.proofs.SalvageLaws.{saved_exactly, saved_whole}
 use Rattle.age_job.specs.declared.job.Command.TheVariants as command
@@ -33,7 +33,7 @@ use Rattle.age_words.proofs.PipedLemmas.{piped}
 use Rattle.age_cli.proofs.ProgramLemmas.{alone}
 use Rattle.age_cli.specs.Program.{Finishes, FinishesWords, word_limits}
 use Rattle.age_commands.specs.Secret.{answers_of, gathering_of, limits_of}
-use Rattle.age_commands.specs.Task.{OfKnown, Performs, if_whole, without_counts}
+use Rattle.age_commands.specs.Task.{OfKnown, Performs, SalvagesAll, without_counts}
 
 -- the output ends with what was appended
 grown : (xs more : Bytes) (taken new : Known) → Appends (Some xs) taken more → Keeps taken new → new ≡ Some (xs ++ more)
@@ -79,8 +79,12 @@ if_ok : (b : Bool) (fault : Fault) → ◌≡◌ {A = Result ⊤ Fault} (cond b 
 if_ok true fault e = refl
 if_ok false fault e = absurd (cc)
 
+both_true : (a b : Bool) → (a && b) ≡ true → (a ≡ true) × (b ≡ true)
+both_true true b h = (refl, h)
+both_true false b h = absurd (cc)
+
 saved_all : OkIsAgeFile → SomeVerdict → (limits : Bounds) (answers : Answering) (b xs : Bytes) (taken new : Known)
-    (lost : LossesMoved) (s : Salvaged) → is_whole s ≡ true
+    (lost : LossesMoved) (s : SalvagedFile) → is_whole_file s ≡ true
     → SavesFile limits answers b (move_of (Some xs) taken) lost (Ok s) → Keeps taken new → Gained limits b xs new
 saved_all law some limits answers b xs taken new lost s all saves keeps =
     let (verdict, judged) = some limits answers b in
@@ -92,22 +96,23 @@ saved_all law some limits answers b xs taken new lost s all saves keeps =
     (found.0, found.1, verdict.plaintext, found.2, grown xs verdict.plaintext taken new took keeps)
 
 salvaged : OkIsAgeFile → SomeVerdict → (limits : Bounds) (answers : Answering) (b xs : Bytes) (taken new : Known)
-    (lost : LossesMoved) (done : Result Salvaged Fault) (work : Result ⊤ Fault) → work ≡ if_whole done
-    → OfKnown (Some b) (λ x. SalvagesText limits answers x (move_of (Some xs) taken) lost done)
+    {A : Type 0} (input : Option A) (lost : LossesMoved) (work : Result ⊤ Fault)
+    → SalvagesAll limits answers input (Some b) (move_of (Some xs) taken) lost work
     → Ends taken new work (Ok tt) → Gained limits b xs new
-salvaged law some limits answers b xs taken new lost (Err fault) work is d ends =
+salvaged law some limits answers b xs taken new input lost work (Err fault, is_read, is, d) ends =
     absurd (cc (is, (ended taken new ends).0))
-salvaged law some limits answers b xs taken new lost (Ok s) work is d ends =
-    let all = if_ok (is_whole s) (BadChunk s.chunks) (sym is ∙ (ended taken new ends).0) in
-    saved_all law some limits answers b xs taken new lost s all d.2 (ended taken new ends).1
+salvaged law some limits answers b xs taken new input lost work (Ok s, is_read, is, d) ends =
+    let all = both_true (is_whole_file s) is_read
+    (if_ok (is_whole_file s && is_read) (BadChunk s.payload.chunks) (sym is ∙ (ended taken new ends).0)) in
+    saved_all law some limits answers b xs taken new lost s all.0 (d.2 (inr all.1)) (ended taken new ends).1
 
 pub done_decrypt : OkIsAgeFile → SomeVerdict → (job : Job) (b xs : Bytes) (new : Known)
     → (job.command ≡ command.Decrypt) ⊎ (job.command ≡ command.Salvage)
     → Finishes job (Some b) (move_of (Some xs) new) → Gained (limits_of job) b xs new
 done_decrypt law some job b xs new one (task.Decrypt secret, is, (taken, work, (lost, (done, same, d)), quiet, ends)) =
     decrypted law (limits_of job) (answers_of secret job.max_work) b xs taken new done work same d ends
-done_decrypt law some job b xs new one (task.Salvage secret, is, (taken, work, (lost, (done, same, d)), quiet, ends)) =
-    salvaged law some (limits_of job) (answers_of secret job.max_work) b xs taken new lost done work same d ends
+done_decrypt law some job b xs new one (task.Salvage secret, is, (taken, work, (lost, d), quiet, ends)) =
+    salvaged law some (limits_of job) (answers_of secret job.max_work) b xs taken new job.input lost work d ends
 done_decrypt law some job b xs new (inl one) (task, is, w) = absurd (cc (one, is.0))
 done_decrypt law some job b xs new (inr one) (task, is, w) = absurd (cc (one, is.0))
 
@@ -159,7 +164,7 @@ done_rewrap job b xs new one (task.Rewrap old other salt, is, (taken, work, (los
     rewrote (limits_of job) (answers_of old job.max_work) (gathering_of other job.work salt) b xs taken new work r ends
 done_rewrap job b xs new one (task, is, w) = absurd (cc (one, is.0))
 
--- the output gained what is shown of the header with which the input begins
+-- the output gained what is shown of the header at the start of the input
 abbrev pub Showed : (limits : Bounds) (raw : Bool) (b xs : Bytes) (new : Known) → Type 0
 Showed limits raw b xs new =
     (header : HeaderParts) × (text : Bytes) × HeaderVerdict b limits.max_header (Ok (finding text header))
@@ -180,7 +185,7 @@ done_inspect job b xs new one (task.Inspect key, is, (taken, work, (lost, i), qu
     showed (limits_of job) job.raw key b xs taken new work i ends
 done_inspect job b xs new one (task, is, w) = absurd (cc (one, is.0))
 
--- the output gained at most so many bytes
+-- the output gained at most this many bytes
 abbrev pub GainedAtMost : (len : ℕ) (xs : Bytes) (new : Known) → Type 0
 GainedAtMost len xs new = (part : Bytes) × (length part ≤ len) × (new ≡ Some (xs ++ part))
 

@@ -1,4 +1,4 @@
--- What a job comes to, from what its task comes to.
+-- The result of a job, from the result of its task.
 use Rattle.std.proofs.Common.{◌≡◌, ◌⊎◌, ℕ, List, arith, inl, inr, refl, subst, sym, Option, None, Some, Result, Ok, Err}
 use Rattle.std.specs.Prelude.{◌≢◌, ⊤}
 use Rattle.age_header.specs.Device.{Bytes, Known, Moved, Stays, move_of}
@@ -12,13 +12,13 @@ use Rattle.age_cli.specs.declared.failure.Failure.{Failure}
 use Rattle.age_commands.specs.declared.task.Task.{Task}
 use Rattle.age_cli.specs.Program.{AnswersRefusal, Begins, Completes, Finishes, FinishesOn, IsInput, IsOutput, IsTaskOf, PerformsOn, PerformsTo, UsesStreams, Works}
 
--- standard input, where no file is named
+-- standard input, if no file is named
 input_is : {A : Type 0} (F : Type 0) (remaining : F → Known) (o : Option A) (standard from : Known) → o ≡ None
     → IsInput F remaining o standard from → from ≡ standard
 input_is F remaining None standard from e h = h
 input_is F remaining (Some name) standard from e h = absurd (cc)
 
--- standard output, where no file is named
+-- standard output, if no file is named
 output_is : {A : Type 0} (F : Type 0) (contents : F → Known) (o : Option A) (standard sink : Moved) → o ≡ None
     → IsOutput F contents o standard sink → sink ≡ standard
 output_is F contents None standard sink e h = h
@@ -50,7 +50,7 @@ named_output : {A F : Type 0} (contents : F → Known) (o : Option A) (k : Known
 named_output contents None k old new named = absurd (named refl)
 named_output contents (Some name) k old new named = (old, new, refl)
 
--- what work comes to that writes to standard output
+-- the result of work that writes to standard output
 pub performs_alone : {F : Type 0} (contents : F → Known) (job : Job) (task : Task) (from : Known) (sink : Moved)
     (r : Result ⊤ Failure) → job.output ≡ None → PerformsTo job task from sink r
     → PerformsOn F contents job task from sink r
@@ -60,7 +60,7 @@ performs_alone contents job task from sink (Err failure) none (fault, is, works)
   λ other e. let same : fault ≡ other = cc in (sink, rw none refl, rw same at works),
 )
 
--- what work comes to that writes to a named file
+-- the result of work that writes to a named file
 pub fails_in : {F : Type 0} (contents : F → Known) (job : Job) (task : Task) (from k : Known) (old new : F)
     (failure : Failure) → job.output ≢ None
     → PerformsTo job task from (move_of (contents old) (contents new)) (Err failure)

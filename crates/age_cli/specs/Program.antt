@@ -24,8 +24,8 @@ IsSecretFor job secret = IsSecretOf job.pass job.key job.more_keys.items secret
 
 -- A task of this job. Its secret is a passphrase if only a passphrase file is named, else one or
 -- more keys, not more than the key files named. `rewrap` has the old secret and the new one in
--- their roles. No new passphrase is empty. `inspect` has a file key exactly if `-f` names one and
--- `-r` is absent.
+-- their roles. No new passphrase is empty, ends in CR or begins with a byte-order mark. `inspect`
+-- has a file key exactly if `-f` names one and `-r` is absent.
 abbrev pub IsTaskOf : (job : Job) (task : Task) → Type 0
 IsTaskOf job (Encrypt secret seed) =
     (job.command ≡ command.Encrypt) × IsSecretFor job secret × IsNewSecret secret

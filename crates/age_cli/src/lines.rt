@@ -1,9 +1,11 @@
 //! The lines about chunks that `salvage` lost.
 
 use crate::program::say;
-use age_commands::Report;
-use age_file::{CHUNK_SIZE, Losses, Lost, LostRun, Salvaged, Saved, TAG_SIZE, join_lost};
-use age_job::ERASE;
+use age_commands::{Report, Unread};
+use age_file::{
+    CHUNK_SIZE, Losses, Lost, LostRun, Salvaged, SalvagedFile, Saved, TAG_SIZE, join_lost,
+};
+use age_job::{Detail, Doing, ERASE, Name};
 use std::alloc::Global;
 use std::fmt;
 use std::io::Write;
@@ -13,6 +15,7 @@ use std::io::Write;
 pub(crate) struct LossLines<'a, E> {
     pub(crate) alloc: Global,
     pub(crate) err: &'a mut E,
+    pub(crate) input: Name<'a>,
     pub(crate) run: Option<LostRun>,
     /// Whether the line on progress may be shown, which a line printed here replaces.
     pub(crate) is_shown: bool,
@@ -62,10 +65,10 @@ impl<'a, E: Write> LossLines<'a, E> {
                 "chunk {chunk} is empty: only an empty plaintext ends with an empty chunk"
             )),
             Saved::Nothing if !saved.is_cut() => self.print(&format_args!(
-                "there are up to {TAG_SIZE} bytes behind chunk {chunk}, which is the last"
+                "up to {TAG_SIZE} bytes follow chunk {chunk}, which is the last"
             )),
             _ => self.print(&format_args!(
-                "chunk {chunk} is marked as the last, and more follows: bytes behind the end, \
+                "chunk {chunk} is marked as the last, and more follows: bytes after the end, \
                  or another file"
             )),
         }
@@ -96,19 +99,23 @@ impl<'a, E: Write> Losses for LossLines<'a, E> {
 }
 
 impl<'a, E: Write> Report for LossLines<'a, E> {
-    fn damaged(&mut self, saved: &Salvaged) {
+    fn damaged(&mut self, saved: &SalvagedFile) {
         self.end();
+        if !saved.has_right_mac {
+            self.print(&"the header was changed: the chunks were tried with the key that fits");
+        }
+        let payload = saved.payload;
         let Salvaged {
             bytes,
             chunks,
             early,
             last,
             ..
-        } = *saved;
+        } = payload;
         if let Some(early) = early {
-            self.early(early, saved);
+            self.early(early, &payload);
         }
-        if saved.is_cut() {
+        if payload.is_cut() {
             self.print(&format_args!(
                 "the file is cut short: the plaintext from byte {bytes} on is missing"
             ));
@@ -119,5 +126,17 @@ impl<'a, E: Write> Report for LossLines<'a, E> {
                 "the file ends after {len} bytes of chunk {last}: more may be missing"
             ));
         }
+    }
+
+    fn unread(&mut self, unread: &Unread) {
+        let Unread {
+            first,
+            bytes,
+            reason,
+        } = *unread;
+        let detail = Detail::System(Doing::Reading, self.input, reason);
+        self.print(&format_args!(
+            "{detail}; {bytes} bytes were left out, the first at byte {first}"
+        ));
     }
 }

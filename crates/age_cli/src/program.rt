@@ -8,17 +8,17 @@ ghost use Rattle.age_header.specs.Device.{Stays, move_by};
 
 use crate::failure::{Failure, Fault};
 use crate::lines::LossLines;
-use crate::work::{kept_prefix, perform_to};
+use crate::work::{input_name, kept_prefix, perform_to};
 use age_commands::{Report, Seed, Task, seed_of};
 use age_job::{
     Command, Job, Lines, Pipe, ReadFiles, SEED_LEN, Shown, Target, Watched, read_encrypt_secrets,
-    read_file_key, read_rewrap_secrets, read_secret, refuse_output,
+    read_file_key, read_rewrap_secrets, read_secret, refuse_output, shows_progress,
 };
 use age_words::{WordsFault, read_words};
 use std::alloc::Global;
 use std::fmt::Display;
 use std::io::{IsTerminal, Read, Seek, Write};
-use std::rt::Files;
+use std::rt::{Env, Files};
 use std::time::Clock;
 
 /// Success.
@@ -37,13 +37,12 @@ const REFUSED: u8 = 2;
 /// `--verbose` a second one that explains it, the lines of `salvage` on lost chunks, and the text
 /// for a refused command line. If `err` is a terminal, `--verbose` also shows on `/dev/stderr` how
 /// much was read, in a line that is erased at the end.
-pub fn run<F: Files + Clock + AllocGlobal, R: Read, W: Write + IsTerminal, E: Write + IsTerminal>(
-    rt: &F,
-    words: &[&str],
-    input: &mut R,
-    out: &mut W,
-    err: &mut E,
-) -> u8
+pub fn run<
+    F: Files + Clock + Env + AllocGlobal,
+    R: Read,
+    W: Write + IsTerminal,
+    E: Write + IsTerminal,
+>(rt: &F, words: &[&str], input: &mut R, out: &mut W, err: &mut E) -> u8
     // The status is 0, 1 or 2.
     ensures status { result ≤ 2 }
     // Status 2: the words are wrong, the input was not read, and the output is unchanged.
@@ -82,7 +81,7 @@ pub fn run<F: Files + Clock + AllocGlobal, R: Read, W: Write + IsTerminal, E: Wr
 
 /// Does this job, and returns the exit status as `run` does: 0 for success, 1 after a fault.
 pub fn run_job<
-    F: Files + Clock + AllocGlobal,
+    F: Files + Clock + Env + AllocGlobal,
     R: Read,
     W: Write + IsTerminal,
     E: Write + IsTerminal,
@@ -109,10 +108,11 @@ pub fn run_job<
         → Begins F.File ⟦<F::File as Read>⟧.remaining job.now (R.remaining input.old)
         (move_by W.contents out.old out.new) }
 {
-    let is_shown = shows_progress(job, out, err);
+    let is_shown = shows_progress(rt, job, out, err);
     let mut lines = LossLines {
         alloc: rt.alloc(),
         err,
+        input: input_name(job),
         run: None,
         is_shown,
     };
@@ -132,12 +132,6 @@ pub fn run_job<
             report(alloc, &failure, more, err)
         }
     }
-}
-
-/// Whether to show how much was read: at a terminal that does not also get the output.
-fn shows_progress<W: IsTerminal, E: IsTerminal>(job: &Job, out: &W, err: &E) -> bool {
-    let is_alone = job.output.is_some() || !out.is_terminal();
-    job.verbose && is_alone && err.is_terminal()
 }
 
 /// Whether lines on lost chunks were printed instead of the fault.

@@ -1,5 +1,6 @@
 mod InspectLemmas
 mod RangeLemmas
+mod SalvageLemmas
 mod SecretLemmas
 pub mod TaskLemmas
 mod VerifiedLemmas

@@ -155,7 +155,7 @@ pub some_on : (plain : ℕ) {begin : ℕ} (len : ℕ) {at : ℕ} (left : ℕ) {n
     → at + n - begin ≤ min len (plain - begin)
 some_on plain len left is end low some = omega arith
 
--- where the chunk begins that stops a range
+-- where the chunk that stops a range begins
 before_chunk : (plain begin at left i : ℕ) → IsWhole plain begin at left → begin ≤ at → 0 < min left (plain - at)
     → at < chunk_size * (i + 1) → chunk_size * i - begin ≡ (at - begin) + (chunk_size * i - at)
 before_chunk plain begin at left i (inl e) low some from = omega arith

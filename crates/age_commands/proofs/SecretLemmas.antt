@@ -12,7 +12,7 @@ use Rattle.age_recipient.specs.Answer.{decision_from}
 use Rattle.age_recipient.specs.declared.labels.Labels.{Labels}
 use Rattle.age_recipient.specs.declared.unwrapped.Unwrapped.{Unwrapped}
 use Rattle.age_stream.specs.declared.done.Done.{Done}
-use Rattle.age_stream.specs.declared.salvaged.Salvaged.{Salvaged}
+use Rattle.age_file.specs.declared.salvaging.SalvagedFile.{SalvagedFile}
 use Rattle.age_stream.specs.Salvage.{LossesMoved}
 use Rattle.age_file.specs.declared.fault.Fault.{Fault}
 use Rattle.age_file.specs.declared.limits.Fresh.{Fresh}
@@ -33,12 +33,12 @@ pub made_reads : {G : Type 0 → Type 1} {C Z : Type 0} (T : Table G C) (e : Ent
     → Made (λ j. (T.entry j).0.coded.code) e.0.coded.code at i y x → read (T.entry i) y ≡ read e x
 made_reads {Z} T e at same read {i} {y} {x} made = read_made T e at same Z read i y x made
 
--- what the identity of a secret answers, alone in a list
+-- the answer of a secret's identity, as the only one in a list
 pub answers_meant : {f g : List StanzaParts → Unwrapped} {answers : Answering} → f ≡ g → (λ s. g s ∷ []) ≡ answers
     → (λ s. f s ∷ []) ≡ answers
 answers_meant same is = ap {B = Answering} (λ (m : List StanzaParts → Unwrapped) s. m s ∷ []) same ∙ is
 
--- what the recipient of a secret gives, alone in a list
+-- the stanzas of a secret's recipient, as the only one in a list
 pub gathering_meant : {w : FileKey → Result (List StanzaParts) ℕ} {l : Labels} (secret : Secret) (work : ℕ)
     (salt : Bytes) → w ≡ wraps_of (recipient_of secret work salt) → l ≡ labels_of (recipient_of secret work salt)
     → (λ k. Gathered (w k ∷ []) (l ∷ [])) ≡ gathering_of secret work salt
@@ -51,7 +51,7 @@ decrypting_meant limits {source} old new r same h =
     subst (λ (a : Answering). Decrypts limits a source (move_of old new) r) same h
 
 pub salvaging_meant : {f g : Answering} (limits : Bounds) {source : Flow} (sink : Moved) (losses : LossesMoved)
-    (r : Result Salvaged Fault) → f ≡ g
+    (r : Result SalvagedFile Fault) → f ≡ g
     → SalvagesFile limits f source sink losses r → SalvagesFile limits g source sink losses r
 salvaging_meant limits {source} sink losses r same h =
     subst (λ (a : Answering). SalvagesFile limits a source sink losses r) same h
@@ -69,7 +69,7 @@ rewrapping_meant {g} {v} limits {source} old new r same gives h =
     subst (λ (x : FileKey → Gathering). Rewraps limits g x source (move_of old new) r) gives
     (subst (λ (x : Answering). Rewraps limits x v source (move_of old new) r) same h)
 
--- what is decided by the keys to come, after the next one
+-- what is decided by the remaining keys, after the next one
 pub keys_step : (f : Bytes → Unwrapped) (keys : List Bytes) {i : ℕ} (so_far : Unwrapped) {answer all : Unwrapped}
     (next : List Unwrapped → Unwrapped) → i < length keys → answer ≡ f (get_or keys i [])
     → ((more : List Unwrapped) → decision_from so_far (answer ∷ more) ≡ next more)

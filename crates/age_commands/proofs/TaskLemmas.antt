@@ -1,19 +1,34 @@
--- What a task does, of which proofs see the bytes to come alone.
-use Rattle.std.proofs.Common.{[], Some, None, Err, inl, refl}
+-- What a task does, if proofs know only the bytes to come.
+use Rattle.std.proofs.Common.{◌≡◌, [], ap, false, Option, Some, None, Err, inl, refl}
 use Rattle.std.proofs.KnownBytes.{Appends-nil, Keeps-refl}
 use Rattle.age_stream.specs.Salvage.{KnownLosses, losses_of}
 use Rattle.age_stream.proofs.SalvageLemmas.{reports_none}
 use Rattle.age_header.specs.Device.{Bytes, Known, move_of}
+use Rattle.age_file.specs.Salvage.{SalvagesText}
+use Rattle.age_file.specs.declared.fault.Fault.{Fault}
 use Rattle.age_file.specs.declared.fault.Fault.TheVariants.{OutOfMemory}
+use Rattle.age_file.specs.AgeFile.{Bounds}
+use Rattle.age_file.specs.Verdict.{Answering}
 use Rattle.age_job.specs.declared.job.Job.{Job}
 use Rattle.age_commands.specs.declared.task.Task.{Task}
 use Rattle.age_commands.specs.declared.task.Task.TheVariants.{Encrypt, Decrypt, Rewrap, Inspect, Range, Salvage}
-use Rattle.age_commands.specs.Task.{OfKnown, Performs}
+use Rattle.age_commands.specs.Secret.{answers_of, limits_of}
+use Rattle.age_commands.specs.Task.{OfKnown, Performs, SalvagesAll}
 
 -- what holds of any bytes
 pub known_any : (from : Known) {P : Bytes → Type 0} → ((b : Bytes) → P b) → OfKnown from P
 known_any None p = ([], p [], tt)
 known_any (Some bytes) p = ([], p [], p bytes)
+
+-- memory was refused before a source was made
+pub no_source : {A : Type 0} (limits : Bounds) (answers : Answering) (input : Option A) (from old : Known)
+    (lost : KnownLosses) {fault : Fault} → fault ≡ OutOfMemory
+    → SalvagesAll limits answers input from (move_of old old) (losses_of lost lost) (Err fault)
+no_source limits answers input from old lost {fault} is =
+    let none : OfKnown from (λ b. SalvagesText limits answers b (move_of old old) (losses_of lost lost)
+    (Err OutOfMemory)) =
+    known_any from (λ b. (Appends-nil old, reports_none lost)) in
+    (Err OutOfMemory, false, ap Err is, (none.0, none.1, λ all. none.2))
 
 -- memory was refused before a task began
 pub no_memory : (job : Job) (task : Task) (from old : Known) (lost : KnownLosses)
@@ -23,5 +38,5 @@ no_memory job (Decrypt secret) from old lost = (Err OutOfMemory, refl, known_any
 no_memory job (Rewrap one other salt) from old lost = known_any from (λ b. tt)
 no_memory job (Inspect key) from old lost = known_any from (λ b. Keeps-refl old)
 no_memory job (Salvage secret) from old lost =
-    (Err OutOfMemory, refl, known_any from (λ b. (Appends-nil old, reports_none lost)))
+    no_source (limits_of job) (answers_of secret job.max_work) job.input from old lost refl
 no_memory job (Range secret) from old lost = (None, inl (tt, Keeps-refl old))

@@ -178,7 +178,7 @@ pub unopened : {D : Type 0} {gave : D → ℕ → ℕ → Type 0} {found : D →
     → RangingAny gave found limits answers at len new (move_of old old) (Err fault)
 unopened at len {old} named = inl (named, Keeps-refl old)
 
--- a range of a source, of which proofs see the size alone
+-- a range of a source of which proofs know only the size
 pub ranges_unseen : {D : Type 0} {found : D → Option ℕ} (job : Job) (secret : Secret) (from : Known) {new : D}
     {sink : Moved} (lost : LossesMoved) {r : Result ⊤ Fault}
     → RangingAny (λ source at byte. ⊤) found (limits_of job) (answers_of secret job.max_work) job.at job.len new sink r

@@ -3,4 +3,5 @@ pub mod Inspect
 pub mod Output
 pub mod Range
 pub mod Secret
+pub mod Skipping
 pub mod Task

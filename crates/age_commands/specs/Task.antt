@@ -1,5 +1,5 @@
 -- The results of a job with its secrets, from the bytes of its input to those of its output.
-use Rattle.std.specs.Prelude.{◌≡◌, ◌⊎◌, ℕ, ⊤, IfErr, IfSome, Option, Result, Ok, Err, if◌then◌else◌}
+use Rattle.std.specs.Prelude.{◌≡◌, ◌⊎◌, ◌&&◌, ℕ, ⊤, Bool, IfErr, IfSome, Option, Result, Ok, Err, if◌then◌else◌}
 use Rattle.age_header.specs.Device.{Bytes, Flow, Known, Moved}
 use Rattle.age_stream.specs.declared.done.Done.{Done}
 use Rattle.age_file.specs.declared.fault.Fault.{Fault}
@@ -10,16 +10,17 @@ use Rattle.age_file.specs.Decrypt.{DecryptsText}
 use Rattle.age_file.specs.Device.{IsQuiet}
 use Rattle.age_file.specs.NewFile.{EncryptsGiven, EncryptsText, Gathering, RefusesFirst, TookWhileEncrypting}
 use Rattle.age_file.specs.Rewrap.{RewrapsText}
-use Rattle.age_file.specs.Salvage.{SalvagesFile, SalvagesText}
+use Rattle.age_file.specs.Salvage.{SalvagesText, is_whole_file}
+use Rattle.age_file.specs.declared.salvaging.SalvagedFile.{SalvagedFile}
 use Rattle.age_file.specs.Verdict.{Answering}
-use Rattle.age_stream.specs.Salvage.{LossesMoved, is_whole}
-use Rattle.age_stream.specs.declared.salvaged.Salvaged.{Salvaged}
+use Rattle.age_stream.specs.Salvage.{LossesMoved}
 use Rattle.age_job.specs.declared.job.Job.{Job}
 use Rattle.age_commands.specs.declared.task.Task.{Task}
 use Rattle.age_commands.specs.declared.task.Task.TheVariants.{Encrypt, Decrypt, Rewrap, Inspect, Range, Salvage}
 use Rattle.age_commands.specs.Inspect.{InspectsText}
 use Rattle.age_commands.specs.Range.{RangingAny}
 use Rattle.age_commands.specs.Secret.{answers_of, gathering_of, limits_of}
+use Rattle.age_commands.specs.Skipping.{OfRead}
 
 -- the result without the counts of bytes and chunks
 abbrev pub without_counts : Result Done Fault → Result ⊤ Fault
@@ -33,17 +34,18 @@ pub record Encrypting (limits : Bounds) (fresh : Fresh) (gathered : Gathering) (
   pub refused : IfErr done (RefusesFirst limits fresh.file_key gathered)
   pub took : IfErr done (TookWhileEncrypting limits fresh gathered source sink)
 
--- the result of salvaging: Ok only if everything is saved
-abbrev pub if_whole : Result Salvaged Fault → Result ⊤ Fault
-if_whole (Ok s) = if is_whole s then Ok tt else Err (BadChunk s.chunks)
-if_whole (Err fault) = Err fault
+-- the result of salvaging: Ok only if everything is read and saved
+abbrev pub if_whole : (is_read : Bool) → Result SalvagedFile Fault → Result ⊤ Fault
+if_whole is_read (Ok s) =
+    if is_whole_file s && is_read then Ok tt else Err (BadChunk s.payload.chunks)
+if_whole is_read (Err fault) = Err fault
 
--- the result, the output and the reports of `salvage`
-abbrev pub SalvagesAll : (limits : Bounds) (answers : Answering) (source : Flow) (sink : Moved)
-    (lost : LossesMoved) (result : Result ⊤ Fault) → Type 0
-SalvagesAll limits answers source sink lost result =
-    (done : Result Salvaged Fault) × (result ≡ if_whole done)
-    × SalvagesFile limits answers source sink lost done
+-- the result, the output and the reports of `salvage`, for an input with the bytes `from`
+abbrev pub SalvagesAll : {A : Type 0} (limits : Bounds) (answers : Answering) (input : Option A)
+    (from : Known) (sink : Moved) (lost : LossesMoved) (result : Result ⊤ Fault) → Type 0
+SalvagesAll limits answers input from sink lost result =
+    (done : Result SalvagedFile Fault) × (is_read : Bool) × (result ≡ if_whole is_read done)
+    × OfRead input is_read from (λ b. SalvagesText limits answers b sink lost done)
 
 -- P holds of some bytes, and of those to come, if they are known
 abbrev pub OfKnown : (from : Known) (P : Bytes → Type 0) → Type 0
@@ -71,8 +73,7 @@ Performs job (Inspect key) from sink lost result =
     OfKnown from (λ b. InspectsText (limits_of job) job.raw key b sink result)
 Performs job (Salvage secret) from sink lost result =
     let answers = answers_of secret job.max_work in
-    (done : Result Salvaged Fault) × (result ≡ if_whole done)
-    × OfKnown from (λ b. SalvagesText (limits_of job) answers b sink lost done)
+    SalvagesAll (limits_of job) answers job.input from sink lost result
 Performs job (Range secret) from sink lost result =
     (size : Option ℕ) × RangingAny (λ _ _ _. ⊤) (λ found. found) (limits_of job)
     (answers_of secret job.max_work) job.at job.len size sink result

@@ -1,8 +1,10 @@
 //! A job's limits, and the sources over its input.
-ghost use Rattle.std.specs.Prelude.{◌≡◌, ◌<◌, None, IfOk, IfErr};
+ghost use Rattle.std.specs.Prelude.{◌≡◌, ◌<◌, [], None, IfOk, IfErr};
 ghost use Rattle.age_job.specs.Job.{IsInRange};
 ghost use Rattle.age_commands.specs.Secret.{limits_of};
+ghost use Rattle.age_commands.specs.Skipping.{come_by};
 
+use crate::skipping::{Begun, SkippingSource};
 use age_file::{BUFFER_SIZE, Fault, FileAt, Limits, MOST_CHUNKS, ReadAt, ReadSource, Source};
 use age_job::Job;
 use std::alloc::Global;
@@ -46,6 +48,27 @@ pub(crate) fn file_source<R: Read + Drop>(
     ensures err { IfErr result (λ fault. fault ≡ Fault.OutOfMemory) }
 {
     buffered_source(alloc, HEADER_BUFFER_LEN, input)
+}
+
+/// Makes a source over this reader, for a damaged file. If `skips`, it goes on behind what cannot
+/// be read.
+pub(crate) fn skipping_source<R: Read + Seek + Drop, K: Begun>(
+    alloc: Global,
+    input: R,
+    skips: bool,
+) -> Result<SkippingSource<BufReader<R>, K>, Fault>
+    requires { K.start ≡ R.remaining input }
+    ensures to_come { IfOk result
+        (λ source. ⟦<SkippingSource<BufReader<R>, K> as Source>⟧.to_come source
+        ≡ come_by skips (R.remaining input)) }
+    ensures gave { IfOk result
+        (λ source. ⟦<SkippingSource<BufReader<R>, K> as Source>⟧.gave source []) }
+    ensures err { IfErr result (λ fault. fault ≡ Fault.OutOfMemory) }
+{
+    match BufReader::with_capacity(alloc, HEADER_BUFFER_LEN, input) {
+        Ok(buffered) => Ok(SkippingSource::new(buffered, skips)),
+        Err(_) => Err(Fault::OutOfMemory),
+    }
 }
 
 fn buffered_source<R: Read + Drop>(

@@ -31,6 +31,8 @@ pub enum Hint {
     EndsInHeader(u64),
     Armor,
     ByteOrderMark,
+    /// The lines end in CR LF.
+    CrLf,
     NoVersionLine,
     /// The maximum size of a header in bytes.
     HeaderLimit(usize),
@@ -40,6 +42,12 @@ pub enum Hint {
     Stanzas(Header),
     /// The work factor of this header is too high.
     WorkFactor(Header),
+    /// There is too little memory for scrypt with this work factor, that of the header read.
+    OldScrypt(u64),
+    /// The same for the new header.
+    NewScrypt(u64),
+    /// The file ended earlier than its size said.
+    Shrunk,
     /// This line of the header is malformed.
     HeaderLine(u64),
     /// A stanza is malformed.
@@ -81,6 +89,7 @@ pub fn hint_at<R>(alloc: Global, job: &Job, fault: Fault, input: &Watched<R>) ->
         Fault::BadMac if job.command == Command::Inspect => Hint::OtherFileKey,
         Fault::BadMac => Hint::ChangedHeader,
         Fault::NonceTruncated => Hint::EndsInNonce,
+        Fault::Read => Hint::Shrunk,
         Fault::BadChunk(index) | Fault::ChunkShort(index) => chunk(alloc, job, index, input),
         _ => Hint::None,
     }
@@ -94,7 +103,36 @@ fn first_bytes<'a>(prefix: &[u8]) -> Hint {
     if prefix.starts_with(b"\xef\xbb\xbf") {
         return Hint::ByteOrderMark;
     }
+    if prefix.starts_with(b"age-encryption.org/v1\r\n") {
+        return Hint::CrLf;
+    }
     Hint::NoVersionLine
+}
+
+/// Returns what scrypt needed where memory was out: the greater of the work factors of the header
+/// read and the new one. Returns `Hint::None` if the job has no passphrase.
+pub fn scrypt_hint<R>(alloc: Global, job: &Job, input: &Watched<R>) -> Hint
+    requires { IsInRange job.now }
+{
+    let old = match job.command {
+        Command::Encrypt => None,
+        _ if job.pass.is_none() => None,
+        _ => match header_of(alloc, job, input) {
+            Some(header) => work_of(header.stanzas()),
+            None => None,
+        },
+    };
+    let new = match job.command {
+        Command::Encrypt if job.pass.is_some() => Some(job.work as u64),
+        Command::Rewrap if job.new_pass.is_some() => Some(job.work as u64),
+        _ => None,
+    };
+    match (old, new) {
+        (Some(old), Some(new)) if old < new => Hint::NewScrypt(new),
+        (Some(old), _) => Hint::OldScrypt(old),
+        (None, Some(new)) => Hint::NewScrypt(new),
+        (None, None) => Hint::None,
+    }
 }
 
 /// Returns the header of the file read.
@@ -135,8 +173,9 @@ impl Hint {
     fn words(&self) -> &'static str {
         match self {
             Hint::Empty => "the file is empty",
-            Hint::Armor => "ASCII armor stands at its start; age decrypts such a file",
-            Hint::ByteOrderMark => "a byte-order mark stands at its start",
+            Hint::Armor => "it begins with ASCII armor; age decrypts such a file",
+            Hint::ByteOrderMark => "it begins with a byte-order mark",
+            Hint::CrLf => "its line ends are CR LF: it was changed by a text tool",
             Hint::NoVersionLine => "the first line of an age file is age-encryption.org/v1",
             Hint::WrongKey => "not opened by",
             Hint::Stanza => {
@@ -147,6 +186,7 @@ impl Hint {
                 "the file key is not the one of this file, or the header was changed"
             }
             Hint::EndsInNonce => "the file ends within the 16 bytes that follow its header",
+            Hint::Shrunk => "the file became shorter while it was read",
             _ => "",
         }
     }
@@ -165,9 +205,23 @@ impl fmt::Display for Hint {
             ),
             Hint::Stanzas(header) => write_stanzas(header.stanzas(), f),
             Hint::WorkFactor(header) => write_work(header.stanzas(), f),
+            Hint::OldScrypt(work) => {
+                let table = Table(*work);
+                write!(
+                    f,
+                    "its work factor is {work}, which takes {table}; a lower -m refuses it"
+                )
+            }
+            Hint::NewScrypt(work) => {
+                let table = Table(*work);
+                write!(
+                    f,
+                    "its work factor is {work}, which takes {table}; a lower -w takes less"
+                )
+            }
             Hint::HeaderLine(line) => write!(
                 f,
-                "the file is damaged, or was changed as a text: line {line} is not valid"
+                "the file is damaged, or was changed by a text tool: line {line} is not valid"
             ),
             Hint::Chunk(index) => {
                 let first = first_byte(*index);
@@ -183,7 +237,7 @@ impl fmt::Display for Hint {
                     f,
                     "chunk {index}, from byte {first} of the plaintext on, is the last: "
                 )?;
-                f.write_str("the file may be cut short, or have bytes behind its end")
+                f.write_str("the file may be cut short, or have bytes after its end")
             }
             Hint::EndsInChunk(index, len) => {
                 let len = Bytes(*len);
@@ -257,20 +311,30 @@ fn has_type(stanzas: &[Stanza], name: &str) -> bool {
     stanzas.iter().any(|stanza| type_of(stanza) == name)
 }
 
+/// The digits of the work factor of the first of these stanzas.
+fn work_factor(stanzas: &[Stanza]) -> Option<&str> {
+    let digits = stanzas.first()?.args().get(2)?;
+    Some(digits.as_str())
+}
+
+/// The work factor of the first of these stanzas.
+fn work_of(stanzas: &[Stanza]) -> Option<u64> {
+    work_factor(stanzas)?.parse::<u64>().ok()
+}
+
 /// Writes the work factor of the first of these stanzas, which is too high, and the option that
 /// accepts it.
 fn write_work<W: fmt::Write>(stanzas: &[Stanza], f: &mut fmt::Formatter<W>) -> fmt::Result {
-    let Some(digits) = stanzas.first().and_then(|stanza| stanza.args().get(2)) else {
+    let Some(digits) = work_factor(stanzas) else {
         return f.write_str("its work factor is too high");
     };
-    match digits.as_str().parse::<u64>() {
+    match digits.parse::<u64>() {
         Ok(work) if work <= MOST_WORK => {
+            let table = Table(work);
             write!(
                 f,
-                "its work factor is {work}; -m {work} accepts it and takes "
-            )?;
-            let (size, unit) = memory_of(work);
-            write!(f, "{size} {unit} of memory")
+                "its work factor is {work}; -m {work} accepts it and takes {table}"
+            )
         }
         Ok(work) => {
             write!(
@@ -303,6 +367,17 @@ impl fmt::Display for Unit {
             Unit::MiB => "MiB",
             Unit::GiB => "GiB",
         })
+    }
+}
+
+/// The table of scrypt for this work factor.
+#[derive(Clone, Copy)]
+struct Table(u64);
+
+impl fmt::Display for Table {
+    fn fmt<W: fmt::Write>(&self, f: &mut fmt::Formatter<W>) -> fmt::Result {
+        let (size, unit) = memory_of(self.0);
+        write!(f, "{size} {unit} of memory")
     }
 }
 

@@ -8,8 +8,9 @@
 //!
 //! A command with its secrets is a `task`, and each command has a module of its own. `seed` has the
 //! random bytes of a new file, `recipient` and `identity` say what a secret means to a command, and
-//! `buffering` has a job's limits and the sources over its input. `watched_sink` is a sink over
-//! any writer, and `hint` has what the input tells of a fault.
+//! `buffering` has a job's limits and the sources over its input. `skipping` is the source of
+//! `salvage`, and `watched_sink` a sink over any writer. `hint` has what the input tells of a
+//! fault.
 //!
 //! Nothing here opens a file or prints: the crate `age_cli` does both.
 //!
@@ -29,12 +30,14 @@ mod recipient;
 mod rewrap;
 mod salvage;
 mod seed;
+mod skipping;
 mod task;
 mod watched_sink;
 
 pub use buffering::limits_of;
-pub use hint::{Hint, header_of, hint_at};
+pub use hint::{Hint, header_of, hint_at, scrypt_hint};
 pub use salvage::Report;
 pub use seed::{Seed, seed_of};
+pub use skipping::Unread;
 pub use task::{Task, perform_between};
 pub use watched_sink::{Borrowed, WatchedSink};

@@ -3,53 +3,89 @@ ghost use Rattle.std.specs.Prelude.{◌≡◌, IfOk, OnOk};
 ghost use Rattle.age_file.specs.Device.{IsQuiet, is_read, is_write};
 ghost use Rattle.age_file.specs.Salvage.{SalvagesFile};
 ghost use Rattle.age_job.specs.Job.{IsInRange};
-ghost use Rattle.age_commands.specs.Task.{SalvagesAll};
+ghost use Rattle.age_commands.specs.Task.{SalvagesAll, if_whole};
 ghost use Rattle.age_commands.specs.Secret.{answers_of, limits_of};
 ghost use Rattle.age_header.specs.Device.{CountsIf, flow_by, move_by};
 ghost use Rattle.age_stream.specs.Salvage.{losses_by};
 
-use crate::buffering::limits_of;
+use crate::buffering::{limits_of, skipping_source};
 use crate::identity::SecretIdentity;
-use age_file::{Fault, Identity, Losses, Salvaged, Sink, Source};
+use crate::skipping::{Begun, SkippingSource, Unread};
+use age_file::{Fault, Identity, Losses, SalvagedFile, Sink, Source};
 use age_job::{Job, Secret};
 use std::alloc::Global;
+use std::io::{BufReader, Read, Seek};
 
 /// A receiver of the reports of `salvage`.
 pub trait Report: Losses {
     /// Receives what was saved of a file that is not whole, after its lost chunks.
-    fn damaged(&mut self, saved: &Salvaged)
+    fn damaged(&mut self, saved: &SalvagedFile)
+        // The lost chunks reported so far are unchanged.
+        ensures { Self.lost self.new ≡ Self.lost self.old };
+
+    /// Receives which bytes of IN could not be read, if there are any. Zeros stood in their place.
+    fn unread(&mut self, unread: &Unread)
         // The lost chunks reported so far are unchanged.
         ensures { Self.lost self.new ≡ Self.lost self.old };
 }
 
-/// Saves what is left of the source to the sink with the identity of this secret. Reports each lost
-/// chunk. If the result is not whole, reports it too; the fault is then `BadChunk` with the number
-/// of pieces.
-pub(crate) fn salvage_all<S: Source, W: Sink, L: Report>(
+/// Saves what is left of the reader to the sink with the identity of this secret. Of a named IN it
+/// goes on behind what cannot be read. Reports each lost chunk. If the result is not whole, or not
+/// all was read, reports that too; the fault is then `BadChunk` with the number of pieces.
+pub(crate) fn salvage_all<R: Read + Seek, W: Sink, L: Report, K: Begun>(
     alloc: Global,
     job: &Job,
     secret: Secret,
-    input: &mut S,
+    input: &mut R,
     out: &mut W,
     report: &mut L,
 ) -> Result<(), Fault>
-    requires { IsInRange job.now }
+    requires range { IsInRange job.now }
+    requires start { K.start ≡ R.remaining input.old }
     ensures salvages { SalvagesAll (limits_of job.now) (answers_of secret job.now.max_work)
-        (flow_by S.to_come S.gave input.old input.new) (move_by W.taken out.old out.new)
+        job.now.input (R.remaining input.old) (move_by W.taken out.old out.new)
         (losses_by L.lost report.old report.new) result }
-    // If everything is saved, nothing was reported.
+    // If everything is read and saved, nothing was reported.
     ensures silent { OnOk result (report.new ≡ report.old) }
     ensures quiet { IsQuiet out.old out.new result }
     ensures writes { CountsIf is_write (W.failed out.old) (W.failed out.new) result }
 {
-    match salvage(alloc, job, secret, input, out, report) {
-        Ok(saved) if saved.is_whole() => Ok(()),
+    let mut source: SkippingSource<BufReader<&mut R>, K> = match skipping_source(
+        alloc,
+        input,
+        job.input.is_some(),
+    ) {
+        Ok(source) => source,
+        Err(fault) => return Err(fault),
+    };
+    let done = salvage(alloc, job, secret, &mut source, out, report);
+    judged(report, done, source.is_read(), source.unread())
+}
+
+/// The result of the command. Reports what was saved, if that is not the whole file, and which
+/// bytes could not be read.
+fn judged<L: Report>(
+    report: &mut L,
+    done: Result<SalvagedFile, Fault>,
+    is_read: bool,
+    unread: Option<Unread>,
+) -> Result<(), Fault>
+    ensures result { result ≡ if_whole is_read done }
+    ensures lost { L.lost report.new ≡ L.lost report.old }
+    ensures silent { OnOk result (report.new ≡ report.old) }
+{
+    let result = match done {
+        Ok(saved) if saved.is_whole() && is_read => return Ok(()),
         Ok(saved) => {
             report.damaged(&saved);
-            Err(Fault::BadChunk(saved.chunks))
+            Err(Fault::BadChunk(saved.payload.chunks))
         }
         Err(fault) => Err(fault),
+    };
+    if let Some(unread) = unread {
+        report.unread(&unread);
     }
+    result
 }
 
 /// Saves what is left of the source to the sink with the identity of this secret, as
@@ -61,7 +97,7 @@ fn salvage<S: Source, W: Sink, L: Losses>(
     input: &mut S,
     out: &mut W,
     losses: &mut L,
-) -> Result<Salvaged, Fault>
+) -> Result<SalvagedFile, Fault>
     requires { IsInRange job.now }
     // Returns, writes and reports what the library does for the identity and the limits of the job
     // and its secret.
@@ -69,7 +105,7 @@ fn salvage<S: Source, W: Sink, L: Losses>(
         (flow_by S.to_come S.gave input.old input.new) (move_by W.taken out.old out.new)
         (losses_by L.lost losses.old losses.new) result }
     // If no chunk is lost, none was reported.
-    ensures silent { IfOk result (λ s. s.lost ≡ 0 → losses.new ≡ losses.old) }
+    ensures silent { IfOk result (λ s. s.payload.lost ≡ 0 → losses.new ≡ losses.old) }
     // On a fault other than a chunk's, `TooManyChunks`, `Read` and `Write` the sink is unchanged.
     ensures quiet { IsQuiet out.old out.new result }
     ensures reads { CountsIf is_read (S.failed input.old) (S.failed input.new) result }

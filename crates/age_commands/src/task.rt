@@ -18,6 +18,7 @@ use age_file::{Done, Fault, ReadSource, Sink};
 use age_job::{Job, Secret};
 use std::alloc::Global;
 use std::io::{Read, Seek};
+use std::marker::Brand;
 
 /// A command with all that it needs besides its job and its input.
 #[derive(Drop)]
@@ -85,10 +86,7 @@ pub fn perform_between<R: Read + Seek, W: Sink, L: Report>(
             range_of(alloc, job, secret, &mut source, out)
         }
         Task::Salvage(secret) => {
-            let Ok(mut source) = file_source(alloc, input) else {
-                return Err(Fault::OutOfMemory);
-            };
-            salvage_all(alloc, job, secret, &mut source, out, report)
+            salvage_all::<R, W, L, Brand>(alloc, job, secret, input, out, report)
         }
     }
 }

@@ -1,5 +1,7 @@
 //! The sink of a command's output.
-ghost use Rattle.std.specs.Prelude.{◌≡◌, ◌≢◌, ◌+◌, ◌-◌, ◌^◌, min, Err};
+ghost use Rattle.std.specs.Prelude.{◌≡◌, ◌⊎◌, ◌+◌, ◌-◌, ◌^◌, min, Err};
+ghost use Rattle.age_header.specs.Device.{CountsIf};
+ghost use Rattle.age_file.specs.Device.{is_write};
 ghost use Rattle.age_commands.specs.Output.{Ends};
 
 use age_file::{DeviceFault, Fault, Sink};
@@ -50,10 +52,12 @@ impl<'a, W: Write, K: Borrowed> WatchedSink<'a, W, K> {
     pub fn finish(&mut self, work: Result<(), Fault>) -> Result<(), Fault>
         ensures ends { Ends (W.contents self.old.writer.now) (W.contents self.new.writer.now) work
             result }
-        // A failed flush is counted as a failed write, and returned as one.
-        ensures counted { self.new.failures ≢ self.old.failures → result ≡ Err Fault.Write }
+        // A failed flush is counted as a failed write. If the work did not end with a failed
+        // write, `Write` is returned only for such a flush.
+        ensures counted { (work ≡ Err Fault.Write)
+            ⊎ CountsIf is_write self.old.failures self.new.failures result }
     {
-        if work == Err(Fault::Write) {
+        if let Err(Fault::Write) = work {
             return work;
         }
         match self.writer.flush() {

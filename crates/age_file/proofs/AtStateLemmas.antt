@@ -31,11 +31,11 @@ gives_on {E} told size at at2 n buf r is offsets within le next h =
           λ e some. let past : length bytes ≤ at = (g.1 e some).0 in drop_all at2 bytes (omega arith),
         )
 
--- no byte was given yet
+-- no byte was returned yet
 pub first_none : (gave : ℕ → ℕ → Type 0) → GaveFirst gave 0 []
 first_none gave = (refl, λ k lt. absurd (omega (arith, lt)))
 
--- what was given stays so
+-- bytes that were returned stay returned
 pub first_stays : (old new : ℕ → ℕ → Type 0) (at : ℕ) (bytes : Bytes) → StaysGiven old new
     → GaveFirst old at bytes → GaveFirst new at bytes
 first_stays old new at bytes stays first = (
@@ -74,7 +74,7 @@ first_then old new at at2 past more stays first gave next =
           ],
     )
 
--- a read at the current offset adds its bytes to those that were given
+-- a read at the current offset adds its bytes to those returned before
 pub grows_on : {D E : Type 0} (told : D → Known) (gave : D → ℕ → ℕ → Type 0) (old : AtState D) {new : AtState D} {n : ℕ}
     (buf : Bytes) {r : Result ℕ E} → r ≡ Ok n → n ≤ length buf → new.at ≡ min (old.at + n) (2 ^ 64 - 1)
     → StaysGiven (gave old.dev) (gave new.dev) → IfOk r (λ n. GaveAt (gave new.dev) old.at (take n buf))

@@ -1,12 +1,13 @@
 -- A source that is copied piece by piece.
-use Rattle.std.proofs.Common.{◌≡◌, ℕ, ◌+◌, ◌*◌, ◌^◌, ◌≤◌, Bool, true, false, [], ◌++◌, length, refl, sym, subst, arith, append-nil, append_assoc, Result, Ok, Err, length-append, true≢false}
+use Rattle.std.proofs.Common.{◌≡◌, inl, inr, take, ℕ, ◌+◌, ◌*◌, ◌^◌, ◌≤◌, Bool, true, false, [], ◌++◌, length, refl, sym, subst, arith, append-nil, append_assoc, Result, Ok, Err, length-append, true≢false}
 use Rattle.std.proofs.KnownBytes.{Appends-nil, Appends-trans}
 use Rattle.std.specs.Io.KnownBytes.{Appends}
+use Rattle.std.specs.Prelude.{IfErr}
 use Rattle.age_header.specs.Device.{Bytes, Gave, GaveSome, WritesPart, Known, Seen, flow, move_of}
 use Rattle.age_header.proofs.DeviceLemmas.{gave_none, gave_then, of_any, of_ended, of_more, of_then, done_part}
 use Rattle.age_file.specs.declared.fault.Fault.{Fault}
 use Rattle.age_file.specs.declared.fault.Fault.TheVariants.{TooManyChunks, Read, Write}
-use Rattle.age_file.specs.Copying.{Copies, CopiesPiece, buffer_size}
+use Rattle.age_file.specs.Copying.{Copies, CopiesAhead, CopiesPiece, GaveAhead, buffer_size}
 
 -- k full pieces were copied
 pub record Copied (from now : Seen) (old new : Known) (k : ℕ) : Type 0 where
@@ -60,7 +61,7 @@ pub copied_failed : (size : ℕ) {from a : Seen} (b : Seen) {old m : Known} (n :
     → Copies (flow from b) (move_of old n) (Err fault)
 copied_failed size {from} {a} b {old} {m} n {k} Read c h =
     subst (λ t. Copies (flow from b) (move_of old t) (Err Read)) (sym h.1) (read_failed from a b old m k c h.0)
-copied_failed size {from} {a} b {old} {m} n {k} Write c (piece, took, part) =
+copied_failed size {from} {a} b {old} {m} n {k} Write c (piece, took, part, few) =
     write_failed from a b old m n k piece c took part
 copied_failed size b n fault c h = absurd h
 
@@ -93,3 +94,39 @@ copied_after size from a b old m n true (Err TooManyChunks) is (piece, took, put
       (λ rest part. (after_piece old m n piece rest put part.0, omega (arith, length-append piece rest, part.1))),
 )
 copied_after size from a b old m n true (Err fault) is c h = absurd h
+
+-- ---- how much was read
+
+-- x was read and y written before
+pub ahead_then : {a b c : Seen} {old put new : Known} {x : Bytes} (y : Bytes) (m s : ℕ)
+    → Gave (flow a b) x → Appends old put y
+    → length x + m ≤ length y + s → GaveAhead m (flow b c) (move_of put new) → GaveAhead s (flow a c) (move_of old new)
+ahead_then {a} {b} {c} {old} {put} {new} {x} y m s gave took few h = record {
+  given = x ++ h.given;
+  gave = gave_then gave h.gave;
+  written = y ++ h.written;
+  took = Appends-trans old put new y h.written took h.took;
+  within = omega (arith, length-append x h.given, length-append y h.written, few, h.within);
+}
+
+pub failed_ahead : (size : ℕ) {from a : Seen} (b : Seen) {old m : Known} (n : Known) {k : ℕ} (fault : Fault)
+    → size ≤ buffer_size → Copied from a old m k → CopiesPiece size (flow a b) (move_of m n) (Err fault)
+    → CopiesAhead (flow from b) (move_of old n) fault
+failed_ahead size b n Read full c h = inl refl
+failed_ahead size {from} {a} b {old} {m} n {k} Write full c (piece, took, (i, put), few) =
+    inr (ahead_then c.bytes buffer_size buffer_size c.took c.put (omega arith)
+    (record { given = piece; gave = took; written = take i piece; took = put; within = omega (arith, few, full) }))
+failed_ahead size b n fault full c h = absurd h
+
+pub beyond_ahead : {from a : Seen} {old m : Known} {k : ℕ} → Copied from a old m k
+    → CopiesAhead (flow from a) (move_of old m) TooManyChunks
+beyond_ahead c = inr (record { given = c.bytes; gave = c.took; written = c.bytes; took = c.put; within = omega arith })
+
+pub after_ahead : (size : ℕ) (from a b : Seen) (old m n : Known) (more : Bool) (r : Result (Unit {0}) Fault)
+    → more ≡ true → CopiesPiece size (flow from a) (move_of old m) (Ok more)
+    → IfErr r (CopiesAhead (flow a b) (move_of m n)) → IfErr r (CopiesAhead (flow from b) (move_of old n))
+after_ahead size from a b old m n false r is c h = absurd (true≢false (sym is))
+after_ahead size from a b old m n true (Ok done) is c h = tt
+after_ahead size from a b old m n true (Err fault) is (piece, took, put, full) (inl e) = inl e
+after_ahead size from a b old m n true (Err fault) is (piece, took, put, full) (inr h) =
+    inr (ahead_then piece buffer_size buffer_size took put (omega arith) h)

@@ -163,7 +163,7 @@ locked_decrypts limits answers {come} {mid} old {h} {fault} i (inr key) =
 
 -- ---- the payload
 
--- what a payload comes to under its key, with a file's names of its faults
+-- the outcome of a payload under its key, with the names of faults of files
 abbrev pub file_result : Result Done StreamFault → Result Done Fault
 file_result (Ok done) = Ok done
 file_result (Err fault) = Err (stream_fault fault)

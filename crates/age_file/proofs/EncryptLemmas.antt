@@ -4,10 +4,10 @@ use Rattle.std.proofs.lemmas.List.{append-nil, length-append}
 use Rattle.std.specs.List.{concat}
 use Rattle.std.specs.Io.KnownBytes.{Appends}
 use Rattle.std.proofs.KnownBytes.{Appends-nil, Appends-trans}
-use Rattle.age_header.specs.Device.{Bytes, Flow, GaveAtMost, GaveSome, OfGiven, WritesPart, Known, Seen, flow, move_of}
+use Rattle.age_header.specs.Device.{Bytes, Flow, GaveAtMost, GaveSome, Moved, OfGiven, WritesPart, Known, Seen, flow, move_of}
 use Rattle.age_header.specs.Header.{StanzaParts, Head}
 use Rattle.age_header.specs.Mac.{header_mac}
-use Rattle.age_header.proofs.DeviceLemmas.{of_any, of_map, of_then, done_part}
+use Rattle.age_header.proofs.DeviceLemmas.{gave_none, of_any, of_map, of_then, done_part}
 use Rattle.age_header.proofs.HeaderLemmas.{one_text}
 use Rattle.age_header.specs.declared.file_key.FileKey.{FileKey}
 use Rattle.age_stream.specs.declared.done.Done.{Done}
@@ -203,7 +203,7 @@ encrypts_payload (Err fault) {limits} fresh {gathered} {text} {from} {to} a b c 
         of_map h (λ plain q. up_to_limit limits fresh gathered text plain a b c m front q.0 q.1)
     go f h = absurd h.holds
 
--- a read failed after something was written: the source gave a whole chunk
+-- a read failed after something was written: the source returned a whole chunk
 pub read_late : {key : Bytes} {max : ℕ} {t : SealerState} {more : Bool} {from mid to : Seen} (a c : Known)
     (fault : StreamFault)
     → Fills (at_start key max) t (flow from mid) (Ok more) → SealsRest t more (flow mid to) (move_of a c) (Err fault)
@@ -218,6 +218,20 @@ read_late {more = false} a c fault fills ((write, part), same) read =
     not_read e = cc
 
 -- ---- what was taken
+
+-- nothing, if no header was made
+pub takes_none : (limits : Bounds) (fresh : Fresh) (gathered : Gathering) (from : Seen) (sink : Moved) (fault : Fault)
+    → FailsHeading limits fresh.file_key gathered fault
+    → TookWhileEncrypting limits fresh gathered (flow from from) sink fault
+takes_none limits fresh gathered from sink fault (inl memory) = rw memory (gave_none)
+takes_none limits fresh gathered from sink fault (inr refusal) = go fault refusal
+  where
+    go : (f : Fault) → IsRefusal limits fresh.file_key gathered f
+        → TookWhileEncrypting limits fresh gathered (flow from from) sink f
+    go TooManyChunks h = absurd h
+    go Read h = absurd h
+    go Write h = absurd h
+    go f h = gave_none
 
 pub takes_begun : {limits : Bounds} {fresh : Fresh} {gathered : Gathering} {text key : Bytes} {max : ℕ}
     {t : SealerState} {more : Bool} {from mid : Seen} {old new : Known} → Made limits fresh.file_key gathered text
@@ -273,4 +287,5 @@ takes_payload limits fresh gathered text from to a b c stream.TooManyChunks sixt
   | inl e ↦ absurd (cc)
   | inr gave ↦ took limits fresh gathered text from to a b c chunk stream.TooManyChunks sixteen m front s gave
 ]
-takes_payload limits fresh gathered text from to a b c fault sixteen m front s = tt
+takes_payload limits fresh gathered text from to a b c stream.Read sixteen m front s = tt
+takes_payload limits fresh gathered text from to a b c fault sixteen m front (chunk, s) = absurd s.stops.holds

@@ -1,6 +1,7 @@
--- The verdict is a plaintext on age files alone.
+-- The verdict is a plaintext only on age files.
 use Rattle.std.proofs.Common.{◌≡◌, ◌↔◌, ◌⊎◌, inl, inr, ℕ, List, [], ◌∷◌, ◌++◌, length, drop, cond, true, false, Bool, sym, ◌∙◌, ap, refl, subst, Option, Some, None, Result, Ok, Err}
 use Rattle.std.specs.Prelude.{option_map}
+use Rattle.std.specs.Result.{result_map_both}
 use Rattle.std.specs.Str.{bytes_eq}
 use Rattle.std.proofs.lemmas.List.{drop_at}
 use Rattle.std.proofs.lemmas.Option.{none-some}
@@ -24,7 +25,7 @@ use Rattle.age_stream.proofs.PayloadLemmas.{ok_payload, payload_ok}
 use Rattle.age_file.specs.declared.fault.Fault.{Fault}
 use Rattle.age_file.specs.declared.fault.Fault.TheVariants.{MixedPassphrase, BadMac, OutOfMemory}
 use Rattle.age_file.specs.AgeFile.{Bounds, AgeFile, is_mixed}
-use Rattle.age_file.specs.Verdict.{Answering, IsVerdict, checked_key, header_fault, reading_after, parts_of, reading_under, stream_fault, header_key, with_file_fault}
+use Rattle.age_file.specs.Verdict.{Answering, IsVerdict, found_key, header_fault, if_right, unlock_fault, reading_after, parts_of, reading_under, stream_fault, header_key, with_file_fault}
 
 -- what is read whole does not stop
 pub never_stops : (p : Bytes) (f : Fault) → whole p ≡ stop f → ⊥
@@ -48,11 +49,6 @@ pub record IsChosenFile (limits : Bounds) (answers : Answering) (p b : Bytes) : 
   pub file : AgeFile limits key stanzas p b
   pub chosen : choice (answers stanzas) ≡ Ok key
 
-cond_err : {A F : Type 0} (t : Bool) (f : F) (r : Result A F) (x : A) → cond t (Err f) r ≡ Ok x
-    → (t ≡ false) × (r ≡ Ok x)
-cond_err true f r x h = absurd (cc)
-cond_err false f r x h = (refl, h)
-
 cond_else_err : {A F : Type 0} (t : Bool) (f : F) (a x : A) → ◌≡◌ {A = Result A F} (cond t (Ok a) (Err f)) (Ok x)
     → (t ≡ true) × (a ≡ x)
 cond_else_err true f a x h = (refl, (cc))
@@ -64,19 +60,28 @@ pub record HasKey (answers : Answering) (h : HeaderParts) (k : FileKey) : Type 0
   pub chosen : choice (answers h.stanzas) ≡ Ok k
   pub mac : h.mac ≡ header_mac k.0 h.stanzas
 
-ok_checked : (h : HeaderParts) (c : Result FileKey UnlockFault) (k : FileKey) → checked_key h c ≡ Ok k
+-- the key chosen, and whether the header's MAC is the one under it
+abbrev pub tested_key : (h : HeaderParts) (chosen : Result FileKey UnlockFault) → Result (FileKey × Bool) Fault
+tested_key h chosen = result_map_both (λ k. (k, bytes_eq h.mac (header_mac k.0 h.stanzas))) unlock_fault chosen
+
+ok_tested : (h : HeaderParts) (c : Result FileKey UnlockFault) (k : FileKey) → if_right (tested_key h c) ≡ Ok k
     → (c ≡ Ok k) × (h.mac ≡ header_mac k.0 h.stanzas)
-ok_checked h (Err f) k is = absurd (cc)
-ok_checked h (Ok j) k is =
+ok_tested h (Err f) k is = absurd (cc)
+ok_tested h (Ok j) k is =
     let both = cond_else_err (bytes_eq h.mac (header_mac j.0 h.stanzas)) BadMac j k is in
     let mac = header_mac j.0 h.stanzas in
     (ap Ok both.1, (bytes_eq-Decides h.mac mac).0 both.0 ∙ ap (λ (x : FileKey). header_mac x.0 h.stanzas) both.1)
 
 unlocked_key : (answers : Answering) (h : HeaderParts) (k : FileKey) → header_key answers h ≡ Ok k → HasKey answers h k
-unlocked_key answers h k is =
-    let alone = cond_err (is_mixed h.stanzas) MixedPassphrase (checked_key h (choice (answers h.stanzas))) k is in
-    let good = ok_checked h (choice (answers h.stanzas)) k alone.1 in
-    record { unmixed = alone.0; chosen = good.0; mac = good.1 }
+unlocked_key answers h k is = go (is_mixed h.stanzas) refl is
+  where
+    go : (mixed : Bool) → is_mixed h.stanzas ≡ mixed
+        → if_right (cond mixed (Err MixedPassphrase) (tested_key h (choice (answers h.stanzas)))) ≡ Ok k
+        → HasKey answers h k
+    go true alone is = absurd (cc)
+    go false alone is =
+        let good = ok_tested h (choice (answers h.stanzas)) k is in
+        record { unmixed = alone; chosen = good.0; mac = good.1 }
 
 pub key_unlocked : (answers : Answering) (h : HeaderParts) (k : FileKey) → HasKey answers h k
     → header_key answers h ≡ Ok k
@@ -84,13 +89,13 @@ key_unlocked answers h k has =
     rw (has.unmixed, has.chosen, (bytes_eq-Decides h.mac (header_mac k.0 h.stanzas)).1 has.mac) refl
 
 -- the outcome of a header whose key was chosen and whose MAC was compared, unless an allocation was refused
-pub checked_unlocked : (answers : Answering) (h : HeaderParts) (chosen : Result FileKey UnlockFault)
-    (r : Result FileKey Fault) → is_mixed h.stanzas ≡ false
-    → (chosen ≡ Err Memory) ⊎ (chosen ≡ choice (answers h.stanzas)) → (r ≡ Err OutOfMemory) ⊎ (r ≡ checked_key h chosen)
-    → (r ≡ Err OutOfMemory) ⊎ (r ≡ header_key answers h)
-checked_unlocked answers h chosen r alone c (inl memory) = inl memory
-checked_unlocked answers h chosen r alone (inl memory) (inr is) = inl (is ∙ ap (checked_key h) memory)
-checked_unlocked answers h chosen r alone (inr chose) (inr is) =
+pub tested_found : (answers : Answering) (h : HeaderParts) (chosen : Result FileKey UnlockFault)
+    (r : Result (FileKey × Bool) Fault) → is_mixed h.stanzas ≡ false
+    → (chosen ≡ Err Memory) ⊎ (chosen ≡ choice (answers h.stanzas)) → (r ≡ Err OutOfMemory) ⊎ (r ≡ tested_key h chosen)
+    → (r ≡ Err OutOfMemory) ⊎ (r ≡ found_key answers h)
+tested_found answers h chosen r alone c (inl memory) = inl memory
+tested_found answers h chosen r alone (inl memory) (inr is) = inl (is ∙ ap (tested_key h) memory)
+tested_found answers h chosen r alone (inr chose) (inr is) =
     inr (is ∙ rw (alone, chose) refl)
 
 -- what follows the header that begins a text

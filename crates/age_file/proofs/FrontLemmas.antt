@@ -1,7 +1,9 @@
 -- How much is read of a file of which no key is found.
-use Rattle.std.proofs.Common.{◌≡◌, ◌⊎◌, inl, inr, refl, Result, Err, Ok}
+use Rattle.std.proofs.Common.{◌≡◌, ◌⊎◌, ◌+◌, [], arith, inl, inr, refl, Result, Err, Ok}
+use Rattle.std.proofs.KnownBytes.{Appends-nil}
+use Rattle.std.specs.Io.KnownBytes.{Appends}
 use Rattle.std.specs.Prelude.{ℕ, ⊤, IfErr}
-use Rattle.age_header.specs.Device.{Bytes, Flow, GaveAtMost, Known, Moved, flow_by}
+use Rattle.age_header.specs.Device.{Bytes, Flow, GaveAtMost, Known, Moved, Seen, Took, flow, flow_by, move_of}
 use Rattle.age_header.specs.declared.fault.HeaderFault.{HeaderFault}
 use Rattle.age_header.specs.declared.fault.HeaderFault.TheVariants as header
 use Rattle.age_header.specs.Header.{HeaderParts}
@@ -13,10 +15,13 @@ use Rattle.age_stream.specs.Opening.{EndsAt}
 use Rattle.age_stream.specs.Reader.{StartsReader}
 use Rattle.age_file.specs.AgeFile.{Bounds}
 use Rattle.age_file.specs.declared.fault.Fault.{Fault}
-use Rattle.age_file.specs.declared.fault.Fault.TheVariants.{NonceTruncated, OutOfMemory}
+use Rattle.age_file.specs.declared.fault.Fault.TheVariants.{NonceTruncated, OutOfMemory, Read, TooManyChunks, Write}
+use Rattle.age_file.specs.Copying.{Copies, CopiesAhead, GaveAhead, buffer_size}
 use Rattle.age_file.specs.Device.{IsLate}
 use Rattle.age_file.specs.Inspect.{Inspects, ReadsFront}
+use Rattle.age_file.specs.Rewrap.{TookWhileRewrapping}
 use Rattle.age_file.specs.Verdict.{header_fault, stream_fault}
+use Rattle.age_file.proofs.CopiesLemmas.{ahead_then}
 use Rattle.age_header.proofs.VerdictUniqueLemmas.{begins_found}
 
 pub front_of : (limits : Bounds) (source : Flow) (e : HeaderFault) → ReadAtMost limits.max_header source e
@@ -43,11 +48,57 @@ front_gave limits source h (Ok header, is, reads) =
     (held.0, held.2, found.fits)
 front_gave limits source h (Err e, is, reads) = absurd (cc)
 
--- whatever fault comes after a header
-pub late_or_front : (limits : Bounds) (source : Flow) (h : HeaderParts) (r : Result ⊤ Fault)
-    → Inspects limits source (Ok h) → IfErr r (λ fault. IsLate fault ⊎ GaveAtMost limits.max_header source)
-late_or_front limits source h (Ok done) is = tt
-late_or_front limits source h (Err fault) is = inr (front_gave limits source h is)
+-- ---- of a file that is rewrapped
+
+-- what was written when no more than a header was read
+pub front_ahead : {n : ℕ} (m : ℕ) {source : Flow} {sink : Moved} (written : Bytes) → GaveAtMost n source
+    → Took sink written → GaveAhead (n + m) source sink
+front_ahead m written (given, gave, few) took =
+    record { given = given; gave = gave; written = written; took = took; within = omega (arith, few) }
+
+-- whatever fault comes before the first write
+took_front : (limits : Bounds) (source : Flow) (old : Known) (fault : Fault) → GaveAtMost limits.max_header source
+    → TookWhileRewrapping limits source (move_of old old) fault
+took_front limits source old Read h = tt
+took_front limits source old Write h = front_ahead buffer_size [] h (Appends-nil old)
+took_front limits source old TooManyChunks h = front_ahead buffer_size [] h (Appends-nil old)
+took_front limits source old fault h = h
+
+-- the fault of reading the old header
+pub read_took : (limits : Bounds) (source : Flow) (old : Known) (fault : Fault) → ReadsFront limits source fault
+    → TookWhileRewrapping limits source (move_of old old) fault
+read_took limits source old fault (inl e) = rw e tt
+read_took limits source old fault (inr h) = took_front limits source old fault h
+
+-- whatever fault comes after it
+pub headed_took : (limits : Bounds) (source : Flow) (old : Known) (h : HeaderParts) (r : Result ⊤ Fault)
+    → Inspects limits source (Ok h) → IfErr r (TookWhileRewrapping limits source (move_of old old))
+headed_took limits source old h (Ok done) is = tt
+headed_took limits source old h (Err fault) is = took_front limits source old fault (front_gave limits source h is)
+
+-- the fault of copying, after the new header was written
+pub copied_took : (limits : Bounds) {come mid : Seen} (to : Seen) (old put new : Known) (h : HeaderParts) (text : Bytes)
+    (r : Result ⊤ Fault)
+    → Inspects limits (flow come mid) (Ok h) → Appends old put text → Copies (flow mid to) (move_of put new) r
+    → IfErr r (CopiesAhead (flow mid to) (move_of put new))
+    → IfErr r (TookWhileRewrapping limits (flow come to) (move_of old new))
+copied_took limits to old put new h text (Ok done) is front copies ahead = tt
+copied_took limits {come} {mid} to old put new h text (Err fault) is front copies ahead = go fault copies ahead
+  where
+    join : GaveAhead buffer_size (flow mid to) (move_of put new)
+        → GaveAhead (limits.max_header + buffer_size) (flow come to) (move_of old new)
+    join a =
+        let (given, gave, few) = front_gave limits (flow come mid) h is in
+        ahead_then text buffer_size (limits.max_header + buffer_size) gave front (omega (arith, few)) a
+
+    go : (f : Fault) → Copies (flow mid to) (move_of put new) (Err f) → CopiesAhead (flow mid to) (move_of put new) f
+        → TookWhileRewrapping limits (flow come to) (move_of old new) f
+    go Read c a = tt
+    go Write c (inl e) = absurd (cc)
+    go Write c (inr a) = join a
+    go TooManyChunks c (inl e) = absurd (cc)
+    go TooManyChunks c (inr a) = join a
+    go f c a = absurd c
 
 -- the fault of starting a payload after a header
 pub started_front : (limits : Bounds) {S : Type 0} (to_come : S → Known) (gave : S → Bytes → Type 0) (failed : S → ℕ)

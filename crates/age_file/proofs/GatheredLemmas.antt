@@ -9,7 +9,7 @@ use Rattle.age_file.specs.declared.fault.Fault.{Fault}
 use Rattle.age_file.specs.declared.fault.Fault.TheVariants.{Refused}
 use Rattle.age_file.specs.NewFile.{with_stanzas, gathering_from}
 
--- what the recipients that are left give, at one whose answer is known
+-- what the remaining recipients return, if the answer of the first is known
 gathered_step : {A : Type 0} (f : A → Result (List StanzaParts) ℕ) (xs : List A) {i : ℕ} (n : ℕ) {x : A}
     {a : Result (List StanzaParts) ℕ} → i < length xs
     → x ≡ get_or xs i x → f x ≡ a → gathering_from n (drop i (map f xs))
@@ -24,7 +24,7 @@ preceded_twice : (a b : List StanzaParts) (r : Result (List StanzaParts) Fault)
 preceded_twice a b (Ok more) = ap Ok (sym (append_assoc a b more))
 preceded_twice a b (Err fault) = refl
 
--- one recipient more has given its stanzas
+-- one more recipient has returned its stanzas
 pub gathered_more : {A : Type 0} (f : A → Result (List StanzaParts) ℕ) (xs : List A) {i : ℕ} (n : ℕ) {x : A}
     (all : List StanzaParts) {stanzas joined : List StanzaParts} {target : Result (List StanzaParts) Fault}
     → i < length xs

@@ -15,7 +15,7 @@ use Rattle.age_stream.specs.Payload.{payload_key, pieces}
 use Rattle.age_stream.specs.Reading.{payload_reading, reading_from, stop}
 use Rattle.age_stream.specs.Sizes.{sealed_chunk_size}
 
--- the reading of the payload that the source gave was written
+-- the plaintext of the payload that the source returned was written
 abbrev pub WritesPayload : FileKey → ℕ → Flow → Known → Known → Result Done StreamFault → Type 0
 WritesPayload k max source old new r = OfGiven source
     (λ c. WritesReading (payload_reading k max c) (length (pieces (drop 16 c))) (move_of old new) r)

@@ -1,5 +1,5 @@
 -- What opening a file for ranges does, from what its parts do.
-use Rattle.std.proofs.Common.{◌≡◌, ◌⊎◌, ℕ, [], ◌++◌, ◌+◌, ◌-◌, ◌≤◌, length, drop, sym, ◌∙◌, ap, refl, subst, arith, inl, inr, option_map, Option, Some, None, Result, Ok, Err}
+use Rattle.std.proofs.Common.{◌≡◌, ◌⊎◌, ℕ, [], ◌++◌, ◌+◌, ◌-◌, ◌≤◌, length, drop, sym, cond, ◌∙◌, ap, refl, subst, arith, inl, inr, option_map, Option, Some, None, Result, Ok, Err}
 use Rattle.std.specs.Prelude.{◌^◌, min, Bool, true, false, IfErr, IfSome, if◌then◌else◌}
 use Rattle.std.specs.Result.{result_map_both}
 use Rattle.std.specs.Str.{bytes_eq}
@@ -31,7 +31,8 @@ use Rattle.age_file.specs.AgeFile.{Bounds, is_mixed}
 use Rattle.age_file.specs.Inspect.{Inspects, ReadsFront}
 use Rattle.age_file.specs.Device.{IsNoDeviceFault, is_read}
 use Rattle.age_file.specs.Ranges.{AtState, BeginsFile, GaveFirst, GaveHeader, HasHeader, IsOpenFault, IsRangesOf, IsWithin, MissesHeader, MissesRanges, RefusesRanges, ranges_under}
-use Rattle.age_file.specs.Verdict.{Answering, checked_key, finding, header_fault, stream_fault, unlock_fault, header_key}
+use Rattle.age_file.specs.Verdict.{Answering, finding, header_fault, if_right, stream_fault, unlock_fault, header_key}
+use Rattle.age_file.proofs.FileLemmas.{tested_key}
 use Rattle.age_file.proofs.AtStateLemmas.{first_none, first_stays}
 use Rattle.age_file.proofs.FrontLemmas.{saving_front}
 use Rattle.age_file.proofs.DecryptLemmas.{err_err, found_key, headed, reads_file}
@@ -154,9 +155,14 @@ unlock_open : (e : UnlockFault) → IsOpenFault (unlock_fault e)
 unlock_open unlock.NoMatch = tt
 unlock_open e = tt
 
-checked_open : (h : HeaderParts) (r : Result FileKey UnlockFault) → IfErr (checked_key h r) IsOpenFault
-checked_open h (Err e) = unlock_open e
-checked_open h (Ok k) = either_open (bytes_eq h.mac (header_mac k.0 h.stanzas)) (Ok k) (Err BadMac) tt tt
+tested_open : (h : HeaderParts) (r : Result FileKey UnlockFault) → IfErr (if_right (tested_key h r)) IsOpenFault
+tested_open h (Err e) = unlock_open e
+tested_open h (Ok k) = either_open (bytes_eq h.mac (header_mac k.0 h.stanzas)) (Ok k) (Err BadMac) tt tt
+
+found_open : (h : HeaderParts) (r : Result FileKey UnlockFault) (mixed : Bool)
+    → IfErr (if_right (cond mixed (Err MixedPassphrase) (tested_key h r))) IsOpenFault
+found_open h r true = tt
+found_open h r false = tested_open h r
 
 pub locked_named : (answers : Answering) (h : HeaderParts) (fault : Fault)
     → (◌≡◌ {A = Result FileKey Fault} (Err fault) (Err OutOfMemory)) ⊎ (Err fault ≡ header_key answers h)
@@ -164,8 +170,7 @@ pub locked_named : (answers : Answering) (h : HeaderParts) (fault : Fault)
 locked_named answers h fault (inl memory) = subst IsOpenFault (sym (err_err {A = FileKey} fault OutOfMemory memory)) tt
 locked_named answers h fault (inr key) =
     subst (λ (r : Result FileKey Fault). IfErr r IsOpenFault) (sym key)
-    (either_open (is_mixed h.stanzas) (Err MixedPassphrase) (checked_key h (choice (answers h.stanzas))) tt
-    (checked_open h (choice (answers h.stanzas))))
+    (found_open h (choice (answers h.stanzas)) (is_mixed h.stanzas))
 
 pub payload_named : (e : StreamFault) → stream.IsOpenFault e → IsOpenFault (stream_fault e)
 payload_named fault.Write h = absurd h
@@ -240,7 +245,7 @@ pub file_begins : (limits : Bounds) (answers : Answering) {gave : ℕ → ℕ �
 file_begins limits answers at h k first key b =
     record { header = h; at = at; first = first; key = k; chosen = found_key key; begins = b }
 
--- what was given stays so
+-- bytes that were returned stay returned
 pub header_stays : {limits : Bounds} {old new : ℕ → ℕ → Type 0} {at : ℕ} {h : HeaderParts} → StaysGiven old new
     → GaveHeader limits old at h → GaveHeader limits new at h
 header_stays {old} {new} {at} stays first = record {

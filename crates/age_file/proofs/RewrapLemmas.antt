@@ -26,7 +26,8 @@ use Rattle.age_file.specs.Device.{IsLate}
 use Rattle.age_file.specs.Inspect.{Inspects}
 use Rattle.age_file.specs.NewFile.{FailsHeading, Gathering, IsRefusal}
 use Rattle.age_file.specs.Rewrap.{BeginsRewrapped, IsRewrapped, RefusesRewrap, Rewrapped, Rewraps, RewrapsText}
-use Rattle.age_file.specs.Verdict.{Answering, IsVerdict, checked_key, finding, header_fault, reading_after, parts_of, reading_under, header_key, unlock_fault}
+use Rattle.age_file.specs.Verdict.{Answering, IsVerdict, finding, header_fault, if_right, reading_after, parts_of, reading_under, header_key, unlock_fault}
+use Rattle.age_file.proofs.FileLemmas.{tested_key}
 use Rattle.age_file.proofs.DecryptLemmas.{IsHeaded, err_err}
 use Rattle.age_file.proofs.EncryptLemmas.{Made}
 use Rattle.age_file.proofs.FileLemmas.{behind, key_unlocked}
@@ -78,12 +79,12 @@ inspect_rewraps limits answers gathered {come} {mid} old fault (Err g, is, h) =
     (sym (err_err {A = HeaderParts} fault (header_fault g) is)) (none_read limits answers gathered come mid old g h)
 
 -- a fault of unlocking is early
-early_checked : (h : HeaderParts) (c : Result FileKey UnlockFault) (fault : Fault) → checked_key h c ≡ Err fault
-    → IsEarly fault
+early_tested : (h : HeaderParts) (c : Result FileKey UnlockFault) (fault : Fault)
+    → if_right (tested_key h c) ≡ Err fault → IsEarly fault
 unfolding IsEarly
-early_checked h (Err unlock.NoMatch) fault e = subst IsEarly (err_err {A = FileKey} NoMatch fault e) tt
-early_checked h (Err f) fault e = subst IsEarly (err_err {A = FileKey} (unlock_fault f) fault e) tt
-early_checked h (Ok k) fault e = go (bytes_eq h.mac (header_mac k.0 h.stanzas)) e
+early_tested h (Err unlock.NoMatch) fault e = subst IsEarly (err_err {A = FileKey} NoMatch fault e) tt
+early_tested h (Err f) fault e = subst IsEarly (err_err {A = FileKey} (unlock_fault f) fault e) tt
+early_tested h (Ok k) fault e = go (bytes_eq h.mac (header_mac k.0 h.stanzas)) e
   where
     go : (t : Bool) → ◌≡◌ {A = Result FileKey Fault} (cond t (Ok k) (Err BadMac)) (Err fault) → IsEarly fault
     go true e = absurd (cc)
@@ -94,10 +95,10 @@ early_unlocked : (answers : Answering) (h : HeaderParts) (fault : Fault) → hea
 unfolding IsEarly
 early_unlocked answers h fault e = go (is_mixed h.stanzas) e
   where
-    go : (t : Bool) → cond t (Err MixedPassphrase) (checked_key h (choice (answers h.stanzas))) ≡ Err fault
+    go : (t : Bool) → if_right (cond t (Err MixedPassphrase) (tested_key h (choice (answers h.stanzas)))) ≡ Err fault
         → IsEarly fault
     go true e = subst IsEarly (err_err {A = FileKey} MixedPassphrase fault e) tt
-    go false e = early_checked h (choice (answers h.stanzas)) fault e
+    go false e = early_tested h (choice (answers h.stanzas)) fault e
 
 -- memory was refused
 pub memory_rewraps : (limits : Bounds) (answers : Answering) (gathered : FileKey → Gathering) (come mid : Seen)
@@ -141,7 +142,7 @@ heading_rewraps limits answers gathered {come} {mid} old h key fault i chosen (i
 
 -- ---- what was written
 
--- the file of the new header, if the source gives these bytes
+-- the file with the new header, if the source returns these bytes
 new_file : (limits : Bounds) (answers : Answering) (gathered : FileKey → Gathering) (come mid : Seen) (h : HeaderParts)
     (key : FileKey) (text bytes : Bytes)
     → (i : IsHeaded limits come mid h) → header_key answers h ≡ Ok key → Made limits key (gathered key) text
@@ -223,7 +224,7 @@ copied_rewraps {limits} answers gathered {come} {mid} {to} old put new {h} {key}
     ))
     go f c = absurd c
 
--- copying ends with a late fault alone
+-- copying ends only with a late fault
 pub copies_late : (K : Type 0) (source : Flow) (old new : Known) (r : Result (Unit {0}) Fault)
     → Copies source (move_of old new) r
     → IfErr r (λ fault. IsLate fault ⊎ K)

@@ -1,6 +1,6 @@
 -- What is saved of a file, and the verdict on it.
-use Rattle.std.proofs.Common.{refl, true, ◌≡◌, ◌↔◌, ◌⊎◌, ◌∙◌, ◌++◌, ◌≤◌, [], length, take, drop, sym, ap, subst, List, inl, inr, arith, None, Result, Ok, Err}
-use Rattle.std.specs.Prelude.{option_map}
+use Rattle.std.proofs.Common.{refl, false, true, ◌≡◌, ◌↔◌, ◌⊎◌, ◌∙◌, ◌++◌, ◌≤◌, [], length, take, drop, sym, ap, subst, List, inl, inr, arith, None, Result, Ok, Err}
+use Rattle.std.specs.Prelude.{Bool, ◌&&◌, ◌<◌, if◌then◌else◌, option_map}
 use Rattle.std.proofs.lemmas.Bool.{lt-ltb}
 use Rattle.std.proofs.lemmas.List.{take_all}
 use Rattle.age_header.specs.declared.fault.HeaderFault.{HeaderFault}
@@ -10,62 +10,75 @@ use Rattle.age_header.specs.Verdict.{Found}
 use Rattle.age_header.proofs.VerdictUniqueLemmas as headers
 use Rattle.age_stream.specs.declared.fault.StreamFault.{StreamFault}
 use Rattle.age_stream.specs.declared.fault.StreamFault.TheVariants as stream
-use Rattle.age_stream.specs.declared.salvaged.Salvaged.{Salvaged}
 use Rattle.age_stream.specs.Reading.{Reading, payload_reading, stop, whole}
 use Rattle.age_stream.specs.Salvage.{IsOfPieces, Part, Reports, Saves, SavesParts, SavesPayload, LossesMoved, losses, is_whole, payload_parts, salvaged_text}
 use Rattle.age_stream.proofs.SalvageReading.{payload_exactly, payload_plaintext, payload_whole}
 use Rattle.age_file.specs.declared.fault.Fault.{Fault}
-use Rattle.age_file.specs.declared.fault.Fault.TheVariants.{OutOfMemory}
+use Rattle.age_file.specs.declared.fault.Fault.TheVariants.{BadMac, OutOfMemory}
 use Rattle.age_file.specs.AgeFile.{Bounds}
 use Rattle.age_file.specs.Device.{IsLate}
-use Rattle.age_file.specs.Salvage.{SavesAfter, SavesFile, SavesUnder}
-use Rattle.age_file.specs.Verdict.{Answering, IsVerdict, header_fault, reading_after, parts_of, reading_under, stream_fault, header_key, with_file_fault}
+use Rattle.age_file.specs.Salvage.{SavesAfter, SavesFile, SavesUnder, is_whole_file, salvaged_file}
+use Rattle.age_file.specs.declared.salvaging.SalvagedFile.{SalvagedFile}
+use Rattle.age_file.specs.Verdict.{Answering, IsVerdict, header_fault, reading_after, parts_of, reading_under, stream_fault, found_key, if_right, with_file_fault}
 use Rattle.age_file.proofs.DecryptLemmas.{err_err}
-use Rattle.age_file.proofs.FileLemmas.{no_stream_fault, with_file_fault_whole}
+use Rattle.age_file.proofs.FileLemmas.{never_stops, no_stream_fault, with_file_fault_whole}
 
-err_ok : (f : Fault) (s : Salvaged) → ◌≡◌ {A = Result Salvaged Fault} (Ok s) (Err f) → ⊥
+err_ok : (f : Fault) (s : SalvagedFile) → ◌≡◌ {A = Result SalvagedFile Fault} (Ok s) (Err f) → ⊥
 err_ok f s e = cc
 
-ok_ok : (s t : Salvaged) → ◌≡◌ {A = Result Salvaged Fault} (Ok s) (Ok t) → s ≡ t
+ok_ok : (s t : SalvagedFile) → ◌≡◌ {A = Result SalvagedFile Fault} (Ok s) (Ok t) → s ≡ t
 ok_ok s t e = cc
 
 -- the header of the verdict is the one under which the file was saved
 same_header : (limits : Bounds) (answers : Answering) (b : Bytes) (v : Reading Fault) (sink : Moved)
     (lost : LossesMoved)
-    (r : Result Salvaged Fault) → IsVerdict limits answers b v → (f : SavesFile limits answers b sink lost r)
+    (r : Result SalvagedFile Fault) → IsVerdict limits answers b v → (f : SavesFile limits answers b sink lost r)
     → v ≡ reading_after limits answers b f.header
 same_header limits answers b v sink lost r i f = i.is ∙ ap (reading_after limits answers b)
     (headers.one_verdict b limits.max_header i.header f.header i.header_verdict f.header_verdict)
 
+-- the verdict on a file of which a payload was saved: that on the payload, or the MAC is wrong
+abbrev verdict_of : (has_right_mac : Bool) (payload : Reading Fault) → Reading Fault
+verdict_of has_right_mac payload = if has_right_mac then payload else stop BadMac
+
 -- a payload that was read for the verdict was saved
-record SavedOf (limits : Bounds) (v : Reading Fault) (sink : Moved) (lost : LossesMoved) (s : Salvaged) : Type 0 where
+record SavedOf (limits : Bounds) (v : Reading Fault) (sink : Moved) (lost : LossesMoved) (s : SalvagedFile)
+    : Type 0 where
   pub key : FileKey
   pub rest : Bytes
-  pub reads : v ≡ with_file_fault (payload_reading key limits.max_chunks rest)
+  pub reads : v ≡ verdict_of s.has_right_mac (with_file_fault (payload_reading key limits.max_chunks rest))
   pub long : 16 ≤ length rest
-  pub saves : SavesParts limits.max_chunks (payload_parts key rest) sink lost (Ok s)
+  pub saves : SavesParts limits.max_chunks (payload_parts key rest) sink lost (Ok s.payload)
+
+under_right : (limits : Bounds) (rest : Bytes) (key : FileKey) (has_right_mac : Bool)
+    → reading_under limits rest (if_right (Ok (key, has_right_mac)))
+    ≡ verdict_of has_right_mac (with_file_fault (payload_reading key limits.max_chunks rest))
+under_right limits rest key true = refl
+under_right limits rest key false = refl
 
 saved_of : (limits : Bounds) (answers : Answering) (b : Bytes) (v : Reading Fault) (sink : Moved) (lost : LossesMoved)
-    (s : Salvaged) → IsVerdict limits answers b v → SavesFile limits answers b sink lost (Ok s)
+    (s : SalvagedFile) → IsVerdict limits answers b v → SavesFile limits answers b sink lost (Ok s)
     → SavedOf limits v sink lost s
 saved_of limits answers b v sink lost s i f = go f.header (same_header limits answers b v sink lost (Ok s) i f) f.saves
   where
-    under : (rest : Bytes) (key : Result FileKey Fault) → v ≡ reading_under limits rest key
+    under : (rest : Bytes) (key : Result (FileKey × Bool) Fault) → v ≡ reading_under limits rest (if_right key)
         → SavesUnder limits rest key sink lost (Ok s) → SavedOf limits v sink lost s
     under rest (Err fault) is h = absurd (err_ok fault s h.0)
     under rest (Ok k) is (Err g, e, h) = absurd (err_ok (stream_fault g) s e)
-    under rest (Ok k) is (Ok t, e, h) = record {
-      key = k;
-      rest = rest;
-      reads = is;
-      long = h.0;
-      saves = subst (λ x. SavesParts limits.max_chunks (payload_parts k rest) sink lost (Ok x)) (sym (ok_ok s t e)) h.1;
-    }
+    under rest (Ok k) is (Ok t, e, h) =
+        let same = ok_ok s (salvaged_file k.1 t) e in
+        subst (λ x. SavedOf limits v sink lost x) (sym same) (record {
+          key = k.0;
+          rest = rest;
+          reads = is ∙ under_right limits rest k.0 k.1;
+          long = h.0;
+          saves = h.1;
+        })
 
     go : (header : Result Found HeaderFault) → v ≡ reading_after limits answers b header
         → SavesAfter limits answers b header sink lost (Ok s) → SavedOf limits v sink lost s
     go (Err g) is h = absurd (err_ok (header_fault g) s h.0)
-    go (Ok found) is h = under (drop (length found.text) b) (header_key answers (parts_of found)) is h
+    go (Ok found) is h = under (drop (length found.text) b) (found_key answers (parts_of found)) is h
 
 -- all parts were written
 written : (ps : List Part) (sink : Moved) (lost : LossesMoved) → Saves (length ps) ps sink lost
@@ -74,42 +87,65 @@ written ps sink lost h =
     let all : take (length ps) ps ≡ ps = take_all (length ps) ps (omega arith) in
     subst (λ x. Took sink (salvaged_text x) × Reports lost (losses 0 0 x)) all h
 
+-- what was written begins with the verdict's plaintext
+begins_with : (has_right_mac : Bool) (r : Reading Fault) (text rest : Bytes) → text ≡ r.plaintext ++ rest
+    → (more : Bytes) × (text ≡ (verdict_of has_right_mac r).plaintext ++ more)
+begins_with true r text rest is = (rest, is)
+begins_with false r text rest is = (text, refl)
+
 pub saved_plaintext : (limits : Bounds) (answers : Answering) (b : Bytes) (v : Reading Fault) (sink : Moved)
     (lost : LossesMoved)
-    (s : Salvaged) → IsVerdict limits answers b v → SavesFile limits answers b sink lost (Ok s)
+    (s : SalvagedFile) → IsVerdict limits answers b v → SavesFile limits answers b sink lost (Ok s)
     → (rest : Bytes) × Took sink (v.plaintext ++ rest)
 saved_plaintext limits answers b v sink lost s i f =
     let o = saved_of limits answers b v sink lost s i f in
     let ps : List Part = payload_parts o.key o.rest in
+    let r = payload_reading o.key limits.max_chunks o.rest in
     let begins = payload_plaintext o.key o.rest limits.max_chunks in
     let all : take limits.max_chunks ps ≡ ps = take_all limits.max_chunks ps o.saves.0 in
-    let text : salvaged_text ps ≡ v.plaintext ++ begins.0 = ap salvaged_text (sym all) ∙ begins.1
-    ∙ ap (λ (r : Reading Fault). r.plaintext ++ begins.0) (sym o.reads) in
-    (begins.0, subst (Took sink) text (written ps sink lost o.saves.1).0)
+    let text = begins_with s.has_right_mac (with_file_fault r) (salvaged_text ps) begins.0
+    (ap salvaged_text (sym all) ∙ begins.1) in
+    let is = text.1 ∙ ap (λ (r : Reading Fault). r.plaintext ++ text.0) (sym o.reads) in
+    (text.0, subst (Took sink) is (written ps sink lost o.saves.1).0)
+
+-- a verdict without fault is that on the payload, and the MAC is right
+right_whole : (has_right_mac : Bool) (r : Reading Fault) (plain : Bytes) → whole plain ≡ verdict_of has_right_mac r
+    → whole plain ≡ r
+right_whole true r plain is = is
+right_whole false r plain is = absurd (never_stops plain BadMac is)
 
 pub saved_whole : (limits : Bounds) (answers : Answering) (b plain : Bytes) (sink : Moved) (lost : LossesMoved)
-    (s : Salvaged) → IsVerdict limits answers b (whole plain) → SavesFile limits answers b sink lost (Ok s)
+    (s : SalvagedFile) → IsVerdict limits answers b (whole plain) → SavesFile limits answers b sink lost (Ok s)
     → Took sink plain × Reports lost []
 saved_whole limits answers b plain sink lost s i f =
     let o = saved_of limits answers b (whole plain) sink lost s i f in
     let ps : List Part = payload_parts o.key o.rest in
-    let a = payload_whole o.key o.rest plain limits.max_chunks (with_file_fault_whole o.reads) in
+    let r = payload_reading o.key limits.max_chunks o.rest in
+    let a = payload_whole o.key o.rest plain limits.max_chunks
+    (with_file_fault_whole (right_whole s.has_right_mac (with_file_fault r) plain o.reads)) in
     let w = written ps sink lost o.saves.1 in (
       subst (Took sink) a.is w.0,
       subst (Reports lost) (a.none 0) w.1,
     )
 
+-- what is whole of a payload is so of its file exactly if the MAC is right
+exactly_right : (has_right_mac payload : Bool) (r : Reading Fault) → (payload ≡ true) ↔ (r.fault ≡ None)
+    → ((has_right_mac && payload) ≡ true) ↔ ((verdict_of has_right_mac r).fault ≡ None)
+exactly_right true payload r same = same
+exactly_right false payload r same = (λ is. absurd (cc), λ is. absurd (cc))
+
 pub saved_exactly : (limits : Bounds) (answers : Answering) (b : Bytes) (v : Reading Fault) (sink : Moved)
-    (lost : LossesMoved) (s : Salvaged) → IsVerdict limits answers b v → SavesFile limits answers b sink lost (Ok s)
-    → (is_whole s ≡ true) ↔ (v.fault ≡ None)
+    (lost : LossesMoved) (s : SalvagedFile) → IsVerdict limits answers b v → SavesFile limits answers b sink lost (Ok s)
+    → (is_whole_file s ≡ true) ↔ (v.fault ≡ None)
 saved_exactly limits answers b v sink lost s i f =
     let o = saved_of limits answers b v sink lost s i f in
     let law = payload_exactly o.key o.rest limits.max_chunks in
-    let fault = ap (λ (r : Reading Fault). r.fault) o.reads in
-    let reading = payload_reading o.key limits.max_chunks o.rest in (
-      λ is. fault ∙ ap (option_map stream_fault) (law.1 (o.long, o.saves.0, ap is_whole (sym o.saves.2) ∙ is)),
-      λ none. ap is_whole o.saves.2 ∙ (law.0 (no_stream_fault reading.fault (sym fault ∙ none))).2,
-    )
+    let reading = payload_reading o.key limits.max_chunks o.rest in
+    let same = exactly_right s.has_right_mac (is_whole s.payload) (with_file_fault reading) (
+      λ is. ap (option_map stream_fault) (law.1 (o.long, o.saves.0, ap is_whole (sym o.saves.2) ∙ is)),
+      λ none. ap is_whole o.saves.2 ∙ (law.0 (no_stream_fault reading.fault none)).2,
+    ) in
+    subst (λ (r : Reading Fault). (is_whole_file s ≡ true) ↔ (r.fault ≡ None)) (sym o.reads) same
 
 -- a fault of a payload of which something may have been saved is late
 late_pieces : (g : StreamFault) → IsOfPieces g → IsLate (stream_fault g)
@@ -125,42 +161,47 @@ quiet_pieces g (inr h) = inr h.0
 pub saved_fault : (limits : Bounds) (answers : Answering) (b : Bytes) (v : Reading Fault) (sink : Moved)
     (lost : LossesMoved)
     (fault : Fault) → IsVerdict limits answers b v → SavesFile limits answers b sink lost (Err fault)
-    → IsLate fault ⊎ (fault ≡ OutOfMemory) ⊎ (v ≡ stop fault)
+    → IsLate fault ⊎ (fault ≡ OutOfMemory) ⊎ (v ≡ stop fault) ⊎ (v ≡ stop BadMac)
 saved_fault limits answers b v sink lost fault i f =
     go f.header (same_header limits answers b v sink lost (Err fault) i f) f.saves
   where
-    same : (g : Fault) → ◌≡◌ {A = Result Salvaged Fault} (Err fault) (Err g) → v ≡ stop g
-        → IsLate fault ⊎ (fault ≡ OutOfMemory) ⊎ (v ≡ stop fault)
-    same g e is = inr (inr (is ∙ ap stop (sym (err_err {A = Salvaged} fault g e))))
+    Explained : Type 0
+    Explained = IsLate fault ⊎ (fault ≡ OutOfMemory) ⊎ (v ≡ stop fault) ⊎ (v ≡ stop BadMac)
 
-    late : (g : StreamFault) → ◌≡◌ {A = Result Salvaged Fault} (Err fault) (Err (stream_fault g)) → IsOfPieces g
-        → IsLate fault ⊎ (fault ≡ OutOfMemory) ⊎ (v ≡ stop fault)
-    late g e h = inl (subst IsLate (sym (err_err {A = Salvaged} fault (stream_fault g) e)) (late_pieces g h))
+    same : (g : Fault) → ◌≡◌ {A = Result SalvagedFile Fault} (Err fault) (Err g) → v ≡ stop g → Explained
+    same g e is = inr (inr (inl (is ∙ ap stop (sym (err_err {A = SalvagedFile} fault g e)))))
 
-    piece : (k : FileKey) (rest : Bytes) (g : StreamFault) → v ≡ reading_under limits rest (Ok k)
-        → ◌≡◌ {A = Result Salvaged Fault} (Err fault) (Err (stream_fault g))
-        → SavesPayload k limits.max_chunks rest sink lost (Err g)
-        → IsLate fault ⊎ (fault ≡ OutOfMemory) ⊎ (v ≡ stop fault)
-    piece k rest stream.Read is e h = late stream.Read e tt
-    piece k rest stream.Write is e h = late stream.Write e tt
-    piece k rest stream.TooManyChunks is e h = late stream.TooManyChunks e tt
-    piece k rest stream.Memory is e h = inr (inl (err_err {A = Salvaged} fault OutOfMemory e))
-    piece k rest stream.NonceTruncated is e h =
-        same (stream_fault stream.NonceTruncated) e
-        (is ∙ rw (lt-ltb (length rest) 16 h.0) refl)
-    piece k rest (stream.ChunkShort j) is e h = absurd h.1
-    piece k rest (stream.EmptyFinal j) is e h = absurd h.1
-    piece k rest (stream.BadChunk j) is e h = absurd h.1
+    late : (g : StreamFault) → ◌≡◌ {A = Result SalvagedFile Fault} (Err fault) (Err (stream_fault g)) → IsOfPieces g
+        → Explained
+    late g e h = inl (subst IsLate (sym (err_err {A = SalvagedFile} fault (stream_fault g) e)) (late_pieces g h))
 
-    under : (rest : Bytes) (key : Result FileKey Fault) → v ≡ reading_under limits rest key
-        → SavesUnder limits rest key sink lost (Err fault)
-        → IsLate fault ⊎ (fault ≡ OutOfMemory) ⊎ (v ≡ stop fault)
+    short : (has_right_mac : Bool) (k : FileKey) (rest : Bytes)
+        → v ≡ verdict_of has_right_mac (with_file_fault (payload_reading k limits.max_chunks rest))
+        → ◌≡◌ {A = Result SalvagedFile Fault} (Err fault) (Err (stream_fault stream.NonceTruncated))
+        → length rest < 16 → Explained
+    short true k rest is e h = same (stream_fault stream.NonceTruncated) e (is ∙ rw (lt-ltb (length rest) 16 h) refl)
+    short false k rest is e h = inr (inr (inr is))
+
+    piece : (has_right_mac : Bool) (k : FileKey) (rest : Bytes) (g : StreamFault)
+        → v ≡ verdict_of has_right_mac (with_file_fault (payload_reading k limits.max_chunks rest))
+        → ◌≡◌ {A = Result SalvagedFile Fault} (Err fault) (Err (stream_fault g))
+        → SavesPayload k limits.max_chunks rest sink lost (Err g) → Explained
+    piece right k rest stream.Read is e h = late stream.Read e tt
+    piece right k rest stream.Write is e h = late stream.Write e tt
+    piece right k rest stream.TooManyChunks is e h = late stream.TooManyChunks e tt
+    piece right k rest stream.Memory is e h = inr (inl (err_err {A = SalvagedFile} fault OutOfMemory e))
+    piece right k rest stream.NonceTruncated is e h = short right k rest is e h.0
+    piece right k rest (stream.ChunkShort j) is e h = absurd h.1
+    piece right k rest (stream.EmptyFinal j) is e h = absurd h.1
+    piece right k rest (stream.BadChunk j) is e h = absurd h.1
+
+    under : (rest : Bytes) (key : Result (FileKey × Bool) Fault) → v ≡ reading_under limits rest (if_right key)
+        → SavesUnder limits rest key sink lost (Err fault) → Explained
     under rest (Err g) is h = same g h.0 is
-    under rest (Ok k) is (Ok t, e, h) = absurd (err_ok fault t (sym e))
-    under rest (Ok k) is (Err g, e, h) = piece k rest g is e h
+    under rest (Ok k) is (Ok t, e, h) = absurd (err_ok fault (salvaged_file k.1 t) (sym e))
+    under rest (Ok k) is (Err g, e, h) = piece k.1 k.0 rest g (is ∙ under_right limits rest k.0 k.1) e h
 
     go : (header : Result Found HeaderFault) → v ≡ reading_after limits answers b header
-        → SavesAfter limits answers b header sink lost (Err fault)
-        → IsLate fault ⊎ (fault ≡ OutOfMemory) ⊎ (v ≡ stop fault)
+        → SavesAfter limits answers b header sink lost (Err fault) → Explained
     go (Err g) is h = same (header_fault g) h.0 is
-    go (Ok found) is h = under (drop (length found.text) b) (header_key answers (parts_of found)) is h
+    go (Ok found) is h = under (drop (length found.text) b) (found_key answers (parts_of found)) is h

@@ -1,4 +1,5 @@
 -- What salvaging returns, from what its parts return.
+use Rattle.std.specs.Prelude.{Bool}
 use Rattle.std.proofs.Common.{◌≡◌, ◌⊎◌, ◌++◌, length, sym, refl, subst, inl, inr, Result, Ok, Err, ℕ}
 use Rattle.std.specs.Result.{result_map_both}
 use Rattle.std.proofs.KnownBytes.{Appends-nil}
@@ -21,14 +22,15 @@ use Rattle.age_file.specs.declared.fault.Fault.TheVariants.{Read, OutOfMemory}
 use Rattle.age_file.specs.AgeFile.{Bounds}
 use Rattle.age_file.specs.Decrypt.{TookUpTo}
 use Rattle.age_file.specs.Inspect.{Inspects}
-use Rattle.age_file.specs.Salvage.{SalvagesFile, SalvagesText, SavesFile, SavesNone, SavesUnder}
-use Rattle.age_file.specs.Verdict.{Answering, finding, header_fault, stream_fault, header_key}
+use Rattle.age_file.specs.declared.salvaging.SalvagedFile.{SalvagedFile}
+use Rattle.age_file.specs.Salvage.{SalvagesFile, SalvagesText, SavesFile, SavesNone, SavesUnder, salvaged_file}
+use Rattle.age_file.specs.Verdict.{Answering, finding, header_fault, stream_fault, found_key}
 use Rattle.age_file.proofs.DecryptLemmas.{IsHeaded, err_err, headed, payload_takes}
 
 saves_none : (old : Known) (lost : KnownLosses) → SavesNone (move_of old old) (losses_of lost lost)
 saves_none old lost = (Appends-nil old, reports_none lost)
 
--- what a file comes to, where a fault ends the work before its payload
+-- the outcome of a file, if a fault ends the work before its payload
 stopped : (limits : Bounds) (answers : Answering) (b : Bytes) (old : Known) (lost : KnownLosses) (fault : Fault)
     → SavesFile limits answers b (move_of old old) (losses_of lost lost) (Err fault)
     → SalvagesText limits answers b (move_of old old) (losses_of lost lost) (Err fault)
@@ -75,14 +77,14 @@ inspect_salvages limits answers {come} {mid} old lost {fault} (Err g, is, h) =
 
 -- what follows a header that was read
 after_header : (limits : Bounds) (answers : Answering) (come mid : Seen) (h : HeaderParts)
-    (i : IsHeaded limits come mid h) (key : Result FileKey Fault) (rest : Bytes) (old new : Known)
-    (before after : KnownLosses) (r : Result Salvaged Fault) → key ≡ header_key answers h
+    (i : IsHeaded limits come mid h) (key : Result (FileKey × Bool) Fault) (rest : Bytes) (old new : Known)
+    (before after : KnownLosses) (r : Result SalvagedFile Fault) → key ≡ found_key answers h
     → SavesUnder limits rest key (move_of old new) (losses_of before after) r
     → SavesFile limits answers (i.text ++ rest) (move_of old new) (losses_of before after) r
 after_header limits answers come mid h i key rest old new before after r is s = record {
   header = Ok (finding i.text h);
   header_verdict = i.verdict rest;
-  saves = subst (λ x. SavesUnder limits x (header_key answers h) (move_of old new) (losses_of before after) r)
+  saves = subst (λ x. SavesUnder limits x (found_key answers h) (move_of old new) (losses_of before after) r)
       (sym (drop_at i.text rest (length i.text) refl))
       (subst (λ k. SavesUnder limits rest k (move_of old new) (losses_of before after) r) is s);
 }
@@ -90,12 +92,12 @@ after_header limits answers come mid h i key rest old new before after r is s = 
 -- no key
 pub locked_salvages : (limits : Bounds) (answers : Answering) {come mid : Seen} (old : Known) (lost : KnownLosses)
     {h : HeaderParts} {fault : Fault} → Inspects limits (flow come mid) (Ok h)
-    → (◌≡◌ {A = Result FileKey Fault} (Err fault) (Err OutOfMemory)) ⊎ (Err fault ≡ header_key answers h)
+    → (◌≡◌ {A = Result (FileKey × Bool) Fault} (Err fault) (Err OutOfMemory)) ⊎ (Err fault ≡ found_key answers h)
     → SalvagesFile limits answers (flow come mid) (move_of old old) (losses_of lost lost) (Err fault)
 locked_salvages limits answers {come} {mid} old lost {h} {fault} i (inl memory) =
     let is = headed limits i in
     subst (λ f. SalvagesFile limits answers (flow come mid) (move_of old old) (losses_of lost lost) (Err f))
-    (sym (err_err {A = FileKey} fault OutOfMemory memory))
+    (sym (err_err {A = FileKey × Bool} fault OutOfMemory memory))
     (of_any (gave_some is.took) (λ b. saves_none old lost))
 locked_salvages limits answers {come} {mid} old lost {h} {fault} i (inr key) =
     let is = headed limits i in
@@ -106,25 +108,25 @@ locked_salvages limits answers {come} {mid} old lost {h} {fault} i (inr key) =
 -- ---- the payload
 
 payload_text : (limits : Bounds) (answers : Answering) (come mid : Seen) (h : HeaderParts)
-    (i : IsHeaded limits come mid h) (k : FileKey) (c : Bytes) (old new : Known) (before after : KnownLosses)
-    (r : Result Salvaged StreamFault) → Ok k ≡ header_key answers h
-    → SavesPayload k limits.max_chunks c (move_of old new) (losses_of before after) r
+    (i : IsHeaded limits come mid h) (k : FileKey × Bool) (c : Bytes) (old new : Known) (before after : KnownLosses)
+    (r : Result Salvaged StreamFault) → Ok k ≡ found_key answers h
+    → SavesPayload k.0 limits.max_chunks c (move_of old new) (losses_of before after) r
     → SalvagesText limits answers (i.text ++ c) (move_of old new) (losses_of before after) (result_map_both
-    (λ d. d) stream_fault r)
+    (salvaged_file k.1) stream_fault r)
 payload_text limits answers come mid h i k c old new before after r key s = go r s
   where
     file : (q : Result Salvaged StreamFault)
-        → SavesPayload k limits.max_chunks c (move_of old new) (losses_of before after) q
+        → SavesPayload k.0 limits.max_chunks c (move_of old new) (losses_of before after) q
         → SavesFile limits answers (i.text ++ c) (move_of old new) (losses_of before after) (result_map_both
-        (λ d. d) stream_fault q)
+        (salvaged_file k.1) stream_fault q)
     file q x = after_header limits answers come mid h i (Ok k) c old new before after (result_map_both
-        (λ d. d) stream_fault q) key
+        (salvaged_file k.1) stream_fault q) key
         (q, refl, x)
 
     go : (q : Result Salvaged StreamFault)
-        → SavesPayload k limits.max_chunks c (move_of old new) (losses_of before after) q
+        → SavesPayload k.0 limits.max_chunks c (move_of old new) (losses_of before after) q
         → SalvagesText limits answers (i.text ++ c) (move_of old new) (losses_of before after) (result_map_both
-        (λ d. d) stream_fault q)
+        (salvaged_file k.1) stream_fault q)
     go (Ok t) x = file (Ok t) x
     go (Err stream.Read) x = inr (file (Err stream.Read) x)
     go (Err stream.Memory) x = x
@@ -136,18 +138,18 @@ payload_text limits answers come mid h i k c old new before after r key s = go r
     go (Err stream.TooManyChunks) x = file (Err stream.TooManyChunks) x
 
 pub payload_salvages : (r : Result Salvaged StreamFault) {limits : Bounds} (answers : Answering) {come mid to : Seen}
-    (sink : Moved) (losses : LossesMoved) {h : HeaderParts} {k : FileKey} {max : ℕ}
+    (sink : Moved) (losses : LossesMoved) {h : HeaderParts} {k : FileKey × Bool} {max : ℕ}
     → Inspects limits (flow come mid) (Ok h)
-    → (◌≡◌ {A = Result FileKey Fault} (Ok k) (Err OutOfMemory)) ⊎ (Ok k ≡ header_key answers h)
+    → (◌≡◌ {A = Result (FileKey × Bool) Fault} (Ok k) (Err OutOfMemory)) ⊎ (Ok k ≡ found_key answers h)
     → max ≡ limits.max_chunks
-    → Salvages k max (flow mid to) sink losses r
-    → SalvagesFile limits answers (flow come to) sink losses (result_map_both (λ d. d) stream_fault r)
+    → Salvages k.0 max (flow mid to) sink losses r
+    → SalvagesFile limits answers (flow come to) sink losses (result_map_both (salvaged_file k.1) stream_fault r)
 payload_salvages r {limits} answers {come} {mid} sink losses {h} {k} i (inl memory) same w = absurd (cc)
 payload_salvages r {limits} answers {come} {mid} sink losses {h} {k} i (inr key) same w =
     let is = headed limits i in
     of_then is.took w (λ c x.
     payload_text limits answers come mid h is k c sink.before sink.after losses.before losses.after r key
-    (subst (λ m. SavesPayload k m c sink losses r) same x))
+    (subst (λ m. SavesPayload k.0 m c sink losses r) same x))
 
 -- how much was read
 pub salvage_takes : {limits : Bounds} {come mid : Seen} (to : Seen) (old new : Known) {h : HeaderParts} {max : ℕ}

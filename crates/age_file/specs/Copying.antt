@@ -1,5 +1,5 @@
 -- Copying the rest of a source.
-use Rattle.std.specs.Prelude.{◌≡◌, ℕ, ◌^◌, ◌≤◌, Bool, true, false, length, Result, Ok, Err}
+use Rattle.std.specs.Prelude.{◌≡◌, ◌⊎◌, ℕ, ◌+◌, ◌^◌, ◌≤◌, Bool, true, false, length, Result, Ok, Err}
 use Rattle.std.specs.Io.KnownBytes.{IsAtEnd}
 use Rattle.age_header.specs.Device.{Bytes, Flow, GaveSome, OfGiven, WritesPart, Moved, Gave, Took}
 use Rattle.age_stream.specs.Sealing.{WroteAtLeast}
@@ -23,7 +23,7 @@ CopiesPiece size source sink (Ok false) =
     (piece : Bytes) × Gave source piece × Took sink piece × IsAtEnd source.after.to_come
 CopiesPiece size source sink (Err Read) = GaveSome source × (sink.after ≡ sink.before)
 CopiesPiece size source sink (Err Write) =
-    (piece : Bytes) × Gave source piece × WritesPart sink piece
+    (piece : Bytes) × Gave source piece × WritesPart sink piece × (length piece ≤ size)
 CopiesPiece size source sink (Err _) = ⊥
 
 -- everything was copied; if a device failed, a prefix of it; TooManyChunks only after at least
@@ -36,3 +36,15 @@ Copies source sink (Err TooManyChunks) =
     WroteAtLeast most_copied sink
     × OfGiven source (λ bytes. WritesPart sink bytes × (most_copied ≤ length bytes))
 Copies source sink (Err _) = ⊥
+
+-- the source returned at most n bytes more than were written
+pub record GaveAhead (n : ℕ) (source : Flow) (sink : Moved) : Type 0 where
+  pub given : Bytes
+  pub gave : Gave source given
+  pub written : Bytes
+  pub took : Took sink written
+  pub within : length given ≤ length written + n
+
+-- how much of the source was read if a copy failed; of a failed read nothing is said
+abbrev pub CopiesAhead : (source : Flow) (sink : Moved) (fault : Fault) → Type 0
+CopiesAhead source sink fault = (fault ≡ Read) ⊎ GaveAhead buffer_size source sink

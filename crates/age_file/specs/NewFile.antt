@@ -199,11 +199,13 @@ pub record TookChunks (limits : Bounds) (fresh : Fresh) (gathered : Gathering)
   pub whole : sealed_chunk_size * n ≤ length written - (length text + nonce_size)
   pub gave : GaveAtMost (chunk_size * (n + 2)) source
 
--- how much of the source was read if encrypting ended at a write, or with too many chunks
+-- How much of the source was read if encrypting ended at a write, or with too many chunks; nothing
+-- is said about a failed read. At any other fault nothing was read.
 abbrev pub TookWhileEncrypting : (limits : Bounds) (fresh : Fresh) (gathered : Gathering)
     (source : Flow) (sink : Moved) (fault : Fault) → Type 0
 TookWhileEncrypting limits fresh gathered source sink TooManyChunks =
     TookChunks limits fresh gathered source sink
 TookWhileEncrypting limits fresh gathered source sink Write =
     TookChunks limits fresh gathered source sink
-TookWhileEncrypting limits fresh gathered source sink _ = ⊤
+TookWhileEncrypting limits fresh gathered source sink Read = ⊤
+TookWhileEncrypting limits fresh gathered source sink _ = Gave source []

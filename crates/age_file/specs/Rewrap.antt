@@ -1,7 +1,7 @@
 -- A file with another header for the same file key.
-use Rattle.std.specs.Prelude.{◌≡◌, ◌⊎◌, ◌≤◌, false, List, ◌++◌, ⊤, length, drop, Result, Ok, Err}
+use Rattle.std.specs.Prelude.{◌≡◌, ◌⊎◌, ◌+◌, ◌≤◌, false, List, ◌++◌, ⊤, length, drop, Result, Ok, Err}
 use Rattle.age_header.specs.declared.fault.HeaderFault.{HeaderFault}
-use Rattle.age_header.specs.Device.{Bytes, Flow, OfGiven, WritesPart, Moved, Took, Stays}
+use Rattle.age_header.specs.Device.{Bytes, Flow, GaveAtMost, OfGiven, WritesPart, Moved, Took, Stays}
 use Rattle.age_header.specs.Header.{StanzaParts, Head}
 use Rattle.age_header.specs.Mac.{header_mac}
 use Rattle.age_header.specs.Verdict.{Found, HeaderVerdict}
@@ -12,7 +12,7 @@ use Rattle.age_file.specs.declared.fault.Fault.TheVariants.{TooManyChunks, Read,
 use Rattle.age_file.specs.AgeFile.{Bounds, is_mixed}
 use Rattle.age_file.specs.NewFile.{Gathering, IsRefusal}
 use Rattle.age_file.specs.Verdict.{Answering, header_fault, parts_of, header_key}
-use Rattle.age_file.specs.Copying.{most_copied}
+use Rattle.age_file.specs.Copying.{GaveAhead, buffer_size, most_copied}
 
 -- c is b with another header for the file key chosen: the text of the new stanzas with their MAC,
 -- followed by b without its old header. The new header is within the limit, and has no `scrypt`
@@ -79,3 +79,15 @@ abbrev pub Rewraps : (limits : Bounds) (answers : Answering) (gathered : FileKey
     (source : Flow) (sink : Moved) (r : Result (Unit {0}) Fault) → Type 0
 Rewraps limits answers gathered source sink r =
     OfGiven source (λ b. RewrapsText limits answers gathered b sink r)
+
+-- How much of the source was read at a fault: at most as many bytes as a header may have; at a
+-- failed write, or too many chunks, at most these, as many as were written, and one buffer. Nothing
+-- is said about a failed read.
+abbrev pub TookWhileRewrapping : (limits : Bounds) (source : Flow) (sink : Moved) (fault : Fault)
+    → Type 0
+TookWhileRewrapping limits source sink Read = ⊤
+TookWhileRewrapping limits source sink Write =
+    GaveAhead (limits.max_header + buffer_size) source sink
+TookWhileRewrapping limits source sink TooManyChunks =
+    GaveAhead (limits.max_header + buffer_size) source sink
+TookWhileRewrapping limits source sink _ = GaveAtMost limits.max_header source

@@ -1,6 +1,7 @@
 -- The verdict on bytes, for given identities and limits: a plaintext, or the first fault and the
 -- plaintext before it.
-use Rattle.std.specs.Prelude.{◌≡◌, List, length, drop, map, option_map, Result, Ok, Err, if◌then◌else◌}
+use Rattle.std.specs.Prelude.{◌≡◌, Bool, List, length, drop, map, option_map, Result, Ok, Err, if◌then◌else◌}
+use Rattle.std.specs.Result.{result_map_both}
 use Rattle.std.specs.Str.{bytes_eq}
 use Rattle.age_header.specs.Device.{Bytes}
 use Rattle.age_header.specs.declared.fault.HeaderFault.{HeaderFault}
@@ -68,17 +69,20 @@ abbrev pub answers_by : {I : Type 0} (identities : List I)
     (meaning : I → List StanzaParts → Unwrapped) → Answering
 answers_by identities meaning = λ stanzas. map (λ i. meaning i stanzas) identities
 
--- the key chosen, if the header's MAC is the one under it
-abbrev pub checked_key : (h : HeaderParts) (chosen : Result FileKey UnlockFault)
-    → Result FileKey Fault
-checked_key h (Err fault) = Err (unlock_fault fault)
-checked_key h (Ok k) = if bytes_eq h.mac (header_mac k.0 h.stanzas) then Ok k else Err BadMac
+-- the key that the identities choose for a header, and whether the header's MAC is the one under it
+abbrev pub found_key : (answers : Answering) (h : HeaderParts) → Result (FileKey × Bool) Fault
+found_key answers h = if is_mixed h.stanzas then Err MixedPassphrase
+    else result_map_both (λ k. (k, bytes_eq h.mac (header_mac k.0 h.stanzas))) unlock_fault
+    (choice (answers h.stanzas))
+
+-- the key found, if the MAC is right
+abbrev pub if_right : Result (FileKey × Bool) Fault → Result FileKey Fault
+if_right (Err fault) = Err fault
+if_right (Ok found) = if found.1 then Ok found.0 else Err BadMac
 
 -- the file key of a header, or the first fault up to the MAC
 abbrev pub header_key : (answers : Answering) (h : HeaderParts) → Result FileKey Fault
-header_key answers h =
-    if is_mixed h.stanzas then Err MixedPassphrase
-    else checked_key h (choice (answers h.stanzas))
+header_key answers h = if_right (found_key answers h)
 
 -- the reading of the bytes after a header under the file key
 abbrev pub reading_under : (limits : Bounds) (rest : Bytes) (result : Result FileKey Fault)

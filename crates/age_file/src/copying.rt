@@ -1,8 +1,8 @@
 //! Copying what follows a header.
 
-ghost use Rattle.std.specs.Prelude.{◌≡◌, ◌≤◌, length};
+ghost use Rattle.std.specs.Prelude.{◌≡◌, ◌≤◌, length, IfErr};
 ghost use Rattle.age_header.specs.Device.{CountsIf, flow_by, move_by};
-ghost use Rattle.age_file.specs.Copying.{Copies, CopiesPiece, buffer_size};
+ghost use Rattle.age_file.specs.Copying.{Copies, CopiesAhead, CopiesPiece, buffer_size};
 ghost use Rattle.age_file.specs.Device.{is_read, is_write};
 
 use crate::fault::Fault;
@@ -28,6 +28,8 @@ pub(crate) fn copy_all<S: Source, W: Sink>(
     requires first { first ≤ buffer_size }
     ensures copies { Copies (flow_by S.to_come S.gave input.old input.new)
         (move_by W.taken out.old out.new) result }
+    ensures ahead { IfErr result (CopiesAhead (flow_by S.to_come S.gave input.old input.new)
+        (move_by W.taken out.old out.new)) }
     ensures reads { CountsIf is_read (S.failed input.old) (S.failed input.new) result }
     ensures writes { CountsIf is_write (W.failed out.old) (W.failed out.new) result }
 {
@@ -44,6 +46,8 @@ fn copy_pieces<S: Source, W: Sink>(input: &mut S, out: &mut W, buf: &mut [u8]) -
     requires { length buf.old ≡ buffer_size }
     ensures copies { Copies (flow_by S.to_come S.gave input.old input.new)
         (move_by W.taken out.old out.new) result }
+    ensures ahead { IfErr result (CopiesAhead (flow_by S.to_come S.gave input.old input.new)
+        (move_by W.taken out.old out.new)) }
     ensures reads { CountsIf is_read (S.failed input.old) (S.failed input.new) result }
     ensures writes { CountsIf is_write (W.failed out.old) (W.failed out.new) result }
 {

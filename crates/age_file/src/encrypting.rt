@@ -33,10 +33,10 @@ use std::alloc::Global;
 /// - `MixedPassphrase` if a `scrypt` stanza is not alone;
 /// - `HeaderTooLarge`.
 ///
-/// On these, and on `OutOfMemory`, nothing was written. `TooManyChunks` if the plaintext has more
-/// chunks than are allowed: the header, the nonce and the sealed chunks with an index below the
-/// limit less one were written. `Read` and `Write` if a device failed: a prefix of the file was
-/// written, and on `Read` before the first chunk was full, nothing.
+/// On these, and on `OutOfMemory`, nothing was read or written. `TooManyChunks` if the plaintext
+/// has more chunks than are allowed: the header, the nonce and the sealed chunks with an index
+/// below the limit less one were written. `Read` and `Write` if a device failed: a prefix of the
+/// file was written, and on `Read` before the first chunk was full, nothing.
 pub fn encrypt<S: Source, W: Sink>(
     alloc: Global,
     plain: &mut S,
@@ -64,7 +64,7 @@ pub fn encrypt<S: Source, W: Sink>(
     ensures reads { CountsIf is_read (S.failed plain.old) (S.failed plain.new) result }
     ensures writes { CountsIf is_write (W.failed out.old) (W.failed out.new) result }
     // On a fault of a write or too many chunks, after n full sealed chunks were written: at most
-    // 65,536 (n + 2) bytes of plaintext were read.
+    // 65,536 (n + 2) bytes of plaintext were read. On any other but `Read` nothing was read.
     ensures took { IfErr result (TookWhileEncrypting limits.now fresh.now
         (gathering_by recipients.now (λ r k. wraps r k) (λ r. the_labels r) fresh.now.file_key)
         (flow_by S.to_come S.gave plain.old plain.new) (move_by W.taken out.old out.new)) }

@@ -9,16 +9,16 @@ ghost use Rattle.age_recipient.specs.Key.{IsFileKey};
 ghost use Rattle.age_recipient.specs.Labels.{first_incompatible};
 ghost use Rattle.age_stream.specs.Ranges.{HasPlain, RangeState};
 ghost use Rattle.age_stream.specs.Reading.{Reading, stop, whole};
-ghost use Rattle.age_stream.specs.Salvage.{Reports, LossesMoved, is_whole};
-ghost use Rattle.age_stream.specs.declared.salvaged.Salvaged.{Salvaged};
+ghost use Rattle.age_stream.specs.Salvage.{Reports, LossesMoved};
 ghost use Rattle.age_file.specs.declared.fault.Fault.{Fault};
-ghost use Rattle.age_file.specs.declared.fault.Fault.TheVariants.{OutOfMemory, Read};
+ghost use Rattle.age_file.specs.declared.fault.Fault.TheVariants.{BadMac, OutOfMemory, Read};
 ghost use Rattle.age_file.specs.AgeFile.{AgeFile, Bounds};
 ghost use Rattle.age_file.specs.Device.{IsLate};
 ghost use Rattle.age_file.specs.NewFile.{IsIncompatible};
 ghost use Rattle.age_file.specs.Ranges.{IsRangesOf, MissesRanges};
 ghost use Rattle.age_file.specs.Rewrap.{Rewrapped};
-ghost use Rattle.age_file.specs.Salvage.{SavesFile};
+ghost use Rattle.age_file.specs.Salvage.{SavesFile, is_whole_file};
+ghost use Rattle.age_file.specs.declared.salvaging.SalvagedFile.{SalvagedFile};
 ghost use Rattle.age_file.specs.Verdict.{Answering, IsVerdict};
 
 use age_recipient::{Labels, Matched};
@@ -94,24 +94,26 @@ pub fn rewrap_keeps()
 pub fn salvage_is_verdict()
     // On Ok, if the verdict is a plaintext without fault, that plaintext was written.
     ensures whole { (limits : Bounds) (answers : Answering) (b plain : Bytes) (sink : Moved)
-        (lost : LossesMoved) (s : Salvaged) → IsVerdict limits answers b (whole plain)
+        (lost : LossesMoved) (s : SalvagedFile) → IsVerdict limits answers b (whole plain)
         → SavesFile limits answers b sink lost (Ok s) → Took sink plain }
     // Then no chunk is reported.
     ensures none { (limits : Bounds) (answers : Answering) (b plain : Bytes) (sink : Moved)
-        (lost : LossesMoved) (s : Salvaged) → IsVerdict limits answers b (whole plain)
+        (lost : LossesMoved) (s : SalvagedFile) → IsVerdict limits answers b (whole plain)
         → SavesFile limits answers b sink lost (Ok s) → Reports lost [] }
     // On Ok the result is whole exactly if the verdict has no fault.
     ensures exactly { (limits : Bounds) (answers : Answering) (b : Bytes) (v : Reading Fault)
-        (sink : Moved) (lost : LossesMoved) (s : Salvaged) → IsVerdict limits answers b v
-        → SavesFile limits answers b sink lost (Ok s) → (is_whole s ≡ true) ↔ (v.fault ≡ None) }
-    // A fault before anything was written is the verdict's, or out of memory.
+        (sink : Moved) (lost : LossesMoved) (s : SalvagedFile) → IsVerdict limits answers b v
+        → SavesFile limits answers b sink lost (Ok s)
+        → (is_whole_file s ≡ true) ↔ (v.fault ≡ None) }
+    // A fault before anything was written is the verdict's, or out of memory; or the header was
+    // changed, and salvaging went on under the key that fits.
     ensures fault { (limits : Bounds) (answers : Answering) (b : Bytes) (v : Reading Fault)
         (sink : Moved) (lost : LossesMoved) (fault : Fault) → IsVerdict limits answers b v
         → SavesFile limits answers b sink lost (Err fault)
-        → IsLate fault ⊎ (fault ≡ OutOfMemory) ⊎ (v ≡ stop fault) }
+        → IsLate fault ⊎ (fault ≡ OutOfMemory) ⊎ (v ≡ stop fault) ⊎ (v ≡ stop BadMac) }
     // On Ok the output begins with the verdict's plaintext.
     ensures plaintext { (limits : Bounds) (answers : Answering) (b : Bytes) (v : Reading Fault)
-        (sink : Moved) (lost : LossesMoved) (s : Salvaged) → IsVerdict limits answers b v
+        (sink : Moved) (lost : LossesMoved) (s : SalvagedFile) → IsVerdict limits answers b v
         → SavesFile limits answers b sink lost (Ok s)
         → (rest : Bytes) × Took sink (v.plaintext ++ rest) }
 {}

@@ -80,5 +80,5 @@ pub use limits::{Fresh, Limits, MOST_CHUNKS};
 pub use new_header::{header_for, header_text};
 pub use ranges::{open_ranges, opened_ranges};
 pub use rewrapping::rewrap;
-pub use salvaging::salvage;
+pub use salvaging::{SalvagedFile, salvage};
 pub use unlocking::{is_mixed, unlock_header};

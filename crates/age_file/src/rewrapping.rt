@@ -1,10 +1,10 @@
 //! Replacing the header of a file and keeping its payload.
 
-ghost use Rattle.std.specs.Prelude.{◌⊎◌, IfErr};
-ghost use Rattle.age_header.specs.Device.{CountsIf, GaveAtMost, flow_by, move_by};
-ghost use Rattle.age_file.specs.Device.{IsLate, IsQuiet, is_read, is_write};
+ghost use Rattle.std.specs.Prelude.{IfErr};
+ghost use Rattle.age_header.specs.Device.{CountsIf, flow_by, move_by};
+ghost use Rattle.age_file.specs.Device.{IsQuiet, is_read, is_write};
 ghost use Rattle.age_file.specs.NewFile.{gathering_by};
-ghost use Rattle.age_file.specs.Rewrap.{Rewraps};
+ghost use Rattle.age_file.specs.Rewrap.{Rewraps, TookWhileRewrapping};
 ghost use Rattle.age_file.specs.Verdict.{answers_by};
 
 use crate::copying::{BUFFER_SIZE, copy_all};
@@ -48,10 +48,10 @@ pub fn rewrap<S: Source, W: Sink>(
     ensures quiet { IsQuiet out.old out.new result }
     ensures reads { CountsIf is_read (S.failed input.old) (S.failed input.new) result }
     ensures writes { CountsIf is_write (W.failed out.old) (W.failed out.new) result }
-    // On a fault other than a chunk's, `TooManyChunks`, `Read` and `Write`, at most as many bytes
-    // were read as a header may have.
-    ensures front { IfErr result (λ fault. IsLate fault
-        ⊎ GaveAtMost limits.now.max_header (flow_by S.to_come S.gave input.old input.new)) }
+    // At most as many bytes were read as a header may have; on `Write` and `TooManyChunks` at most
+    // these, as many as were written, and 65,536. Nothing is said about `Read`.
+    ensures took { IfErr result (TookWhileRewrapping limits.now
+        (flow_by S.to_come S.gave input.old input.new) (move_by W.taken out.old out.new)) }
 {
     let header = match inspect(alloc, input, limits) {
         Ok(header) => header,

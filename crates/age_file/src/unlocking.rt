@@ -2,9 +2,12 @@
 
 ghost use Rattle.std.specs.Prelude.{◌≡◌, ◌⊎◌, true, Err, IfErr};
 ghost use Rattle.std.specs.List.{list_any};
+ghost use Rattle.std.specs.Result.{result_map_both};
+ghost use Rattle.std.specs.Str.{bytes_eq};
+ghost use Rattle.age_header.specs.Mac.{header_mac};
 ghost use Rattle.age_file.specs.AgeFile.{is_mixed, is_scrypt};
 ghost use Rattle.age_file.specs.Device.{IsNoDeviceFault};
-ghost use Rattle.age_file.specs.Verdict.{answers_by, checked_key, header_key};
+ghost use Rattle.age_file.specs.Verdict.{answers_by, found_key, header_key, unlock_fault};
 
 use crate::fault::Fault;
 use crate::fault_conversions::unlock_fault;
@@ -33,19 +36,40 @@ pub fn unlock_header(
     // If a scrypt stanza is not alone, the fault is `MixedPassphrase`, and never `OutOfMemory`.
     ensures mixed { is_mixed header.now.stanzas ≡ true → result ≡ Err Fault.MixedPassphrase }
 {
+    match found_key(alloc, identities, header) {
+        Ok((key, true)) => Ok(key),
+        Ok((_, false)) => Err(Fault::BadMac),
+        Err(fault) => Err(fault),
+    }
+}
+
+/// Finds the file key of a header as `unlock_header` does, and whether the header's MAC is right
+/// under it.
+pub(crate) fn found_key(
+    alloc: Global,
+    identities: &[Box<dyn Identity>],
+    header: &Header,
+) -> Result<(FileKey, bool), Fault>
+    ensures key { (result ≡ Err Fault.OutOfMemory)
+        ⊎ (result ≡ found_key (answers_by identities.now (λ i s. meaning i s)) header.now) }
+    ensures no_device { IfErr result IsNoDeviceFault }
+    ensures mixed { is_mixed header.now.stanzas ≡ true → result ≡ Err Fault.MixedPassphrase }
+{
     if is_mixed(header.stanzas()) {
         return Err(Fault::MixedPassphrase);
     }
-    checked(alloc, header, unlock(alloc, identities, header.stanzas()))
+    tested(alloc, header, unlock(alloc, identities, header.stanzas()))
 }
 
-/// The key that was chosen, if the header's MAC under it is right.
-fn checked(
+/// The key that was chosen, and whether the header's MAC under it is right.
+fn tested(
     alloc: Global,
     header: &Header,
     chosen: Result<FileKey, UnlockFault>,
-) -> Result<FileKey, Fault>
-    ensures key { (result ≡ Err Fault.OutOfMemory) ⊎ (result ≡ checked_key header.now chosen) }
+) -> Result<(FileKey, bool), Fault>
+    ensures key { (result ≡ Err Fault.OutOfMemory) ⊎ (result ≡ result_map_both
+        (λ k. (k, bytes_eq header.now.mac (header_mac k.0 header.now.stanzas))) unlock_fault
+        chosen) }
     ensures no_device { IfErr result IsNoDeviceFault }
 {
     let key = match chosen {
@@ -53,11 +77,8 @@ fn checked(
         Err(fault) => return Err(unlock_fault(fault)),
     };
     let mac = mac_of(alloc, &key.0, header.stanzas())?;
-    if *header.mac() == mac {
-        Ok(key)
-    } else {
-        Err(Fault::BadMac)
-    }
+    let is_right = *header.mac() == mac;
+    Ok((key, is_right))
 }
 
 /// Whether there is a `scrypt` stanza and another stanza.

@@ -6,7 +6,7 @@ pub use Rattle.base64.specs.Rfc4648.{encode_group, encode_one, encode_two, unpad
 unfoldable pub use Rattle.base64.specs.Rfc4648.{encode_symbols}
 pub use Rattle.base64.specs.Tables.{all_below}
 pub use Rattle.base64.specs.declared.engine.general_purpose.GeneralPurpose.{GeneralPurpose}
-pub use Rattle.std.proofs.Common.{Bor, Err, Global, IfOk, List, None, Ok, Result, Some, String, [], ap, append-nil, append_assoc, arith, codes, drop, false, flat_map, get_or, inl, inr, length, length-append, length-drop, length-take, map, min, not, refl, replicate, rules, slice_index, subst, suc, sym, take, take-append-drop, true, zero, ℕ, ◌%◌, ◌*◌, ◌++◌, ◌+◌, ◌-◌, ◌/◌, ◌<◌, ◌==◌, ◌^◌, ◌∙◌, ◌∷◌, ◌≡◌, ◌≢◌, ◌≤◌, ◌⊎◌}
+pub use Rattle.std.proofs.Common.{Bor, Err, Global, IfOk, List, None, Ok, Option, Result, Some, String, [], ap, append-nil, append_assoc, arith, codes, drop, false, flat_map, get_or, inl, inr, length, length-append, length-drop, length-take, map, min, not, refl, replicate, rules, slice_index, subst, suc, sym, take, take-append-drop, true, zero, ℕ, ◌%◌, ◌*◌, ◌++◌, ◌+◌, ◌-◌, ◌/◌, ◌<◌, ◌==◌, ◌^◌, ◌∙◌, ◌∷◌, ◌≡◌, ◌≢◌, ◌≤◌, ◌⊎◌}
 pub use Rattle.std.proofs.KnownBytes.{Appends-nil, Appends-trans, Consumes-nil, Consumes-trans, starts_with_rest}
 pub use Rattle.std.proofs.Math.Seq.{take-add, take-append-add, take-append_seam}
 pub use Rattle.std.proofs.lemmas.Bool.{cases_Bool, cases_eq, cases_lt, cases_order, eq-eqb, eqb-true, false≢true, iff_false}
@@ -33,7 +33,7 @@ pub use Rattle.age_header.specs.Header.{AreArguments, AreStanzas, Head, HeaderPa
 unfoldable pub use Rattle.age_header.specs.Header.{version_line}
 pub use Rattle.age_header.specs.Lines.{IsEnd, IsOutside, line_bytes}
 unfoldable pub use Rattle.age_header.specs.Mac.{header_mac}
-pub use Rattle.age_header.specs.Reader.{ReadsHeader, ReadsHeaderOf, Refuses}
+pub use Rattle.age_header.specs.Reader.{ReadAtMost, ReadsHeader, ReadsHeaderOf, Refuses}
 pub use Rattle.age_header.specs.Steps.{Leads, State, Step, between, within}
 pub use Rattle.age_header.specs.Text.{IsHeaderValue, IsPlain, IsWhole}
 unfoldable pub use Rattle.age_header.specs.Text.{body_lines, body_text, mac_end, signed_text, stanza_text}

@@ -1,17 +1,5 @@
 -- How much is read of a header that is refused.
-use Rattle.std.proofs.Common.{◌∙◌, ◌++◌, ◌∷◌, [], ◌+◌, ◌<◌, ◌≤◌, ℕ, ap, arith, length, length-append, Option}
-use Rattle.std.specs.Prelude.{⊤}
-use Rattle.age_kdf.specs.Bytes.{Bytes}
-use Rattle.age_header.specs.Device.{Flow, Gave, GaveAtMost, Seen, flow}
-use Rattle.age_header.specs.declared.fault.HeaderFault.{HeaderFault}
-use Rattle.age_header.specs.declared.fault.HeaderFault.TheVariants.{Read}
-use Rattle.age_header.specs.declared.lines.LineEnd.{LineEnd}
-use Rattle.age_header.specs.declared.lines.LineEnd.TheVariants.{Lf, Input, Room}
-use Rattle.age_header.specs.Header.{version_line, version_size}
-use Rattle.age_header.specs.Lines.{IsEnd, line_bytes}
-use Rattle.age_header.specs.Reader.{ReadAtMost}
-use Rattle.age_header.specs.Steps.{State}
-use Rattle.age_header.specs.Verdict.{lines_text}
+use Rattle.age_header.proofs.Common.{◌++◌, ◌∷◌, [], ◌+◌, ◌≤◌, ℕ, arith, length, length-append, Option, Bytes, Flow, Gave, GaveAtMost, Seen, flow, HeaderFault, Read, LineEnd, Lf, Input, Room, version_line, IsEnd, line_bytes, ReadAtMost, State, lines_text}
 use Rattle.age_header.proofs.DeviceLemmas.{gave_then}
 use Rattle.age_header.proofs.LengthLemmas.{length-version_line}
 use Rattle.age_header.proofs.VerdictPathLemmas.{Reached}
@@ -19,14 +7,6 @@ use Rattle.age_header.proofs.VerdictPathLemmas.{Reached}
 pub within : {a b c : Seen} {x : Bytes} (k n : ℕ) → Gave (flow a b) x → GaveAtMost k (flow b c) → length x + k ≤ n
     → GaveAtMost n (flow a c)
 within {x} k n g h low = (x ++ h.0, gave_then g h.1, omega (arith, length-append x h.0, h.2, low))
-
-pub most_of : (e : HeaderFault) (n : ℕ) (source : Flow) → GaveAtMost n source → ReadAtMost n source e
-most_of Read n source g = tt
-most_of e n source g = g
-
-pub most_under : (e : HeaderFault) (k n : ℕ) (source : Flow) → k ≤ n → ReadAtMost k source e → ReadAtMost n source e
-most_under Read k n source low h = tt
-most_under e k n source low h = (h.0, h.1, omega (arith, h.2, low))
 
 -- a line that was read under a limit
 pub line_most : (end : LineEnd) (text : Bytes) (k n : ℕ) (left : Option Bytes) (source : Flow)

@@ -1,5 +1,5 @@
 -- Lines that lead from state to state: joined, only one way, those of a header, and the text that a state stands for.
-use Rattle.age_header.proofs.Common.{◌≡◌, ◌*◌, List, [], ◌∷◌, ◌++◌, length, refl, sym, ap, append_assoc, ◌∙◌, ◌+◌, arith, codes, flat_map, inl, inr, ◌≢◌, length-append, append-nil, append_cancel_left, append_cancel_right, flat_map_more, AllByRecursion, concat, Bytes, IsBase64, StanzaParts, AreArguments, IsFullLine, argument_line, line, IsStanza, AreStanzas, version_line, State, between, within, Step, Leads, IsLineText, lines_text, concat-append, flat_map-append, IsHeaderPrefix, IsOpenStanza}
+use Rattle.age_header.proofs.Common.{◌≡◌, ◌*◌, List, [], ◌∷◌, ◌++◌, length, refl, sym, ap, append_assoc, ◌∙◌, ◌+◌, ◌<◌, line_size, arith, codes, flat_map, inl, inr, ◌≢◌, length-append, append-nil, append_cancel_left, append_cancel_right, flat_map_more, AllByRecursion, concat, Bytes, IsBase64, StanzaParts, AreArguments, IsFullLine, argument_line, line, IsStanza, AreStanzas, version_line, State, between, within, Step, Leads, IsLineText, lines_text, concat-append, flat_map-append, IsHeaderPrefix, IsOpenStanza}
 use Rattle.age_header.proofs.ArgumentsLemmas.{args_once}
 use Rattle.age_header.proofs.Base64Lemmas.{IsBase64-append, IsBase64-split, IsBase64-injective}
 use Rattle.age_header.proofs.LinesLemmas.{All-append, All-split, characters_text, lines_of, argument_text, argument_line_text}
@@ -43,6 +43,12 @@ pub no_base64 : (ss : List StanzaParts) (args : List Bytes) (body l : Bytes) (s 
     → Step (within ss args body) l s → ⊥
 no_base64 ss args body l (between ts) none h = none h.0 h.2
 no_base64 ss args body l (within ts args' body') none h = none h.0 h.4
+
+-- nor does one that is too long
+pub too_long : (ss : List StanzaParts) (args : List Bytes) (body l : Bytes) (s : State) → line_size < length l
+    → Step (within ss args body) l s → ⊥
+too_long ss args body l (between ts) long h = absurd (omega arith)
+too_long ss args body l (within ts args' body') long h = absurd (omega arith)
 
 -- a line leads one way
 pub Step-once : (s : State) (l : Bytes) (t u : State) → Step s l t → Step s l u → t ≡ u

@@ -11,10 +11,10 @@ directs_writing c =
     (c == 1564) || (c == 8206) || (c == 8207) || (nat_lt 8233 c && nat_lt c 8239)
     || (nat_lt 8293 c && nat_lt c 8298)
 
--- The text of a character that keeps a message on one line: a control character is a backslash with
--- a letter, or with x and its code in two hexadecimal digits. In an exact text, which no other name
--- has, a backslash and a quotation mark follow a backslash, and a character that sets the direction
--- is its code.
+-- The text of a character that keeps a message on one line and in its order: a control character
+-- is a backslash with a letter, or with x and its code in two hexadecimal digits, and a character
+-- that sets the direction is its code. In an exact text, which no other name has, a backslash and a
+-- quotation mark follow a backslash.
 abbrev pub escaped_char : (exact : Bool) → (c : ℕ) → List ℕ
 escaped_char exact c =
     if c == 10 then codes "\\n"
@@ -22,10 +22,10 @@ escaped_char exact c =
     else if c == 9 then codes "\\t"
     else if nat_lt c 16 then codes "\\x0" ++ digits 16 false c
     else if is_control c then codes "\\x" ++ digits 16 false c
+    else if directs_writing c then codes "\\u{" ++ digits 16 false c ++ codes "}"
     else if not exact then encode_utf8 c
     else if c == 92 then codes "\\\\"
     else if c == 34 then codes "\\\""
-    else if directs_writing c then codes "\\u{" ++ digits 16 false c ++ codes "}"
     else encode_utf8 c
 
 -- a name in a message

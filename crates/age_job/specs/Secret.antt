@@ -1,5 +1,6 @@
 -- The secrets that the options of a job name.
 use Rattle.std.specs.Prelude.{◌≡◌, ◌≤◌, ◌<◌, ◌+◌, Bool, false, List, Option, None, Some, IsSome, length, vec_len, ⊤}
+use Rattle.age_job.specs.Passphrase.{IsNewPassphrase}
 use Rattle.age_job.specs.declared.secret.Secret.{Secret}
 use Rattle.age_job.specs.declared.secret.Secret.TheVariants.{Passphrase, Keys}
 use Rattle.age_job.specs.declared.small_files.SecretFiles.{SecretFiles}
@@ -13,9 +14,10 @@ IsSecretOf None (Some name) more (Keys keys) =
     (0 < vec_len keys) × (vec_len keys ≤ 1 + length more)
 IsSecretOf pass key more secret = ⊥
 
--- a secret for a new file: its passphrase is not empty
+-- a secret for a new file: its passphrase is not empty, does not begin with a byte-order mark, and
+-- does not end in CR
 abbrev pub IsNewSecret : Secret → Type 0
-IsNewSecret (Passphrase bytes) = 0 < vec_len bytes
+IsNewSecret (Passphrase bytes) = IsNewPassphrase bytes.items
 IsNewSecret (Keys keys) = ⊤
 
 -- a file key exactly if its file is named and the header's own text is not asked for

@@ -3,6 +3,7 @@
 use crate::fault::Fault;
 use crate::file_names::{Bytes, Name, Quoted, Role};
 use crate::files::{MOST_SMALL, NamedFile, ReadFile};
+use crate::secret::Ends;
 use std::alloc::{AllocError, AllocFailed};
 use std::fmt::Write;
 use std::{fmt, io};
@@ -23,6 +24,8 @@ pub enum Detail<'a> {
     Size(Role, Name<'a>, usize),
     /// The passphrase file is empty.
     NoPassphrase(Role, Name<'a>),
+    /// What the passphrase begins or ends with that nobody types.
+    UntypedPassphrase(Role, Name<'a>, Ends),
     /// The file is not a device.
     NoDevice(Role, Name<'a>),
     /// The file that is to replace OUT exists.
@@ -112,14 +115,15 @@ impl fmt::Display for Detail<'_> {
             Detail::Size(role, name, len) => write_size(*role, *name, *len, f),
             Detail::NoPassphrase(role, name) => {
                 let (words, name) = (role.words(), Quoted(*name));
-                write!(f, "{words} {name}: no byte, or one LF alone")
+                write!(f, "{words} {name}: it is empty, or holds only one LF")
+            }
+            Detail::UntypedPassphrase(role, name, ends) => {
+                let (words, name, ends) = (role.words(), Quoted(*name), ends.words());
+                write!(f, "{words} {name}: the passphrase {ends}")
             }
             Detail::NoDevice(role, name) => {
                 let (words, name) = (role.words(), Quoted(*name));
-                write!(
-                    f,
-                    "{words} {name}: no device, so its bytes may be the same again"
-                )
+                write!(f, "{words} {name}: not a device, so its bytes may repeat")
             }
             Detail::NewFile(name) => {
                 let name = Quoted(*name);
@@ -146,9 +150,9 @@ fn write_size<W: fmt::Write>(
     }
     match role {
         Role::Key | Role::NewKey => {
-            f.write_str("; a key file holds 32 raw bytes, no hexadecimal")
+            f.write_str("; a key file holds 32 raw bytes, not hexadecimal")
         }
-        Role::FileKey => f.write_str("; a file key file holds 16 raw bytes, no hexadecimal"),
+        Role::FileKey => f.write_str("; a file key file holds 16 raw bytes, not hexadecimal"),
         Role::Seed => f.write_str("; a seed file holds at least 48 bytes"),
         Role::Input | Role::Passphrase | Role::NewPassphrase => Ok(()),
     }
@@ -168,11 +172,14 @@ impl fmt::Display for Tried<'_, '_> {
                     let (words, name) = (role.words(), Quoted(Name(name)));
                     let len = Bytes(u128::from(held.len));
                     write!(f, "{before}{words} {name} ({len}")?;
-                    f.write_str(match held.last {
-                        Some(b'\r') => "; the passphrase ends in CR)",
-                        Some(b'\n') => "; the passphrase ends in LF)",
-                        _ => ")",
-                    })?;
+                    let ends = match held.ends {
+                        Some(ends) => ends.words(),
+                        None => "",
+                    };
+                    if !ends.is_empty() {
+                        write!(f, "; the passphrase {ends}")?;
+                    }
+                    f.write_str(")")?;
                     before = ", ";
                 }
                 _ => {}

@@ -39,6 +39,8 @@ pub enum Fault<'a> {
     PassphraseLength,
     /// The passphrase for encrypting is empty.
     NoPassphrase,
+    /// The passphrase for encrypting ends in CR or begins with a byte-order mark.
+    UntypedPassphrase,
     /// An age file would be written to a terminal.
     OutputIsTerminal,
 }
@@ -84,6 +86,9 @@ impl fmt::Display for Fault<'_> {
             Fault::FileKeyLength => f.write_str("file key file must hold 16 bytes"),
             Fault::PassphraseLength => f.write_str("passphrase file is too long"),
             Fault::NoPassphrase => f.write_str("passphrase file is empty"),
+            Fault::UntypedPassphrase => {
+                f.write_str("passphrase ends in CR or begins with a byte-order mark")
+            }
             Fault::OutputIsTerminal => f.write_str("standard output is a terminal"),
         }
     }

@@ -44,7 +44,8 @@ impl fmt::Display for Role {
 }
 
 /// A file's name. Control characters, 0 to 31 and 127 to 159, are printed as escapes, so that a
-/// message stays on one line and no escape sequence reaches the terminal. Backslashes are not
+/// message stays on one line and no escape sequence reaches the terminal. So are characters that
+/// set the direction of writing, so that a name is shown in its own order. Backslashes are not
 /// escaped.
 #[derive(Clone, Copy, Debug, PartialEq, Eq)]
 pub struct Name<'a>(pub &'a str);
@@ -57,9 +58,9 @@ impl fmt::Display for Name<'_> {
     }
 }
 
-/// A file's name, printed so that no other name has the same text. Also escapes characters that set
-/// the direction of writing, and puts a backslash before a backslash or a quotation mark. A name
-/// that is empty, or begins or ends with a blank, is printed in quotation marks.
+/// A file's name, printed so that no other name has the same text. Also puts a backslash before a
+/// backslash or a quotation mark. A name that is empty, or begins or ends with a blank, is printed
+/// in quotation marks.
 #[derive(Clone, Copy, Debug, PartialEq, Eq)]
 pub struct Quoted<'a>(pub Name<'a>);
 
@@ -119,10 +120,10 @@ fn write_char<W: fmt::Write>(c: char, exact: bool, f: &mut fmt::Formatter<W>) ->
         '\t' => f.write_str("\\t"),
         _ if code < 16 => write!(f, "\\x0{code:x}"),
         _ if c.is_control() => write!(f, "\\x{code:x}"),
+        _ if directs_writing(code) => write!(f, "\\u{{{code:x}}}"),
         _ if !exact => f.write_char(c),
         '\\' => f.write_str("\\\\"),
         '"' => f.write_str("\\\""),
-        _ if directs_writing(code) => write!(f, "\\u{{{code:x}}}"),
         _ => f.write_char(c),
     }
 }
@@ -134,8 +135,8 @@ fn directs_writing(code: u32) -> bool
     matches!(code, 0x61c | 0x200e | 0x200f | 0x202a..=0x202e | 0x2066..=0x2069)
 }
 
-/// A text of several lines that quotes the command line. Control characters except LF are printed
-/// as escapes.
+/// A text of several lines that quotes the command line. Control characters except LF, and
+/// characters that set the direction of writing, are printed as escapes.
 #[derive(Drop)]
 pub struct Lines<'a, D>(pub &'a D);
 

@@ -7,6 +7,7 @@ use crate::fault::Fault;
 use crate::file_names::{Name, Role};
 use crate::inode::{Inode, Kind, STANDARD_INPUT, STANDARD_OUTPUT};
 use crate::job::{Command, Job};
+use crate::secret::Ends;
 use std::alloc::{AllocError, Global};
 use std::io::{ErrorKind, Read, Seek, SeekFrom};
 use std::rt::Files;
@@ -37,8 +38,8 @@ pub(crate) struct ReadFile<'a> {
 pub(crate) struct Held {
     /// The length in bytes.
     pub(crate) len: u64,
-    /// The last byte of a passphrase.
-    pub(crate) last: Option<u8>,
+    /// The ends of a passphrase.
+    pub(crate) ends: Option<Ends>,
 }
 
 /// The files that a job has opened for reading. The file to write is compared with them.

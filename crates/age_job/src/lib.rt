@@ -44,7 +44,7 @@ pub use file_names::{Bytes, Lines, Name, Quoted, Role};
 pub use files::ReadFiles;
 pub use job::{Command, Job};
 pub use output::{Output, refuse_output};
-pub use progress::{ERASE, Shown};
+pub use progress::{ERASE, Shown, shows_progress};
 pub use ranges::{DEFAULT_SEED, LEAST_HEADER, LEAST_WORK, MOST_HEADER, MOST_OFFSET, MOST_WORK};
 pub use secret::{SEED_LEN, Secret, exactly};
 pub use small_files::{read_encrypt_secrets, read_file_key, read_rewrap_secrets, read_secret};

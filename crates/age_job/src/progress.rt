@@ -1,9 +1,11 @@
 //! The line at a terminal that shows how much of IN was read.
 ghost use Rattle.std.specs.Prelude.{◌≡◌};
 
+use crate::inode::{Inode, Kind};
+use crate::job::Job;
 use std::fs::OpenOptions;
-use std::io::{Read, Seek, SeekFrom, Write};
-use std::rt::Files;
+use std::io::{IsTerminal, Read, Seek, SeekFrom, Write};
+use std::rt::{Env, Files};
 use std::time::Clock;
 use std::{fmt, io};
 
@@ -15,6 +17,48 @@ const PAUSE: u128 = 500;
 
 /// Moves to the start of the line, and erases it.
 pub const ERASE: &str = "\r\x1b[K";
+
+/// The terminal drops what follows the last column of the line.
+const CUT: &str = "\x1b[?7l";
+
+/// The terminal goes on in the next line.
+const WRAP: &str = "\x1b[?7h";
+
+/// The maximum number of bytes of a drawing. The longest has fewer.
+const MOST_DRAWN: usize = 256;
+
+/// Whether to show how much was read: with `--verbose`, if standard error is a terminal that can
+/// erase a line and the output does not go to a terminal.
+pub fn shows_progress<F: Files + Env, W: IsTerminal, E: IsTerminal>(
+    rt: &F,
+    job: &Job,
+    out: &W,
+    err: &E,
+) -> bool {
+    if !job.verbose || !err.is_terminal() || is_dumb(rt) {
+        return false;
+    }
+    match &job.output {
+        Some(name) => !may_be_terminal(rt, name.as_str()),
+        None => !out.is_terminal(),
+    }
+}
+
+/// Whether this is the name of a character device other than `/dev/null`. The standard library does
+/// not tell which of these are terminals.
+fn may_be_terminal<F: Files>(rt: &F, name: &str) -> bool {
+    match (Inode::at(rt, name), Inode::at(rt, "/dev/null")) {
+        (Ok(out), Ok(null)) => out.kind == Kind::CharDevice && !out.is(&null),
+        (Ok(out), Err(_)) => out.kind == Kind::CharDevice,
+        (Err(_), _) => false,
+    }
+}
+
+/// Whether the environment says that the terminal has no escape sequences.
+fn is_dumb<F: Env>(rt: &F) -> bool {
+    let mut name = [0u8; 4];
+    matches!(rt.var("TERM", &mut name), Ok(4)) && name == *b"dumb"
+}
 
 /// A reader, and the line that shows how much was read from it.
 #[derive(Drop)]
@@ -97,11 +141,16 @@ impl<C: Clock, T: Write + Drop> Line<'_, C, T> {
         }
     }
 
-    /// Draws the line. Ignores a failed write.
+    /// Draws the line, cut at the width of the terminal, in one write, so that no interrupt leaves
+    /// the terminal cutting lines. Ignores a failed write.
     fn draw(&mut self) {
         let portion = self.portion;
-        let _ = self.terminal.write_all(ERASE.as_bytes());
-        let _ = write!(self.terminal, "{portion}");
+        let mut drawn = [0u8; MOST_DRAWN];
+        let mut room = &mut drawn[..];
+        if write!(room, "{ERASE}{CUT}{portion}{WRAP}").is_ok() {
+            let len = MOST_DRAWN.saturating_sub(room.len());
+            let _ = self.terminal.write_all(&drawn[..len]);
+        }
     }
 }
 

@@ -1,7 +1,7 @@
 //! Secrets, and how they are read from the bytes of a file.
 
 ghost use Rattle.std.specs.Prelude.{◌≡◌, ◌≢◌, length, IfSome, IfNone};
-ghost use Rattle.age_job.specs.Passphrase.{passphrase_of};
+ghost use Rattle.age_job.specs.Passphrase.{begins_with_mark, ends_in_return, passphrase_of};
 
 /// The length of a seed in bytes: the file key, the nonce and the salt, 16 each.
 pub const SEED_LEN: usize = 48;
@@ -24,6 +24,49 @@ pub(crate) fn without_line_end(bytes: Vec<u8>) -> Vec<u8>
         let _ = passphrase.pop();
     }
     passphrase
+}
+
+/// Whether these bytes begin with a byte-order mark.
+pub(crate) fn begins_with_mark(bytes: &[u8]) -> bool
+    ensures { result ≡ begins_with_mark bytes.now }
+{
+    bytes.starts_with(b"\xef\xbb\xbf")
+}
+
+/// Whether these bytes end in CR.
+pub(crate) fn ends_in_return(bytes: &[u8]) -> bool
+    ensures { result ≡ ends_in_return bytes.now }
+{
+    bytes.ends_with(b"\r")
+}
+
+/// What messages say of the ends of a passphrase.
+#[derive(Clone, Copy)]
+pub struct Ends {
+    /// Whether it begins with a byte-order mark.
+    pub(crate) is_marked: bool,
+    pub(crate) last: Option<u8>,
+}
+
+impl Ends {
+    pub(crate) fn of(passphrase: &[u8]) -> Ends {
+        Ends {
+            is_marked: begins_with_mark(passphrase),
+            last: passphrase.last().copied(),
+        }
+    }
+
+    /// What the passphrase begins or ends with that nobody types, or an empty text.
+    pub(crate) fn words(self) -> &'static str {
+        match (self.is_marked, self.last) {
+            (false, Some(b'\r')) => "ends in CR",
+            (false, Some(b'\n')) => "ends in LF",
+            (true, Some(b'\r')) => "begins with a byte-order mark and ends in CR",
+            (true, Some(b'\n')) => "begins with a byte-order mark and ends in LF",
+            (true, _) => "begins with a byte-order mark",
+            (false, _) => "",
+        }
+    }
 }
 
 /// Converts bytes to an array of N bytes. Returns `None` for any other length.

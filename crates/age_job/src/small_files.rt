@@ -1,6 +1,7 @@
 //! The small files that hold a job's secrets: passphrases, keys and seeds.
 
 ghost use Rattle.std.specs.Prelude.{◌≤◌, ◌<◌, ◌+◌, length, vec_len, IfOk};
+ghost use Rattle.age_job.specs.Passphrase.{IsNewPassphrase};
 ghost use Rattle.age_job.specs.Secret.{IsChoice, IsFileKeyOf, IsNewSecret, IsReadFrom, IsSecretOf};
 
 use crate::failure::{Detail, Failure};
@@ -11,7 +12,9 @@ use crate::inode::{Inode, Kind};
 use crate::job::Job;
 use crate::output::refuse_terminal;
 use crate::ranges::DEFAULT_SEED;
-use crate::secret::{SEED_LEN, Secret, exactly, without_line_end};
+use crate::secret::{
+    Ends, SEED_LEN, Secret, begins_with_mark, ends_in_return, exactly, without_line_end,
+};
 use std::fs::OpenFile;
 use std::io::IsTerminal;
 use std::rt::Files;
@@ -44,7 +47,7 @@ pub fn read_encrypt_secrets<'a, F: Files + AllocGlobal, W: IsTerminal>(
     // one or more keys, not more than there are key files.
     ensures secret { IfOk result
         (λ read. IsSecretOf job.now.pass job.now.key job.now.more_keys.items read.0) }
-    // No new passphrase is empty.
+    // No new passphrase is empty, ends in CR or begins with a byte-order mark.
     ensures new { IfOk result (λ read. IsNewSecret read.0) }
 {
     let files = secret_files(job)?;
@@ -69,7 +72,7 @@ pub fn read_rewrap_secrets<'a, F: Files + AllocGlobal, W: IsTerminal>(
     // The new secret is a passphrase or keys by its options, as for `read_secret`.
     ensures other { IfOk result (λ read. IsSecretOf job.now.new_pass job.now.new_key
         job.now.more_new_keys.items read.1) }
-    // No new passphrase is empty.
+    // No new passphrase is empty, ends in CR or begins with a byte-order mark.
     ensures new { IfOk result (λ read. IsNewSecret read.1) }
 {
     let old = secret_files(job)?;
@@ -164,8 +167,7 @@ fn read_from<'a, F: Files + AllocGlobal>(
     }
 }
 
-/// The same, to make a file. Refuses an empty passphrase, which a failed command would have
-/// written: anyone could open the file.
+/// The same, to make a file.
 fn read_new_from<'a, F: Files + AllocGlobal>(
     rt: &F,
     read: &mut ReadFiles<'a>,
@@ -174,14 +176,36 @@ fn read_new_from<'a, F: Files + AllocGlobal>(
     ensures secret { IfOk result (λ secret. IsReadFrom files.entry secret) }
     ensures new { IfOk result IsNewSecret }
 {
-    let secret = read_from(rt, read, files)?;
-    match (&secret, files) {
-        (Secret::Passphrase(passphrase), SecretFiles::Passphrase(NamedFile { role, name }))
-            if passphrase.is_empty() => {
-            Err(Failure::with(Fault::NoPassphrase, Detail::NoPassphrase(role, Name(name))))
+    match files {
+        SecretFiles::Passphrase(named) => {
+            Ok(Secret::Passphrase(read_new_passphrase(rt, read, named)?))
         }
-        _ => Ok(secret),
+        SecretFiles::Keys(first, more) => Ok(Secret::Keys(read_keys(rt, read, first, more)?)),
     }
+}
+
+/// Reads the passphrase of a new file. Refuses an empty one, which a failed command would have
+/// written: anyone could open the file. Refuses one that ends in CR or begins with a byte-order
+/// mark, which an editor wrote: whoever types the passphrase could not open the file.
+fn read_new_passphrase<'a, F: Files + AllocGlobal>(
+    rt: &F,
+    read: &mut ReadFiles<'a>,
+    named: NamedFile<'a>,
+) -> Result<Vec<u8>, Failure<'a>>
+    // The passphrase is not empty, does not end in CR and does not begin with a byte-order mark.
+    ensures { IfOk result (λ passphrase. IsNewPassphrase passphrase.items) }
+{
+    let NamedFile { role, name } = named;
+    let passphrase = read_passphrase(rt, read, named)?;
+    let bytes = passphrase.as_slice();
+    if bytes.is_empty() {
+        return Err(Failure::with(Fault::NoPassphrase, Detail::NoPassphrase(role, Name(name))));
+    }
+    if begins_with_mark(bytes) || ends_in_return(bytes) {
+        let detail = Detail::UntypedPassphrase(role, Name(name), Ends::of(bytes));
+        return Err(Failure::with(Fault::UntypedPassphrase, detail));
+    }
+    Ok(passphrase)
 }
 
 /// Reads the bytes of this file, without one LF at the end.
@@ -198,10 +222,9 @@ fn read_passphrase<'a, F: Files + AllocGlobal>(
         return Err(Failure::with(Fault::PassphraseLength, Detail::Size(role, Name(name), len)));
     }
     let passphrase = without_line_end(bytes);
-    let last = passphrase.last().copied();
     read.note(Held {
         len: len as u64,
-        last,
+        ends: Some(Ends::of(passphrase.as_slice())),
     });
     Ok(passphrase)
 }
@@ -277,7 +300,7 @@ fn read_just<'a, F: Files + AllocGlobal, const N: usize>(
     let len = bytes.len();
     read.note(Held {
         len: len as u64,
-        last: None,
+        ends: None,
     });
     match exactly(bytes.as_slice()) {
         Some(bytes) => Ok(bytes),

@@ -1,10 +1,10 @@
 -- Slices of a payload that reads whole.
-use Rattle.std.proofs.Common.{◌≡◌, ℕ, List, [], ◌∷◌, ◌+◌, ◌-◌, ◌*◌, ◌/◌, ◌%◌, ◌<◌, ◌≤◌, length, take, drop, map, get_or, slice_get, slice_index, min, sym, ◌∙◌, ap, arith, refl, suc, zero, true, Some, None, Result, Ok, Err}
+use Rattle.std.proofs.Common.{◌≡◌, inl, inr, ℕ, List, [], ◌∷◌, ◌+◌, ◌-◌, ◌*◌, ◌/◌, ◌%◌, ◌<◌, ◌≤◌, length, take, drop, map, get_or, slice_get, slice_index, min, sym, ◌∙◌, ap, arith, refl, suc, zero, true, Some, None, Result, Ok, Err}
 use Rattle.std.specs.Prelude.{unwrap_or}
 use Rattle.std.specs.List.{concat, sum_by}
-use Rattle.std.proofs.lemmas.Bool.{le-ltb}
+use Rattle.std.proofs.lemmas.Bool.{cases_lt, le-ltb}
 use Rattle.std.proofs.lemmas.Option.{none-some, get_or_from_slice_get, slice_get_within}
-use Rattle.std.proofs.lemmas.List.{length-drop, length-append, length-take, take_at, drop_at, drop_all, get_or-take, get_or-drop, get_or-map}
+use Rattle.std.proofs.lemmas.List.{length-drop, length-append, length-take, take_at, drop_at, drop_all, get_or-take, get_or-drop, get_or-map, get_or_past}
 use Rattle.std.proofs.lemmas.List.Sums.{sum_by-cons}
 use Rattle.age_stream.specs.Words.{Bytes, sealed_text, FileKey, StreamFault, TooManyChunks, chunk_size, sealed_chunk_size}
 use Rattle.age_cipher.proofs.OpeningLemmas.{length-sealed_text, opened_text-sealed_text}
@@ -129,3 +129,20 @@ whole_slice k b p xs max at h s = slice_of xs p at (λ j lt.
     let z = s j lt in
     byte_of (payload_key k (take 16 b)) (drop 16 b) p z.0 max (at + j) (slice_index xs j)
     (whole_is k b p max h) z.1 z.2)
+
+-- each chunk opens to its part of the plaintext
+pub whole_chunk : (k : FileKey) (b p : Bytes) (max i : ℕ) → payload_reading k max b ≡ whole p
+    → chunk_size * i < length p
+    → opening (payload_key k (take 16 b)) (drop 16 b) i ≡ Some (take chunk_size (drop (chunk_size * i) p))
+whole_chunk k b p max i h less =
+    let key : Bytes = payload_key k (take 16 b) in
+    let is = cut_at chunk_size i p (omega arith) in
+    let within : i < length (chunks p) = elim (cases_lt i (length (chunks p))) [
+      | inl lt ↦ lt
+      | inr past ↦
+          let none : length (take chunk_size (drop (chunk_size * i) p)) ≡ 0 =
+          ap length (sym is ∙ get_or_past (chunks p) i [] past) in
+          absurd (omega (arith, length-take {A = ℕ}, length-drop {A = ℕ}))
+    ] in
+    ap (λ os. get_or os i None) (ap (openings key 0) (whole_is k b p max h).sealed_so ∙ openings_each key 0 (chunks p))
+    ∙ get_or-map Some (chunks p) i [] None within ∙ ap Some is

@@ -12,7 +12,8 @@
 //! ```
 //!
 //! `RangeReader` reads any part of a plaintext, and `salvage_payload` saves what it can of a
-//! damaged payload. `open_chunk` and `seal_chunk` work on one chunk in the caller's memory.
+//! damaged payload. `open_chunk`, `seal_chunk` and `save_piece` work on one chunk in the caller's
+//! memory.
 //!
 //! `sizes` has the sizes of a payload's parts, `specs/Sizes.antt` the same for clauses.
 //!
@@ -57,7 +58,7 @@ pub use reader::StreamReader;
 pub use refused::Refused;
 pub use runs::{LostRun, join_lost};
 pub use salvaged::{Losses, Lost, Salvaged, Saved};
-pub use salvaging::salvage_payload;
+pub use salvaging::{salvage_payload, save_piece};
 pub use sealing::{ChunkSealer, seal_chunk};
 pub use sizes::{CHUNK_SIZE, NONCE_SIZE, SEALED_CHUNK_SIZE, TAG_SIZE};
 pub use writer::StreamWriter;

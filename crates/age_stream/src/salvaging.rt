@@ -150,15 +150,19 @@ fn save_first(key: &[u8; 32], i: u128, bytes: &mut [u8], n: usize) -> (usize, Sa
     (end.saturating_sub(TAG_SIZE), saved)
 }
 
-/// Opens the first `end` bytes in place as chunk i, last or not, the likelier first. If they open
-/// as neither, zeros are written over their text.
-fn save_piece(key: &[u8; 32], i: u128, last: bool, bytes: &mut [u8], end: usize) -> Saved
+/// Saves what it can of the first `end` bytes, in place, as piece i. `last` says whether no byte
+/// follows them. The text of the chunk to which they open, or zeros, is then at the start of the
+/// buffer, `end - 16` bytes. What follows is unchanged.
+pub fn save_piece(key: &[u8; 32], i: u128, last: bool, bytes: &mut [u8], end: usize) -> Saved
     requires high { end ≤ length bytes.old }
     requires size { end ≤ sealed_chunk_size }
     requires small { i < most_chunks }
     ensures len { length bytes.new ≡ length bytes.old }
+    // The part that stands for the piece is returned, and its text is at the start of the buffer.
     ensures part { part key.now i last (take end bytes.old)
         ≡ record { text = take (end - tag_size) bytes.new; saved = result } }
+    // The bytes after the text are unchanged.
+    ensures rest { drop (end - tag_size) bytes.new ≡ drop (end - tag_size) bytes.old }
 {
     if end < TAG_SIZE {
         return Saved::Nothing;

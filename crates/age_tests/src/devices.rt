@@ -4,8 +4,8 @@ use age_header::{DeviceFault, Source};
 use age_stream::{MemAt, ReadAt};
 use std::cell::Cell;
 
-/// Gives at most `most` of these bytes at a time, counts its reads, and fails at the read with this
-/// number, counted from 1. Its contents are not known to proofs.
+/// Returns at most `most` of these bytes at a time, counts its reads, and fails at the read with
+/// this number, counted from 1. Proofs do not know its contents.
 #[derive(Drop)]
 pub(super) struct FailingSource<'a> {
     pub(super) rest: &'a [u8],

@@ -85,7 +85,7 @@ fn key_identities(rt: &impl Abort, alloc: Global, byte: u8) -> Identities {
     identities
 }
 
-/// What encrypting gives for these recipients, and what was written.
+/// The result of encrypting for these recipients, and the output.
 fn encrypted(
     alloc: Global,
     plain: &[u8],
@@ -104,7 +104,7 @@ fn encrypted(
     (answer, out.into_vec())
 }
 
-/// What decrypting gives to these identities, and what was written.
+/// The result of decrypting with these identities, and the output.
 fn decrypted(
     alloc: Global,
     file: &[u8],
@@ -178,7 +178,7 @@ fn chunk_limit_is_checked_at_the_ends_of_its_range(rt: HostRuntime) {
     }
 }
 
-/// More chunks than are allowed, in both directions.
+/// More chunks than allowed, in both directions.
 #[test]
 fn too_many_chunks_are_refused_in_both_directions(rt: HostRuntime) {
     let alloc = rt.alloc();
@@ -197,8 +197,7 @@ fn too_many_chunks_are_refused_in_both_directions(rt: HostRuntime) {
     assert_eq!(rt; front.len(), 65_536);
 }
 
-/// A damaged first chunk: nothing is written, and the source is read no further than one byte into
-/// the second.
+/// A damaged first chunk: nothing is written, and only one byte of the second chunk is read.
 #[test]
 fn damaged_first_chunk_writes_nothing(rt: HostRuntime) {
     let alloc = rt.alloc();
@@ -247,7 +246,7 @@ fn each_of_several_recipients_decrypts(rt: HostRuntime) {
     assert!(rt; answer == Err(Fault::NoMatch));
 }
 
-/// Stanzas of a caller's types go through both directions as they are.
+/// Stanzas of a caller's types are kept unchanged in both directions.
 #[test]
 fn foreign_stanzas_are_written_and_skipped(rt: HostRuntime) {
     let alloc = rt.alloc();

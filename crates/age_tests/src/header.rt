@@ -1,5 +1,5 @@
-//! Worked headers: what is read, what is written, and that calls which may return out of memory
-//! succeed.
+//! Headers worked out by hand: reading and writing them, and that calls which may return out of
+//! memory succeed.
 
 use age_header::{
     Header, HeaderFault, HeaderReader, MemSink, MemSource, ReadSource, Sink, Source, Stanza,
@@ -34,7 +34,7 @@ fn joined(rt: &impl Abort, alloc: Global, pieces: &[&[u8]]) -> Vec<u8> {
     text
 }
 
-/// How many stanzas are read, and how many bytes are left unread (at most 8 are looked for).
+/// The number of stanzas read, and the number of bytes left unread, up to 8.
 fn read(alloc: Global, text: &[u8], max: usize) -> Result<(usize, usize), HeaderFault> {
     let mut input = MemSource::new(text);
     let header = HeaderReader::new(max).read_from(alloc, &mut input)?;

@@ -1,5 +1,4 @@
-//! Passphrase stanzas with known answers: what is wrapped, what is unwrapped, and what each check
-//! says.
+//! Passphrase stanzas with known answers: wrapping, unwrapping, and the checks.
 
 mod keyed;
 mod labels;
@@ -27,7 +26,7 @@ const BODY: [u8; 32] = [
     0x46, 0x5b, 0x55, 0x35, 0xb9, 0xce, 0x33, 0x09, 0xe4, 0xd7, 0x86, 0xc9, 0x24, 0xe3, 0x58, 0xdb,
 ];
 
-/// What this passphrase with maximum 22 makes of one stanza.
+/// The answer of this passphrase, with maximum 22, to one stanza.
 fn unwrapped_stanza(
     rt: &impl Abort,
     alloc: Global,
@@ -46,8 +45,8 @@ fn unwrapped_stanza(
         .expect(rt, "no fault")
 }
 
-/// The checks, in their order: each stanza is wrong in what is named, and often in what is examined
-/// later too. Each row has the name of a vector of `tests/make_vectors.py` with this fault.
+/// The checks in their order: each stanza fails the check that is named, and often later ones, too.
+/// Each row has the name of a vector of `tests/make_vectors.py` with this fault.
 #[test]
 fn scrypt_stanza_is_checked_in_order(rt: HostRuntime) {
     let short = &BODY[..31];
@@ -148,7 +147,7 @@ fn passphrase_wraps_and_unwraps_the_known_stanza(rt: HostRuntime) {
     assert!(rt; other == Unwrapped::NotMine);
 }
 
-/// A stanza that `age -p` made, with the file key that Python found in it.
+/// A stanza made by `age -p`, with the file key that Python found in it.
 #[test]
 fn passphrase_unwraps_a_stanza_of_age(rt: HostRuntime) {
     let body = [
@@ -165,7 +164,7 @@ fn passphrase_unwraps_a_stanza_of_age(rt: HostRuntime) {
     assert!(rt; found == Unwrapped::Key(FileKey(key)));
 }
 
-/// Whether this pair's identity gives back the key that its recipient wraps.
+/// Whether the identity of this pair returns the key that its recipient wraps.
 fn gives_back<M: Matched>(rt: &impl Abort, alloc: Global, pair: &M) -> bool {
     let stanzas = pair.recipient().wrap(alloc, &KEY).expect(rt, "no fault");
     pair.identity()

@@ -1,4 +1,4 @@
-//! These calls succeed where memory is ample, which no contract says.
+//! These calls succeed if there is enough memory, which no contract says.
 
 use age_file::{FileKey, Fresh, Limits, PassError};
 use round_trip::{

@@ -55,7 +55,7 @@ fn written(
     (done, sink.into_vec())
 }
 
-/// The plaintext of a payload, read from a source that gives this many bytes at a time, and the
+/// The plaintext of a payload, read from a source that returns this many bytes at a time, and the
 /// number of its chunks.
 fn read(rt: &impl Abort, alloc: Global, payload: &[u8], most: usize) -> (Vec<u8>, u64) {
     let mut source = FailingSource::new(payload, most, 0);
@@ -70,7 +70,7 @@ fn read(rt: &impl Abort, alloc: Global, payload: &[u8], most: usize) -> (Vec<u8>
     panic!(rt; "more than 2^64 chunks")
 }
 
-/// The nonces of numbers about the ends of 32, 64 and 88 bits.
+/// The nonces of numbers around the limits of 32, 64 and 88 bits.
 #[test]
 fn chunk_nonce_is_the_index_and_the_last_flag(rt: HostRuntime) {
     assert_eq!(rt; chunk_nonce(0, true), [0, 0, 0, 0, 0, 0, 0, 0, 0, 0, 0, 1]);
@@ -112,7 +112,7 @@ fn empty_plaintext_is_one_empty_chunk(rt: HostRuntime) {
     assert_eq!(rt; sink.into_vec().as_slice(), EMPTY.as_slice());
 }
 
-/// A writer that is abandoned after an empty piece has written the nonce alone.
+/// A writer that is dropped after an empty piece has written only the nonce.
 #[test]
 fn abandoned_writer_has_written_only_the_nonce(rt: HostRuntime) {
     let alloc = rt.alloc();
@@ -126,7 +126,7 @@ fn abandoned_writer_has_written_only_the_nonce(rt: HostRuntime) {
     assert_eq!(rt; sink.into_vec().as_slice(), NONCE.as_slice());
 }
 
-/// Of the empty payload one empty chunk is lent, and then none.
+/// The empty payload lends one empty chunk, and then none.
 #[test]
 fn empty_payload_has_one_empty_chunk(rt: HostRuntime) {
     let mut source = MemSource::new(&EMPTY);
@@ -154,7 +154,8 @@ fn pieces_of_any_size_read_back(rt: HostRuntime) {
     }
 }
 
-/// How many chunks a plaintext has about a chunk's end, and how long its payload is.
+/// The number of chunks and the length of the payload, for plaintexts of sizes around a multiple of
+/// a chunk.
 #[test]
 fn chunks_are_counted_at_their_ends(rt: HostRuntime) {
     let alloc = rt.alloc();
@@ -178,7 +179,8 @@ fn chunks_are_counted_at_their_ends(rt: HostRuntime) {
     }
 }
 
-/// A failed write is returned again, and the sink, which would take the next, isn't called again.
+/// A failed write is returned again, and the sink, which would accept the next one, is not called
+/// again.
 #[test]
 fn writer_returns_a_failed_write_again(rt: HostRuntime) {
     let alloc = rt.alloc();

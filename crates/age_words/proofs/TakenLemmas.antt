@@ -381,7 +381,7 @@ no_help words has below none =
     plain : {b : Bool} → (b && true) ≡ false → b ≡ false
     plain e = grind arith
 
--- `help` is entered by its name alone
+-- `help` is entered only by its name
 is_help : (s : Shape) (word : Text) → s.name ≡ codes "help" → s.aliases ≡ [] → answers_to word (label_of s) ≡ true
     → bytes_eq word (codes "help") ≡ true
 is_help s word name none e =

@@ -47,7 +47,7 @@ first_fault fault after old same h = rw (← same, h) (refl, refl)
 
 -- ---- one chunk after another
 
--- so many chunks were opened, and their texts are at the start of the buffer
+-- this many chunks were opened, and their texts are at the start of the buffer
 pub record IsReadTo (key sealed old out : Bytes) (at len number : ℕ) : Type 0 where
   pub text : Bytes
   pub place : at ≡ sealed_chunk_size * number
@@ -59,7 +59,7 @@ pub record IsReadTo (key sealed old out : Bytes) (at len number : ℕ) : Type 0 
   pub reads : reading_from key limits.max_chunks 0 sealed
       ≡ before text (reading_from key limits.max_chunks number (drop at sealed))
 
--- what the first chunk gave
+-- the result of the first chunk
 opened : (o : Result Bytes StreamFault) (n : ℕ) (old new : Bytes) → GivesFirst o old new (Ok n)
     → (text : Bytes) × (o ≡ Ok text) × (n ≡ length text) × (new ≡ text ++ drop (length text) old)
 opened (Ok text) n old new (len, put) = (text, refl, cc (len), put)
@@ -70,7 +70,7 @@ faulty : (o : Result Bytes StreamFault) (fault : StreamFault) (old new : Bytes) 
 faulty (Ok text) fault old new h = absurd (cc (h.0))
 faulty (Err f) fault old new (is, same) = let one : f ≡ fault = cc (is) in (ap Err one, same)
 
--- what is given, by a buffer that begins with it
+-- the result, in a buffer that begins with it
 given : {reading : Reading StreamFault} {old new : Bytes} {len : ℕ} (text : Bytes) (fault : Option StreamFault)
     → reading ≡ record { plaintext = text ++ []; fault = fault } → len ≡ length text
     → new ≡ text ++ drop (length text) old → GivesReading reading old new len fault

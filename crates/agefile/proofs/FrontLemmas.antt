@@ -27,7 +27,7 @@ use Rattle.agefile.proofs.UnlockLemmas.{found_start, opened_start, under}
 
 -- ---- the bytes after the header
 
--- the first sixteen say where the chunks start
+-- the first sixteen bytes determine where the chunks start
 start_in : (len m : ℕ) (rest : Bytes) (key : Result FileKey Fault) → 16 ≤ m
     → start_under len (take m rest) key ≡ start_under len rest key
 start_in len m rest (Err fault) le = refl
@@ -38,7 +38,7 @@ start_in len m rest (Ok k) le = elim (cases_lt (length rest) 16) [
       rw (le-ltb (length (take m rest)) 16 long, le-ltb (length rest) 16 ge, take-take 16 m rest le) refl
 ]
 
--- the same of a beginning of a file
+-- the same for a beginning of a file
 start_behind : (len n : ℕ) (b : Bytes) (key : Result FileKey Fault) → len + 16 ≤ n
     → start_under len (drop len (take n b)) key ≡ start_under len (drop len b) key
 start_behind len n b key le =
@@ -97,7 +97,7 @@ pub one_start : (answers : Answering) (b : Bytes) {r s : Result Start Fault} →
 one_start answers b (h, first, is) (k, second, so) =
     rw (is, so, headers.one_verdict b limits.max_header h k first second) refl
 
--- what calls gave, where the bytes have this start
+-- the results of calls, if the bytes have this start
 pub gave : (answers : Answering) (b : Bytes) {s : Start} {p q : Payload} {report r : Report} {code : ℕ}
     {start : Result Start Fault} → StartsAt (Ok s) p report 0 → IsStart answers b (Ok s)
     → IsStart answers b start → StartsAt start q r code → (code ≡ 0) × ((q ≡ p) × (r ≡ report))
@@ -172,7 +172,7 @@ cut_short b max n x h short =
       low,
     )
 
--- what a shorter beginning gives: its header is cut short, or its nonce is
+-- the result for a shorter beginning: its header or its nonce is cut short
 abbrev ShortStart : (answers : Answering) (p : Bytes) → Type 0
 ShortStart answers p = IsStart answers p (Err HeaderTruncated) ⊎ IsStart answers p (Err NonceTruncated)
 

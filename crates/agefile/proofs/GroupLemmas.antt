@@ -20,7 +20,7 @@ use Rattle.agefile.proofs.RunLemmas.{fitting, some_code, text_of}
 
 -- ---- any calls
 
--- each chunk gives what R says of it under its number, from number i on; what they give, joined
+-- each chunk has the result that R gives for its number, from i on; the results, joined
 abbrev pub Numbered : (R : ℕ → Bytes → Bytes → Type 0) (i : ℕ) (chunks : List Bytes) (gave : Bytes) → Type 0
 Numbered R i [] gave = gave ≡ []
 Numbered R i (chunk ∷ more) gave =
@@ -39,14 +39,14 @@ numbered_append R i j (x ∷ xs) ys a b at (mine, rest, joined, here, more) on =
   numbered_append R (i + 1) j xs ys rest b (omega (arith, at)) more on,
 )
 
--- one call after another, and groups of them, where one call gives what R says
+-- single calls and groups of calls, if each call has the result that R gives
 module _ (R : Bytes → ℕ → Bytes → Bytes → Type 0) (Call : (old new : Payload) (chunk gave : Bytes) → Type 0)
     (PartCall : (old new : Part) (chunk gave : Bytes) → Type 0)
     (call : (old new : Payload) (chunk gave : Bytes) → Call old new chunk gave
     → R old.key old.number chunk gave × ((new.key ≡ old.key) × (new.number ≡ old.number + 1)))
     (part_call : (old new : Part) (chunk gave : Bytes) → PartCall old new chunk gave
     → R old.key old.number chunk gave × ((new.key ≡ old.key) × (new.number ≡ old.number + 1))) where
-  -- what some chunks come to
+  -- the result of some chunks
   abbrev pub Comes : (old new : Payload) (chunks : List Bytes) (gave : Bytes) → Type 0
   Comes old new chunks gave = Numbered (R old.key) old.number chunks gave
       × ((new.key ≡ old.key) × (new.number ≡ old.number + length chunks))
@@ -160,7 +160,7 @@ part_opens p new piece text (after, report, step, is) =
     let s = opens_next (part.payload_of p) q piece after false report call in
     (rw is s.0, rw part_is (refl, s.1.1))
 
--- where these pieces open and more follow, the outcomes are the texts and those of what follows
+-- if these pieces open and more follow, the outcomes are the texts and those of the rest
 pub goes_on : (key : Bytes) (i j : ℕ) (cs : List Bytes) (text d : Bytes) (ds : List Bytes) → j ≡ i + length cs
     → Numbered (OpensOne key) i cs text
     → (plaintext_of (outcomes key limits.max_chunks i (cs ++ d ∷ ds))

@@ -76,7 +76,7 @@ found_whole b (Err fault) same (inl memory) = inl memory
 found_whole b (Err fault) same (inr (reason, found, is)) =
     inr (reason, whole_verdict b (Err reason) (rw same at found), is)
 
--- what a caller is given of a header
+-- what a caller gets of a header
 pub inspected : (b : Bytes) {h : Bytes} (header : HeaderParts) {old : Summary} {report : Report} {len stanzas : ℕ}
     {mac : Bytes} → HeaderOf b (Ok header) → report ≡ report_of 0 None
     → Head header.stanzas header.mac h → len ≡ min (length h) (2 ^ 64 - 1) → stanzas ≡ length header.stanzas

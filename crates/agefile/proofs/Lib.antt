@@ -4,6 +4,7 @@ mod GroupLemmas
 mod HeaderLemmas
 pub mod RangeLemmas
 mod RunLemmas
+mod SalvageLemmas
 pub mod SizeLemmas
 mod VerdictLemmas
 mod UnlockLemmas

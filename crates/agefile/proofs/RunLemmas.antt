@@ -48,13 +48,13 @@ at_chunk key i phase = record (before_first key phase) { number = i }
 
 -- ---- calls that open
 
--- what these outcomes give: the texts up to the first fault, and its code and place
+-- the results of these outcomes: the texts up to the first fault, its code and its number
 abbrev pub IsReadAs : (os : List (Result Bytes StreamFault)) (text : Bytes) (code place : ℕ) → Type 0
 IsReadAs os text code place =
     (text ≡ plaintext_of os) × ((code ≡ code_of (option_map stream_fault (first_fault os)))
     × (place ≡ (report_of 0 (option_map stream_fault (first_fault os))).place))
 
--- one call and those after it
+-- one call and the calls after it
 read_on : (p new : Payload) (last : Bool) (more : List Bytes) (chunk after text : Bytes) (report : Report)
     (step code place : ℕ) (o : Result Bytes StreamFault) (os : List (Result Bytes StreamFault))
     → Opened chunk after report step o → new ≡ after_chunk p last step
@@ -88,7 +88,7 @@ run_reads key i (c ∷ d ∷ more) text code place sizes (new, after, report, st
     (outcome key limits.max_chunks i false c) (outcomes key limits.max_chunks (i + 1) (d ∷ more)) opens state
     (λ rest run. run_reads key (i + 1) (d ∷ more) rest code place sizes.1 run) on
 
--- the same of all that follows a nonce
+-- the same for everything after a nonce
 pub payload_reads : (p : Payload) (rest text : Bytes) (code place : ℕ) → p ≡ before_first p.key phase_reading
     → OpensRun p (pieces rest) text code place
     → IsReadAs (outcomes p.key limits.max_chunks p.number (pieces rest)) text code place
@@ -107,7 +107,7 @@ AreSealed key i cs out code =
     ((code ≡ 0) × ((out ≡ concat (sealed_chunks_from key i cs)) × (i + length cs ≤ limits.max_chunks)))
     ⊎ ((code ≡ 14) × (limits.max_chunks < i + length cs))
 
--- one call and those after it
+-- one call and the calls after it
 seal_on : (key : Bytes) (i : ℕ) (c room : Bytes) (more : List Bytes) (out : Bytes) (code : ℕ) (new : Payload)
     (after : Bytes) (report : Report) (step : ℕ) → length room ≡ 16
     → SealsAs key i (is_end more) (c ++ room) after report step

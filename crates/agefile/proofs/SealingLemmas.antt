@@ -42,7 +42,7 @@ first_sealed key number size left front back room sized is copied tag sealed_so 
 
 -- ---- one chunk after another
 
--- so many chunks were sealed, and are at the start of the buffer
+-- this many chunks were sealed, and are at the start of the buffer
 pub record IsSealedTo (key plain out : Bytes) (at done number : ℕ) : Type 0 where
   pub text : Bytes
   pub begins : take done out ≡ text

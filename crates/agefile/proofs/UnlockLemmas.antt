@@ -12,7 +12,8 @@ use Rattle.age_stream.specs.Reading.{Reading, stop}
 use Rattle.age_file.specs.declared.fault.Fault.{Fault}
 use Rattle.age_file.specs.declared.fault.Fault.TheVariants.{OutOfMemory, BadMac, MixedPassphrase, NonceTruncated}
 use Rattle.age_file.specs.Inspect.{Inspects}
-use Rattle.age_file.specs.Verdict.{Answering, IsVerdict, header_fault, reading_after, parts_of, reading_under, header_key, checked_key, finding}
+use Rattle.age_file.specs.Verdict.{Answering, IsVerdict, header_fault, reading_after, parts_of, reading_under, header_key, if_right, finding}
+use Rattle.age_file.proofs.FileLemmas.{tested_key}
 use Rattle.age_file.proofs.DecryptLemmas.{err_err}
 use Rattle.age_file.proofs.FileLemmas.{one_verdict}
 use Rattle.agefile.specs.declared.report.Report.{Report}
@@ -56,7 +57,7 @@ fronts {source} {b} {rest} come left (Ok parts, is, reads) =
 
 -- ---- the file key
 
--- a length is given with a file key, or with its fault
+-- a length comes with a file key, or with its fault
 key_with : (n : ℕ) {found : Unlocked} {key : Result FileKey Fault} → Ok found ≡ with_len n key
     → (key ≡ Ok found.key) × (found.header_len ≡ n)
 key_with n {key = Err fault} e = absurd (cc)
@@ -151,14 +152,14 @@ same_key : (t : Bool) (j k : FileKey) → ◌≡◌ {A = Result FileKey Fault} (
 same_key true j k e = ok_ok e
 same_key false j k e = absurd (cc)
 
--- where a key was chosen and its MAC verified, it is so of this key
+-- if a key was chosen and its MAC verified, this holds for this key
 key_again : (answers : Answering) (p : HeaderParts) (k : FileKey) → header_key answers p ≡ Ok k
     → header_key (by_file_key k.0) p ≡ Ok k
 key_again answers p k e = go (is_mixed p.stanzas) (choice (answers p.stanzas)) e
   where
     go : (t : Bool) (chosen : Result FileKey UnlockFault)
-        → cond t (Err MixedPassphrase) (checked_key p chosen) ≡ Ok k
-        → cond t (Err MixedPassphrase) (checked_key p (Ok k)) ≡ Ok k
+        → if_right (cond t (Err MixedPassphrase) (tested_key p chosen)) ≡ Ok k
+        → if_right (cond t (Err MixedPassphrase) (tested_key p (Ok k))) ≡ Ok k
     go true chosen e = absurd (cc)
     go false (Err fault) e = absurd (cc)
     go false (Ok j) e = rw (same_key (bytes_eq p.mac (header_mac j.0 p.stanzas)) j k e) at e
@@ -221,7 +222,7 @@ start_found answers {b} {rest} nonce {key} found finds back long nonce_is key_is
 
 -- ---- what a start is
 
--- a file key was unlocked, sixteen bytes follow the header, and the chunks start behind them
+-- a file key was unlocked, sixteen bytes follow the header, and the chunks start after them
 pub record StartsUnder (len : ℕ) (rest : Bytes) (key : Result FileKey Fault) (s : Start) : Type 0 where
   pub k : FileKey
   pub unlocks : key ≡ Ok k

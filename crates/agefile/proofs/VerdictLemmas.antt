@@ -69,7 +69,7 @@ opening_refused answers b p report code v opens h some other =
     refused (Ok start) opens from = absurd (some opens.0)
     refused (Err fault) opens from = refusal fault v opens from
 
--- the verdict, where the payload was opened
+-- the verdict, if the payload was opened
 pub by_payload : (answers : Answering) (b : Bytes) (p : Payload) (report : Report) (v : Reading Fault)
     → Opens answers (take front_size b) p report 0 → IsVerdict limits answers b v
     → (p ≡ before_first p.key phase_reading)

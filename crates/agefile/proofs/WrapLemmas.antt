@@ -31,7 +31,7 @@ signed_least ss =
       length-append (flat_map stanza_text ss) (codes "---"),
     )
 
--- what stands between the version line and `---`
+-- the text between the version line and `---`
 between : (ss : List StanzaParts) → drop 22 (take (length (signed_text ss) - 3) (signed_text ss))
     ≡ flat_map stanza_text ss
 between ss =

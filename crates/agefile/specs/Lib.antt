@@ -8,6 +8,7 @@ pub mod Part
 pub mod Payload
 pub mod Ranges
 pub mod Report
+pub mod Salvage
 pub mod Sizes
 pub mod Unlock
 pub mod Wrapping

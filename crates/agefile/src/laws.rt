@@ -1,11 +1,12 @@
 //! Laws about the definitions alone. Each is the contract of a function that does nothing.
 
-ghost use Rattle.std.specs.Prelude.{Ok, List, [], ◌∷◌, drop, length, take, true, ℕ, ◌≤◌, ◌%◌, ◌++◌, ◌+◌, ◌/◌, ◌<◌, ◌≡◌, ◌≢◌, ◌⊎◌};
+ghost use Rattle.std.specs.Prelude.{Ok, List, [], ◌∷◌, drop, length, map, take, true, ℕ, ◌≤◌, ◌%◌, ◌++◌, ◌+◌, ◌/◌, ◌<◌, ◌≡◌, ◌≢◌, ◌⊎◌};
 ghost use Rattle.std.specs.List.{concat};
 ghost use Rattle.age_kdf.specs.Bytes.{Bytes};
 ghost use Rattle.age_header.specs.Header.{IsStanza, StanzaParts};
 ghost use Rattle.age_stream.specs.Payload.{chunks, pieces, sealed_chunks_from};
 ghost use Rattle.age_stream.specs.Reading.{Reading, outcome, whole};
+ghost use Rattle.age_stream.specs.Salvage.{parts};
 ghost use Rattle.age_stream.specs.Sizes.{chunk_size, nonce_size, tag_size};
 ghost use Rattle.age_stream.specs.Slice.{IsSlice, last_outcome, plain_len};
 ghost use Rattle.age_file.specs.declared.fault.Fault.{Fault};
@@ -21,9 +22,10 @@ ghost use Rattle.agefile.specs.Groups.{OpensGroups, OpensRun, SealsGroups, Seals
 ghost use Rattle.agefile.specs.Heading.{BeginsFile};
 ghost use Rattle.agefile.specs.Sizes.{limits, front_size};
 ghost use Rattle.agefile.specs.Unlock.{IsStart, Opens, Unlocks, by_file_key};
-ghost use Rattle.agefile.specs.Payload.{OpensNext, SealsNext};
+ghost use Rattle.agefile.specs.Payload.{OpensNext, SealsNext, before_first, phase_reading};
 ghost use Rattle.agefile.specs.Ranges.{OpensRanges, piece_outcome, last_index, piece_at, plain_of};
 ghost use Rattle.agefile.specs.Report.{report_of};
+ghost use Rattle.agefile.specs.Salvage.{Given, SavesRun, given_of};
 
 /// Reading a file in steps returns what decrypting it returns. The first 65,552 bytes of a file
 /// suffice to open it. A fault of opening, other than out of memory, is that of the verdict, before
@@ -53,6 +55,14 @@ pub fn steps_write()
         → SealsRun p (chunks plain) out code
         → ((code ≡ ok) × IsNewFile stanzas file_key nonce plain (take report.len new ++ out))
         ⊎ ((code ≡ too_many_chunks) × (limits.max_chunks < length (chunks plain))) }
+{}
+
+/// Salvaging a payload in steps returns what `age_stream::salvage_payload` writes of it: the texts
+/// of its parts, in order, and for each what was saved.
+pub fn steps_save()
+    ensures { (key rest : Bytes) (given : List Given)
+        → SavesRun (before_first key phase_reading) (pieces rest) given
+        → given ≡ map given_of (parts key 0 (pieces rest)) }
 {}
 
 /// Reading ranges in steps returns parts of the plaintext. The first 65,552 bytes of a file and its

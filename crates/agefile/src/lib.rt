@@ -21,6 +21,7 @@
 //! - `decrypting`, `sealing`: whole buffers under a file key;
 //! - `opening`: the start of a payload under a file key;
 //! - `payload`, `part`: chunks in order, and in several threads;
+//! - `salvaging`: what is left of a damaged payload;
 //! - `ranges`: parts of a plaintext;
 //! - `sizes`: the sizes of buffers;
 //! - `version`.
@@ -48,6 +49,7 @@ mod payload;
 mod phase;
 mod ranges;
 mod report;
+mod salvaging;
 mod sealing;
 mod sizes;
 mod start;

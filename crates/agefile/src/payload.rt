@@ -49,7 +49,7 @@ impl Payload {
     }
 
     /// Whether the payload may open a chunk of this length next.
-    fn may_open(&self, len: usize, last: bool) -> bool
+    pub(crate) fn may_open(&self, len: usize, last: bool) -> bool
         ensures { result ≡ may_open self.now len last }
     {
         self.state == READING && is_chunk_len(len, last)
@@ -114,7 +114,7 @@ pub extern "C" fn agefile_seal_next(
 }
 
 /// Counts an accepted chunk, or keeps a fault.
-fn go_on(payload: &mut Payload, last: bool, code: u32)
+pub(crate) fn go_on(payload: &mut Payload, last: bool, code: u32)
     requires { code ≡ ok → payload.old.number + 1 < 2 ^ 64 }
     ensures { payload.new ≡ after_chunk payload.old last code }
 {

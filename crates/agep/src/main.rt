@@ -48,11 +48,11 @@ fn run(rt: &HostRuntime, owned: &[String]) -> u8
     )
 }
 
-/// If standard output or standard error is closed, opens folders on the numbers of the closed
-/// streams, or returns `None` if no folder opens. Otherwise a file opened later could get such a
-/// number, and what is written to the stream would go into that file. A folder can be neither read
-/// nor written, under its number or under `/dev/stdout`. Standard input needs none: a file that
-/// gets its number before it is read is open for writing only.
+/// If standard output or standard error is closed, opens folders on the descriptors of the closed
+/// streams, or returns `None` if no folder can be opened. Otherwise a file opened later could get
+/// such a descriptor, and output to the stream would go into that file. A folder can be neither
+/// read nor written, by its descriptor or as `/dev/stdout`. Standard input needs none, because a
+/// file that gets its descriptor before it is read is open for writing only.
 fn hold_streams(rt: &HostRuntime) -> Option<[Option<File>; 3]> {
     if are_open(rt) {
         return Some([None, None, None]);
@@ -64,8 +64,8 @@ fn hold_streams(rt: &HostRuntime) -> Option<[Option<File>; 3]> {
     ])
 }
 
-/// Whether standard output and standard error are open: the ends of a pipe get the lowest numbers
-/// that are free.
+/// Whether standard output and standard error are open: the ends of a pipe get the lowest free
+/// descriptors.
 fn are_open(rt: &HostRuntime) -> bool {
     match io::pipe(rt) {
         Ok((reader, writer)) => {
@@ -76,7 +76,7 @@ fn are_open(rt: &HostRuntime) -> bool {
     }
 }
 
-/// Opens a folder that may be read.
+/// Opens a folder that the user may read.
 fn open_folder(rt: &HostRuntime) -> Option<File> {
     for name in ["/", ".", "/dev"] {
         if let Ok(folder) = File::open(rt, name) {
@@ -86,7 +86,7 @@ fn open_folder(rt: &HostRuntime) -> Option<File> {
     None
 }
 
-/// Prints why the arguments cannot be read. A failed write changes nothing: the status says enough.
+/// Prints why the arguments cannot be read. If that fails, the status must suffice.
 fn refuse(rt: &HostRuntime, kind: io::ErrorKind) -> u8
     ensures { result ≤ 2 }
 {

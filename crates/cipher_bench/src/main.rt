@@ -54,7 +54,7 @@ fn filled(alloc: Global, byte: u8, len: usize) -> Result<Vec<u8>, AllocError>
     vec![in alloc; byte; len]
 }
 
-// What the part makes of one more text, cut to 8 bytes.
+// The result of the part for one more text, cut to 8 bytes.
 fn one_text(
     part: Part,
     key: &[u8; 32],

@@ -1,5 +1,5 @@
-//! A program that depends on `age_file` alone: it encrypts a text for a recipient of its own and
-//! decrypts it with an identity of its own.
+//! A program that depends only on `age_file`: it encrypts a text for its own recipient and decrypts
+//! it with its own identity.
 #![tactic(auto)]
 
 mod objects;
@@ -11,7 +11,7 @@ use objects::{Held, Plug};
 use std::alloc::Global;
 use std::{io, str};
 
-// A real caller draws these 32 bytes anew for each file.
+// A real caller must draw fresh bytes for each file.
 const FRESH: Fresh = Fresh {
     file_key: FileKey([1; 16]),
     nonce: [2; 16],
@@ -30,7 +30,7 @@ fn main(rt: HostRuntime) -> io::Result<()> {
     }
 }
 
-/// The file of a text, and the text that is read from it.
+/// Encrypts a text, and returns the file and the text decrypted from it.
 fn file_and_text(alloc: Global, text: &[u8]) -> Result<(Vec<u8>, Vec<u8>), Fault> {
     let mut recipients: Vec<Box<dyn Recipient>> = Vec::new(alloc);
     let mut identities: Vec<Box<dyn Identity>> = Vec::new(alloc);

@@ -3,7 +3,7 @@
 use age_file::{FileKey, Identity, Recipient, Stanza, Unwrapped, WrapFault};
 use std::alloc::{AllocError, Global};
 
-/// Gives a stanza of a type that nobody else knows.
+/// Returns a stanza of a type that no other program knows.
 #[derive(Drop)]
 pub(crate) struct Plug;
 
@@ -23,7 +23,7 @@ impl Recipient for Plug {
     }
 }
 
-/// Holds the file key of one file already, as an agent might.
+/// Already holds the file key of one file, as an agent might.
 #[derive(Drop)]
 pub(crate) struct Held {
     pub(crate) key: FileKey,

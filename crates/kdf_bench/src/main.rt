@@ -1,6 +1,6 @@
 //! One scrypt key, for the benchmark: `kdf_bench LOG_N R P` derives 32 bytes and prints them.
 //!
-//! If the memory is refused it says so, and whether the output is unchanged. `bench/peers.py`
+//! If the memory is refused, it reports that, and whether the output is unchanged. `bench/peers.py`
 //! builds and times it.
 #![tactic(auto)]
 

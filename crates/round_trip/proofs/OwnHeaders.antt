@@ -16,7 +16,7 @@ use Rattle.age_file.specs.NewFile.{Gathered, IsRefusal}
 use Rattle.age_file.proofs.OwnLabels.{one_index}
 use Rattle.age_recipient.proofs.HeaderSizeLemmas.{key_header, pass_header}
 
--- what one recipient gives, where it gives its stanza
+-- what one recipient returns, if it returns its stanza
 abbrev Given : (stanza : StanzaParts) (meant : Labels) (gathered : Result (List StanzaParts) Fault) → Type 0
 Given stanza meant gathered = Gathered (Ok (stanza ∷ []) ∷ []) (meant ∷ []) gathered
 
@@ -26,11 +26,11 @@ given_is stanza meant (None, apart, e) = e
 given_is stanza meant (Some i, apart, e) = let none : Some i ≡ None = one_index meant (Some i) apart in
     absurd (cc)
 
--- every header of the stanza alone has at most so many bytes
+-- every header with only this stanza has at most this many bytes
 abbrev IsShort : (stanza : StanzaParts) → Type 0
 IsShort stanza = (mac text : Bytes) → Head (stanza ∷ []) mac text → length text ≤ 1024
 
--- no header of the stanza alone is refused
+-- no header with only this stanza is refused
 unrefused : (limits : Bounds) (k : FileKey) (stanza : StanzaParts) (meant : Labels) → IsBounds limits → IsShort stanza
     → (fault : Fault)
     → IsRefusal limits k (Gathered (Ok (stanza ∷ []) ∷ []) (meant ∷ [])) fault → ⊥

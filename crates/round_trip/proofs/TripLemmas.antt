@@ -62,7 +62,7 @@ lost_of_whole limits answers b plain Read old new once is count h = absurd (omeg
 lost_of_whole limits answers b plain fault old new once is count h =
     absurd (none-some fault (ap (λ (v : Reading Fault). v.fault) (once (whole plain) h.0 is h.1) ∙ h.2))
 
--- the same where the identity stands alone in a list
+-- the same if the identity is the only one
 pub lost_of_one : {X : Type 0} {limits : Bounds} (meaning : X → List StanzaParts → Unwrapped) {xs : List X} {x : X}
     {b plain : Bytes} {fault : Fault} (old new : Known) → xs ≡ x ∷ [] → IsOnce limits (λ s. meaning x s ∷ []) b
     → IsVerdict limits (λ s. meaning x s ∷ []) b (whole plain)
@@ -86,7 +86,7 @@ unwritten limits fresh gathered plain Read old new count refused h = absurd (ome
 unwritten limits fresh gathered plain TooManyChunks old new count refused h = inr (inl (refl, h.1.too_many))
 unwritten limits fresh gathered plain _ old new count refused h = inr (inr refused)
 
--- the same where the recipient stands alone in a list
+-- the same if the recipient is the only one
 pub unwritten_of_one : {X : Type 0} (limits : Bounds) (fresh : Fresh) (wraps : X → Result (List StanzaParts) ℕ)
     (labels : X → Labels) {xs : List X} {x : X} {plain : Bytes} {fault : Fault}
     (old new : Known) → xs ≡ x ∷ [] → CountsFaultIf is_read 0 0 fault
@@ -100,7 +100,7 @@ unwritten_of_one limits fresh wraps labels {x} {plain} {fault} old new list coun
     (subst (λ z. EncryptsText limits fresh (Gathered (map wraps z) (map labels z)) plain (move_of old new) (Err fault))
     list (of_known _ source plain come h))
 
--- a loss where no header is refused
+-- a loss, if no header is refused
 pub no_refusal : {refuses : Fault → Type 0} (limits : Bounds) (plain : Bytes) {fault : Fault}
     → ((fault : Fault) → refuses fault → ⊥)
     → IsUnwritten refuses limits plain fault → IsUnwritten none limits plain fault

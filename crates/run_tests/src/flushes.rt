@@ -4,7 +4,7 @@ use age_cli::run;
 use std::io;
 use std::io::{ErrorKind, IsTerminal, Write};
 use std::process::Abort;
-use std::rt::Files;
+use std::rt::{Env, Files};
 use std::time::Clock;
 
 /// A header of one stanza, and one that ends within its version line.
@@ -13,7 +13,7 @@ const HEADER: &[u8] =
 
 const CUT: &[u8] = b"age-enc";
 
-/// Keeps what it takes, and how much of it was there at each flush. Refuses each flush, or none.
+/// Keeps the bytes written, and their number at each flush. Fails at every flush, or at none.
 #[derive(Drop)]
 struct Buffered {
     taken: Vec<u8>,
@@ -40,9 +40,9 @@ impl IsTerminal for Buffered {
     }
 }
 
-/// Runs these words on an input. The output has this many bytes, which were there at its only
-/// flush; if each flush is refused, the line of a failed write is the only one.
-fn expect_flushed<F: Files + Clock + AllocGlobal + Abort>(
+/// Runs these arguments on an input. The output must have this many bytes, all written before its
+/// only flush; if flushes fail, the message of a failed write must be the only one.
+fn expect_flushed<F: Files + Clock + Env + AllocGlobal + Abort>(
     rt: &F,
     words: &[&str],
     input: &[u8],

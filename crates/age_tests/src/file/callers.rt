@@ -1,4 +1,4 @@
-//! Recipients and identities of a caller: what the calls make of each.
+//! Recipients and identities of a caller, and the results of calls with them.
 
 use super::objects::{
     CountingIdentity, FixedIdentity, LabelledRecipient, LongRecipient, NoStanza,
@@ -27,8 +27,7 @@ pub(super) const OTHER_STANZA: &[u8] = b"-> x\n\n";
 
 pub(super) const END: &[u8] = b"--- AAAAAAAAAAAAAAAAAAAAAAAAAAAAAAAAAAAAAAAAAAA\n";
 
-/// What a caller's identity makes of the stanzas, with the right identity after it: what decrypting
-/// returns, and what it writes.
+/// The result and the output of decrypting with a caller's identity, followed by the right one.
 #[test]
 fn callers_identity_decides_before_the_next(rt: HostRuntime) {
     let alloc = rt.alloc();
@@ -79,7 +78,7 @@ fn callers_identity_decides_before_the_next(rt: HostRuntime) {
     assert!(rt; plain.is_empty());
 }
 
-/// A recipient whose stanza has one argument of so many letters.
+/// A recipient whose stanza has one argument of this many letters.
 fn recipients_of_length(rt: &impl Abort, alloc: Global, count: usize) -> Recipients {
     let mut text = String::new(alloc);
     for _ in 0..count {
@@ -92,7 +91,7 @@ fn recipients_of_length(rt: &impl Abort, alloc: Global, count: usize) -> Recipie
     recipients
 }
 
-/// What is refused before the first byte, and the greatest header.
+/// Refusals before the first byte, and the largest header.
 #[test]
 fn refused_recipients_write_nothing(rt: HostRuntime) {
     let alloc = rt.alloc();
@@ -163,7 +162,7 @@ fn refused_recipients_write_nothing(rt: HostRuntime) {
     assert_eq!(rt; out.len(), 188);
 }
 
-/// Recipients with these labels; None stands for one that must stand alone.
+/// Recipients with these labels; None stands for one that must be alone.
 fn labelled(rt: &impl Abort, alloc: Global, all: &[Option<&[&str]>]) -> Recipients {
     let mut recipients: Recipients = Vec::new(alloc);
     for names in all {
@@ -178,7 +177,7 @@ fn labelled(rt: &impl Abort, alloc: Global, all: &[Option<&[&str]>]) -> Recipien
     recipients
 }
 
-/// Recipients go together where their labels are the same set of names.
+/// Recipients go together if their labels are the same set of names.
 #[test]
 fn recipients_with_equal_labels_go_together(rt: HostRuntime) {
     let alloc = rt.alloc();
@@ -214,7 +213,7 @@ fn recipients_with_equal_labels_go_together(rt: HostRuntime) {
     }
 }
 
-/// A file of the usual tool's shape: the passphrase's identity finds nothing of its own.
+/// A file like those of the usual tool: the identity of the passphrase finds no stanza of its own.
 #[test]
 fn x25519_file_has_no_match_for_a_passphrase(rt: HostRuntime) {
     let alloc = rt.alloc();
@@ -237,8 +236,8 @@ fn x25519_file_has_no_match_for_a_passphrase(rt: HostRuntime) {
     assert!(rt; answer == Err(Fault::NoMatch));
 }
 
-/// A passphrase stanza beside another is refused before any identity is asked; in place alone each
-/// is asked once.
+/// A passphrase stanza beside another is refused before any identity is called; without the other
+/// stanza each is called once.
 #[test]
 fn mixed_passphrase_asks_no_identity(rt: HostRuntime) {
     let alloc = rt.alloc();

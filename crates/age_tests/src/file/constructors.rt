@@ -1,5 +1,5 @@
-//! What a device holds after a constructor has failed: each call of it failed in turn, and what is
-//! refused without a failed call.
+//! The state of a device after a constructor has failed: with each of its calls failing in turn,
+//! and for refusals without a failed call.
 
 use super::callers::{END, OTHER_STANZA, PASSPHRASE_STANZA, VERSION};
 use super::devices::FailingSink;
@@ -39,7 +39,7 @@ fn failed_write_of_the_front_is_the_last(rt: HostRuntime) {
     }
 }
 
-/// The fault of reading a file in steps, up to its nonce.
+/// The fault of reading a file in steps up to its nonce.
 fn read_fault<S: Source>(alloc: Global, source: &mut S, identities: &Identities) -> Option<Fault> {
     match Decryptor::new(alloc, source, &Limits::default()) {
         Ok(decryptor) => decryptor.unlock(alloc, identities.as_slice()).err(),
@@ -79,7 +79,8 @@ fn failed_read_of_the_front_is_the_last(rt: HostRuntime) {
     }
 }
 
-/// Refuses a file in steps and for ranges with this fault, so many of its bytes not being read.
+/// A file must be refused with this fault, in steps and for ranges, with this many of its bytes not
+/// read.
 fn refused<T: Abort>(
     rt: &T,
     alloc: Global,
@@ -98,8 +99,8 @@ fn refused<T: Abort>(
     assert!(rt; unread >= left as u64, "{fault}");
 }
 
-/// What is refused after the header, and before the nonce, has read the header alone, and leaves
-/// the payload, 32 bytes.
+/// A refusal after the header and before the nonce has read only the header, and leaves the
+/// payload, 32 bytes.
 #[test]
 fn refused_file_is_read_no_further(rt: HostRuntime) {
     let alloc = rt.alloc();

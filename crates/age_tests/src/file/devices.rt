@@ -4,8 +4,8 @@ use age_header::{DeviceFault, Sink};
 use std::io;
 use std::io::Write;
 
-/// Takes one byte at a time, counts its calls, and fails once, where it holds so many. Its contents
-/// are not known to proofs.
+/// Accepts one byte at a time, counts its calls, and fails once it holds this many. Proofs do not
+/// know its contents.
 #[derive(Drop)]
 pub(super) struct FailingSink {
     pub(super) bytes: Vec<u8>,
@@ -50,7 +50,7 @@ impl Sink for FailingSink {
     }
 }
 
-/// Takes nothing of any piece, and says that this went well.
+/// Accepts no byte of any piece, and reports success.
 #[derive(Drop)]
 pub(super) struct TakesNothing;
 

@@ -1,4 +1,4 @@
-//! Devices that fail, each read and each write in turn.
+//! Devices that fail at each read and each write in turn.
 
 use super::devices::{FailingSink, TakesNothing};
 use super::{
@@ -16,8 +16,7 @@ use age_recipient::{KeyIdentity, KeyRecipient};
 use std::alloc::Global;
 use std::process::Abort;
 
-/// A sink over a slice of each length: it gets a prefix of the passphrase's file, as much as it has
-/// room for.
+/// A sink over a slice of each length gets as long a prefix of the file as fits.
 #[test]
 fn failing_sink_gets_a_beginning_of_the_file(rt: HostRuntime) {
     let alloc = rt.alloc();
@@ -48,7 +47,8 @@ fn failing_sink_gets_a_beginning_of_the_file(rt: HostRuntime) {
     }
 }
 
-/// How many reads of at most 1,000 bytes decrypting makes, where the read with this number fails.
+/// The number of reads, of at most 1,000 bytes, that decrypting makes if the read with this number
+/// fails.
 fn reads_until(
     rt: &impl Abort,
     alloc: Global,
@@ -70,7 +70,7 @@ fn reads_until(
     (source.reads, if failing == 0 { whole } else { failed })
 }
 
-/// Decrypting two chunks, with each read failed in turn: a prefix of the plaintext is written, and
+/// Decrypting two chunks, with each read failing in turn: a prefix of the plaintext is written, and
 /// nothing more is read.
 #[test]
 fn failing_read_leaves_a_beginning_of_the_plaintext(rt: HostRuntime) {
@@ -91,8 +91,8 @@ fn failing_read_leaves_a_beginning_of_the_plaintext(rt: HostRuntime) {
     }
 }
 
-/// A source of a plaintext of two chunks that fails: nothing is written before the first chunk is
-/// full, which 66 reads of at most 1,000 bytes do, and a prefix of the file after that.
+/// A failing source of a plaintext of two chunks: nothing is written before the first chunk is
+/// full, after 66 reads of at most 1,000 bytes; after that a prefix of the file is.
 #[test]
 fn failing_plaintext_leaves_a_beginning_of_the_file(rt: HostRuntime) {
     let alloc = rt.alloc();
@@ -121,7 +121,7 @@ fn failing_plaintext_leaves_a_beginning_of_the_file(rt: HostRuntime) {
     }
 }
 
-/// A reader's failed read is returned again, and the source isn't asked again.
+/// A reader returns its failed read again, and does not call the source again.
 #[test]
 fn reader_returns_a_failed_read_again(rt: HostRuntime) {
     let alloc = rt.alloc();
@@ -147,7 +147,8 @@ fn reader_returns_a_failed_read_again(rt: HostRuntime) {
     assert_eq!(rt; source.failures, 1);
 }
 
-/// A writer that takes nothing of a piece, and devices whose count of failures can't rise any more.
+/// A writer that accepts no byte of a piece, and devices whose count of failures cannot rise any
+/// more.
 #[test]
 fn devices_at_their_limits_return_their_fault(rt: HostRuntime) {
     let alloc = rt.alloc();
@@ -187,12 +188,12 @@ fn devices_at_their_limits_return_their_fault(rt: HostRuntime) {
     assert!(rt; answer == Err(Fault::Read) && source.failures == u64::MAX);
 }
 
-/// The file of the empty plaintext for the key of 32 bytes 3, by tests/reference.py.
+/// The file of the empty plaintext for the key of 32 bytes 3, made by tests/reference.py.
 pub(super) const FILE: &[u8] =
     b"age-encryption.org/v1\n-> example.org/key ICEiIyQlJicoKSorLC0uLw\nV4z9dcExmsj4rOYyl6enYhk5Msw0sZuovpzKf+BEY6Y\n--- vTjtX063xQZt7OcXF0O+SrfCT1OR+JXStLMiFO1M3/E\n\x10\x11\x12\x13\x14\x15\x16\x17\x18\x19\x1a\x1b\x1c\x1d\x1e\x1f\x50\x15\x09\x65\x52\xfe\x30\x35\x66\x48\x70\x85\x54\xcb\x9c\x28";
 
-/// Whether starting a file writes its front, or is out of memory with nothing written. A write
-/// fails where the sink's own allocation was refused.
+/// Whether starting a file writes its header and nonce, or is out of memory with nothing written. A
+/// write fails if the sink's own allocation was refused.
 fn starts_or_starves(alloc: Global, recipients: &Recipients, limits: &Limits) -> bool {
     let mut out = MemSink::new(Vec::new(alloc));
     let started = match Encryptor::new(alloc, recipients.as_slice(), &FRESH, limits) {
@@ -211,8 +212,8 @@ fn starts_or_starves(alloc: Global, recipients: &Recipients, limits: &Limits) ->
     }
 }
 
-/// Whether a file is unlocked and its chunk read, or out of memory with no more read than its
-/// header: the payload has 32 bytes.
+/// Whether a file is unlocked and its chunk read, or the call is out of memory having read at most
+/// the header: the payload has 32 bytes.
 fn reads_or_starves(alloc: Global, identities: &Identities, limits: &Limits) -> bool {
     let mut source = MemSource::new(FILE);
     let decryptor = match Decryptor::new(alloc, &mut source, limits) {
@@ -229,7 +230,7 @@ fn reads_or_starves(alloc: Global, identities: &Identities, limits: &Limits) -> 
     }
 }
 
-/// Whether a file opens for ranges, or is out of memory with no more read than its header.
+/// Whether a file opens for ranges, or the call is out of memory having read at most the header.
 fn opens_or_starves(alloc: Global, identities: &Identities, limits: &Limits) -> bool {
     let mut dev = MemAt::new(FILE);
     let opened = match open_ranges(alloc, &mut dev, identities.as_slice(), limits) {
@@ -239,7 +240,7 @@ fn opens_or_starves(alloc: Global, identities: &Identities, limits: &Limits) -> 
     opened == Ok(0) || opened == Err(Fault::OutOfMemory) && dev.given() <= 156
 }
 
-/// Whether each of a payload's constructors succeeds, or is out of memory with nothing written or
+/// Whether each constructor of a payload succeeds, or is out of memory with nothing written or
 /// read.
 fn payload_or_starves(alloc: Global) -> bool {
     let (key, nonce, payload) = (&FRESH.file_key, &FRESH.nonce, &FILE[156..]);
@@ -263,8 +264,8 @@ fn payload_or_starves(alloc: Global) -> bool {
     writes && reads && opens
 }
 
-/// The calls in steps are Ok or out of memory, and nothing else; their set-up may be out of memory
-/// too. tests/test_libraries.py refuses each in turn.
+/// The calls in steps return Ok or out of memory, and nothing else; their set-up may also be out of
+/// memory. tests/test_libraries.py refuses each allocation in turn.
 #[test]
 fn whole_or_out_of_memory(rt: HostRuntime) {
     let alloc = rt.alloc();

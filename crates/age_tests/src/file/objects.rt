@@ -6,7 +6,7 @@ use std::alloc::{AllocError, Global};
 use std::cell::Cell;
 use std::rc::Rc;
 
-/// Gives a stanza of a type that nobody else knows.
+/// Returns a stanza of a type that no other identity knows.
 #[derive(Drop)]
 pub(super) struct ForeignRecipient;
 
@@ -26,7 +26,7 @@ impl Recipient for ForeignRecipient {
     }
 }
 
-/// Gives a stanza with one argument of so many letters, so that a header has a length.
+/// Returns a stanza with one argument of this many letters, to give a header a certain length.
 #[derive(Drop)]
 pub(super) struct LongRecipient {
     pub(super) text: String,
@@ -49,7 +49,8 @@ impl Recipient for LongRecipient {
     }
 }
 
-/// Gives what the usual tool writes for an X25519 key, and a stanza of an unknown type after it.
+/// Returns the stanza that the usual tool writes for an X25519 key, and then one of an unknown
+/// type.
 #[derive(Drop)]
 pub(super) struct X25519Shape;
 
@@ -78,7 +79,7 @@ impl Recipient for X25519Shape {
     }
 }
 
-/// Gives no stanza, and refuses with a number. It would have to stand alone.
+/// Returns no stanza, but refuses with a number. Its labels say that it must be alone.
 #[derive(Drop)]
 pub(super) struct RefusingRecipient {
     pub(super) code: u32,
@@ -101,7 +102,7 @@ impl Recipient for RefusingRecipient {
     }
 }
 
-/// Gives a stanza, and has these labels.
+/// Returns a stanza, and has these labels.
 #[derive(Drop)]
 pub(super) struct LabelledRecipient {
     pub(super) labels: Labels,
@@ -129,7 +130,7 @@ impl Recipient for LabelledRecipient {
     }
 }
 
-/// Counts how often it is called, and returns `NotMine`.
+/// Counts its calls, and returns `NotMine`.
 #[derive(Drop)]
 pub(super) struct CountingIdentity {
     pub(super) asked: Rc<Cell<u32>>,
@@ -146,7 +147,7 @@ impl Identity for CountingIdentity {
     }
 }
 
-/// Returns the same result for any stanzas, like an agent that holds a file key already.
+/// Returns the same result for any stanzas, like an agent that already holds a file key.
 #[derive(Drop)]
 pub(super) struct FixedIdentity {
     pub(super) answer: Unwrapped,
@@ -175,7 +176,7 @@ impl Identity for OutOfMemoryIdentity {
     }
 }
 
-/// Gives no stanza, and does not refuse.
+/// Returns no stanza, and does not refuse.
 #[derive(Drop)]
 pub(super) struct NoStanza;
 
@@ -189,7 +190,7 @@ impl Recipient for NoStanza {
     }
 }
 
-/// Gives a stanza of a passphrase's type after another.
+/// Returns a stanza of the passphrase type after another one.
 #[derive(Drop)]
 pub(super) struct ScryptBesideAnother;
 

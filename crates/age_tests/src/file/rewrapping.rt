@@ -1,4 +1,4 @@
-//! Files with another header: what is written, what it opens to, and what is refused.
+//! Rewrapped files: the output, its plaintext, and refusals.
 
 use super::devices::FailingSink;
 use super::{
@@ -13,7 +13,7 @@ use age_recipient::{PassIdentity, PassRecipient};
 use std::alloc::Global;
 use std::process::Abort;
 
-/// What rewrapping returns, and what was written.
+/// The result of rewrapping, and the output.
 fn rewrapped(
     alloc: Global,
     file: &[u8],
@@ -125,7 +125,8 @@ fn rewrap_to_a_key_keeps_the_verdict(rt: HostRuntime) {
     );
 }
 
-/// Whether rewrapping with the identity of this key is refused so, with nothing written.
+/// Whether rewrapping with the identity of this key is refused with this fault, with nothing
+/// written.
 fn is_refused(
     rt: &impl Abort,
     alloc: Global,
@@ -138,7 +139,7 @@ fn is_refused(
     answer == Err(fault) && new.is_empty()
 }
 
-/// What is refused before the first byte: by the old header, then by the new one.
+/// Refusals before the first byte: for the old header, then for the new one.
 #[test]
 fn refused_rewrap_writes_nothing(rt: HostRuntime) {
     let alloc = rt.alloc();
@@ -168,7 +169,7 @@ fn refused_rewrap_writes_nothing(rt: HostRuntime) {
     );
 }
 
-/// Each read and each write fails in turn: what was written is a prefix of the new file.
+/// Each read and each write fails in turn: the output is a prefix of the new file.
 #[test]
 fn failing_devices_leave_a_beginning_of_the_rewrapped_file(rt: HostRuntime) {
     let alloc = rt.alloc();

@@ -1,21 +1,21 @@
-//! What is saved of damaged files, all by tests/reference.py: their header and nonce are those of
-//! `failing::FILE`, their pieces those of the vectors `payload_`. The ciphertext of a full chunk is
-//! zeros, and its text the cipher's stream.
+//! What is saved of damaged files, all made by tests/reference.py: their header and nonce are those
+//! of `failing::FILE`, their pieces those of the vectors `payload_`. The ciphertext of a full chunk
+//! is zeros, and its text is the cipher's key stream.
 
 use super::devices::FailingSink;
 use super::failing::FILE;
 use super::key_identities;
 use crate::devices::FailingSource;
-use age_file::{Fault, Limits, Losses, Lost, Salvaged, Saved, Sink, Source, salvage};
+use age_file::{Fault, Limits, Losses, Lost, Salvaged, SalvagedFile, Saved, Sink, Source, salvage};
 use age_header::{MemSink, MemSource};
 use sha2::{Digest, Sha256};
 use std::alloc::Global;
 use std::process::Abort;
 
-/// Bytes of a payload: so many zeros, and others after them.
+/// Bytes of a payload: this many zeros, and these bytes after them.
 type Piece = (usize, &'static [u8]);
 
-/// Three chunks, of which the last is the text `hello` and LF.
+/// Three chunks; the text of the last one is `hello` and LF.
 const FIRST: Piece = (
     65_536,
     b"\x3f\x13\xe9\xa7\x5f\x72\xea\x66\x6f\x58\x50\xff\xd6\x26\x1a\x4f",
@@ -31,13 +31,13 @@ const THIRD: Piece = (
     b"\xdb\x86\xeb\x5d\x62\xa5\xe2\xb6\x3c\xb0\xda\x6b\x53\xd3\xba\xd4\x35\x3c\xa2\x8f\xfb\x29",
 );
 
-/// A full first chunk that is the last.
+/// A full first chunk, marked as the last.
 const FIRST_AS_LAST: Piece = (
     65_536,
     b"\xa9\x14\xea\xc4\xcc\x44\x82\xc3\xd3\x39\x35\xa5\x28\x58\xa3\x0c",
 );
 
-/// An empty second chunk that is the last.
+/// An empty second chunk, marked as the last.
 const EMPTY_LAST: Piece = (
     0,
     b"\x3c\x40\x93\x80\x8b\x7a\xa9\x9c\x47\x9f\x3f\x33\x8f\x00\xdc\x6d",
@@ -51,7 +51,7 @@ const SECOND_REST: Piece = (
 
 const BYTE: Piece = (0, b"x");
 
-/// Chunks that open nowhere, of the sizes of those three.
+/// Chunks that open under no number, of the sizes of those three.
 const DAMAGED: Piece = (65_552, b"");
 
 const DAMAGED_THIRD: Piece = (22, b"");
@@ -80,7 +80,7 @@ const FIRST_AS_LAST_TEXT: [u8; 32] = [
     0xf9, 0x82, 0x8c, 0xbf, 0xb7, 0x1a, 0x41, 0x20, 0x9c, 0x8b, 0x44, 0x4c, 0x96, 0xc8, 0xbe, 0x0e,
 ];
 
-/// Keeps what is reported.
+/// Keeps the reports.
 #[derive(Drop)]
 struct Kept {
     chunks: Vec<Lost>,
@@ -108,14 +108,14 @@ fn file_of(rt: &impl Abort, alloc: Global, pieces: &[Piece]) -> Vec<u8> {
     file
 }
 
-/// What salvaging returns, and which chunks it reports.
+/// The result of salvaging, and the chunks that it reports.
 fn salvaged<S: Source, W: Sink>(
     rt: &impl Abort,
     alloc: Global,
     source: &mut S,
     sink: &mut W,
     limits: &Limits,
-) -> (Result<Salvaged, Fault>, Vec<Lost>) {
+) -> (Result<SalvagedFile, Fault>, Vec<Lost>) {
     let mut kept = Kept {
         chunks: Vec::new(alloc),
     };
@@ -140,8 +140,8 @@ fn lost(chunk: u128, len: usize) -> Lost {
     }
 }
 
-/// Checks a text that was saved: zeros for these lost chunks, and for each other chunk the text of
-/// this SHA-256.
+/// Checks a saved text: zeros for these lost chunks, and for each other chunk the text with this
+/// SHA-256.
 fn expect_text(rt: &impl Abort, text: &[u8], texts: &[[u8; 32]; 3], losses: &[Lost]) {
     for (i, chunk) in text.chunks(65_536).enumerate() {
         let is_right = if losses.iter().any(|lost| lost.chunk == i as u128) {
@@ -155,7 +155,7 @@ fn expect_text(rt: &impl Abort, text: &[u8], texts: &[[u8; 32]; 3], losses: &[Lo
     }
 }
 
-/// Checks what is saved of the file of these pieces, none of which is early, and what is reported.
+/// Checks the saved text and the reports for the file of these pieces, none of which is early.
 fn expect(
     rt: &impl Abort,
     alloc: Global,
@@ -181,12 +181,16 @@ fn expect_early(
     let mut sink = MemSink::new(Vec::new(alloc));
     let mut source = MemSource::new(file.as_slice());
     let (answer, reported) = salvaged(rt, alloc, &mut source, &mut sink, &Limits::default());
-    let saved = Salvaged {
+    let payload = Salvaged {
         bytes: bytes as u128,
         chunks,
         lost: losses.len() as u128,
         early,
         last,
+    };
+    let saved = SalvagedFile {
+        has_right_mac: true,
+        payload,
     };
     assert_eq!(rt; answer, Ok(saved));
     let text = sink.into_vec();
@@ -195,7 +199,7 @@ fn expect_early(
     assert!(rt; reported.as_slice() == losses, "{bytes} bytes");
 }
 
-/// A whole file, and damaged chunks: one in its text, two in their tags, and all.
+/// A whole file, and damaged chunks: one in its text, two in their tags, and all of them.
 #[test]
 fn damaged_chunks_are_zeros_and_reported(rt: HostRuntime) {
     let alloc = rt.alloc();
@@ -217,7 +221,7 @@ fn damaged_chunks_are_zeros_and_reported(rt: HostRuntime) {
     );
 }
 
-/// A file that is cut after its nonce, between two chunks, and in what has no text.
+/// A file that is cut after its nonce, between two chunks, and within a piece without text.
 #[test]
 fn cut_file_is_saved_up_to_its_end(rt: HostRuntime) {
     let alloc = rt.alloc();
@@ -234,7 +238,7 @@ fn cut_file_is_saved_up_to_its_end(rt: HostRuntime) {
     expect(&rt, alloc, &[FIRST, SECOND], &TEXTS, two, &[]);
 }
 
-/// A file that is cut in a chunk: nobody knows whether it was the last.
+/// A file that is cut within a chunk: nothing tells whether that was the last one.
 #[test]
 fn cut_chunk_is_lost(rt: HostRuntime) {
     let alloc = rt.alloc();
@@ -250,7 +254,7 @@ fn cut_chunk_is_lost(rt: HostRuntime) {
     expect(&rt, alloc, &pieces, &TEXTS, one, &[lost(0, 65_535)]);
 }
 
-/// Chunks that stand in each other's place, and one that stands twice.
+/// Two chunks that are swapped, and one that occurs twice.
 #[test]
 fn chunk_at_another_place_is_lost(rt: HostRuntime) {
     let alloc = rt.alloc();
@@ -261,8 +265,8 @@ fn chunk_at_another_place_is_lost(rt: HostRuntime) {
     expect(&rt, alloc, &[FIRST, FIRST, THIRD], &TEXTS, all, &second);
 }
 
-/// A chunk that is the last stands before others, or before a few bytes; or it is empty, and others
-/// stand before it.
+/// A chunk marked as the last comes before others, or before a few bytes; or it is empty and comes
+/// after others.
 #[test]
 fn early_last_chunk_is_saved(rt: HostRuntime) {
     let alloc = rt.alloc();
@@ -282,7 +286,7 @@ fn early_last_chunk_is_saved(rt: HostRuntime) {
     expect(&rt, alloc, &pieces, &TEXTS, all, &[lost(2, 7)]);
 }
 
-/// More chunks than are allowed: as many were saved, and those of them that are lost reported.
+/// More chunks than are allowed: the allowed ones are saved, and those lost among them reported.
 #[test]
 fn chunks_up_to_the_limit_are_saved(rt: HostRuntime) {
     let alloc = rt.alloc();
@@ -314,7 +318,7 @@ fn refused_file_is_not_saved(rt: HostRuntime) {
     }
 }
 
-/// Each read fails in turn: so many whole chunks were written before.
+/// Each read fails in turn: the whole chunks before it were written.
 #[test]
 fn failing_read_leaves_what_was_saved(rt: HostRuntime) {
     let alloc = rt.alloc();
@@ -338,7 +342,7 @@ fn failing_read_leaves_what_was_saved(rt: HostRuntime) {
     assert!(rt; whole);
 }
 
-/// A write fails: what was saved before is there.
+/// A write fails: everything saved before it was written.
 #[test]
 fn failing_write_leaves_a_beginning(rt: HostRuntime) {
     let alloc = rt.alloc();

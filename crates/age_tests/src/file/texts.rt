@@ -1,4 +1,4 @@
-//! The texts, which no clause gives.
+//! The texts of faults, which no clause states.
 
 use age_file::Fault;
 use age_recipient::StanzaFault;

@@ -1,5 +1,5 @@
-//! Devices over a reader or a writer. A call that failed is counted once and not tried again,
-//! though it was interrupted or would have blocked.
+//! Devices over a reader or a writer. A failed call is counted once and not repeated, even if it
+//! was interrupted or would have blocked.
 
 use crate::plaintexts::plain_of;
 use age_header::{ReadSource, Sink, Source, WriteSink, write_all};
@@ -9,7 +9,7 @@ use std::io::{ErrorKind, Read, Write};
 /// The errors after which another call may succeed.
 const PASSING: [ErrorKind; 2] = [ErrorKind::Interrupted, ErrorKind::WouldBlock];
 
-/// Fails at its first call, and then gives its bytes.
+/// Fails at its first call, and then returns its bytes.
 #[derive(Drop)]
 struct LateReader<'a> {
     error: ErrorKind,
@@ -27,7 +27,7 @@ impl Read for LateReader<'_> {
     }
 }
 
-/// Fails at its first call, or takes none of the bytes, and then takes what it is given.
+/// Fails at its first call, or accepts none of the bytes, and then accepts everything.
 #[derive(Drop)]
 struct LateWriter {
     error: Option<ErrorKind>,
@@ -52,7 +52,7 @@ impl Write for LateWriter {
     }
 }
 
-/// Takes all that it is given.
+/// Accepts everything.
 #[derive(Drop)]
 struct Nowhere;
 
@@ -102,8 +102,7 @@ fn failed_write_is_not_retried(rt: HostRuntime) {
     }
 }
 
-/// A call of each length up to 70,000 moves as many bytes as it is given: a device fails at no
-/// length of its own.
+/// A call of each length up to 70,000 transfers all its bytes: no length makes a device fail.
 #[test]
 fn each_length_is_read_and_written(rt: HostRuntime) {
     let bytes = plain_of(&rt, rt.alloc(), 70_000);

@@ -1,5 +1,5 @@
-//! Keyed stanzas: what is wrapped, and that it is unwrapped. What each check says is in the vectors
-//! `key_` of `tests/make_vectors.py`.
+//! Keyed stanzas: wrapping and unwrapping. The vectors `key_` of `tests/make_vectors.py` have the
+//! checks.
 
 use super::{KEY, SALT, SALT_TEXT, gives_back};
 use age_recipient::{KeyPair, KeyRecipient, Recipient};

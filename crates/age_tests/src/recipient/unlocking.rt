@@ -1,4 +1,4 @@
-//! Which of several identities' answers is the one of `unlock`.
+//! The result of `unlock` with several identities.
 
 use age_header::Stanza;
 use age_recipient::{FileKey, Identity, StanzaFault, UnlockFault, Unwrapped, unlock};
@@ -7,7 +7,7 @@ use std::process::Abort;
 
 const KEY: FileKey = FileKey([9; 16]);
 
-/// A caller's identity, which has one answer whatever the stanzas are, or is out of memory.
+/// A caller's identity, which has the same answer for any stanzas, or is out of memory.
 #[derive(Drop)]
 struct FixedIdentity {
     answer: Unwrapped,
@@ -25,7 +25,7 @@ impl Identity for FixedIdentity {
     }
 }
 
-/// What identities with these answers come to; None stands for one that is out of memory.
+/// The result for identities with these answers; None stands for one that is out of memory.
 fn choice_of(
     rt: &impl Abort,
     alloc: Global,
@@ -44,7 +44,7 @@ fn choice_of(
     unlock(alloc, identities.as_slice(), &[])
 }
 
-/// The last identities of some lists are out of memory, which shows that they are not asked.
+/// The last identities of some lists are out of memory, which shows that they are not called.
 #[test]
 fn first_deciding_identity_ends_the_search(rt: HostRuntime) {
     let not_mine = Some(Unwrapped::NotMine);

@@ -1,5 +1,5 @@
-//! What a device holds after a constructor has failed: each call of it failed in turn, and what is
-//! refused without a failed call.
+//! The state of a device after a constructor has failed: with each of its calls failing in turn,
+//! and for refusals without a failed call.
 
 use super::devices::FailingSink;
 use super::ranges::payload_of;
@@ -33,8 +33,8 @@ fn failed_nonce_is_not_written_again(rt: HostRuntime) {
     }
 }
 
-/// A nonce that is read 4 bytes at a time, each read failed in turn: the failed read is the last,
-/// and is counted once. Of 15 bytes all are read, and no read failed.
+/// A nonce that is read 4 bytes at a time, with each read failing in turn: the failed read is the
+/// last, and is counted once. If there are only 15 bytes, all are read, and no read fails.
 #[test]
 fn failed_read_of_the_nonce_is_the_last(rt: HostRuntime) {
     let alloc = rt.alloc();
@@ -52,8 +52,8 @@ fn failed_read_of_the_nonce_is_the_last(rt: HostRuntime) {
     assert_eq!(rt; source.failures(), 0);
 }
 
-/// A failed read is the last, and is counted once. What is refused without one has read no more
-/// than the nonce and the last piece, of which the rows have the length.
+/// A failed read is the last, and is counted once. A refusal without one has read at most the nonce
+/// and the last piece, whose length the rows have.
 #[test]
 fn refused_ranges_read_no_further(rt: HostRuntime) {
     let alloc = rt.alloc();

@@ -4,8 +4,8 @@ use age_header::{DeviceFault, Sink};
 use std::io;
 use std::io::{ErrorKind, Read, Seek, SeekFrom};
 
-/// Takes each piece whole, counts its calls, and fails at the call with this number, counted from
-/// 1. Its contents are not known to proofs.
+/// Accepts each piece whole, counts its calls, and fails at the call with this number, counted from
+/// 1. Proofs do not know its contents.
 #[derive(Drop)]
 pub(super) struct FailingSink {
     failing: u64,
@@ -69,7 +69,7 @@ impl<F: Seek> Seek for SlowFile<F> {
     }
 }
 
-/// A file that has these bytes from offset `begin` on, and is read nowhere before.
+/// A file with these bytes from offset `begin` on, which must not be read before that.
 #[derive(Drop)]
 pub(super) struct FarFile<'a> {
     bytes: &'a [u8],
@@ -109,7 +109,7 @@ impl Seek for FarFile<'_> {
     }
 }
 
-/// A file whose seek with this number, counted from 1, fails, though it has moved the file.
+/// A file whose seek with this number, counted from 1, moves the file and fails.
 #[derive(Drop)]
 pub(super) struct FailingSeek<F> {
     file: F,

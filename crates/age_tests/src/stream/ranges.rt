@@ -23,8 +23,8 @@ pub(super) fn payload_of(rt: &impl Abort, alloc: Global, len: usize) -> Vec<u8> 
     bytes
 }
 
-/// Ranges of 140,000 bytes, one after another: offset and length, what is returned, and how many
-/// chunks were opened after it.
+/// Ranges of 140,000 bytes, one after another: offset and length, the result, and the number of
+/// chunks opened so far.
 const ROWS: [((u64, usize), usize, u64); 8] = [
     ((139_990, 10), 10, 1),
     ((0, 10), 10, 2),
@@ -71,7 +71,7 @@ fn ranges_of_a_file_are_slices(rt: HostRuntime) {
     assert_eq!(rt; whole.given(), slow.given());
 }
 
-/// A payload that begins near offset 2^50: no file has to be so long.
+/// A payload that begins near offset 2^50: the source need not be that long.
 #[test]
 fn ranges_far_behind_are_slices(rt: HostRuntime) {
     let bytes = payload_of(&rt, rt.alloc(), 140_000);
@@ -80,8 +80,8 @@ fn ranges_far_behind_are_slices(rt: HostRuntime) {
     rows(&rt, rt.alloc(), &mut far, begin + 9);
 }
 
-/// Each chunk that is opened costs one read of a source that gives all it is asked for, and the
-/// nonce one.
+/// Each opened chunk costs one read, if the source returns everything requested, and so does the
+/// nonce.
 #[test]
 fn each_opened_chunk_costs_one_read(rt: HostRuntime) {
     let alloc = rt.alloc();
@@ -96,8 +96,8 @@ fn each_opened_chunk_costs_one_read(rt: HostRuntime) {
     }
 }
 
-/// Each read failed in turn: a failed read leaves the bytes of the chunks before it, and the same
-/// call again works.
+/// Each read fails in turn: a failed read leaves the bytes of the chunks before it, and repeating
+/// the call works.
 #[test]
 fn failed_read_leaves_the_chunks_before_it(rt: HostRuntime) {
     let alloc = rt.alloc();
@@ -131,8 +131,8 @@ fn failed_read_leaves_the_chunks_before_it(rt: HostRuntime) {
     }
 }
 
-/// Each chunk damaged in turn, by its first byte: the ranges that do not touch it are right, also
-/// after a call that met it.
+/// Each chunk is damaged in turn, in its first byte: the ranges that do not touch it are right,
+/// even after a call that did.
 #[test]
 fn damaged_chunk_leaves_the_others_readable(rt: HostRuntime) {
     let alloc = rt.alloc();
@@ -161,7 +161,7 @@ fn damaged_chunk_leaves_the_others_readable(rt: HostRuntime) {
     }
 }
 
-/// A file that was cut after it was opened: a range that needs a lost byte is a failed read. The
+/// A file that was cut after it was opened: a range that needs a missing byte is a failed read. The
 /// kept chunk can still be read.
 #[test]
 fn truncated_file_is_a_failed_read(rt: HostRuntime) {
@@ -202,7 +202,7 @@ fn truncated_file_is_a_failed_read(rt: HostRuntime) {
     fs::remove_file(&rt, "cut.tmp").expect(&rt, "no fault");
 }
 
-/// Reads at this offset into three bytes 255: what is returned, and what the buffer has then.
+/// Reads at this offset into three bytes 255. Returns the result and the buffer.
 fn read_at<T: Abort, D: ReadAt>(
     rt: &T,
     dev: &mut D,
@@ -215,7 +215,7 @@ fn read_at<T: Abort, D: ReadAt>(
     assert_eq!(rt; &buf, bytes, "at {at}");
 }
 
-/// A failed seek is a failed read, and the next read seeks again, where the file was moved too.
+/// A failed seek is a failed read, and the next read seeks again, even if the file was moved.
 #[test]
 fn failed_seek_is_a_failed_read(rt: HostRuntime) {
     fs::write(&rt, "seek.tmp", b"0123456789").expect(&rt, "no fault");
@@ -238,8 +238,8 @@ fn failed_seek_is_a_failed_read(rt: HostRuntime) {
     fs::remove_file(&rt, "seek.tmp").expect(&rt, "no fault");
 }
 
-/// After a short read the file is where the bytes that were read end, and not where the buffer
-/// would have ended.
+/// After a short read the position of the file is the end of the bytes that were read, and not the
+/// end of the buffer.
 #[test]
 fn short_read_moves_by_what_it_read(rt: HostRuntime) {
     fs::write(&rt, "short.tmp", b"0123456789").expect(&rt, "no fault");

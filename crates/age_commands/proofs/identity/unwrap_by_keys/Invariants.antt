@@ -1,4 +1,4 @@
--- What is decided so far, and by the keys to come.
+-- What is decided so far, and by the remaining keys.
 use Rattle.std.proofs.Common.{◌≡◌, map, drop}
 use Rattle.age_recipient.specs.Answer.{decision_from}
 use Rattle.age_recipient.specs.KeyedHolders.{key_unwraps}

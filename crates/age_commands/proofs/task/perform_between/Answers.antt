@@ -19,6 +19,3 @@ pub returns-in-Ok-source_at_offsets-clause-performs : goal.returns-in-Ok-source_
 returns-in-Ok-source_at_offsets-clause-performs g c =
     rw c.in-Range.is (ranges_unseen c.args.job.now c.in-Range.secret (g.R.Read.remaining c.args.input.now)
     (losses_by g.L.Losses.lost c.args.report.now c.args.report.now) c.range_of.ensures.any)
-
-pub returns-in_default-file_source-2-clause-performs : goal.returns-in_default-file_source-2-clause-performs
-returns-in_default-file_source-2-clause-performs g c = search no_memory

@@ -1,5 +1,6 @@
-use Rattle.std.proofs.Common.{◌∙◌}
-use Rattle.age_file.proofs.CopiesLemmas.{copied_all, copied_beyond, copied_failed, copied_more}
+use Rattle.std.proofs.Common.{◌∙◌, arith, length}
+use Rattle.age_header.specs.Device.{seen_by}
+use Rattle.age_file.proofs.CopiesLemmas.{beyond_ahead, copied_all, copied_beyond, copied_failed, copied_more, failed_ahead}
 use Rattle.age_file.proofs.copying.copy_pieces.Goals as goal
 
 pub loop-copied-preserved : goal.loop-copied-preserved
@@ -22,3 +23,12 @@ returns-in-Err-clause-copies g c =
 pub returns-clause-copies : goal.returns-clause-copies
 returns-clause-copies g c =
     search (copied_beyond, c.loop-copied-test.false, c.loop-copied.invariant.copied)
+
+pub returns-in-Err-clause-ahead : goal.returns-in-Err-clause-ahead
+returns-in-Err-clause-ahead g c =
+    failed_ahead (length c.loop-copied.buf) (seen_by g.S.Source.to_come g.S.Source.gave c.copy_piece.new.input)
+    (g.W.Sink.taken c.copy_piece.new.out) c.in-Err.fault (omega (arith, c.loop-copied.invariant.size))
+    c.loop-copied.invariant.copied c.in-Err.ensures.copies
+
+pub returns-clause-ahead : goal.returns-clause-ahead
+returns-clause-ahead g c = beyond_ahead c.loop-copied.invariant.copied

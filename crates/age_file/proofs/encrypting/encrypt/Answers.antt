@@ -1,9 +1,9 @@
 use Rattle.std.proofs.Common.{◌≡◌, ◌++◌, rules, Ok, Err, inr}
 use Rattle.age_header.specs.Device.{seen_by}
-use Rattle.age_header.proofs.DeviceLemmas.{gave_some, of_any, some_none}
+use Rattle.age_header.proofs.DeviceLemmas.{gave_none, gave_some, of_any, some_none}
 use Rattle.age_file.specs.declared.fault.Fault.TheVariants.{OutOfMemory, Read}
 use Rattle.age_file.specs.Verdict.{stream_fault}
-use Rattle.age_file.proofs.EncryptLemmas.{encrypts_begun, encrypts_payload, encrypts_unmade, encrypts_unread, filled, made, read_late, sealed_filled, takes_begun, takes_payload, unfilled}
+use Rattle.age_file.proofs.EncryptLemmas.{encrypts_begun, encrypts_payload, encrypts_unmade, encrypts_unread, filled, made, read_late, sealed_filled, takes_begun, takes_none, takes_payload, unfilled}
 use Rattle.age_file.proofs.encrypting.encrypt.Goals as goal
 
 pub returns-in_err-header-clause-encrypts : goal.returns-in_err-header-clause-encrypts
@@ -37,6 +37,26 @@ returns-in_default-clause-encrypts g c =
     let m = made c.in_ok-header.ensures.ok c.in_ok-front.ensures in
     let front : c.as_slice.result.now ≡ c.in_ok-front.front.items ++ c.args.fresh.now.nonce = search rules in
     encrypts_begun (gave_some fills.1) m (rw front at c.in_default.ensures.text)
+
+pub returns-in_err-header-clause-took : goal.returns-in_err-header-clause-took
+returns-in_err-header-clause-took g c =
+    let is : c.from_residual.result ≡ Err c.in_err-header.field-0.0 = search rules in
+    rw is (search (takes_none, c.in_err-header.ensures.err))
+
+pub returns-in_err-front-clause-took : goal.returns-in_err-front-clause-took
+returns-in_err-front-clause-took g c =
+    let is : c.from_residual-in_err-front.result ≡ Err OutOfMemory = search rules in
+    rw is (gave_none)
+
+pub returns-in_err-extend_from_slice-clause-took : goal.returns-in_err-extend_from_slice-clause-took
+returns-in_err-extend_from_slice-clause-took g c =
+    let is : c.from_residual-in_err-extend_from_slice.result ≡ Err OutOfMemory = search rules in
+    rw is (gave_none)
+
+pub returns-in_err-buf-clause-took : goal.returns-in_err-buf-clause-took
+returns-in_err-buf-clause-took g c =
+    let is : c.from_residual-in_err-buf.result ≡ Err OutOfMemory = search rules in
+    rw is (gave_none)
 
 pub returns-in_default-clause-took : goal.returns-in_default-clause-took
 returns-in_default-clause-took g c =

@@ -2,7 +2,7 @@ use Rattle.std.proofs.Common.{◌≡◌, map, drop}
 use Rattle.age_file.specs.NewFile.{with_stanzas, gathering_from}
 use Rattle.age_file.proofs.new_header.wrap_all.Given as goal
 
--- what was gathered, followed by what is left, is what there is to gather
+-- the stanzas so far, followed by the remaining ones, are all stanzas
 abbrev pub invariant-loop-i : goal.invariant-loop-i
 invariant-loop-i g l =
     with_stanzas l.all.items (gathering_from l.i

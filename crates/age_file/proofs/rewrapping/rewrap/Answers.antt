@@ -2,8 +2,8 @@ use Rattle.std.proofs.Common.{◌≡◌, Err, rules}
 use Rattle.age_file.proofs.DecryptLemmas.{headed}
 use Rattle.age_file.proofs.EncryptLemmas.{made}
 use Rattle.age_file.proofs.RewrapLemmas.{begun_rewraps, copied_rewraps, copies_late, heading_rewraps, inspect_rewraps, key_found, locked_rewraps}
-use Rattle.age_header.specs.Device.{GaveAtMost, flow, seen_by}
-use Rattle.age_file.proofs.FrontLemmas.{late_or_front}
+use Rattle.age_header.specs.Device.{flow, seen_by}
+use Rattle.age_file.proofs.FrontLemmas.{copied_took, front_ahead, front_gave, headed_took, read_took}
 use Rattle.age_file.proofs.rewrapping.rewrap.Goals as goal
 
 pub returns-in-Err-clause-rewraps : goal.returns-in-Err-clause-rewraps
@@ -39,32 +39,41 @@ returns-clause-rewraps g c =
 pub returns-clause-quiet : goal.returns-clause-quiet
 returns-clause-quiet g c = search (copies_late (c.copy_all.new.out ≡ c.args.out.now), c.copy_all.ensures.copies)
 
-pub returns-in-Err-unlock_header-clause-front : goal.returns-in-Err-unlock_header-clause-front
-returns-in-Err-unlock_header-clause-front g c =
+pub returns-in-Err-clause-took : goal.returns-in-Err-clause-took
+returns-in-Err-clause-took g c = search (read_took, c.in-Err.ensures.most)
+
+pub returns-in-Err-unlock_header-clause-took : goal.returns-in-Err-unlock_header-clause-took
+returns-in-Err-unlock_header-clause-took g c =
     let source = flow (seen_by g.S.Source.to_come g.S.Source.gave c.args.input.now)
     (seen_by g.S.Source.to_come g.S.Source.gave c.inspect.new.input) in
-    late_or_front c.args.limits.now source _ (Err c.in-Err-unlock_header.fault) c.in-Ok.ensures.verdict
+    headed_took c.args.limits.now source (g.W.Sink.taken c.args.out.now) _ (Err c.in-Err-unlock_header.fault)
+    c.in-Ok.ensures.verdict
 
-pub returns-in-Err-header_for-clause-front : goal.returns-in-Err-header_for-clause-front
-returns-in-Err-header_for-clause-front g c =
+pub returns-in-Err-header_for-clause-took : goal.returns-in-Err-header_for-clause-took
+returns-in-Err-header_for-clause-took g c =
     let source = flow (seen_by g.S.Source.to_come g.S.Source.gave c.args.input.now)
     (seen_by g.S.Source.to_come g.S.Source.gave c.inspect.new.input) in
-    late_or_front c.args.limits.now source _ (Err c.in-Err-header_for.fault) c.in-Ok.ensures.verdict
+    headed_took c.args.limits.now source (g.W.Sink.taken c.args.out.now) _ (Err c.in-Err-header_for.fault)
+    c.in-Ok.ensures.verdict
 
-pub returns-in_err-text-clause-front : goal.returns-in_err-text-clause-front
-returns-in_err-text-clause-front g c =
+pub returns-in_err-text-clause-took : goal.returns-in_err-text-clause-took
+returns-in_err-text-clause-took g c = search (headed_took, c.in-Ok.ensures.verdict)
+
+pub returns-in_err-buf-clause-took : goal.returns-in_err-buf-clause-took
+returns-in_err-buf-clause-took g c = search (headed_took, c.in-Ok.ensures.verdict)
+
+pub returns-in_default-clause-took : goal.returns-in_default-clause-took
+returns-in_default-clause-took g c =
     let source = flow (seen_by g.S.Source.to_come g.S.Source.gave c.args.input.now)
     (seen_by g.S.Source.to_come g.S.Source.gave c.inspect.new.input) in
-    late_or_front c.args.limits.now source _ c.from_residual.result c.in-Ok.ensures.verdict
+    front_ahead _ _ (front_gave c.args.limits.now source _ c.in-Ok.ensures.verdict) c.in_default.ensures.text.1
 
-pub returns-in_err-buf-clause-front : goal.returns-in_err-buf-clause-front
-returns-in_err-buf-clause-front g c =
-    let source = flow (seen_by g.S.Source.to_come g.S.Source.gave c.args.input.now)
-    (seen_by g.S.Source.to_come g.S.Source.gave c.inspect.new.input) in
-    late_or_front c.args.limits.now source _ c.from_residual-in_err-buf.result c.in-Ok.ensures.verdict
-
-pub returns-clause-front : goal.returns-clause-front
-returns-clause-front g c =
-    let source = flow (seen_by g.S.Source.to_come g.S.Source.gave c.args.input.now)
-    (seen_by g.S.Source.to_come g.S.Source.gave c.copy_all.new.input) in
-    search (copies_late (GaveAtMost c.args.limits.now.max_header source), c.copy_all.ensures.copies)
+pub returns-clause-took : goal.returns-clause-took
+returns-clause-took g c =
+    search (
+      copied_took,
+      c.in-Ok.ensures.verdict,
+      c.in-Ok-write_all.ensures.text,
+      c.copy_all.ensures.copies,
+      c.copy_all.ensures.ahead,
+    )

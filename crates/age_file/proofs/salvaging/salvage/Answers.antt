@@ -12,15 +12,15 @@ pub returns-in-Err-clause-salvages : goal.returns-in-Err-clause-salvages
 returns-in-Err-clause-salvages g c =
     search (inspect_salvages, c.in-Err.ensures.verdict)
 
-pub returns-in-Err-unlock_header-clause-salvages : goal.returns-in-Err-unlock_header-clause-salvages
-returns-in-Err-unlock_header-clause-salvages g c =
-    search (locked_salvages, c.in-Ok.ensures.verdict, c.in-Err-unlock_header.ensures.key)
+pub returns-in-Err-found_key-clause-salvages : goal.returns-in-Err-found_key-clause-salvages
+returns-in-Err-found_key-clause-salvages g c =
+    search (locked_salvages, c.in-Ok.ensures.verdict, c.in-Err-found_key.ensures.key)
 
 pub returns-in-Ok-salvage_payload-clause-salvages : goal.returns-in-Ok-salvage_payload-clause-salvages
 returns-in-Ok-salvage_payload-clause-salvages g c =
     let max = c.max_chunks.ensures.value in
     let salvages = c.in-Ok-salvage_payload.ensures.salvages in
-    search (payload_salvages, c.in-Ok.ensures, c.in-Ok-unlock_header.ensures.key, max, salvages)
+    search (payload_salvages, c.in-Ok.ensures, c.in-Ok-found_key.ensures.key, max, salvages)
 
 pub returns-clause-salvages : goal.returns-clause-salvages
 returns-clause-salvages g c =
@@ -30,7 +30,7 @@ returns-clause-salvages g c =
     (payload_salvages (Err c.in-Err-salvage_payload.fault) answers
     (move_by g.W.Sink.taken c.args.out.now c.salvage_payload.new.out)
     (losses_by g.L.Losses.lost c.args.losses.now c.salvage_payload.new.losses) c.in-Ok.ensures.verdict
-    c.in-Ok-unlock_header.ensures.key c.max_chunks.ensures.value c.in-Err-salvage_payload.ensures.salvages)
+    c.in-Ok-found_key.ensures.key c.max_chunks.ensures.value c.in-Err-salvage_payload.ensures.salvages)
 
 pub returns-clause-took : goal.returns-clause-took
 returns-clause-took g c =
@@ -47,7 +47,7 @@ returns-clause-reads g c =
     rw (c.from.ensures, sym c.in-Ok.ensures.reads)
     (search (reads_file, c.in-Err-salvage_payload.ensures.reads))
 
-pub returns-in-Err-unlock_header-clause-front : goal.returns-in-Err-unlock_header-clause-front
-returns-in-Err-unlock_header-clause-front g c =
+pub returns-in-Err-found_key-clause-front : goal.returns-in-Err-found_key-clause-front
+returns-in-Err-found_key-clause-front g c =
     inr (inr (inr (front_gave c.args.limits.now (flow (seen_by g.S.Source.to_come g.S.Source.gave c.args.input.now)
     (seen_by g.S.Source.to_come g.S.Source.gave c.inspect.new.input)) _ c.in-Ok.ensures.verdict)))

@@ -1,6 +1,22 @@
-use Rattle.age_header.proofs.DeviceLemmas.{some_then}
+use Rattle.age_header.proofs.Common.{◌∙◌, ℕ, length-append, length-take, arith, common_steps}
+use Rattle.age_header.proofs.DeviceLemmas.{gave_then, some_then}
 use Rattle.age_header.proofs.lines.read_line.Goals as goal
 
 pub returns-then-is_err-clause-lost : goal.returns-then-is_err-clause-lost
 returns-then-is_err-clause-lost g c =
     some_then c.loop.invariant.bytes (search (c.in-Ok.ensures.gave))
+
+pub returns-then-is_err-clause-most : goal.returns-then-is_err-clause-most
+returns-then-is_err-clause-most g c = (
+  _,
+  gave_then c.loop.invariant.bytes (record { consumes = c.in-Ok.ensures.bytes.0; grew = c.in-Ok.ensures.gave }),
+  omega (arith, length-append {A = ℕ}, length-take {A = ℕ}, c.read.auto.buf, c.loop.invariant.len),
+)
+
+pub loop-preserved : goal.loop-preserved
+loop-preserved g c = record {
+  count = c.in-Ok.ensures.count ∙ c.loop.invariant.count;
+  bytes = grind (arith, common_steps);
+  text = grind (arith, common_steps);
+  len = grind (arith, common_steps);
+}

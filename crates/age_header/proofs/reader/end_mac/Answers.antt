@@ -1,4 +1,4 @@
-use Rattle.age_header.proofs.Common.{◌≡◌, ◌∙◌, length, sym, ap, subst, codes, append_cancel_left, Bytes, IsBase64}
+use Rattle.age_header.proofs.Common.{◌≡◌, ◌∙◌, length, sym, ap, subst, codes, append_cancel_left, Bytes, IsBase64, arith, common_steps}
 use Rattle.age_header.proofs.Base64Lemmas.{IsBase64-injective}
 use Rattle.age_header.proofs.reader.end_mac.Goals as goal
 
@@ -18,3 +18,6 @@ returns-in_default-2-clause-none c mac characters n e h =
     let same : characters ≡ c.in-Some.characters.now =
     append_cancel_left (codes "--- ") characters c.in-Some.characters.now (sym e ∙ c.in-Some.ensures) in
     none mac (subst (λ (x : Bytes). IsBase64 mac x) same h)
+
+pub returns-in-Ok-clause-some : goal.returns-in-Ok-clause-some
+returns-in-Ok-clause-some c = grind (arith, common_steps)

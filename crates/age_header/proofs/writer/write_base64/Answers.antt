@@ -1,4 +1,4 @@
-use Rattle.age_header.proofs.Common.{◌≡◌, length, take, arith, encoded_size_of, base64_of}
+use Rattle.age_header.proofs.Common.{◌≡◌, length, take, arith, encoded_size_of, base64_of, rules}
 use Rattle.age_header.proofs.TextLemmas.{encoded, encoded_size_plain}
 use Rattle.age_header.proofs.writer.write_base64.Goals as goal
 
@@ -10,3 +10,14 @@ returns-clause-text g c =
     let same : take c.in-Ok.len c.encode_slice.new.output ≡ base64_of c.args.bytes.now =
     search (encoded, c.requires.plain, c.in-Ok.ensures.written, len) in
     rw (← same) c.write_all.ensures.text
+
+pub unreachable-requires : goal.unreachable-requires
+unreachable-requires g c =
+    let size = encoded_size_plain c.args.engine.now (length c.args.bytes.now) c.requires.plain in
+    c.in_default.not-Ok _ (c.encode_slice.ensures.fits (omega (arith, c.requires.short)))
+
+pub slice_bounds-characters-end : goal.slice_bounds-characters-end
+slice_bounds-characters-end g c = search rules
+
+pub slice_bounds-write_all-end : goal.slice_bounds-write_all-end
+slice_bounds-write_all-end g c = search rules

@@ -17,3 +17,8 @@ returns c =
     let here : IsBase64 m characters = subst (λ (z : Bytes). IsBase64 m z) (sym is)
     (IsBase64-encode m (search rules)) in
     subst (λ (z : HeaderParts). IsBase64 z.mac characters) c.self.view_is here
+
+pub unreachable-requires : goal.unreachable-requires
+unreachable-requires c =
+    let size = encoded_size_plain c.engine.result (length c.self.inside.mac) c.engine.ensures in
+    c.in_default.not-Ok _ (c.encode_slice.ensures.fits (omega arith))

@@ -14,3 +14,9 @@ returns-in-Some-clause-none c =
     let is : within c.self.inside.stanzas.items c.in-Some.stanza.args c.in-Some.stanza.body ≡ c.args.self =
     rw c.in-Some.is at c.self.view_is in
     rw (← is) c.body_line.ensures.none
+
+pub returns-in-Some-clause-some : goal.returns-in-Some-clause-some
+returns-in-Some-clause-some c =
+    let is : within c.self.inside.stanzas.items c.in-Some.stanza.args c.in-Some.stanza.body ≡ c.args.self =
+    rw c.in-Some.is at c.self.view_is in
+    rw (← is) c.body_line.ensures.some

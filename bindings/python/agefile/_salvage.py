@@ -1,0 +1,148 @@
+"""Saving what is left of a damaged file."""
+
+from __future__ import annotations
+
+import ctypes
+import os
+from typing import Any, BinaryIO, NamedTuple, cast
+
+from . import _library as lib
+from ._paths import check_atomic, reading, writing
+from ._payload import Behind, open_source, pieces
+from ._secrets import Identities
+from ._sources import Counted, Progress, read_some, readinto_of, write_all
+
+# What was saved of a chunk, by the numbers of agefile.h.
+CHUNK, LAST, EARLY, ZEROS, NONE = range(1, 6)
+# A header is read in such pieces, because a read that reaches a bad block may return nothing.
+BLOCK = 4096
+
+
+class Lost(NamedTuple):
+    """Chunks in a row that are lost. `chunks` are their numbers, counted from 0. Their plaintext is
+    `length` bytes from `offset` on, for which zeros were written. `unread` says that reads of them
+    failed; otherwise they are damaged."""
+
+    chunks: range
+    offset: int
+    length: int
+    unread: bool
+
+
+class Salvaged(NamedTuple):
+    """What was saved of a file.
+
+    `length` is the number of bytes written, zeros included. `chunks` is the number of chunks, and
+    `lost` lists those that are lost. `early` is the latest chunk that is marked as the last and
+    cannot be it, or None: `trailing` bytes of the file follow it, or it is empty after other chunks.
+    `cut` says that the file is cut short; if its last chunk is lost, more may be missing too.
+    `whole` says that the plaintext is complete and genuine: exactly then `copy` decrypts the file.
+    """
+
+    length: int
+    chunks: int
+    lost: tuple[Lost, ...]
+    early: int | None
+    trailing: int
+    cut: bool
+    whole: bool
+
+
+class _Skipping:
+    """A source that returns zeros up to the next chunk where a read fails, if its file can seek."""
+
+    def __init__(self, file: Any) -> None:
+        self._file, self._readinto = file, readinto_of(file)
+        self._can_seek = getattr(file, "seekable", bool)()
+        self.at = file.tell() if self._can_seek else 0
+        # The offset of chunk 0, and the numbers of chunks whose reads failed.
+        self.first, self.unread, self._zeros = 0, set[int](), 0
+
+    def read(self, size: int) -> bytes:
+        """Reads from the header, where a failed read is an error."""
+        piece = read_some(self._file, min(size, BLOCK))
+        self.at += len(piece)
+        return piece
+
+    def readinto(self, room: memoryview) -> Any:
+        if not self._zeros:
+            try:
+                count = self._readinto(room)
+                self.at += count or 0
+                return count
+            except OSError as error:
+                self._skip(error)
+        count = min(len(room), self._zeros)
+        room[:count] = bytes(count)
+        self._zeros -= count
+        self.at += count
+        return count
+
+    def _skip(self, error: OSError) -> None:
+        """Moves the file to the next chunk or to its end. Raises the error if it cannot."""
+        number = (self.at - self.first) // lib.SEALED_CHUNK
+        end = self._file.seek(0, os.SEEK_END) if self._can_seek else 0
+        if end < self.at:
+            raise error
+        following = min(self.first + (number + 1) * lib.SEALED_CHUNK, end)
+        self._file.seek(following)
+        self._zeros = following - self.at
+        self.unread.add(number)
+
+
+def salvage(
+    source: Any,
+    sink: Any,
+    *,
+    identities: Identities,
+    atomic: bool = False,
+    progress: Progress | None = None,
+) -> Salvaged:
+    """Saves what is left of a damaged file. Returns what was saved and what is lost.
+
+    Writes the plaintext of every chunk that opens, at its offset, and zeros for every chunk that
+    does not. Each chunk that was saved is genuine; the file as a whole is only if the result is
+    `whole`. Damaged chunks raise no exception. A wrong key does, and so does a damaged header, even
+    if a key fits it.
+
+    If a read fails and the source can seek, the chunk is lost, and salvaging continues at the next
+    one. Otherwise the error is raised; what was saved before it has been written.
+
+    `source`, `sink`, `atomic` and `progress` are those of `copy`. Uses constant memory, except for
+    the list of losses.
+    """
+    check_atomic(sink, atomic)
+    with reading(source) as file:
+        skipping = _Skipping(file)
+        below: Any = skipping if progress is None else Counted(skipping, progress, file)
+        ahead, payload = open_source(below, identities)
+        skipping.first = skipping.at - len(ahead)
+        with writing(sink, file, 0o600, atomic) as out:
+            return _save(payload, cast(BinaryIO, Behind(ahead, below)), skipping.unread, out)
+
+
+def _save(payload: lib.Payload, source: BinaryIO, unread: set[int], sink: Any) -> Salvaged:
+    lost: list[Lost] = []
+    early, total, sealed = None, 0, 0
+    for number, (chunk, length, is_last) in enumerate(pieces(source, lib.SEALED_CHUNK)):
+        report = lib.check("salvage_next", ctypes.byref(payload), chunk.base, length, is_last)
+        saved, text = report.place, chunk.view[: report.len]
+        write_all(sink, text)
+        if saved == ZEROS:
+            _join(lost, Lost(range(number, number + 1), total, len(text), number in unread))
+        early = number if saved == EARLY else early
+        unread.discard(number)
+        total, sealed = total + len(text), sealed + length
+    trailing = 0 if early is None else max(sealed - (early + 1) * lib.SEALED_CHUNK, 0)
+    is_cut = saved == CHUNK or saved == NONE and (early is None or early < number - 1)
+    is_whole = saved == LAST and not lost and early is None
+    return Salvaged(total, number + 1, tuple(lost), early, trailing, is_cut, is_whole)
+
+
+def _join(lost: list[Lost], new: Lost) -> None:
+    """Adds a chunk to the run that it continues, or as a new one."""
+    if lost and lost[-1].chunks.stop == new.chunks.start and lost[-1].unread == new.unread:
+        run = lost.pop()
+        chunks = range(run.chunks.start, new.chunks.stop)
+        new = Lost(chunks, run.offset, run.length + new.length, new.unread)
+    lost.append(new)

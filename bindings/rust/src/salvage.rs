@@ -1,0 +1,192 @@
+//! Saving what is left of a damaged file.
+
+use std::io::{self, Read, Seek, SeekFrom, Write};
+use std::ops::Range;
+
+use crate::ffi::{self, Report, SEALED_CHUNK};
+use crate::front::{fill, Front};
+use crate::Identity;
+
+// What was saved of a chunk, by the numbers of `agefile.h`.
+const CHUNK: u64 = 1;
+const LAST: u64 = 2;
+const EARLY: u64 = 3;
+const ZEROS: u64 = 4;
+const NONE: u64 = 5;
+
+/// Chunks in a row that are lost. [`salvage`] has an example.
+#[derive(Clone, Debug, PartialEq, Eq)]
+#[non_exhaustive]
+pub struct Lost {
+    /// The numbers of the chunks, counted from 0.
+    pub chunks: Range<u64>,
+    /// The offsets of their plaintext, for which zeros were written.
+    pub bytes: Range<u64>,
+    /// Whether reads of the chunks failed. Otherwise they are damaged.
+    pub is_unread: bool,
+}
+
+/// What was saved of a file. [`salvage`] has an example.
+#[derive(Clone, Debug, Default, PartialEq, Eq)]
+#[non_exhaustive]
+pub struct Salvaged {
+    /// The number of bytes written, zeros included.
+    pub len: u64,
+    /// The number of chunks.
+    pub chunks: u64,
+    /// The chunks that are lost.
+    pub lost: Vec<Lost>,
+    /// The latest chunk that is marked as the last and cannot be it: `trailing` bytes of the file
+    /// follow it, or it is empty after other chunks.
+    pub early: Option<u64>,
+    /// The number of bytes of the file after the early chunk.
+    pub trailing: u64,
+    /// Whether the file is cut short. If its last chunk is lost, more may be missing too.
+    pub is_cut: bool,
+    /// Whether the plaintext is complete and genuine. Exactly then [`decrypt`](crate::decrypt)
+    /// returns it.
+    pub is_whole: bool,
+}
+
+impl Salvaged {
+    /// Counts one more chunk, of `sealed` bytes in the file.
+    fn add(&mut self, saved: &Report, sealed: u64, is_unread: bool) {
+        let (number, start) = (self.chunks, self.len);
+        (self.chunks, self.len) = (number + 1, start + saved.len);
+        self.trailing += if self.early.is_some() { sealed } else { 0 };
+        match (saved.place, self.lost.last_mut()) {
+            (ZEROS, Some(run)) if run.chunks.end == number && run.is_unread == is_unread => {
+                (run.chunks.end, run.bytes.end) = (self.chunks, self.len);
+            }
+            (ZEROS, _) => self.lost.push(Lost { chunks: number..self.chunks, bytes: start..self.len, is_unread }),
+            (EARLY, _) => (self.early, self.trailing) = (Some(number), 0),
+            _ => {}
+        }
+    }
+
+    /// Judges the file by its last chunk.
+    fn end(&mut self, last: u64) {
+        self.is_whole = last == LAST && self.lost.is_empty() && self.early.is_none();
+        let is_trailing = self.early.is_some_and(|early| early + 2 >= self.chunks);
+        self.is_cut = last == CHUNK || last == NONE && !is_trailing;
+    }
+}
+
+/// Saves what is left of a damaged file. Returns what was saved and what is lost.
+///
+/// Writes the plaintext of every chunk that opens, at its offset, and zeros for every chunk that
+/// does not. Each chunk that was saved is genuine; the file as a whole is only if the result
+/// [is whole](Salvaged::is_whole).
+///
+/// If a read fails and the source can seek, the chunk is lost, and salvaging continues at the next
+/// one. A pipe can be passed as a [`File`](std::fs::File), which then cannot seek.
+///
+/// # Errors
+/// Damaged chunks are not an error. A wrong key is one, and so is a damaged header, even if a key
+/// fits it. Otherwise those of the sink, and of reads of a source that cannot seek; what was saved
+/// before the error has been written.
+///
+/// ```
+/// # fn main() -> std::io::Result<()> {
+/// # let key = agefile::Key::new([7; 32]);
+/// let mut file = agefile::encrypt(&[1; 100_000], &[&key])?;
+/// *file.last_mut().unwrap() ^= 1;
+/// let mut plain = Vec::new();
+/// let saved = agefile::salvage(std::io::Cursor::new(file), &mut plain, &[&key])?;
+/// assert!(!saved.is_whole);
+/// assert_eq!(saved.lost[0].bytes, 65_536..100_000);
+/// assert_eq!(plain, [[1; 65_536].to_vec(), vec![0; 34_464]].concat());
+/// # Ok(())
+/// # }
+/// ```
+pub fn salvage(source: impl Read + Seek, mut sink: impl Write, identities: &[&dyn Identity]) -> io::Result<Salvaged> {
+    let mut source = Skipping::new(source);
+    let mut front = Front::default();
+    front.read(&mut source, identities)?;
+    let (mut payload, begin) = ffi::open(&front.bytes, &front.file_key()?.0)?;
+    source.first = Some(source.at - (front.bytes.len() - begin) as u64);
+    let mut source = front.bytes[begin..].chain(source);
+    let (mut saved, mut buf, mut have) = (Salvaged::default(), vec![0; SEALED_CHUNK + 1], 0);
+    loop {
+        // A byte after a chunk shows that it is not the last.
+        fill(&mut source, &mut buf, &mut have)?;
+        let len = have.min(SEALED_CHUNK);
+        let is_unread = source.get_mut().1.take_unread(saved.chunks);
+        let report = ffi::salvage_next(&mut payload, &mut buf[..len], have == len)?;
+        sink.write_all(&buf[..report.len as usize])?;
+        saved.add(&report, len as u64, is_unread);
+        if have == len {
+            saved.end(report.place);
+            sink.flush()?;
+            return Ok(saved);
+        }
+        (buf[0], have) = (buf[SEALED_CHUNK], 1);
+    }
+}
+
+/// A source that returns zeros up to the next chunk where a read fails, if it can seek.
+struct Skipping<R> {
+    source: R,
+    can_seek: bool,
+    /// The offset of the next byte, and that of chunk 0, once it is known.
+    at: u64,
+    first: Option<u64>,
+    /// The number of zeros that are still to be returned.
+    zeros: u64,
+    /// The chunks whose reads failed.
+    unread: Vec<u64>,
+}
+
+impl<R: Read + Seek> Skipping<R> {
+    fn new(mut source: R) -> Skipping<R> {
+        let start = source.stream_position();
+        let (can_seek, at) = (start.is_ok(), start.unwrap_or(0));
+        Skipping { source, can_seek, at, first: None, zeros: 0, unread: Vec::new() }
+    }
+
+    /// Whether a read of this chunk failed. Forgets the chunk.
+    fn take_unread(&mut self, number: u64) -> bool {
+        let found = self.unread.contains(&number);
+        self.unread.retain(|other| *other != number);
+        found
+    }
+
+    /// Moves the source to the next chunk or to its end. Returns the error if it cannot.
+    fn skip(&mut self, error: io::Error) -> io::Result<()> {
+        let first = match self.first {
+            Some(first) if self.can_seek && error.kind() != io::ErrorKind::Interrupted => first,
+            _ => return Err(error),
+        };
+        let end = self.source.seek(SeekFrom::End(0))?;
+        if end < self.at {
+            return Err(error);
+        }
+        let number = (self.at - first) / SEALED_CHUNK as u64;
+        let next = (first + (number + 1) * SEALED_CHUNK as u64).min(end);
+        self.zeros = self.source.seek(SeekFrom::Start(next))? - self.at;
+        self.unread.push(number);
+        Ok(())
+    }
+}
+
+impl<R: Read + Seek> Read for Skipping<R> {
+    fn read(&mut self, out: &mut [u8]) -> io::Result<usize> {
+        if self.zeros == 0 {
+            // A read ends where its chunk does, so that its failure costs no other.
+            let left = |first| SEALED_CHUNK - ((self.at - first) % SEALED_CHUNK as u64) as usize;
+            let len = out.len().min(self.first.map_or(usize::MAX, left));
+            match self.source.read(&mut out[..len]) {
+                Ok(count) => {
+                    self.at += count as u64;
+                    return Ok(count);
+                }
+                Err(error) => self.skip(error)?,
+            }
+        }
+        let count = self.zeros.min(out.len() as u64);
+        out[..count as usize].fill(0);
+        self.zeros -= count;
+        self.at += count;
+        Ok(count as usize)
+    }
+}

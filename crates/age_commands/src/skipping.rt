@@ -1,0 +1,183 @@
+//! A source that goes on behind what cannot be read.
+ghost use Rattle.std.specs.Prelude.{◌≡◌, ◌≤◌, ◌<◌, ◌+◌, ◌-◌, ◌^◌, [], None, true, min, IfSome, length, replicate, take};
+ghost use Rattle.age_header.specs.Device.{Known};
+ghost use Rattle.age_commands.specs.Skipping.{HasRead, come_by, is_end, unread_len};
+
+use age_file::{DeviceFault, NONCE_SIZE, Source};
+use std::io;
+use std::io::{ErrorKind, Read, Seek, SeekFrom};
+use std::marker::{Brand, PhantomData};
+
+/// What a reader holds at its start, for a proof. It ties what a `SkippingSource` has returned to
+/// what its reader held.
+pub(crate) trait Begun {
+    ghost start: { Known };
+}
+
+impl Begun for Brand {
+    ghost start = { None };
+}
+
+/// The bytes of a file for which zeros were returned, because they could not be read.
+#[derive(Clone, Copy, Drop)]
+pub struct Unread {
+    /// The offset of the first.
+    pub first: u64,
+    /// Their number.
+    pub bytes: u64,
+    /// Why the last of them could not be read.
+    pub reason: io::Error,
+}
+
+/// How far a source has read.
+#[derive(Clone, Copy, Drop, PartialEq, Eq)]
+pub(crate) enum Reached {
+    /// It has returned the bytes up to a place in the file, each as it was read.
+    Place,
+    /// The same up to the end of the file.
+    End,
+    /// A read failed.
+    Failure,
+}
+
+/// A source over a reader. Behind a failed read within the chunks of a payload it goes on, if it
+/// may: it returns zeros for the rest of the chunk.
+#[derive(Drop)]
+pub(crate) struct SkippingSource<R, K: Begun> {
+    reader: R,
+    failures: u64,
+    /// Whether it goes on behind a failed read.
+    skips: bool,
+    /// Whether a chunk was asked for. A header is read byte by byte.
+    is_at_chunks: bool,
+    reached: Reached,
+    unread: Option<Unread>,
+    begun: PhantomData<K>,
+}
+
+impl<R: Read + Seek, K: Begun> SkippingSource<R, K> {
+    /// Makes a source over this reader, which is at its start. If `skips`, it goes on behind failed
+    /// reads of chunks.
+    pub(crate) fn new(reader: R, skips: bool) -> SkippingSource<R, K>
+        requires { K.start ≡ R.remaining reader }
+        ensures to_come { ⟦<SkippingSource<R, K> as Source>⟧.to_come result
+            ≡ come_by skips (R.remaining reader) }
+        ensures gave { ⟦<SkippingSource<R, K> as Source>⟧.gave result [] }
+    {
+        SkippingSource {
+            reader,
+            failures: 0,
+            skips,
+            is_at_chunks: false,
+            reached: Reached::Place,
+            unread: None,
+            begun: PhantomData,
+        }
+    }
+
+    /// Whether all bytes were read, up to the end.
+    pub(crate) fn is_read(&self) -> bool
+        ensures { result ≡ is_end self.now.reached }
+    {
+        self.reached == Reached::End
+    }
+
+    /// The bytes for which zeros were returned, if there are any.
+    pub(crate) fn unread(&self) -> Option<Unread>
+        ensures { result ≡ self.now.unread }
+    {
+        self.unread
+    }
+
+    /// Goes on behind a read that failed for this reason, if it may, and notes for how many bytes
+    /// it returns zeros.
+    fn skip(&mut self, buf: &mut [u8], reason: io::Error) -> Option<usize>
+        ensures len { length buf.new ≡ length buf.old }
+        ensures zeros { IfSome result
+            (λ n. (n ≤ length buf.new) × (take n buf.new ≡ replicate n 0)) }
+        ensures noted { IfSome result (λ n. unread_len self.new.unread
+            ≡ min (unread_len self.old.unread + n) (2 ^ 64 - 1)) }
+        ensures reached { self.new.reached ≡ Reached.Failure }
+        ensures stays { (self.new.skips ≡ self.old.skips)
+            × (self.new.failures ≡ self.old.failures) }
+        // Only a source that may goes on.
+        ensures may { IfSome result (λ _. self.old.skips ≡ true) }
+    {
+        self.reached = Reached::Failure;
+        if !self.skips || !self.is_at_chunks || reason.kind() == ErrorKind::Interrupted {
+            return None;
+        }
+        let (at, n) = pass_over(&mut self.reader, buf)?;
+        let (first, bytes) = match self.unread {
+            Some(before) => (before.first, before.bytes),
+            None => (at, 0),
+        };
+        let bytes = bytes.saturating_add(n as u64);
+        self.unread = Some(Unread {
+            first,
+            bytes,
+            reason,
+        });
+        Some(n)
+    }
+}
+
+/// Writes zeros into the buffer in place of the bytes at which a read failed, and goes on behind
+/// them. Returns the offset of the first and their number: all for which there is room but one,
+/// because a chunk is read together with the first byte of the next. None at the end of the file,
+/// or if the reader has no offsets.
+fn pass_over<R: Seek>(reader: &mut R, buf: &mut [u8]) -> Option<(u64, usize)>
+    ensures len { length buf.new ≡ length buf.old }
+    ensures zeros { IfSome result
+        (λ r. (r.1 ≤ length buf.new) × (take r.1 buf.new ≡ replicate r.1 0)) }
+    // It ends: no more zeros follow than the file has bytes.
+    ensures some { IfSome result (λ r. 0 < r.1) }
+{
+    let at = reader.stream_position().ok()?;
+    let end = reader.seek(SeekFrom::End(0)).ok()?;
+    let most = buf.len().saturating_sub(1).max(1).min(buf.len());
+    let n = end.saturating_sub(at).min(most as u64) as usize;
+    if n == 0 {
+        return None;
+    }
+    reader
+        .seek(SeekFrom::Start(at.saturating_add(n as u64)))
+        .ok()?;
+    let (zeros, _) = buf.split_at_mut(n);
+    zeros.fill(0);
+    Some((at, n))
+}
+
+impl<R: Read + Seek, K: Begun> Source for SkippingSource<R, K> {
+    ghost failed = { λ s. s.failures };
+
+    ghost to_come = { λ s. come_by s.skips (R.remaining s.reader) };
+
+    ghost gave = { λ s past. HasRead s.reached K.start (R.remaining s.reader) past };
+
+    fn read(&mut self, buf: &mut [u8]) -> Result<usize, DeviceFault> {
+        if buf.len() > NONCE_SIZE {
+            self.is_at_chunks = true;
+        }
+        match self.reader.read(buf) {
+            Ok(n) => {
+                if self.reached != Reached::Failure {
+                    let is_end = n == 0 && !buf.is_empty();
+                    self.reached = if is_end { Reached::End } else { Reached::Place };
+                }
+                Ok(n)
+            }
+            Err(reason) => {
+                if let Some(n) = self.skip(buf, reason) {
+                    return Ok(n);
+                }
+                self.failures = self.failures.saturating_add(1);
+                Err(DeviceFault)
+            }
+        }
+    }
+
+    fn failures(&self) -> u64 {
+        self.failures
+    }
+}

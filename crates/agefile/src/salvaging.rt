@@ -1,0 +1,73 @@
+//! Saving what is left of a damaged payload, one sealed chunk after another.
+
+ghost use Rattle.std.specs.Prelude.{◌≡◌, ◌<◌, ◌≤◌, length};
+ghost use Rattle.age_stream.specs.Sizes.{sealed_chunk_size};
+ghost use Rattle.agefile.specs.Codes.{ok};
+ghost use Rattle.agefile.specs.Salvage.{SavesAs, SavesNext, saved_number};
+ghost use Rattle.agefile.specs.Sizes.{limits};
+
+use crate::code::{OK, OUT_OF_ORDER, fault_code};
+use crate::limits::MAX_CHUNKS;
+use crate::payload::{Payload, go_on};
+use crate::report::Report;
+use age_file::Fault;
+use age_stream::{Saved, TAG_SIZE, save_piece};
+
+/// Saves what it can of the next sealed chunk, in place: 65,552 bytes, or what is left if it is the
+/// last. On 0 the buffer begins with the text to which these bytes open at their number, marked as
+/// the last or not; if they open as neither, with as many zeros. The report has the length of
+/// either and, as its place, what was saved: 1 a chunk that others follow, 2 the last chunk, 3 a
+/// chunk that is marked as the last and may not be, 4 zeros, 5 nothing, because there are at most
+/// 16 bytes, which do not open. The payload continues after the chunk. Allocates nothing.
+///
+/// # Errors
+/// 23 if the payload is not open for reading, or the chunk has another length: only the report
+/// changes. 14 if there are 2^64 - 1 chunks already: the chunk is unchanged, and the payload
+/// accepts no further chunk.
+#[unsafe(no_mangle)]
+pub extern "C" fn agefile_salvage_next(
+    payload: &mut Payload,
+    chunk: &mut [u8],
+    last: bool,
+    report: &mut Report,
+) -> u32
+    ensures { SavesNext payload.old payload.new chunk.old chunk.new last report.new result }
+{
+    if !payload.may_open(chunk.len(), last) {
+        *report = Report::default();
+        return OUT_OF_ORDER;
+    }
+    let code = save_as(&payload.key, payload.number, last, chunk, report);
+    go_on(payload, last, code);
+    code
+}
+
+/// Saves what it can of a chunk under its number.
+fn save_as(key: &[u8; 32], number: u64, last: bool, chunk: &mut [u8], report: &mut Report) -> u32
+    requires { length chunk.old ≤ sealed_chunk_size }
+    ensures saves { SavesAs key.now number last chunk.old chunk.new report.new result }
+    ensures within { result ≡ ok → number < limits.max_chunks }
+{
+    if number as u128 >= MAX_CHUNKS {
+        *report = Report::of_fault(0, Fault::TooManyChunks);
+        return fault_code(Fault::TooManyChunks);
+    }
+    let len = chunk.len();
+    let saved = save_piece(key, number as u128, last, chunk, len);
+    *report = Report::of_len(len.saturating_sub(TAG_SIZE) as u64);
+    report.place = saved_number(saved);
+    OK
+}
+
+/// What was saved of a chunk, by the numbers of `agefile.h`.
+fn saved_number(saved: Saved) -> u64
+    ensures { result ≡ saved_number saved }
+{
+    match saved {
+        Saved::Chunk => 1,
+        Saved::LastChunk => 2,
+        Saved::Early => 3,
+        Saved::Zeros => 4,
+        Saved::Nothing => 5,
+    }
+}

@@ -1,0 +1,29 @@
+"""The output and the report of salvaging a payload in Python and Rust, by a model without a cipher: a piece
+opens exactly if it was made as the chunk of its number."""
+
+import itertools
+
+from make_vectors import MADE, NONCE
+from testkit import SEALED
+
+
+def runs(numbers):
+    """The runs of these ascending numbers."""
+    for _, run in itertools.groupby(enumerate(numbers), lambda pair: pair[1] - pair[0]):
+        found = [number for _, number in run]
+        yield range(found[0], found[-1] + 1)
+
+
+def expected(payload):
+    """The text, and the report with its fields in the order of agefile.Salvaged."""
+    pieces = [payload[at : at + SEALED] for at in range(16, len(payload), SEALED)] or [b""]
+    end, made = len(pieces) - 1, MADE if payload[:16] == NONCE else {}
+    opened = [made.get((i, piece), (bytes(max(len(piece) - 16, 0)), None)) for i, piece in enumerate(pieces)]
+    texts = [text for text, _ in opened]
+    lost = [i for i, (text, is_last) in enumerate(opened) if text and is_last is None]
+    early = max((i for i, (text, is_last) in enumerate(opened) if is_last and (i < end or i > 0 and not text)), default=None)
+    trailing = 0 if early is None else max(len(payload) - 16 - (early + 1) * SEALED, 0)
+    _, last = opened[end]
+    is_cut = last is False or (last is None and not texts[end] and (early is None or early < end - 1))
+    listed = tuple((run, sum(map(len, texts[: run[0]])), sum(len(texts[i]) for i in run), False) for run in runs(lost))
+    return b"".join(texts), (sum(map(len, texts)), end + 1, listed, early, trailing, is_cut, bool(last) and not lost and early is None)

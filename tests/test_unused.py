@@ -1,0 +1,127 @@
+"""tests/planted/find_unused and check_margin: lemmas that nothing cites, answers that the check does not
+need, and answers that it needs with --margin."""
+
+import os
+import shutil
+import subprocess
+import unittest
+
+from program import TESTS, scratch, write
+
+LEMMAS = """-- Lemmas.
+use Rattle.std.proofs.Common.{refl}
+
+-- cited in this file
+first : (n : ℕ) → n ≡ n
+first n = refl
+
+-- cited by its recursion alone
+pub second : (xs : List ℕ) → xs ≡ xs
+second [] = refl
+second (x ∷ xs) = ap (x ∷◌) (second xs)
+
+-- cited by another file
+pub third : (n : ℕ)
+    → n ≡ n
+third n = first n
+  where
+    fourth : ℕ
+    fourth = 4
+
+-- cited by nothing
+module _ (n : ℕ) where
+  pub record IsFifth : Type 0 where
+    pub field : n ≡ n
+
+  pub sixth : n ≡ n
+  sixth = refl
+"""
+ANSWERS = """use Rattle.one.proofs.Common.{third, refl}
+use Rattle.one.proofs.f.Goals as goal
+
+-- needed
+pub bounds-x : goal.bounds-x
+bounds-x c = third 1
+
+pub returns-clause-len : goal.returns-clause-len
+returns-clause-len c = refl
+
+pub late : goal.late
+late c = refl
+
+pub returns-clause-text : goal.returns-clause-text
+unfolding text
+returns-clause-text c =
+    refl
+"""
+COMMON = """pub use Rattle.std.proofs.Common.{refl, sym}
+pub use Rattle.one.proofs.Lemmas.{third}
+"""
+# Proves each goal but three without an answer: one with --margin, one without it, and one only if
+# there is no other answer either.
+RT = """#!/bin/sh
+case "$*" in *--margin*) goals=returns-clause-len;; *) goals=bounds-x;; esac
+[ ! -e proofs/f/Answers.antt ] || goals="$goals late"
+for goal in $goals; do
+    grep -q "^$goal c" proofs/f/Answers.antt || open="$open\\`$goal\\`"
+done
+[ -z "$open" ] || {
+    echo "fn one::f: no proof: expected answers in ./proofs/f/Answers.antt; \\`search\\` did not prove $open"
+    exit 1
+}
+"""
+
+
+class Unused(unittest.TestCase):
+    def setUp(self):
+        self.tree = scratch()
+        os.makedirs(self.tree + "/tests/planted")
+        for name in ("find_unused", "check_margin"):
+            shutil.copy(f"{TESTS}/planted/{name}", self.tree + "/tests/planted")
+        self.put("crates.txt", "# name: below\none:\n")
+        self.put("crates/one/proofs/Common.antt", COMMON)
+        self.put("crates/one/proofs/Lemmas.antt", LEMMAS)
+        self.put("crates/one/proofs/f/Answers.antt", ANSWERS)
+        self.put("bin/rt", RT)
+        os.chmod(self.tree + "/bin/rt", 0o755)
+        subprocess.run("git init -q && git add -A", cwd=self.tree, shell=True, check=True)
+
+    def put(self, name, text):
+        os.makedirs(os.path.dirname(f"{self.tree}/{name}"), exist_ok=True)
+        write(f"{self.tree}/{name}", text.encode())
+
+    def run_script(self, name, *crates):
+        path = f"{self.tree}/bin:{os.environ['PATH']}"
+        done = subprocess.run((f"{self.tree}/tests/planted/{name}", *crates), stdout=subprocess.PIPE,
+                              stderr=subprocess.STDOUT, text=True, env={**os.environ, "PATH": path})
+        return done.returncode, done.stdout
+
+    def find(self, *crates):
+        return self.run_script("find_unused", *crates)
+
+    def test_lemmas(self):
+        """It names the lemmas that only their own proofs cite, and the names that Common re-exports for nobody."""
+        lemmas = "crates/one/proofs/Lemmas.antt: "
+        self.assertEqual(self.find(), (1, "crates/one/proofs/Common.antt: sym\n" + lemmas + "second\n"
+                                       + lemmas + "fourth\n" + lemmas + "IsFifth\n" + lemmas + "sixth\n"))
+        self.put("crates/one/proofs/Common.antt", COMMON.replace(", sym", ""))
+        self.put("crates/one/specs/A.antt", "use Rattle.one.proofs.Lemmas as lemma\nx = lemma.second\nuse Rattle.one.proofs.Lemmas.{IsFifth, sixth}\n")
+        self.put("crates/one/proofs/Lemmas.antt", LEMMAS.replace("third n = first n", "third n = fourth"))
+        self.assertEqual(self.find(), (1, lemmas + "first\n"))
+
+    def test_answers(self):
+        """It names the answers that the check needs neither with --margin nor without it, and changes no file."""
+        self.assertEqual(self.find("one"), (1, "crates/one/proofs/f/Answers.antt: returns-clause-text\n"))
+        with open(self.tree + "/crates/one/proofs/f/Answers.antt", encoding="utf-8") as file:
+            self.assertEqual(file.read(), ANSWERS)
+        self.put("crates/one/proofs/f/Answers.antt", ANSWERS.split("\n\npub returns-clause-text")[0])
+        self.assertEqual(self.find("one"), (0, ""))
+
+    def test_margin(self):
+        """check_margin names the goals that are not proved with --margin, in all crates or in those given."""
+        self.assertEqual(self.run_script("check_margin"), (0, ""))
+        self.put("crates/one/proofs/f/Answers.antt", ANSWERS.replace("returns-clause-len c", "returns-clause-text c"))
+        refused = "fn one::f: no proof: expected answers in ./proofs/f/Answers.antt; `search` did not prove `returns-clause-len`\n"
+        for crates in ((), ("one",)):
+            with self.subTest(crates):
+                self.assertEqual(self.run_script("check_margin", *crates), (1, "one:\n" + refused))
