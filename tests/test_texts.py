@@ -13,6 +13,9 @@ from shells import FOLDER, offered
 
 PAGE = ROOT + "/share/man/agep.1"
 
+# An option in help: its letter, if it has one, its name and its value.
+OPTION = r"^ {2,6}(?:(-[a-zA-Z]), )?(--[a-z-]+)(?: <(\w+)>)?"
+
 
 def help_of(*words):
     return subprocess.run([AGEP, *words, "--help"], stdin=subprocess.DEVNULL, capture_output=True, check=True).stdout.decode()
@@ -24,16 +27,21 @@ def commands():
     return [line.split()[0] for line in shown.split("\n") if line.split()[0] != "help"]
 
 
+def option_rows(*words):
+    """The letter, if it has one, the name and the value of each option that help shows."""
+    return re.findall(OPTION, help_of(*words), re.MULTILINE)
+
+
 def options_of(*words):
     """The letters and names of the options that help shows."""
-    return sorted(word for pair in re.findall("^ +(-[a-zA-Z]), (--[a-z-]+)", help_of(*words), re.MULTILINE) for word in pair)
+    return sorted(word for letter, name, _ in option_rows(*words) for word in (letter, name) if word)
 
 
 def texts_of(command):
-    """The sentences of help for each option, by its letter; the default is the last one."""
+    """The sentences of help for each option, by its name; the default is the last one."""
     options = help_of(command).split("\nOptions:\n")[1].split("\n\n")[0]
-    rows = re.findall(r"^ +(-[a-zA-Z]), --[a-z-]+(?: <\w+>)? +(\S.*(?:\n {20,}.*)*)", options, re.MULTILINE)
-    return {letter: re.sub(r"\.? \[default: (.*)\]$", r". The default is \1", " ".join(text.split())) + "." for letter, text in rows}
+    rows = re.findall(OPTION + r" +(\S.*(?:\n {20,}.*)*)", options, re.MULTILINE)
+    return {name: re.sub(r"\.? \[default: (.*)\]$", r". The default is \1", " ".join(text.split())) + "." for _, name, _, text in rows}
 
 
 def section(heading):
@@ -146,31 +154,31 @@ class Manual(unittest.TestCase):
         shown = [" ".join((" " if len(macro) == 2 else "").join(words).strip() for macro, *words in entry) for entry in lines]
         expected = []
         for command in commands():
-            options = re.findall(r"^ +-([a-zA-Z]), --[a-z-]+(?: <(\w+)>)?", help_of(command), re.MULTILINE)
-            pairs = {"p": "{-p FILE | -k FILE...}", "P": "{-P FILE | -K FILE...}"}
-            words = [pairs.get(letter, f"[-{letter} {value}]".replace(" ]", "]")) for letter, value in options if letter not in "kKhV"]
+            pairs = {"-p": "{-p FILE | -k FILE...}", "-P": "{-P FILE | -K FILE...}"}
+            rows = [row for row in option_rows(command) if row[0] not in ("-k", "-K", "-h", "-V")]
+            words = [pairs.get(letter, f"[{letter or name} {value}]".replace(" ]", "]")) for letter, name, value in rows]
             usage = re.search(r"^Usage: agep \w+ \[OPTIONS\] (.*)", help_of(command), re.MULTILINE)[1]
             expected.append(" ".join(["agep", command, *words, re.sub("[<>]", "", usage)]))
         self.assertEqual(shown, [*expected, "agep help [COMMAND]", "agep {-h | -V}"])
 
     def test_options(self):
         """OPTIONS has each option once, with its value."""
-        rows = re.findall(r'^\.BR (-[a-zA-Z]) ", " (--[a-z-]+)(?: " \\fI(\w+)\\fR")?', section("OPTIONS"), re.MULTILINE)
-        every = {row for words in [[], *([command] for command in commands())] for row in re.findall(r"^ +(-[a-zA-Z]), (--[a-z-]+)(?: <(\w+)>)?", help_of(*words), re.MULTILINE)}
+        rows = re.findall(r'^\.TP\n\.BR (?:(-[a-zA-Z]) ", " )?(--[a-z-]+)(?: " \\fI(\w+)\\fR")?', section("OPTIONS"), re.MULTILINE)
+        every = {row for words in [[], *([command] for command in commands())] for row in option_rows(*words)}
         self.assertEqual(sorted(rows), sorted(every))
         self.assertNotRegex(read(PAGE).decode(), r"(?<![\\\w])-(-|[a-zA-Z]\b)", "a hyphen in place of a minus, which a shell does not know")
 
     def test_texts(self):
         """OPTIONS has the text that the help of each command has for the option."""
         said, page = {}, re.sub(r"\\f[BIR]", "", section("OPTIONS"))
-        for letter, paragraphs in re.findall(r'^\.TP\n\.BR (-[a-zA-Z]) .*\n((?:[^.].*\n|\.IP\n)*)', page, re.MULTILINE):
+        for name, paragraphs in re.findall(r'^\.TP\n\.BR (?:-[a-zA-Z] ", " )?(--[a-z-]+).*\n((?:[^.].*\n|\.IP\n)*)', page, re.MULTILINE):
             for paragraph in paragraphs.split(".IP\n"):
                 users, text = re.fullmatch(r"(?:\((.*)\)\n)?(.*)", paragraph, re.DOTALL).groups()
                 for command in re.split(", | and ", users) if users else commands():
-                    said.setdefault(command, {}).setdefault(letter, []).extend(text.split())
+                    said.setdefault(command, {}).setdefault(name, []).extend(text.split())
         for command in commands():
             with self.subTest(command):
-                self.assertEqual({letter: " ".join(words) for letter, words in said[command].items()}, texts_of(command))
+                self.assertEqual({name: " ".join(words) for name, words in said[command].items()}, texts_of(command))
 
     def enter_backups(self):
         """Enters a folder for EXAMPLES, with files like those that earlier examples made."""
@@ -244,7 +252,7 @@ class Completions(unittest.TestCase):
         options, values, short_joined, long_joined = {}, {}, {}, {}
         for command in commands():
             options[f"agep {command} -"] = options_of(command)
-            for short, long, value in re.findall(r"^ +(-[a-zA-Z]), (--[a-z-]+) <(\w+)>", help_of(command), re.MULTILINE):
+            for short, long, value in (row for row in option_rows(command) if row[2]):
                 file = ["some.age"] * (value != "N")
                 values |= {f"agep {command} {option} so": file for option in (short, long)}
                 short_joined[f"agep {command} {short}so"] = [short + name for name in file]
@@ -256,15 +264,15 @@ class Completions(unittest.TestCase):
 
     def test_descriptions(self):
         """zsh and fish describe each option by the first words of its help."""
-        for name, pattern in ("_agep", r"\{(-[a-zA-Z])\+?,--[^}]*\}(['\"])\[(.*)\](?::(?:number|file):\w*)?\2"), ("agep.fish", r"-s (\w) .* -d (')(.*)'$"):
+        for name, pattern in ("_agep", r"--([a-z-]+)=?\}?(['\"])\[(.*)\](?::(?:number|file):\w*)?\2"), ("agep.fish", r" -l ([a-z-]+) .*-d (')(.*)'$"):
             text = read(f"{FOLDER}/{name}").decode()
             for command in commands():
                 part = re.search(rf"^        {command}\)\n((?:            .*\n)*)", text, re.MULTILINE)
-                lines = part[1] if part else "\n".join(line for line in text.split("\n") if re.search(rf"[ ']{command}[ '].* -s | -s [hV] ", line))
-                found = {"-" + letter[-1]: words.replace("\\'", "'") for letter, _, words in re.findall(pattern, lines, re.MULTILINE)}
-                expected = {letter: re.split(r"[.;:] |\.$", words)[0] for letter, words in texts_of(command).items()}
+                lines = part[1] if part else "\n".join(line for line in text.split("\n") if re.search(rf"[ ']{command}[ '].* -l | -s [hV] ", line))
+                found = {"--" + option: words.replace("\\'", "'") for option, _, words in re.findall(pattern, lines, re.MULTILINE)}
+                expected = {option: re.split(r"[.;:] |\.$", words)[0] for option, words in texts_of(command).items()}
                 if part:
-                    expected = {letter: words[0].lower() + words[1:] for letter, words in expected.items()}
+                    expected = {option: words[0].lower() + words[1:] for option, words in expected.items()}
                 with self.subTest(f"{name} {command}"):
                     self.assertEqual(found, expected)
 
