@@ -6,6 +6,7 @@ import shlex
 import signal
 
 from fixture import PASSPHRASE, PLAIN, SEED, changed, with_other_mac
+from messages import message
 from program import BY_PASSPHRASE, OPENING, ProgramCase, preload, read, write
 from test_headers import ZERO_MAC, ZERO_SALT, header_in, header_of, table
 
@@ -271,8 +272,12 @@ class Headers(Verbose):
 
     def test_shrunk(self):
         """A file with fewer bytes than its size said: its last read returns none."""
-        env = {"LD_PRELOAD": preload("calls"), "CALL": "read", "NUMBER": "LAST", "DO": "none"}
-        self.explains("Read", "key.age: the file became shorter while it was read", "range -k key 0 5 key.age", env=env)
+        words, env = ("range", "-k", "key", "0", "5", "two.age"), {"LD_PRELOAD": preload("calls"), "TRACE": "trace"}
+        self.assert_ended(self.run_agep(*words, env=env), 0, "", None)
+        count = sum(row.startswith(b"read ") for row in read("trace").splitlines())
+        env = {"LD_PRELOAD": preload("calls"), "CALL": "read", "NUMBER": str(count), "DO": "none"}
+        self.says(message("Read"), *words, env=env)
+        self.says(message("Read"), *words, "-v", more="two.age: the file became shorter while it was read", env=env)
 
 
 class Chunks(Verbose):
