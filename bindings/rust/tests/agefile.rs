@@ -278,16 +278,16 @@ fn passphrase_files_are_those_of_the_program() {
         let file = encrypt(b"text", &[&Passphrase::new(text).with_work(1)]).unwrap();
         assert_eq!(decrypt(&file, &[&read(bytes).unwrap()]).unwrap(), b"text");
     };
-    for (bytes, text) in [(&b"word"[..], &b"word"[..]), (b"word\n", b"word"), (b"\n\n", b"\n"), (b"a\nb\n", b"a\nb"), (b"\xff", b"\xff")] {
+    for (bytes, text) in
+        [(&b"word"[..], &b"word"[..]), (b"word\n", b"word"), (b"\n\n", b"\n"), (b"a\nb\n", b"a\nb"), (b"\xff", b"\xff")]
+    {
         opens(bytes, text);
         let file = encrypt(b"text", &[&read(bytes).unwrap()]).unwrap();
         assert_eq!(decrypt(&file, &[&Passphrase::new(text)]).unwrap(), b"text");
     }
-    for (bytes, text) in [
-        (&b"word\r"[..], &b"word\r"[..]),
-        (b"word\r\n", b"word\r"),
-        (b"\xef\xbb\xbfword\n", b"\xef\xbb\xbfword"),
-    ] {
+    for (bytes, text) in
+        [(&b"word\r"[..], &b"word\r"[..]), (b"word\r\n", b"word\r"), (b"\xef\xbb\xbfword\n", b"\xef\xbb\xbfword")]
+    {
         opens(bytes, text);
         let error = Writer::new(Vec::new(), &[&read(bytes).unwrap()]).unwrap_err();
         let said = "passphrase ends in CR or begins with a byte-order mark";
