@@ -1,4 +1,3 @@
 mod OwnHeaders
 mod PartLemmas
-mod RewrapLemmas
 mod TripLemmas

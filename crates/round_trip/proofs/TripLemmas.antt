@@ -16,7 +16,7 @@ use Rattle.age_file.specs.Verdict.{Answering, IsVerdict}
 use Rattle.age_file.specs.Words.{Bytes, Done, Known, Labels, Reading, StanzaParts, Unwrapped, whole}
 use Rattle.round_trip.specs.Losses.{IsLoss, IsMemoryFault, IsUnwritten, none}
 use Rattle.round_trip.specs.declared.pairs.Lost.{Lost}
-use Rattle.round_trip.specs.declared.pairs.Lost.TheVariants.{Unpaired, Memory, Encrypting, Rewrapping, Decrypting}
+use Rattle.round_trip.specs.declared.pairs.Lost.TheVariants.{Unpaired, Memory, Encrypting, Decrypting}
 
 -- what one recipient gives is what all give
 pub gathered_one : (wrapped : Result (List StanzaParts) ℕ) (meant : List Labels) (stanzas : List StanzaParts)
@@ -114,7 +114,6 @@ no_loss : (refuses : Fault → Type 0) (limits : Bounds) (plain : Bytes) (lost :
 no_loss refuses limits plain (Unpaired error) never loss = tt
 no_loss refuses limits plain Memory never loss = tt
 no_loss refuses limits plain (Encrypting fault) never loss = no_refusal limits plain never loss
-no_loss refuses limits plain (Rewrapping fault) never loss = no_refusal limits plain never loss
 no_loss refuses limits plain (Decrypting fault) never loss = loss
 
 pub without_refusal : {A : Type 0} {refuses : Fault → Type 0} (limits : Bounds) (plain : Bytes) (r : Result A Lost)

@@ -6,7 +6,7 @@ use Rattle.age_file.specs.declared.fault.Fault.TheVariants.{OutOfMemory, TooMany
 use Rattle.age_file.specs.AgeFile.{Bounds}
 use Rattle.age_file.specs.Words.{Bytes, IsPassError}
 use Rattle.round_trip.specs.declared.pairs.Lost.{Lost}
-use Rattle.round_trip.specs.declared.pairs.Lost.TheVariants.{Unpaired, Memory, Encrypting, Rewrapping, Decrypting}
+use Rattle.round_trip.specs.declared.pairs.Lost.TheVariants.{Unpaired, Memory, Encrypting, Decrypting}
 
 -- an allocation was refused; if it was one of the sink, the fault is `Write`
 abbrev pub IsMemoryFault : Fault → Type 0
@@ -30,7 +30,6 @@ abbrev pub IsLoss : (refuses : Fault → Type 0) (limits : Bounds) (plain : Byte
 IsLoss refuses limits plain (Unpaired error) = ⊤
 IsLoss refuses limits plain Memory = ⊤
 IsLoss refuses limits plain (Encrypting fault) = IsUnwritten refuses limits plain fault
-IsLoss refuses limits plain (Rewrapping fault) = IsUnwritten refuses limits plain fault
 IsLoss refuses limits plain (Decrypting fault) = IsMemoryFault fault
 
 -- no fault: no header is refused

@@ -1,5 +1,5 @@
 //! The identity of a pair decrypts what was encrypted for the pair's recipient to the same
-//! plaintext, also after the file was rewrapped to another pair.
+//! plaintext, or to its ranges.
 //!
 //! ```
 //! let text = key_there_and_back(alloc, key, salt, plain, &fresh, &limits)?; // equals `plain`
@@ -15,10 +15,8 @@
 
 mod file;
 mod pairs;
-mod rewrapping;
 mod slicing;
 
 pub use file::{decrypted, encrypted};
 pub use pairs::{Lost, key_there_and_back, pass_there_and_back, there_and_back};
-pub use rewrapping::{key_rewrapped_and_back, rewrapped, rewrapped_and_back};
-pub use slicing::{Range, key_there_and_slices, sliced, there_and_slices};
+pub use slicing::{Range, sliced};

@@ -22,8 +22,6 @@ pub enum Lost {
     Memory,
     /// Encrypting failed.
     Encrypting(Fault),
-    /// Rewrapping failed.
-    Rewrapping(Fault),
     /// Decrypting failed.
     Decrypting(Fault),
 }
@@ -73,14 +71,14 @@ pub fn there_and_back<M: Matched>(
 }
 
 /// A file key has 16 bytes. Its type says so, and here a contract does.
-pub(crate) fn has_sixteen_bytes(key: FileKey)
+fn has_sixteen_bytes(key: FileKey)
     ensures { IsFileKey key }
 {
     let FileKey(_bytes) = key;
 }
 
 /// Limits are in their ranges. Their type says so, and here a contract does.
-pub(crate) fn are_bounds(limits: &Limits)
+fn are_bounds(limits: &Limits)
     ensures { IsBounds limits.now }
 {
     // The call makes the invariant known.

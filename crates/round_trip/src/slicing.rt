@@ -4,16 +4,9 @@ ghost use Rattle.std.specs.Prelude.{◌≡◌, ◌+◌, ◌^◌, ◌-◌, ◌⊎
 ghost use Rattle.age_stream.specs.Ranges.{IsSound, chunks_of, source_at_of};
 ghost use Rattle.age_file.specs.Verdict.{IsVerdict};
 ghost use Rattle.age_file.specs.Words.{Bytes, whole};
-ghost use Rattle.age_file.specs.NewFile.{Gathered, IsRefusal};
-ghost use Rattle.round_trip.specs.Losses.{IsLoss, IsPaired, none};
 ghost use Rattle.round_trip.specs.Slices.{AddsPart, IsSliced, parts};
 
-use crate::file::encrypted;
-use crate::pairs::{Lost, are_bounds, has_sixteen_bytes};
-use age_file::{
-    Fault, Fresh, Identity, KeyIdentity, KeyPair, KeyRecipient, Limits, Matched, MemAt,
-    RangeReader, ReadAt, Recipient, laws, open_ranges,
-};
+use age_file::{Fault, Identity, Limits, MemAt, RangeReader, ReadAt, laws, open_ranges};
 use std::alloc::Global;
 
 /// At most `len` bytes of a plaintext from offset `at` on.
@@ -135,86 +128,4 @@ pub fn sliced(
         Ok(mut reader) => read_parts(alloc, &mut reader, ranges),
         Err(fault) => Err(fault),
     }
-}
-
-/// Encrypts a plaintext for a pair's recipient, and reads ranges of the file with its identity. The
-/// result is the ranges of the plaintext, concatenated.
-///
-/// # Errors
-/// `Encrypting` with a fault of `encrypt`; `Decrypting` with `OutOfMemory`.
-pub fn there_and_slices<M: Matched>(
-    alloc: Global,
-    pair: &M,
-    recipient: Box<dyn Recipient>,
-    identity: Box<dyn Identity>,
-    plain: &[u8],
-    ranges: &[Range],
-    fresh: &Fresh,
-    limits: &Limits,
-) -> Result<Vec<u8>, Lost>
-    requires recipient { (⟦<dyn Recipient as Recipient>⟧ recipient.vtable).wraps recipient.value
-        ≡ M.R.wraps (M.the_recipient pair.now) }
-    requires identity { (⟦<dyn Identity as Identity>⟧ identity.vtable).meaning identity.value
-        ≡ M.I.meaning (M.the_identity pair.now) }
-    // The ranges of a file encrypted for a pair are those of the plaintext, each cut at its end,
-    // for every list of ranges.
-    ensures back { IfOk result (λ text. text.items ≡ parts plain.now ranges.now) }
-    // Encrypting fails only if an allocation was refused, perhaps one of the sink, if the plaintext
-    // has more chunks than the limit, or if the recipient's stanzas make no header. After that, the
-    // call fails only if an allocation was refused.
-    ensures lost { let refuses = IsRefusal limits.now fresh.now.file_key
-        (Gathered (M.R.wraps (M.the_recipient pair.now) fresh.now.file_key ∷ [])
-        ((⟦<dyn Recipient as Recipient>⟧ recipient.vtable).the_labels recipient.value ∷ [])) in
-        IfErr result (IsLoss refuses limits.now plain.now) }
-    // Never returns `Unpaired`.
-    ensures paired { IfErr result IsPaired }
-{
-    laws::pair_opens(pair);
-    has_sixteen_bytes(fresh.file_key);
-    let file = match encrypted(alloc, recipient, plain, fresh, limits) {
-        Ok(file) => file,
-        Err(fault) => return Err(Lost::Encrypting(fault)),
-    };
-    match sliced(alloc, identity, file.as_slice(), ranges, limits) {
-        Ok(text) => Ok(text),
-        Err(fault) => Err(Lost::Decrypting(fault)),
-    }
-}
-
-/// Encrypts a plaintext under a key, and reads ranges of the file with it. The result is the ranges
-/// of the plaintext, concatenated.
-///
-/// # Errors
-/// `Memory`; `Encrypting` with `TooManyChunks`, `OutOfMemory`, or `Write` if an allocation of the
-/// sink was refused; `Decrypting` with `OutOfMemory`.
-pub fn key_there_and_slices(
-    alloc: Global,
-    key: [u8; 32],
-    salt: [u8; 16],
-    plain: &[u8],
-    ranges: &[Range],
-    fresh: &Fresh,
-    limits: &Limits,
-) -> Result<Vec<u8>, Lost>
-    // The ranges of a file encrypted for a pair are those of the plaintext, each cut at its end,
-    // for every list of ranges.
-    ensures back { IfOk result (λ text. text.items ≡ parts plain.now ranges.now) }
-    // Encrypting fails only if an allocation was refused, perhaps one of the sink, or if the
-    // plaintext has more chunks than the limit. After that, the call fails only if an allocation
-    // was refused.
-    ensures lost { IfErr result (IsLoss none limits.now plain.now) }
-    // Never returns `Unpaired`.
-    ensures paired { IfErr result IsPaired }
-{
-    let pair = KeyPair::new(key, salt);
-    let recipient = Box::new(alloc, KeyRecipient::new(key, salt));
-    let identity = Box::new(alloc, KeyIdentity::new(key));
-    let (Ok(recipient), Ok(identity)) = (recipient, identity) else {
-        return Err(Lost::Memory);
-    };
-    are_bounds(limits);
-    has_sixteen_bytes(fresh.file_key);
-    there_and_slices(
-        alloc, &pair, recipient, identity, plain, ranges, fresh, limits,
-    )
 }
