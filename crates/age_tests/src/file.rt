@@ -11,8 +11,6 @@ mod salvaging;
 mod steps;
 mod texts;
 
-use crate::devices::FailingSource;
-use crate::plaintexts::sevens;
 use age_file::{Done, Fault, Fresh, Limits, decrypt, encrypt};
 use age_header::{MemSink, MemSource};
 use age_recipient::{
@@ -22,6 +20,7 @@ use devices::FailingSink;
 use objects::ForeignRecipient;
 use std::alloc::{AllocError, Global};
 use std::process::Abort;
+use stream_tests::FailingSource;
 
 const FRESH: Fresh = Fresh {
     file_key: FileKey([0, 1, 2, 3, 4, 5, 6, 7, 8, 9, 10, 11, 12, 13, 14, 15]),
@@ -132,7 +131,7 @@ fn done(bytes: u128) -> Result<Done, Fault> {
 fn encrypt_and_decrypt_work_byte_by_byte(rt: HostRuntime) {
     let alloc = rt.alloc();
     let limits = Limits::default();
-    let plain = sevens(&rt, alloc, 65_536);
+    let plain = vec![in alloc; 7u8; 65_536].expect(&rt, "memory");
     let recipients = passphrase_recipients(&rt, alloc);
     let done = done(65_536);
     let (answer, file) = encrypted(alloc, plain.as_slice(), &recipients, &limits);
@@ -185,7 +184,7 @@ fn too_many_chunks_are_refused_in_both_directions(rt: HostRuntime) {
     let Some(one) = Limits::new(65_536, 1) else {
         unreachable!();
     };
-    let plain = sevens(&rt, alloc, 65_537);
+    let plain = vec![in alloc; 7u8; 65_537].expect(&rt, "memory");
     let recipients = key_recipients(&rt, alloc, 3);
     let (answer, begun) = encrypted(alloc, plain.as_slice(), &recipients, &one);
     assert!(rt; answer == Err(Fault::TooManyChunks));
@@ -202,7 +201,7 @@ fn too_many_chunks_are_refused_in_both_directions(rt: HostRuntime) {
 fn damaged_first_chunk_writes_nothing(rt: HostRuntime) {
     let alloc = rt.alloc();
     let limits = Limits::default();
-    let plain = sevens(&rt, alloc, 131_073);
+    let plain = vec![in alloc; 7u8; 131_073].expect(&rt, "memory");
     let (_, file) = encrypted(
         alloc,
         plain.as_slice(),

@@ -5,12 +5,12 @@ use super::callers::{END, OTHER_STANZA, PASSPHRASE_STANZA, VERSION};
 use super::devices::FailingSink;
 use super::failing::FILE;
 use super::{FRESH, Identities, key_identities, key_recipients};
-use crate::devices::{CountingReadAt, FailingSource};
 use age_file::{Decryptor, Encryptor, Fault, Limits, MemAt, ReadAt, StanzaFault, open_ranges};
 use age_header::{MemSource, Source};
 use std::alloc::Global;
 use std::cell::Cell;
 use std::process::Abort;
+use stream_tests::{CountingReadAt, FailingSource};
 
 /// The header and the nonce have 172 bytes. Each write failed in turn: the failed write is the
 /// last, and is counted once.

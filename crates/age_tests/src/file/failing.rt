@@ -5,8 +5,6 @@ use super::{
     FRESH, Identities, Recipients, SALT, encrypted, key_identities, key_recipients,
     passphrase_identities, passphrase_recipients,
 };
-use crate::devices::FailingSource;
-use crate::plaintexts::sevens;
 use age_file::{
     Decryptor, Encryptor, Fault, Limits, MemAt, RangeReader, ReadAt, StreamFault, StreamReader,
     StreamWriter, WriteSink, decrypt, encrypt, open_ranges,
@@ -15,6 +13,7 @@ use age_header::{MemSink, MemSource, Sink};
 use age_recipient::{KeyIdentity, KeyRecipient};
 use std::alloc::Global;
 use std::process::Abort;
+use stream_tests::FailingSource;
 
 /// A sink over a slice of each length gets as long a prefix of the file as fits.
 #[test]
@@ -75,7 +74,7 @@ fn reads_until(
 #[test]
 fn failing_read_leaves_a_beginning_of_the_plaintext(rt: HostRuntime) {
     let alloc = rt.alloc();
-    let plain = sevens(&rt, alloc, 65_537);
+    let plain = vec![in alloc; 7u8; 65_537].expect(&rt, "memory");
     let (_, file) = encrypted(
         alloc,
         plain.as_slice(),
@@ -98,7 +97,7 @@ fn failing_plaintext_leaves_a_beginning_of_the_file(rt: HostRuntime) {
     let alloc = rt.alloc();
     let limits = Limits::default();
     let recipients = key_recipients(&rt, alloc, 3);
-    let plain = sevens(&rt, alloc, 65_537);
+    let plain = vec![in alloc; 7u8; 65_537].expect(&rt, "memory");
     let (_, whole) = encrypted(alloc, plain.as_slice(), &recipients, &limits);
     for (failing, len) in [(1, 0), (66, 0), (67, 172), (68, 172 + 65_552)] {
         let mut source = FailingSource::new(plain.as_slice(), 1_000, failing);
@@ -126,7 +125,7 @@ fn failing_plaintext_leaves_a_beginning_of_the_file(rt: HostRuntime) {
 fn reader_returns_a_failed_read_again(rt: HostRuntime) {
     let alloc = rt.alloc();
     let limits = Limits::default();
-    let plain = sevens(&rt, alloc, 65_537);
+    let plain = vec![in alloc; 7u8; 65_537].expect(&rt, "memory");
     let (_, file) = encrypted(
         alloc,
         plain.as_slice(),

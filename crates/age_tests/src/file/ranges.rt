@@ -1,14 +1,13 @@
 //! Ranges of a file's plaintext.
 
 use super::{Identities, encrypted, key_identities, passphrase_identities, passphrase_recipients};
-use crate::plaintexts::{expect_range, plain_of};
 use age_file::{Fault, Limits, MemAt, ReadAt, StreamFault, open_ranges};
 use std::alloc::Global;
 use std::process::Abort;
 
-/// A file of this many bytes, each its place modulo 251, for the passphrase.
+/// The file of this many bytes, each 7, for the passphrase.
 fn file_of(rt: &impl Abort, alloc: Global, len: usize) -> Vec<u8> {
-    let plain = plain_of(rt, alloc, len);
+    let plain = vec![in alloc; 7u8; len].expect(rt, "memory");
     let recipients = passphrase_recipients(rt, alloc);
     let (_, file) = encrypted(alloc, plain.as_slice(), &recipients, &Limits::default());
     file
@@ -27,10 +26,25 @@ fn damaged_middle_chunk_leaves_the_others_readable(rt: HostRuntime) {
         &rt, "no fault",
     );
     assert_eq!(rt; reader.plain_len(), 140_000);
-    expect_range(&rt, alloc, &mut reader, (0, 65_536), Ok(65_536), 65_536);
-    let answer = Err(StreamFault::BadChunk(1));
-    expect_range(&rt, alloc, &mut reader, (65_530, 10), answer, 6);
-    expect_range(&rt, alloc, &mut reader, (131_072, 8_928), Ok(8_928), 8_928);
+    for (at, len, answer, filled) in [
+        (0, 65_536, Ok(65_536), 65_536),
+        (65_530, 10, Err(StreamFault::BadChunk(1)), 6),
+        (131_072, 8_928, Ok(8_928), 8_928),
+    ] {
+        let mut buf = vec![in alloc; 255u8; len].expect(&rt, "memory");
+        assert_eq!(rt;
+            reader.read_range(at, buf.as_mut_slice()),
+            answer,
+            "{len} bytes at {at}"
+        );
+        for (i, byte) in buf.iter().enumerate() {
+            assert_eq!(rt;
+                *byte,
+                if i < filled { 7 } else { 255 },
+                "byte {i} of {len} at {at}"
+            );
+        }
+    }
     drop(reader);
     let opened = 8_944 + 65_552 + 65_552 + 8_944;
     assert_eq!(rt; dev.given(), 150 + 16 + opened);

@@ -5,13 +5,12 @@ use super::{
     Identities, Recipients, decrypted, encrypted, key_identities, key_recipients,
     passphrase_identities, passphrase_recipients,
 };
-use crate::devices::FailingSource;
-use crate::plaintexts::sevens;
 use age_file::{Fault, Limits, rewrap};
 use age_header::{MemSink, MemSource};
 use age_recipient::{PassIdentity, PassRecipient};
 use std::alloc::Global;
 use std::process::Abort;
+use stream_tests::FailingSource;
 
 /// The result of rewrapping, and the output.
 fn rewrapped(
@@ -111,7 +110,7 @@ fn rewrap_to_a_key_keeps_the_verdict(rt: HostRuntime) {
             Some(Fault::NonceTruncated)
         )
     );
-    let plain = sevens(&rt, alloc, 65_537);
+    let plain = vec![in alloc; 7u8; 65_537].expect(&rt, "memory");
     let (_, mut file) = encrypted(alloc, plain.as_slice(), &recipients, &limits);
     file.truncate(65_718);
     assert!(rt;

@@ -5,12 +5,12 @@
 use super::devices::FailingSink;
 use super::failing::FILE;
 use super::key_identities;
-use crate::devices::FailingSource;
 use age_file::{Fault, Limits, Losses, Lost, Salvaged, SalvagedFile, Saved, Sink, Source, salvage};
 use age_header::{MemSink, MemSource};
 use sha2::{Digest, Sha256};
 use std::alloc::Global;
 use std::process::Abort;
+use stream_tests::FailingSource;
 
 /// Bytes of a payload: this many zeros, and these bytes after them.
 type Piece = (usize, &'static [u8]);

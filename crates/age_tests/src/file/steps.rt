@@ -1,7 +1,6 @@
 //! Files that are written and read in steps.
 
 use super::{FRESH, encrypted, key_identities, key_recipients};
-use crate::plaintexts::sevens;
 use age_file::{Decryptor, Encryptor, Fault, Limits};
 use age_header::{MemSink, MemSource};
 
@@ -11,7 +10,7 @@ fn steps_write_and_read_the_same_file(rt: HostRuntime) {
     let alloc = rt.alloc();
     let limits = Limits::default();
     let recipients = key_recipients(&rt, alloc, 3);
-    let plain = sevens(&rt, alloc, 65_537);
+    let plain = vec![in alloc; 7u8; 65_537].expect(&rt, "memory");
     let (_, file) = encrypted(alloc, plain.as_slice(), &recipients, &limits);
     let encryptor = Encryptor::new(alloc, recipients.as_slice(), &FRESH, &limits).expect(
         &rt, "no fault",

@@ -1,9 +1,8 @@
 //! Ranges of a plaintext, over memory, over a file, and over sources that are slow or fail.
 
 use super::devices::{FailingSeek, FarFile, SlowFile};
-use super::{EMPTY, KEY, written};
+use super::{EMPTY, KEY, plain_of, written};
 use crate::devices::CountingReadAt;
-use crate::plaintexts::{expect_range, plain_of};
 use age_header::DeviceFault;
 use age_stream::{FileAt, MemAt, RangeReader, ReadAt, StreamFault};
 use std::alloc::Global;
@@ -35,6 +34,32 @@ const ROWS: [((u64, usize), usize, u64); 8] = [
     ((18_446_744_073_709_551_615, 5), 0, 4),
     ((0, 0), 0, 4),
 ];
+
+/// Reads this many bytes from offset `at` on into a buffer of bytes 255: what is returned, and how
+/// many bytes of the plaintext are at the buffer's front; the others are still 255.
+fn expect_range<T: Abort, D: ReadAt>(
+    rt: &T,
+    alloc: Global,
+    reader: &mut RangeReader<'_, D>,
+    (at, len): (u64, usize),
+    answer: Result<usize, StreamFault>,
+    filled: usize,
+) {
+    let mut buf = vec![in alloc; 255u8; len].expect(rt, "memory");
+    assert_eq!(rt;
+        reader.read_range(at, buf.as_mut_slice()),
+        answer,
+        "{len} bytes at {at}"
+    );
+    for i in 0..buf.len() {
+        let byte = if i < filled {
+            (at.wrapping_add(i as u64) % 251) as u8
+        } else {
+            255
+        };
+        assert_eq!(rt; buf[i], byte, "byte {i} of {len} at {at}");
+    }
+}
 
 /// Those ranges of the payload at this offset.
 fn rows<T: Abort, D: ReadAt>(rt: &T, alloc: Global, dev: &mut D, payload_at: u64) {

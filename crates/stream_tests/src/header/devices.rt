@@ -1,7 +1,6 @@
 //! Devices over a reader or a writer. A failed call is counted once and not repeated, even if it
 //! was interrupted or would have blocked.
 
-use crate::plaintexts::plain_of;
 use age_header::{ReadSource, Sink, Source, WriteSink, write_all};
 use std::io;
 use std::io::{ErrorKind, Read, Write};
@@ -105,8 +104,8 @@ fn failed_write_is_not_retried(rt: HostRuntime) {
 /// A call of each length up to 70,000 transfers all its bytes: no length makes a device fail.
 #[test]
 fn each_length_is_read_and_written(rt: HostRuntime) {
-    let bytes = plain_of(&rt, rt.alloc(), 70_000);
-    let mut buf = plain_of(&rt, rt.alloc(), 70_000);
+    let bytes = vec![in rt.alloc(); 7u8; 70_000].expect(&rt, "memory");
+    let mut buf = vec![in rt.alloc(); 0u8; 70_000].expect(&rt, "memory");
     for n in 1..70_001 {
         let piece = bytes.as_slice().get(..n).unwrap_or(&[]);
         let mut source = ReadSource::new(piece);

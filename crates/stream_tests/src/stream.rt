@@ -5,7 +5,6 @@ mod devices;
 mod ranges;
 
 use crate::devices::FailingSource;
-use crate::plaintexts::{plain_of, sevens};
 use age_header::{MemSink, MemSource, Sink};
 use age_recipient::FileKey;
 use age_stream::{ChunkBuf, Done, StreamFault, StreamReader, StreamWriter, chunk_nonce};
@@ -32,6 +31,15 @@ const THIRD_CHUNK: [u8; 17] = [
     0xb4, 0xb9, 0x41, 0x07, 0xe3, 0x03, 0x3b, 0x13, 0xda, 0x9e, 0x23, 0x21, 0x65, 0x91, 0x26, 0x19,
     0x1b,
 ];
+
+/// `len` bytes; byte i is i modulo 251.
+pub(super) fn plain_of(rt: &impl Abort, alloc: Global, len: usize) -> Vec<u8> {
+    let mut bytes = Vec::new(alloc);
+    for at in 0..len {
+        bytes.push((at % 251) as u8).expect(rt, "memory");
+    }
+    bytes
+}
 
 /// The payload of this plaintext, which is written in pieces of this many bytes.
 fn written(
@@ -166,7 +174,7 @@ fn chunks_are_counted_at_their_ends(rt: HostRuntime) {
         (131_072, 2),
         (131_073, 3),
     ] {
-        let plain = sevens(&rt, alloc, len);
+        let plain = vec![in alloc; 7u8; len].expect(&rt, "memory");
         let (done, payload) = written(&rt, alloc, plain.as_slice(), len);
         let bytes = len as u128;
         assert!(rt; done == Ok(Done { bytes, chunks }), "{len} bytes");
@@ -184,7 +192,7 @@ fn chunks_are_counted_at_their_ends(rt: HostRuntime) {
 #[test]
 fn writer_returns_a_failed_write_again(rt: HostRuntime) {
     let alloc = rt.alloc();
-    let plain = sevens(&rt, alloc, 65_537);
+    let plain = vec![in alloc; 7u8; 65_537].expect(&rt, "memory");
     let mut sink = FailingSink::new(2);
     let mut writer = StreamWriter::new(alloc, &KEY, &NONCE, &mut sink, MOST).expect(
         &rt, "no fault",

@@ -7,16 +7,16 @@ use std::cell::Cell;
 /// Returns at most `most` of these bytes at a time, counts its reads, and fails at the read with
 /// this number, counted from 1. Proofs do not know its contents.
 #[derive(Drop)]
-pub(super) struct FailingSource<'a> {
-    pub(super) rest: &'a [u8],
+pub struct FailingSource<'a> {
+    pub rest: &'a [u8],
     most: usize,
     failing: u64,
-    pub(super) reads: u64,
-    pub(super) failures: u64,
+    pub reads: u64,
+    pub failures: u64,
 }
 
 impl<'a> FailingSource<'a> {
-    pub(super) fn new(bytes: &'a [u8], most: usize, failing: u64) -> FailingSource<'a> {
+    pub fn new(bytes: &'a [u8], most: usize, failing: u64) -> FailingSource<'a> {
         FailingSource {
             rest: bytes,
             most,
@@ -55,7 +55,7 @@ impl<'a> Source for FailingSource<'a> {
 /// Holds these bytes, counts its reads, and fails at the read with this number, counted from 1. Its
 /// contents are not known to proofs.
 #[derive(Drop)]
-pub(super) struct CountingReadAt<'a> {
+pub struct CountingReadAt<'a> {
     bytes: MemAt<'a>,
     reads: &'a Cell<u64>,
     failing: u64,
@@ -63,7 +63,7 @@ pub(super) struct CountingReadAt<'a> {
 }
 
 impl<'a> CountingReadAt<'a> {
-    pub(super) fn new(bytes: &'a [u8], reads: &'a Cell<u64>, failing: u64) -> CountingReadAt<'a> {
+    pub fn new(bytes: &'a [u8], reads: &'a Cell<u64>, failing: u64) -> CountingReadAt<'a> {
         CountingReadAt {
             bytes: MemAt::new(bytes),
             reads,
