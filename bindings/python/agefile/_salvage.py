@@ -70,6 +70,9 @@ class _Skipping:
                 count = self._readinto(room)
                 self.at += count or 0
                 return count
+            except (BlockingIOError, InterruptedError):
+                # They say nothing of the disk.
+                raise
             except OSError as error:
                 self._skip(error)
         count = min(len(room), self._zeros)

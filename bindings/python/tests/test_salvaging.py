@@ -188,6 +188,20 @@ class FailedReads(unittest.TestCase):
                     break
         self.assertGreater(number, 5)
 
+    def test_not_of_the_disk(self):
+        """A read that would block, or was interrupted, costs no chunk: it is the error."""
+        for kind in (BlockingIOError, InterruptedError):
+            disk = Disk(self.file, [])
+            read = disk.readinto
+
+            def failing(room, disk=disk, read=read, kind=kind):
+                if disk.at > TEXT:
+                    raise kind(errno.EINTR, "not of the disk")
+                return read(room)
+
+            disk.readinto = failing
+            self.assertRaisesRegex(kind, "not of the disk", saved, disk)
+
     def test_header(self):
         """A read that fails in the header is an error."""
         for block in (0, FRONT // 512):

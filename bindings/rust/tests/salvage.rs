@@ -52,6 +52,7 @@ struct Disk {
     file: Cursor<Vec<u8>>,
     bad: Vec<(usize, usize)>,
     can_seek: bool,
+    hides_end: bool,
     ends_before: bool,
     kind: ErrorKind,
     failures: usize,
@@ -63,6 +64,7 @@ impl Disk {
             file: Cursor::new(file),
             bad: bad.to_vec(),
             can_seek: true,
+            hides_end: false,
             ends_before: true,
             kind: ErrorKind::Other,
             failures: usize::MAX,
@@ -86,10 +88,10 @@ impl Read for Disk {
 
 impl Seek for Disk {
     fn seek(&mut self, to: SeekFrom) -> io::Result<u64> {
-        if self.can_seek {
-            self.file.seek(to)
-        } else {
-            Err(Error::other("no seek"))
+        match to {
+            _ if !self.can_seek => Err(Error::other("no seek")),
+            SeekFrom::End(0) if self.hides_end => Ok(0),
+            _ => self.file.seek(to),
         }
     }
 }
@@ -157,6 +159,9 @@ fn errors() {
     let pipe = Disk { can_seek: false, ..Disk::new(file.clone(), &bad) };
     assert_eq!(salvage(pipe, &mut out, &[&key()]).unwrap_err().to_string(), "bad block");
     assert!(out == plain[..2 * TEXT]);
+    // A device that does not tell where it ends.
+    let endless = Disk { hides_end: true, ..Disk::new(file.clone(), &bad) };
+    assert_eq!(saved(endless).unwrap_err().to_string(), "bad block");
     // Nothing is lost if a read fails at the end.
     assert_lost(Disk::new(file.clone(), &[(file.len(), file.len() + 1)]), &[]);
     // An interrupted read is repeated.
