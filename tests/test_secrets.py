@@ -115,7 +115,6 @@ class Passphrases(ProgramCase):
         "no utf8": b"\xff\xfe\xc0\xaf\xed\xa0\x80",
         "mark behind": b"correct\xef\xbb\xbfhorse\xef\xbb\xbf",
         "cr before": b"\rcorrect\rhorse",
-        "cr and lf after": b"correct horse\r\n\n",
         "upper": b"CORRECT HORSE",
     }
     # Bytes that nobody types, and that an editor or a system puts around a text.
