@@ -127,6 +127,9 @@ class Builds(unittest.TestCase):
         self.assertEqual(self.asked("agep --version", commit=f" (commit {name})"), every)
         subprocess.run([*git, "commit", "-qm", "Empty", "--allow-empty"], check=True)
         self.assertEqual(self.asked("agep --version", commit=f" (commit {name})"), [], "no crate has changed")
+        for words, commit in (["-V"], f" (commit {name})"), (["--version", "word"], ""), (["inspect", "-V"], ""):
+            said = subprocess.check_output(["tree/agep", *words], env=self.environment, text=True)
+            self.assertEqual(said, f"agep {version()}{commit}\n", words)
         write("tree/crates.txt", b"text")
         name = subprocess.check_output([*git, "rev-parse", "HEAD"], text=True)[:10]
         self.assertEqual(self.asked("agep --version", commit=f" (commit {name}, changed)"), every)
