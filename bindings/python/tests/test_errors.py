@@ -80,7 +80,7 @@ class Hints(InFolder):
         yield "wrong passphrase", by_word, Passphrase("word")
         yield "CR", by_word, Passphrase("passphrase word"[:13] + "\r")
         yield "mark", by_word, Passphrase("\ufeffpassphrase!")
-        yield "mark and LF", by_word, Passphrase("\ufeffpassphrase\n")
+        yield "mark and LF", by_word, Passphrase("\ufeffpassphras\n")
         yield "salt", by_word.replace(salt, b"AAAA"), Passphrase("pass")
         for work in ("23", "24", "30", "31", "9" * 40):
             yield f"work {work}", SCRYPT.format("A" * 22, work, "A" * 43, "A" * 43).encode(), Passphrase("pass")
@@ -105,7 +105,8 @@ class Hints(InFolder):
         for name, file, secret in self.files():
             self.put(file, "made")
             is_word = isinstance(secret, Passphrase)
-            self.put(secret._secret, "pass" if is_word else "key")
+            # agep takes one LF off.
+            self.put(secret._secret + b"\n" * secret._secret.endswith(b"\n"), "pass" if is_word else "key")
             done = subprocess.run([AGEP, "decrypt", "-v", "-p" if is_word else "-k", "pass" if is_word else "key", "made"], capture_output=True)
             first, second = done.stderr.decode().splitlines()
             expected = second.replace("agep: made: ", "", 1)

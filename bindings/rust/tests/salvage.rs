@@ -136,7 +136,9 @@ fn bad_blocks_cost_their_chunks() {
     for chunk in 0..CHUNKS {
         let start = front + chunk * SEALED;
         let end = (start + SEALED).min(file.len());
-        for at in [start, start + 1, start + 500, end - 17, end - 1].into_iter().filter(|at| *at > 4096) {
+        // Zeros in place of a last byte that is zero would lose nothing.
+        let places = [start, start + 1, start + 500, end - 17, end - 1];
+        for at in places.into_iter().filter(|at| *at > 4096 && file[*at] != 0) {
             assert_lost(Disk::new(file.clone(), &[(at, at + 1)]), &[(chunk..chunk + 1, true)]);
             assert_lost(Disk::new(file.clone(), &[(at, end)]), &[(chunk..chunk + 1, true)]);
             let all_or_none = Disk { ends_before: false, ..Disk::new(file.clone(), &[(at, at + 1)]) };
