@@ -77,9 +77,9 @@ impl Front {
         }
     }
 
-    /// Whether to parse the header after a read, before which there were `had` bytes: every read
-    /// may complete or spoil it. If reads are so short that parsing after each would take too long,
-    /// the header is still parsed as soon as its last line is there.
+    /// Whether to parse the header now, after a read before which there were `had` bytes. Every
+    /// read may complete the header or make it invalid. If reads are so short that parsing after
+    /// each would take too long, it is still parsed as soon as its last line has been read.
     fn is_due(&self, had: usize) -> bool {
         let new = &self.bytes[had.saturating_sub(LAST_LINE)..];
         self.tried <= 16 * (self.bytes.len() + MARGIN) || new.windows(4).any(|four| four == b"\n---")

@@ -116,7 +116,7 @@ done_decrypt law some job b xs new one (task.Salvage secret, is, (taken, work, (
 done_decrypt law some job b xs new (inl one) (task, is, w) = absurd (cc (one, is.0))
 done_decrypt law some job b xs new (inr one) (task, is, w) = absurd (cc (one, is.0))
 
--- the output gained an age file of the input
+-- an age file of the input was appended to the output
 abbrev pub Made : (limits : Bounds) (plain xs : Bytes) (new : Known) → Type 0
 Made limits plain xs new = (stanzas : List StanzaParts) × (k : FileKey) × (b : Bytes) × AgeFile limits k stanzas plain b
     × (new ≡ Some (xs ++ b))
@@ -146,7 +146,7 @@ done_encrypt job plain xs new one (task.Encrypt secret seed, is, (taken, work, (
     encrypted (limits_of job) seed.fresh gathered plain xs taken new done work same e ends
 done_encrypt job plain xs new one (task, is, w) = absurd (cc (one, is.0))
 
--- the output gained the input with another header
+-- the input with another header was appended to the output
 abbrev pub Rewrote : (limits : Bounds) (b xs : Bytes) (new : Known) → Type 0
 Rewrote limits b xs new = (answers : Answering) × (c : Bytes) × Rewrapped limits answers b c × (new ≡ Some (xs ++ c))
 
@@ -164,7 +164,7 @@ done_rewrap job b xs new one (task.Rewrap old other salt, is, (taken, work, (los
     rewrote (limits_of job) (answers_of old job.max_work) (gathering_of other job.work salt) b xs taken new work r ends
 done_rewrap job b xs new one (task, is, w) = absurd (cc (one, is.0))
 
--- the output gained what is shown of the header at the start of the input
+-- what is shown of the header at the start of the input was appended to the output
 abbrev pub Showed : (limits : Bounds) (raw : Bool) (b xs : Bytes) (new : Known) → Type 0
 Showed limits raw b xs new =
     (header : HeaderParts) × (text : Bytes) × HeaderVerdict b limits.max_header (Ok (finding text header))
@@ -185,7 +185,7 @@ done_inspect job b xs new one (task.Inspect key, is, (taken, work, (lost, i), qu
     showed (limits_of job) job.raw key b xs taken new work i ends
 done_inspect job b xs new one (task, is, w) = absurd (cc (one, is.0))
 
--- the output gained at most this many bytes
+-- at most this many bytes were appended to the output
 abbrev pub GainedAtMost : (len : ℕ) (xs : Bytes) (new : Known) → Type 0
 GainedAtMost len xs new = (part : Bytes) × (length part ≤ len) × (new ≡ Some (xs ++ part))
 

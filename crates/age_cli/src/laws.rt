@@ -1,5 +1,5 @@
-//! The meaning of status 0, about the definitions alone: laws that are the contract of a function
-//! that does nothing.
+//! Laws on what status 0 means. Each is a fact about the definitions alone, stated as the contract
+//! of a function that does nothing.
 
 ghost use Rattle.std.specs.Prelude.{◌≡◌, ◌≤◌, ◌⊎◌, ◌++◌, List, Ok, Option, Some, length};
 ghost use Rattle.age_header.specs.Device.{Bytes, Known, move_of};
@@ -20,15 +20,14 @@ use age_job::Command;
 use std::io::{Read, Write};
 use std::rt::Files;
 
-/// What a job of `run_job` that ended with status 0 did, if the contents of its input and output
-/// are known. `decrypt` and `salvage`: the input is an age file, and the output gained its whole
-/// plaintext and nothing else. `encrypt`: the output gained an age file of the input and nothing
-/// else. `rewrap`: it gained the input with another header. `inspect`: it gained the header at the
-/// start of the input, as its text with `-r`, else as a table. `range`: it gained at most as many
-/// bytes as the job requests.
+/// What a `run_job` that ended with status 0 appended to its output, if the contents of input and
+/// output are known. `decrypt` and `salvage`: the whole plaintext of the input, which is an age
+/// file. `encrypt`: an age file of the input. `rewrap`: the input with another header. `inspect`:
+/// the header at the start of the input, as its text with `-r`, otherwise as a table. `range`: at
+/// most as many bytes as the job requests. Nothing else was appended.
 ///
-/// The same holds for the words of a `run` that ended with status 0, if they name no file. (A
-/// `range` names one.)
+/// The same holds for a `run` that ended with status 0, if its arguments name no file. (Those of
+/// `range` do.)
 pub fn done_jobs<F: Files>()
     ensures decrypt { (job : Job) (b xs : Bytes) (new : Known)
         → (job.command ≡ Command.Decrypt) ⊎ (job.command ≡ Command.Salvage)

@@ -92,9 +92,9 @@ pub fn run_job<
     // Status 0: `err` is unchanged. No clause covers the line on how much was read.
     ensures quiet { result ≡ 0 → err.new ≡ err.old }
     // Status 0: a task of the job's command was performed from its IN to its OUT, with some secret
-    // of the kind that the options name and some seed. If the contents of both are known, the
-    // output gained exactly what the library writes. Of the IN of a range nothing is known: the
-    // clause bounds the number of bytes written.
+    // of the kind that the options name and some seed. If the contents of both are known, exactly
+    // what the library writes was appended. Of the IN of a range nothing is known: the clause
+    // bounds the number of bytes written.
     ensures finishes { result ≡ 0 → FinishesOn F.File ⟦<F::File as Read>⟧.remaining
         ⟦<F::File as Write>⟧.contents job.now (R.remaining input.old)
         (move_by W.contents out.old out.new) }

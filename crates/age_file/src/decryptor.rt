@@ -86,7 +86,7 @@ impl<'a, S: Source> Decryptor<'a, S> {
             input.old (input_of d).now (Ok (header_of d))) }
         // It keeps the limits.
         ensures limits { IfOk result (λ d. limits_of d ≡ limits.now) }
-        // As for `started`, but of some state of the source, which is not handed back.
+        // As for `started`, but of some state of the source, which is not returned.
         ensures refuses { IfErr result (λ fault. (last : S)
             × StartsDecryptor S.to_come S.gave S.failed limits.now input.old last (Err fault)) }
     {
@@ -169,7 +169,7 @@ impl<'a, S: Source> Decryptor<'a, S> {
             (λ reader. StartsUnder S.to_come S.gave S.failed (limits_of self.entry)
             (header_key (answers_by identities.now (λ i s. meaning i s)) (header_of self.entry))
             (input_of self.entry).now (source_of reader).now (Ok (opener_of reader))) }
-        // As for `unlocked`, but of some state of the source, which is not handed back.
+        // As for `unlocked`, but of some state of the source, which is not returned.
         ensures misses { IfErr result
             (λ fault. (last : S) × StartsUnder S.to_come S.gave S.failed (limits_of self.entry)
             (header_key (answers_by identities.now (λ i s. meaning i s)) (header_of self.entry))

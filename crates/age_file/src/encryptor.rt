@@ -117,7 +117,7 @@ impl Encryptor {
         // The header and the nonce were written, and chunk 0 is next.
         ensures starts { IfOk result (λ writer. StartsFile W.taken W.failed self out.old
             (sink_of writer).now (Ok (sealer_of writer))) }
-        // As for `started`, but of some state of the sink, which is not handed back.
+        // As for `started`, but of some state of the sink, which is not returned.
         ensures loses { IfErr result (λ fault. (last : W)
             × StartsFile W.taken W.failed self out.old last (Err fault)) }
     {

@@ -123,8 +123,8 @@ fn labels_of_all(
     Ok(all)
 }
 
-/// Calls one recipient's `wrap`. This is a function of its own because its contract can cite the
-/// box, which is an item of a list.
+/// Calls one recipient's `wrap`. It is a separate function so that its contract can cite the box,
+/// which is an item of a list.
 fn wrap_by(
     alloc: Global,
     recipient: &Box<dyn Recipient>,
@@ -135,7 +135,7 @@ fn wrap_by(
     recipient.wrap(alloc, key)
 }
 
-/// Calls one recipient's `labels`; a function of its own for the same reason.
+/// Calls one recipient's `labels`. It is separate for the same reason.
 fn labels_of(alloc: Global, recipient: &Box<dyn Recipient>) -> Result<Labels, AllocError>
     ensures { IfOk result (MayLabel (the_labels recipient.now)) }
 {

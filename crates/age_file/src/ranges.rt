@@ -139,7 +139,7 @@ pub fn open_ranges<'a, D: ReadAt>(
     ensures ranges { IfOk result (λ reader. StartsFileRanges D.bytes D.given D.failed D.gave
         D.found limits.now (answers_by identities.now (λ i s. meaning i s)) dev.old
         (source_at_of reader).now (Ok (chunks_of reader))) }
-    // As for `opened_ranges`, but of some state of the source, which is not handed back.
+    // As for `opened_ranges`, but of some state of the source, which is not returned.
     ensures refuses { IfErr result (λ fault. (last : D) × StartsFileRanges D.bytes D.given D.failed
         D.gave D.found limits.now (answers_by identities.now (λ i s. meaning i s))
         dev.old last (Err fault)) }

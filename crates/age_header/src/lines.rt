@@ -10,14 +10,14 @@ use crate::device::Source;
 use crate::fault::HeaderFault;
 use std::alloc::Global;
 
-/// What ended a line.
+/// How a line ended.
 #[derive(Clone, Copy, Debug, Drop, PartialEq, Eq)]
 pub(crate) enum LineEnd {
-    /// An LF, which was read too.
+    /// With an LF, which was read, too.
     Lf,
-    /// The end of the input.
+    /// At the end of the input.
     Input,
-    /// The line is longer than `max_len`.
+    /// Not within `max_len` bytes.
     Room,
 }
 

@@ -24,7 +24,7 @@ pub enum Detail<'a> {
     Size(Role, Name<'a>, usize),
     /// The passphrase file is empty.
     NoPassphrase(Role, Name<'a>),
-    /// What the passphrase begins or ends with that nobody types.
+    /// How the passphrase begins or ends with characters that nobody types.
     UntypedPassphrase(Role, Name<'a>, Ends),
     /// The file is not a device.
     NoDevice(Role, Name<'a>),

@@ -72,7 +72,7 @@ impl fmt::Display for Fault<'_> {
             Fault::OutputExists(name) => write!(f, "OUT exists: {name}"),
             Fault::OutputIsSpecial(name) => write!(f, "OUT is not a regular file: {name}"),
             Fault::NewFileExists(name) => {
-                write!(f, "{name} exists: another run writes it, or was killed")
+                write!(f, "{name} exists: another run is writing it, or was killed")
             }
             Fault::OutputIsRead(role, name) => write!(f, "OUT is also {role}: {name}"),
             Fault::StandardInputTwice(one, other) if one == other => {

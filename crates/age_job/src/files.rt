@@ -27,7 +27,7 @@ pub(crate) struct NamedFile<'a> {
 #[derive(Drop)]
 pub(crate) struct ReadFile<'a> {
     pub(crate) named: NamedFile<'a>,
-    /// The identity of the file, or why the system does not tell.
+    /// The identity of the file, or why the system refused to say.
     inode: io::Result<Inode>,
     /// What is known about the contents of a file with a secret.
     pub(crate) held: Option<Held>,
@@ -47,8 +47,8 @@ pub(crate) struct Held {
 pub struct ReadFiles<'a> {
     /// IN is the first.
     files: Vec<ReadFile<'a>>,
-    /// The identities of standard input and output at the start, if the system tells. It does not
-    /// for a closed one, or without /proc.
+    /// The identities of standard input and output at the start, which are not known if the stream
+    /// is closed or there is no /proc.
     standard: io::Result<Inode>,
     standard_output: io::Result<Inode>,
     /// The role of standard input, if it has one.

@@ -46,7 +46,7 @@ impl Inode {
         }
     }
 
-    /// The file to which this name leads, also through links, if the system tells.
+    /// The file that this name refers to, through links too, unless the system refuses to say.
     pub(crate) fn at<F: Files>(rt: &F, name: &str) -> io::Result<Inode> {
         match fs::metadata(rt, name) {
             Ok(found) => Ok(Inode::of(&found)),
@@ -54,7 +54,7 @@ impl Inode {
         }
     }
 
-    /// An open file, if the system tells.
+    /// An open file, unless the system refuses to say.
     pub(crate) fn of_open<F: OpenFile>(file: &F) -> io::Result<Inode> {
         match file.metadata() {
             Ok(found) => Ok(Inode::of(&found)),

@@ -30,8 +30,8 @@ pub struct Output<F> {
     is_stale: bool,
 }
 
-/// Refuses what the options say of OUT, before anything is read: `--atomic` without OUT, and with
-/// `--no-clobber` an OUT that exists, whatever it is.
+/// Checks the options about OUT before anything is read: refuses `--atomic` without OUT and, with
+/// `--no-clobber`, any OUT that exists.
 pub fn refuse_output<'a, F: Files>(rt: &F, job: &'a Job) -> Result<(), Fault<'a>>
     // `--atomic` without OUT is refused.
     ensures alone { job.now.atomic ≡ true → job.now.output ≡ None → result ≡ Err Fault.AtomicAlone }
@@ -48,7 +48,7 @@ pub fn refuse_output<'a, F: Files>(rt: &F, job: &'a Job) -> Result<(), Fault<'a>
 }
 
 /// Opens the file of this name for writing, and creates it if it does not exist. Refuses an
-/// existing file with `--no-clobber`, or if it keeps its bytes and the job reads it.
+/// existing file with `--no-clobber`, and a regular file or block device that the job reads.
 pub(crate) fn open_in_place<'a, F: Files>(
     rt: &F,
     job: &'a Job,
@@ -77,7 +77,7 @@ pub(crate) fn open_in_place<'a, F: Files>(
     Ok(Output::over(file, inode.kind == Kind::Regular))
 }
 
-/// How to open a file that must not exist.
+/// The options to open a file that must not exist.
 pub(crate) fn new_file(mode: u32) -> OpenOptions {
     let mut options = OpenOptions::new();
     options.write(true).create_new(true).mode(mode);

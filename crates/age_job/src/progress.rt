@@ -45,7 +45,7 @@ pub fn shows_progress<F: Files + Env, W: IsTerminal, E: IsTerminal>(
 }
 
 /// Whether this is the name of a character device other than `/dev/null`. The standard library does
-/// not tell which of these are terminals.
+/// not say which of these are terminals.
 fn may_be_terminal<F: Files>(rt: &F, name: &str) -> bool {
     match (Inode::at(rt, name), Inode::at(rt, "/dev/null")) {
         (Ok(out), Ok(null)) => out.kind == Kind::CharDevice && !out.is(&null),

@@ -56,7 +56,7 @@ impl Ends {
         }
     }
 
-    /// What the passphrase begins or ends with that nobody types, or an empty text.
+    /// How the passphrase begins or ends with characters that nobody types, or an empty text.
     pub(crate) fn words(self) -> &'static str {
         match (self.is_marked, self.last) {
             (false, Some(b'\r')) => "ends in CR",

@@ -16,8 +16,9 @@ pub fn one_cut()
         → IsCut size text lists ↔ (lists ≡ cut size text) }
 {}
 
-/// A payload reads whole as a plaintext exactly if it is the payload of this plaintext and the
-/// number of chunks is within the limit. It then has as many pieces as the plaintext has chunks.
+/// Reading a payload gives a plaintext and no fault exactly if it is the payload of this plaintext
+/// and the number of chunks is within the limit. It then has as many pieces as the plaintext has
+/// chunks.
 pub fn ok_is_payload()
     ensures ok { (file_key : FileKey) (text plain : Bytes) (max : ℕ)
         → (payload_reading file_key max text ≡ whole plain) ↔ ((nonce : Bytes)
@@ -28,8 +29,8 @@ pub fn ok_is_payload()
         → length (pieces (drop nonce_size text)) ≡ length (chunks plain) }
 {}
 
-/// A payload that reads whole opens for ranges. Its length for ranges is that of the plaintext, and
-/// its slices are the plaintext's.
+/// A payload without a fault opens for ranges. Its length for ranges is that of the plaintext, and
+/// its slices are those of the plaintext.
 pub fn whole_is_sliced()
     ensures opens { (file_key : FileKey) (text plain : Bytes) (max : ℕ)
         → payload_reading file_key max text ≡ whole plain
@@ -43,31 +44,30 @@ pub fn whole_is_sliced()
         → xs ≡ take (length xs) (drop at plain) }
 {}
 
-/// Salvaging a payload that reads whole is reading it. Of any other payload, the saved text begins
-/// with what a reading gives before its fault.
+/// Salvaging a payload without a fault gives its plaintext. For any other payload, the saved text
+/// begins with the plaintext before the first fault.
 pub fn salvage_is_reading()
-    // The saved text of a payload that reads whole is its plaintext.
+    // The saved text of a payload without a fault is its plaintext.
     ensures whole { (file_key : FileKey) (text plain : Bytes) (max : ℕ)
         → payload_reading file_key max text ≡ whole plain
         → salvaged_text (payload_parts file_key text) ≡ plain }
-    // A reading has no fault exactly if there is a whole nonce, the number of chunks is within the
-    // limit, and the payload is saved whole.
+    // A payload has no fault exactly if its nonce is complete, the number of chunks is within the
+    // limit, and salvaging finds it whole.
     ensures exactly { (file_key : FileKey) (text : Bytes) (max : ℕ)
         → ((payload_reading file_key max text).fault ≡ None) ↔ ((nonce_size ≤ length text)
         × (length (payload_parts file_key text) ≤ max)
         × (is_whole (summary (payload_parts file_key text)) ≡ true)) }
-    // Of any payload, the saved text of as many pieces as chunks are allowed begins with the text
-    // before the first fault.
+    // The text saved from the first `max` pieces begins with the plaintext before the first fault.
     ensures plaintext { (file_key : FileKey) (text : Bytes) (max : ℕ)
         → (rest : Bytes) × (salvaged_text (take max (payload_parts file_key text))
         ≡ (payload_reading file_key max text).plaintext ++ rest) }
 {}
 
-/// The saved text is in place: the bytes that a range of a damaged payload reads are at their
-/// offsets in it, and it is as long as the plaintext was.
+/// Salvaging keeps offsets: the bytes that a range of a damaged payload reads are at the same
+/// offsets in the saved text, which is as long as the plaintext was.
 pub fn salvage_is_sliced()
-    // A slice of the payload, for which only the chunks that it touches need to open, is the same
-    // slice of the saved text.
+    // A slice of the payload, which needs only the chunks that it touches, is the same slice of the
+    // saved text.
     ensures slice { (file_key : FileKey) (text xs : Bytes) (at : ℕ)
         → IsSlice (payload_key file_key (take nonce_size text)) (drop nonce_size text) at xs
         → xs ≡ take (length xs) (drop at (salvaged_text (payload_parts file_key text))) }

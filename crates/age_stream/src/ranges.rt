@@ -83,7 +83,7 @@ impl<'a, D: ReadAt> RangeReader<'a, D> {
         // As for `started`.
         ensures opens { IfOk result (λ reader. StartsRanges D.bytes D.given D.failed D.gave
             D.found key.now max_chunks payload_at dev.old reader.dev.now (Ok reader.chunks)) }
-        // As for `started`, but of some state of the source, which is not handed back.
+        // As for `started`, but of some state of the source, which is not returned.
         ensures refuses { IfErr result (λ fault. (last : D)
             × StartsRanges D.bytes D.given D.failed D.gave D.found key.now max_chunks payload_at
             dev.old last (Err fault)) }

@@ -90,7 +90,7 @@ impl<'a, S: Source> StreamReader<'a, S> {
         // The nonce was read, and piece 0 is next.
         ensures starts { IfOk result (λ reader. StartsReader S.to_come S.gave S.failed key.now
             max_chunks input.old reader.input.now (Ok reader.opener)) }
-        // As for `started`, but of some state of the source, which is not handed back.
+        // As for `started`, but of some state of the source, which is not returned.
         ensures misses { IfErr result (λ fault. (last : S) × StartsReader S.to_come S.gave S.failed
             key.now max_chunks input.old last (Err fault)) }
     {

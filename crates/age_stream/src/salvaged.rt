@@ -58,7 +58,7 @@ impl Salvaged {
 
     /// Whether the payload is cut short. A last piece that has no text and does not open is the
     /// start of a chunk that was cut, but after an early chunk it is bytes behind the end. If zeros
-    /// stand for the last piece, nobody knows, and the result is false.
+    /// stand for the last piece, this is not known, and the result is false.
     pub fn is_cut(&self) -> bool
         ensures { result ≡ is_cut self.now }
     {

@@ -114,7 +114,7 @@ impl<'a, W: Sink> StreamWriter<'a, W> {
         // The nonce was written, and chunk 0 is next.
         ensures starts { IfOk result (λ writer. StartsWriter W.taken W.failed key.now nonce.now
             max_chunks out.old writer.out.now (Ok writer.sealer)) }
-        // As for `started_with`, but of some state of the sink, which is not handed back.
+        // As for `started_with`, but of some state of the sink, which is not returned.
         ensures loses { IfErr result (λ fault. (last : W) × StartsWriter W.taken W.failed key.now
             nonce.now max_chunks out.old last (Err fault)) }
     {
@@ -144,7 +144,7 @@ impl<'a, W: Sink> StreamWriter<'a, W> {
         // The nonce was written, and chunk 0 is next.
         ensures starts { IfOk result (λ writer. StartsWriter W.taken W.failed key.now nonce.now
             max_chunks out.old writer.out.now (Ok writer.sealer)) }
-        // As for `started`, but of some state of the sink, which is not handed back.
+        // As for `started`, but of some state of the sink, which is not returned.
         ensures loses { IfErr result (λ fault. (last : W) × (IsRefusedMemory out.old last fault
             ⊎ StartsWriter W.taken W.failed key.now nonce.now max_chunks out.old last
             (Err fault))) }

@@ -29,8 +29,8 @@ Gives p chunk after report code =
     × (report ≡ record { len = length p.text; place = saved_number p.saved; detail = 0 })
     × (after ≡ p.text ++ drop (length p.text) chunk)
 
--- the part that stands for a chunk under its number is returned; or the number exceeds the
--- greatest, and the chunk is unchanged
+-- returns the part for this chunk at its number, or the number exceeds the maximum and the chunk is
+-- unchanged
 abbrev pub SavesAs : (key : Bytes) (number : ℕ) (last : Bool) (chunk after : Bytes)
     (report : Report) (code : ℕ) → Type 0
 SavesAs key number last chunk after report code =

@@ -29,7 +29,7 @@ fn run(rt: &HostRuntime, owned: &[String]) -> u8
 {
     let Some(_held) = hold_streams(rt) else {
         let _ = eprintln!(rt;
-            "agep: a standard stream is closed, and no folder opens in its place"
+            "agep: a standard stream is closed, and no directory can be opened in its place"
         );
         return 1;
     };
@@ -48,11 +48,11 @@ fn run(rt: &HostRuntime, owned: &[String]) -> u8
     )
 }
 
-/// If standard output or standard error is closed, opens folders on the descriptors of the closed
-/// streams, or returns `None` if no folder can be opened. Otherwise a file opened later could get
-/// such a descriptor, and output to the stream would go into that file. A folder can be neither
-/// read nor written, by its descriptor or as `/dev/stdout`. Standard input needs none, because a
-/// file that gets its descriptor before it is read is open for writing only.
+/// If standard output or standard error is closed, opens directories on the descriptors of the
+/// closed streams, or returns `None` if it cannot. Otherwise a file opened later could get such a
+/// descriptor, and output to the stream would go into that file. A directory can be neither read
+/// nor written, by its descriptor or as `/dev/stdout`. Standard input needs none, because a file
+/// that gets its descriptor before it is read is open for writing only.
 fn hold_streams(rt: &HostRuntime) -> Option<[Option<File>; 3]> {
     if are_open(rt) {
         return Some([None, None, None]);
@@ -76,7 +76,7 @@ fn are_open(rt: &HostRuntime) -> bool {
     }
 }
 
-/// Opens a folder that the user may read.
+/// Opens a directory that the user may read.
 fn open_folder(rt: &HostRuntime) -> Option<File> {
     for name in ["/", ".", "/dev"] {
         if let Ok(folder) = File::open(rt, name) {
@@ -86,7 +86,7 @@ fn open_folder(rt: &HostRuntime) -> Option<File> {
     None
 }
 
-/// Prints why the arguments cannot be read. If that fails, the status must suffice.
+/// Prints why the arguments cannot be read. A failure to print is ignored: the status reports it.
 fn refuse(rt: &HostRuntime, kind: io::ErrorKind) -> u8
     ensures { result ≤ 2 }
 {

@@ -238,7 +238,7 @@ fn cut_file_is_saved_up_to_its_end(rt: HostRuntime) {
     expect(&rt, alloc, &[FIRST, SECOND], &TEXTS, two, &[]);
 }
 
-/// A file that is cut within a chunk: nothing tells whether that was the last one.
+/// A file that is cut within a chunk: whether that was the last one is not known.
 #[test]
 fn cut_chunk_is_lost(rt: HostRuntime) {
     let alloc = rt.alloc();
