@@ -1,5 +1,6 @@
 """The recipes of docs/USE.md that a transcript cannot run: the crontab and the service of systemd, with the
-program as ./install installs it, in an environment like theirs."""
+program as ./install installs it, in an environment like theirs. The commands of CONTRIBUTING.md for one
+crate."""
 
 import os
 import re
@@ -104,6 +105,61 @@ class Systemd(unittest.TestCase):
             done = subprocess.run(["systemd-analyze", "verify", "--man=no", "./backup.service"], capture_output=True)
             self.assertIn(line, done.stderr)
             self.assertEqual((done.returncode, done.stderr == b""), (0, line == b""), done.stderr)
+
+
+# A crate of one function, which is formatted wrongly, with a test and an edit.
+CRATE = {
+    "crates.txt": "one:\n",
+    "HANDLES": "Handles allowed: none.\n",
+    "crates/one/src/lib.rt": """#![tactic(auto)]
+
+ghost use Rattle.std.specs.Prelude.{◌≡◌};
+
+pub fn one() -> u8
+    ensures { result ≡ 1 }
+{
+     1
+}
+
+#[cfg(test)]
+mod tests {
+    #[test]
+    fn one_is_one(rt: HostRuntime) {
+        assert_eq!(rt; super::one(), 1);
+    }
+}
+""",
+    "crates/one/must-fail/one_is_two.edit": "# clause: one\nfile: src/lib.rt\nold:      1\nnew:      2\n",
+}
+# What each command of the table must print.
+ANSWERS = {
+    "rt check": "logic=proved functions=1 ", "rt check --only CRATE::MODULE::FUNCTION": "only=1 proved=1",
+    "rt try --test": "run=ended status=0 ", "rt test": "1 passed; 0 failed", "rt lib": "logic=proved functions=1 ",
+    "rt must-fail CRATE": "one_is_two.edit: refused, as it must be", "rt fmt": "formatted src/lib.rt",
+}
+
+
+@unittest.skipUnless(shutil.which("rt"), "rt missing")
+class OneCrate(unittest.TestCase):
+    def test_commands(self):
+        """Each command of the table does what the table says. They run at once, each in its own tree."""
+        page = read(ROOT + "/CONTRIBUTING.md").decode()
+        self.assertEqual(re.findall(r"^\| `(rt .*?)` \|", page, re.MULTILINE), list(ANSWERS))
+        with_jobs = re.findall("`(rt [^`]*)`", re.search("^.*take `--jobs N`", page, re.MULTILINE)[0])
+        running = {}
+        for command in ANSWERS:
+            tree = scratch()
+            for name, text in CRATE.items():
+                os.makedirs(os.path.dirname(f"{tree}/{name}"), exist_ok=True)
+                write(f"{tree}/{name}", text.encode())
+            words = command.replace("CRATE::MODULE::FUNCTION", "one::one").replace("CRATE", "one").split()
+            words += ["--jobs", "1"] * (command in with_jobs)
+            running[command] = subprocess.Popen(words, cwd=tree + "/crates/one", stdout=subprocess.PIPE, stderr=subprocess.STDOUT, text=True)
+        for command, process in running.items():
+            with self.subTest(command):
+                said = process.communicate()[0]
+                self.assertEqual(process.returncode, 0, said)
+                self.assertIn(ANSWERS[command], said)
 
 
 if __name__ == "__main__":
