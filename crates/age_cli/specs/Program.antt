@@ -39,7 +39,7 @@ IsTaskOf job (Range secret) = (job.command ≡ command.Range) × IsSecretFor job
 IsTaskOf job (Salvage secret) = (job.command ≡ command.Salvage) × IsSecretFor job secret
 
 -- The work of a task, where the input gives `from`: the output has `taken` after it, and is flushed
--- then. Nothing is known of the receiver of the reports: they are those of some receiver.
+-- then. Nothing is known about the receiver of the reports: it is some receiver.
 abbrev pub Works : (job : Job) (task : Task) (from : Known) (sink : Moved)
     (result : Result ⊤ FileFault) → Type 0
 Works job task from sink result =

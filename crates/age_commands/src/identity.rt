@@ -15,7 +15,7 @@ pub(crate) enum SecretIdentity {
 }
 
 impl SecretIdentity {
-    /// The identity of this secret, in a box. A passphrase has the job's greatest work factor.
+    /// The identity of this secret, in a box. A passphrase has the job's maximum work factor.
     pub(crate) fn boxed(
         alloc: Global,
         job: &Job,

@@ -1,5 +1,5 @@
-//! The commands of `agep`, from any source to any sink. It also has the sink that keeps why a write
-//! failed, and what helps with a file that a command could not read.
+//! The commands of `agep`, from any source to any sink, with the sink that keeps the reason of a
+//! failed write, and hints about a file that a command could not read.
 //!
 //! ```
 //! let task = Task::Decrypt(Secret::Passphrase(passphrase));
@@ -9,8 +9,8 @@
 //! A command with its secrets is a `task`, and each command has a module of its own. `seed` has the
 //! random bytes of a new file, `recipient` and `identity` say what a secret means to a command, and
 //! `buffering` has a job's limits and the sources over its input. `skipping` is the source of
-//! `salvage`, and `watched_sink` a sink over any writer. `hint` has what the input tells of a
-//! fault.
+//! `salvage`, and `watched_sink` a sink over any writer. `hint` has what the input shows about
+//! a fault.
 //!
 //! Nothing here opens a file or prints: the crate `age_cli` does both.
 //!

@@ -1,4 +1,4 @@
-//! The command `salvage`: what can be saved of a damaged file.
+//! The command `salvage`, which saves what is left of a damaged file.
 ghost use Rattle.std.specs.Prelude.{◌≡◌, IfOk, OnOk};
 ghost use Rattle.age_file.specs.Device.{IsQuiet, is_read, is_write};
 ghost use Rattle.age_file.specs.Salvage.{SalvagesFile};

@@ -7,10 +7,10 @@ ghost use Rattle.age_stream.specs.Sizes.{most_chunks};
 use age_recipient::FileKey;
 use std::marker::Model;
 
-/// The least limit on the size of a header, 1 KiB.
+/// The smallest limit on the size of a header, 1 KiB.
 const LEAST_MAX_HEADER: usize = 1_024;
 
-/// The greatest limit on the size of a header, 16 MiB.
+/// The largest limit on the size of a header, 16 MiB.
 const MOST_MAX_HEADER: usize = 16_777_216;
 
 /// The default limit on the size of a header, 64 KiB.

@@ -39,7 +39,7 @@ pub struct Job {
     /// The file whose first 48 bytes are the file key, the nonce and the salt for `encrypt`.
     /// `rewrap` uses the salt alone.
     pub seed: String,
-    /// The greatest work factor that `decrypt`, `range`, `rewrap` and `salvage` accept, 1 to 30.
+    /// The maximum work factor that `decrypt`, `range`, `rewrap` and `salvage` accept, 1 to 30.
     pub max_work: u8,
     /// The maximum size of a header in bytes, 1,024 to 16,777,216.
     pub max_header: usize,

@@ -1,18 +1,18 @@
 //! The ranges of a job's numbers, and the default seed file.
 
-/// The least work factor.
+/// The minimum work factor.
 pub const LEAST_WORK: u64 = 1;
 
-/// The greatest work factor.
+/// The maximum work factor.
 pub const MOST_WORK: u64 = 30;
 
-/// The least limit on a header, in bytes.
+/// The smallest limit on a header, in bytes.
 pub const LEAST_HEADER: u64 = 1024;
 
-/// The greatest limit on a header, in bytes.
+/// The largest limit on a header, in bytes.
 pub const MOST_HEADER: u64 = 16_777_216;
 
-/// The greatest offset and the greatest length of a range, in bytes: 2^63 - 1.
+/// The maximum offset and the maximum length of a range, in bytes: 2^63 - 1.
 pub const MOST_OFFSET: u64 = 9_223_372_036_854_775_807;
 
 /// The seed file if the command line names none.

@@ -9,7 +9,7 @@ IsFilled size [] = ⊥
 IsFilled size (c ∷ []) = (0 < length c) × (length c ≤ size)
 IsFilled size (c ∷ d ∷ more) = (length c ≡ size) × IsFilled size (d ∷ more)
 
--- the concatenated lists are the text, and are filled, or are the one empty list of an empty text
+-- the lists, concatenated, are the text; they are filled, or one empty list for an empty text
 pub record IsCut (size : ℕ) (text : Bytes) (lists : List Bytes) : Type 0 where
   pub joined : concat lists ≡ text
   pub sizes : (lists ≡ [] ∷ []) ⊎ IsFilled size lists

@@ -21,7 +21,7 @@ impl ChunkBuf {
     /// The allocation was refused.
     pub fn new(alloc: Global) -> Result<ChunkBuf, AllocError> {
         let bytes = vec![in alloc; 0u8; CHUNK_BUF_SIZE]?;
-        // It never is another capacity, but the contract of `vec!` does not say so.
+        // The capacity is always this one, but the contract of `vec!` does not say so.
         if bytes.capacity() != CHUNK_BUF_SIZE {
             return Err(AllocError);
         }

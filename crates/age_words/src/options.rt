@@ -55,7 +55,7 @@ pub(crate) const DEFAULT_WORK_TEXT: &str = "18";
 /// The same as a number, for the job of a command without this option.
 pub(crate) const DEFAULT_WORK: u8 = 18;
 
-/// The greatest work factor that `decrypt`, `range`, `rewrap` and `salvage` accept by default, as
+/// The maximum work factor that `decrypt`, `range`, `rewrap` and `salvage` accept by default, as
 /// text for `clap`.
 pub(crate) const DEFAULT_MAX_WORK_TEXT: &str = "22";
 

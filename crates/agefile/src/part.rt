@@ -81,7 +81,7 @@ fn may_take(payload: &Payload, count: u64) -> bool
 ///
 /// # Errors
 /// 23 if the payload is not open for reading or writing, or the count is 0; 14 if the number of a
-/// chunk would exceed the greatest. The payload is then unchanged, and the part is not open.
+/// chunk would exceed the maximum. The payload is then unchanged, and the part is not open.
 #[unsafe(no_mangle)]
 pub extern "C" fn agefile_take_part(
     payload: &mut Payload,

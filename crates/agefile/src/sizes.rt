@@ -65,7 +65,7 @@ pub extern "C" fn agefile_plain_len_at_most(file_len: u64) -> u64
     opened_len(file_len.saturating_sub(SHORTEST_START))
 }
 
-/// The greatest length of the texts of sealed chunks that together have this length.
+/// The maximum length of the texts of sealed chunks that have this length, both in total.
 pub(crate) fn opened_len(sealed: u64) -> u64
     ensures { result ≡ opened_len sealed }
 {

@@ -5,7 +5,7 @@ ghost use Rattle.std.specs.List.{list_all};
 ghost use Rattle.age_recipient.specs.PassphraseStanza.{is_digit, is_work_factor, number_from};
 ghost use Rattle.age_recipient.specs.PassphraseHolders.{most_work};
 
-/// The greatest work factor.
+/// The maximum work factor.
 pub(super) const MOST_WORK: u8 = 30;
 
 /// Whether this is a digit 1 to 9, then any digits.
