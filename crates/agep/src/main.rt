@@ -12,15 +12,15 @@ use std::process::ExitCode;
 use std::{env, io};
 
 fn main(rt: HostRuntime) -> ExitCode {
-    let status = match words(&rt) {
-        Ok(words) => run(&rt, words.as_slice()),
+    let status = match arguments(&rt) {
+        Ok(args) => run(&rt, args.as_slice()),
         Err(error) => refuse(&rt, error.kind()),
     };
     ExitCode::from(status)
 }
 
 /// The arguments of the command line, which must be UTF-8.
-fn words(rt: &HostRuntime) -> io::Result<Vec<String>> {
+fn arguments(rt: &HostRuntime) -> io::Result<Vec<String>> {
     Ok(env::args(rt)?.collect(rt.alloc())?)
 }
 
@@ -33,15 +33,15 @@ fn run(rt: &HostRuntime, owned: &[String]) -> u8
         );
         return 1;
     };
-    let mut words: Vec<&str> = Vec::new(rt.alloc());
-    for word in owned {
-        if words.push(word.as_str()).is_err() {
+    let mut args: Vec<&str> = Vec::new(rt.alloc());
+    for arg in owned {
+        if args.push(arg.as_str()).is_err() {
             return refuse(rt, io::ErrorKind::OutOfMemory);
         }
     }
     age_cli::run(
         rt,
-        words.as_slice(),
+        args.as_slice(),
         &mut rt.stdin(),
         &mut rt.stdout(),
         &mut rt.stderr(),
