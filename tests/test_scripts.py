@@ -1,13 +1,16 @@
 """./agep, ./install and ./package --build with a stand-in for the toolchain: when each of them builds again,
 and for which processors. The files that ./install installs under PREFIX."""
 
+import collections
 import functools
 import os
+import re
 import shutil
 import subprocess
 import unittest
 from pathlib import Path
 
+import stand_in
 from program import AGEP, ROOT, read, scratch, version, write
 
 # It logs its calls, makes each file that the scripts take from it, and runs a script that a test
@@ -22,6 +25,14 @@ if [ -f "$folder/meanwhile" ]; then sh "$folder/meanwhile"; fi
 LEVELS = ("x86-64", "x86-64-v3")
 PROGRAM = "agep run --cpu {} -- --version"
 LIBRARIES = [f"agefile lib --cpu {level}" for level in LEVELS]
+# Set as that script: the two libraries that are proved in parallel with others end after these.
+LAST = """
+case $PWD in *cipher) other=age_header ;; *words) other=age_file ;; esac
+n=0
+until [ -z "$other" ] || grep -q "^$other is done" {0} || [ $((n += 1)) -gt 50 ]; do sleep 0.1; done
+${{other:+sleep 0.3}}
+echo "${{PWD##*/}} is done" >>{0}
+"""
 # What each script has the toolchain build if AGEP_CPU is x86-64-v9. The last one fails when it
 # links the files of the stand-in.
 SCRIPTS = {
@@ -102,12 +113,37 @@ class Builds(unittest.TestCase):
             said = subprocess.check_output(["sh", "-c", script], env=environment, text=True)
             self.assertEqual(said, "x86-64-v2\n" if part else "x86-64-v3\n", f"without {part}")
 
-    def test_failing_build(self):
-        """If a build fails, its output and a line are shown, nothing is run or installed, and the next call
-        builds again. Standard input is not read."""
-        for script, who in zip(SCRIPTS, ("agep", "agep", "package", "install")):
+    def test_order(self):
+        """Each library is proved once, after those that it depends on."""
+        lines = re.findall(r"^(\w+)[^:\n]*:(.*)$", read(f"{ROOT}/crates.txt").decode(), re.MULTILINE)
+        needs = {name: {word for word in words.split() if word.startswith("age_")} for name, words in lines}
+        for script, tops in zip(SCRIPTS, ({"agep"}, {"agep"}, {"agep", "agefile"}, {"agefile"})):
             with self.subTest(script):
                 self.make_tree()
+                for name in needs:
+                    os.makedirs(f"tree/crates/{name}/specs", exist_ok=True)
+                write("meanwhile", LAST.format(f"{self.folder}/asked").encode())
+                self.asked(script)
+                begun, done = collections.Counter(), set()
+                for name, what in (line.split(" ", 1) for line in read("asked").decode().splitlines()):
+                    self.assertLessEqual(needs[name], done, f"{name} waits for these")
+                    if what == "is done":
+                        done.add(name)
+                    elif "--cpu" not in what:
+                        begun[name] += 1
+                every = functools.reduce(lambda found, _: found.union(*map(needs.get, found)), needs, tops)
+                self.assertEqual(begun, collections.Counter(every - tops))
+
+    def test_failing_build(self):
+        """If the toolchain is missing or a build fails, its output and a line are shown, nothing is run or
+        installed, and the next call builds again. Standard input is not read."""
+        tools = stand_in.tools_but(f"{self.folder}/tools", "rt")["PATH"]
+        for script, who, what in zip(SCRIPTS, ("agep", "agep", "package", "install"), ("program", "program", "packages", "library")):
+            with self.subTest(script):
+                self.make_tree()
+                said = subprocess.run(f"tree/{script}".split(), env={**self.environment, "PATH": tools}, stdin=subprocess.DEVNULL, capture_output=True)
+                line = f"{who}: building the {what} needs the Rattle toolchain, the command rt\n".encode()
+                self.assertEqual((said.returncode, said.stdout, said.stderr, os.path.exists("prefix/bin")), (1, b"", line, False))
                 write("meanwhile", b"echo it is wrong; cat; exit 1")
                 done = subprocess.run(f"tree/{script}".split(), env=self.environment, input=b"input", capture_output=True)
                 self.assertEqual((done.returncode, done.stdout, os.path.exists("prefix/bin")), (1, b"", False), done.stderr)
@@ -149,10 +185,7 @@ class Builds(unittest.TestCase):
 
     def test_toolchains(self):
         """Another toolchain builds again; without a toolchain the existing build is run and installed."""
-        tools = f"{self.folder}/tools"
-        os.mkdir(tools)
-        for name in ("cat", "chmod", "cp", "dirname", "find", "head", "mkdir", "mv", "readlink", "sed", "sh"):
-            os.symlink(shutil.which(name), f"{tools}/{name}")
+        tools = stand_in.tools_but(f"{self.folder}/tools", "rt")["PATH"]
         for script in ("agep --version", "install prefix"):
             with self.subTest(script):
                 write("kit/KIT-ID", b"kit one\n")
@@ -211,6 +244,8 @@ class Installs(unittest.TestCase):
                             os.remove("running")
                         os.link(f"{top}/bin/agep", "running")
                     os.remove("running")
+                    os.remove(f"{top}/bin/agep")
+                    os.symlink("absent", f"{top}/bin/agep")
                     self.assertEqual(self.run_install("--uninstall", f"{prefix}/", **environment)[::2], (0, ""))
                     self.assert_modes(top, others)
                     self.assertEqual(self.run_install("--uninstall", prefix, **environment), (0, "", ""))
