@@ -196,8 +196,11 @@ class Manual(unittest.TestCase):
         for block in blocks:
             with self.subTest(block.split("\n")[0]):
                 self.enter_backups()
+                if ">key" in block:
+                    os.remove("key")
                 made = {name: read(name) for name in opened}
                 run_example(block)
+                self.assertEqual(os.stat("key").st_mode & 0o777, 0o600 if ">key" in block else 0o644)
                 for name in [name for name in opened if read(name) != made[name]]:
                     texts = [run_example(f"({opened[name].format(secret)}) 2>/dev/null; true") for secret in secrets]
                     self.assertIn(b"notes\n", texts, name)
@@ -208,6 +211,22 @@ class Manual(unittest.TestCase):
                     os.chmod("../bin/tar", 0o755)
                     run_example(block, status=2)
                     self.assertEqual(read("folder.tar.age"), old)
+
+    def test_facts(self):
+        """The largest offset and length, the most keys without -H, the mode of a plaintext, and the statuses."""
+        self.enter_backups()
+        facts = (re.search(pattern, read(PAGE).decode())[1] for pattern in (r"Both are at most (\d+)\.", r"More than (\d+) keys", r"plaintext has mode (\d+)"))
+        most, keys, mode = map(int, facts)
+        for number in range(keys + 1):
+            write(f"key{number}", number.to_bytes(32, "big"))
+        for line, status in {
+            f"agep range -k key {most} {most} disk.age": 0, f"agep range -k key {most + 1} 0 disk.age": 2, f"agep range -k key 0 {most + 1} disk.age": 2,
+            f"agep encrypt $(printf -- '-k key%d ' {{1..{keys}}}) notes": 0, f"agep encrypt $(printf -- '-k key%d ' {{0..{keys}}}) notes": 1,
+        }.items():
+            run_example(f"{line} 2>/dev/null", status=status)
+        run_example("agep decrypt -k key -o plain disk.age")
+        self.assertEqual(f"{os.stat('plain').st_mode & 0o777:o}", str(mode))
+        self.assertEqual(re.findall(r"^\.TP\n\.B (\d)$", section('"EXIT STATUS"'), re.MULTILINE), ["0", "1", "2"])
 
     @unittest.skipUnless(shutil.which("mandoc"), "mandoc is missing")
     def test_mandoc(self):
@@ -248,17 +267,19 @@ class Completions(unittest.TestCase):
 
     def test_options(self):
         """Each option of each command, and after it a file if its value is a file, and nothing if it is a
-        number."""
-        options, values, short_joined, long_joined = {}, {}, {}, {}
+        number. No option is offered for a value."""
+        options, values, short_joined, long_joined, no_values = {}, {}, {}, {}, {}
         for command in commands():
             options[f"agep {command} -"] = options_of(command)
             for short, long, value in (row for row in option_rows(command) if row[2]):
                 file = ["some.age"] * (value != "N")
                 values |= {f"agep {command} {option} so": file for option in (short, long)}
-                short_joined[f"agep {command} {short}so"] = [short + name for name in file]
+                no_values |= {f"agep {command} {option} -": [] for option in (short, long)}
+                short_joined[f"agep {command} -v{short[1]}so"] = [f"-v{short[1]}{name}" for name in file]
                 long_joined[f"agep {command} {long}=so"] = [f"{long}={name}" for name in file]
         self.assertGreater(len(values), 50)
         self.assert_offered(options | values)
+        self.assert_offered(no_values, ["bash", "zsh"])
         self.assert_offered(long_joined, ["zsh", "fish"])
         self.assert_offered(short_joined, ["zsh"])
 
@@ -284,11 +305,13 @@ class Completions(unittest.TestCase):
         self.assert_offered({"agep range so": [], "agep range 0 so": []}, ["zsh"])
 
     def test_options_that_are_given(self):
-        """zsh offers -k and -K again, no other option twice, and none that a given option excludes."""
-        rows = {}
-        for words, gone in {
-            "encrypt -k a": "-p --passphrase", "encrypt -p a": "-p --passphrase -k --key", "decrypt -k a -m 3": "-p --passphrase -m --max-work",
-            "rewrap -K a -v": "-P --new-pass -v --verbose", "inspect -r -f a": "-r --raw -f --file-key", "salvage -o a": "-o --output",
-        }.items():
-            rows[f"agep {words} -"] = {*options_of(words.split()[0])} - {*gone.split()}
+        """After an option zsh offers it again only if it is -k or -K, and none that it excludes; after -h or -V
+        nothing."""
+        rivals, rows = {"-p": ["-k", "--key"], "-k": ["-p", "--passphrase"], "-P": ["-K", "--new-key"], "-K": ["-P", "--new-pass"]}, {}
+        for command in commands():
+            for letter, name, value in option_rows(command):
+                given = f"agep {command} {letter or name}{' a' * bool(value)}"
+                gone = {*rivals.get(letter, []), *([] if letter in ("-k", "-K") else [letter, name])}
+                is_last = letter in ("-h", "-V")
+                rows |= {f"{given} -": [] if is_last else {*options_of(command)} - gone, f"{given} so": [] if is_last or command == "range" else ["some.age"]}
         self.assert_offered(rows, ["zsh"])

@@ -1,6 +1,5 @@
 # Completions of agep for fish: commands, options and files. ./generate writes
 # what has marks.
-complete -c agep -n __fish_use_subcommand -f
 # generated: commands of fish
 complete -c agep -n __fish_use_subcommand -f -a encrypt -d 'Encrypt a file with a passphrase or a key'
 complete -c agep -n __fish_use_subcommand -f -a decrypt -d 'Decrypt a file with a passphrase or a key'

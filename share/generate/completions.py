@@ -27,8 +27,6 @@ def _quoted(text):
 
 def _zsh_option(command, option):
     """One option: the options that exclude it, its names, its text and its value."""
-    if option in OWN:
-        return f"'(- *)'{{{option.short},--{option.long}}}'[{option.brief}]'"
     others = [option] * (not option.is_repeated) + command.rivals(option)
     plus, equal, value = ("+", "=", ":number:" if option.is_number else ":file:_files") if option.value else ("", "", "")
     names = f"{{{option.short}{plus},--{option.long}{equal}}}" if option.short else f"--{option.long}{equal}"
