@@ -57,7 +57,7 @@ class Instructions(ProgramCase):
             self.assertLess(many - two, 3 * (two - one))
 
     def test_lost_chunk(self):
-        """A lost chunk is tried with both flags. decrypt shows the cost of one attempt; writing zeros costs
+        """A lost chunk that is not the last is tried with both flags. decrypt shows the cost of one attempt; writing zeros costs
         less than one."""
         counts = []
         for size, command in ((1, "decrypt"), (65536, "decrypt"), (65536, "salvage"), (131072, "salvage")):

@@ -7,6 +7,7 @@ from fixture import HELLO, changed, with_other_mac
 from make_vectors import KEYED, MADE, NONCE, age_file, chunk, filled
 from messages import message
 from program import ProgramCase, fault
+from salvaged import opened
 from testkit import SEALED
 
 HEADER = age_file(KEYED, b"")
@@ -33,13 +34,13 @@ def saved(payload, is_changed=False):
     made = MADE if payload[:16] == NONCE else {}
     text, losses, early = b"", [], None
     for i, piece in enumerate(pieces):
-        opened, is_last = made.get((i, piece), (bytes(max(len(piece) - 16, 0)), None))
-        if is_last is None and opened:
-            losses.append((i, len(text), len(text) + len(opened) - 1))
-        if is_last and (i + 1 < len(pieces) or (i > 0 and not opened)):
+        plain, is_last, padding = opened(made, i, piece, i + 1 == len(pieces))
+        if is_last is None and plain:
+            losses.append((i, len(text), len(text) + len(plain) - 1))
+        if is_last and not padding and (i + 1 < len(pieces) or (i > 0 and not plain)):
             early = i
-        text += opened
-    is_rest = is_last is None and not opened
+        text += plain
+    is_rest = is_last is None and not plain
     is_behind = is_rest and early is not None and early == i - 1
     lines = [*lost_lines(losses), *[CHANGED] * is_changed]
     if early == i:
@@ -50,7 +51,9 @@ def saved(payload, is_changed=False):
         lines.append(f"chunk {early} is marked as the last, and more follows: bytes after the end, or another file")
     if is_last is False or (is_rest and not is_behind):
         lines.append(f"the file is cut short: the plaintext from byte {len(text)} on is missing")
-    elif is_last is None and opened and early is None:
+    elif padding:
+        lines.append(f"{padding} bytes follow chunk {i}, which is the last")
+    elif is_last is None and plain and early is None:
         lines.append(f"the file ends after {len(piece)} bytes of chunk {i}: more may be missing")
     return text, lines
 
@@ -99,7 +102,7 @@ class Payloads(ProgramCase):
         whole = NONCE + chunk(0, True, HELLO)
         self.assert_all((f"cut at {at}", whole[:at]) for at in range(16, len(whole)))
         self.assert_all((f"byte {at} changed", changed(whole, at)) for at in range(len(whole)))
-        self.assert_all((f"{more} bytes behind", whole + bytes(more)) for more in range(1, 40))
+        self.assert_all((f"{more} bytes behind", whole + bytes(more)) for more in (*range(1, 40), 512, 4095, 4096))
 
     def test_headers(self):
         """The same in its header and nonce: the fault is that of decrypt, except that a changed header costs

@@ -322,7 +322,8 @@ enum agefile_saved {
     AGEFILE_SAVED_LAST = 2,  /* the text of the last chunk */
     AGEFILE_SAVED_EARLY = 3, /* the text of a chunk marked as the last that cannot be it */
     AGEFILE_SAVED_ZEROS = 4, /* zeros: the chunk is lost */
-    AGEFILE_SAVED_NONE = 5   /* nothing: at most 16 bytes are left, and they do not open */
+    AGEFILE_SAVED_NONE = 5,  /* nothing: at most 16 bytes are left, and they do not open */
+    AGEFILE_SAVED_PADDED = 6 /* the text of the last chunk, and up to 4,095 bytes follow it */
 };
 
 /* Opens the next sealed chunk in place, whether it is marked as the last or not. On 0 report.len

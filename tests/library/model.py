@@ -382,17 +382,21 @@ def part_seal_next(part, chunk):
     return next_of_part(part, chunk, WRITING)
 
 
-SAVED_CHUNK, SAVED_LAST, SAVED_EARLY, SAVED_ZEROS, SAVED_NONE = range(1, 6)
+SAVED_CHUNK, SAVED_LAST, SAVED_EARLY, SAVED_ZEROS, SAVED_NONE, SAVED_PADDED = range(1, 7)
 
 
 def saved(key, number, is_last, data):
-    """What is saved of a sealed chunk: its text or zeros, and which of these."""
+    """What is saved of a sealed chunk: its text, without padding behind the last one, or zeros, and which of these."""
     for is_marked in (is_last, not is_last):
         text = opened(key, number.to_bytes(11, "big") + bytes([is_marked]), data) if len(data) >= TAG else None
         if text is not None and not is_marked:
             return text, SAVED_CHUNK
         if text is not None:
             return text, SAVED_LAST if is_last and (text or number == 0) else SAVED_EARLY
+    for end in range(len(data) - 1, max(TAG, len(data) - 4095) - 1, -1) if is_last else ():
+        text = opened(key, number.to_bytes(11, "big") + b"\1", data[:end])
+        if text is not None:
+            return text, SAVED_PADDED
     return bytes(max(len(data) - TAG, 0)), SAVED_ZEROS if len(data) > TAG else SAVED_NONE
 
 

@@ -13,7 +13,7 @@ from ._secrets import Identities
 from ._sources import Counted, Progress, read_some, readinto_of, write_all
 
 # What was saved of a chunk, by the numbers of agefile.h.
-CHUNK, LAST, EARLY, ZEROS, NONE = range(1, 6)
+CHUNK, LAST, EARLY, ZEROS, NONE, PADDED = range(1, 7)
 # A header is read in such pieces, because a read that reaches a bad block may return nothing.
 BLOCK = 4096
 
@@ -34,7 +34,8 @@ class Salvaged(NamedTuple):
 
     `length` is the number of bytes written, zeros included. `chunks` is the number of chunks, and
     `lost` lists those that are lost. `early` is the latest chunk that is marked as the last and
-    cannot be it, or None: `trailing` bytes of the file follow it, or it is empty after other chunks.
+    cannot be it, or None: a chunk follows it, or it is empty after other chunks. `trailing` is the
+    number of bytes of the file after the early chunk, or after the last one if there is none.
     `cut` says that the file is cut short; if its last chunk is lost, more may be missing too.
     `whole` says that the plaintext is complete and genuine: exactly then `copy` decrypts the file.
     """
@@ -136,7 +137,8 @@ def _save(payload: lib.Payload, source: BinaryIO, unread: set[int], sink: Any) -
         early = number if saved == EARLY else early
         unread.discard(number)
         total, sealed = total + len(text), sealed + length
-    trailing = 0 if early is None else max(sealed - (early + 1) * lib.SEALED_CHUNK, 0)
+    end = number * lib.SEALED_CHUNK + len(text) + lib.TAG if saved == PADDED else sealed
+    trailing = max(sealed - (end if early is None else (early + 1) * lib.SEALED_CHUNK), 0)
     is_cut = saved == CHUNK or saved == NONE and (early is None or early < number - 1)
     is_whole = saved == LAST and not lost and early is None
     return Salvaged(total, number + 1, tuple(lost), early, trailing, is_cut, is_whole)

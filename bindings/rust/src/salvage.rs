@@ -3,7 +3,7 @@
 use std::io::{self, Read, Seek, SeekFrom, Write};
 use std::ops::Range;
 
-use crate::ffi::{self, Report, SEALED_CHUNK};
+use crate::ffi::{self, Report, SEALED_CHUNK, TAG};
 use crate::front::{fill, Front};
 use crate::Identity;
 
@@ -13,6 +13,7 @@ const LAST: u64 = 2;
 const EARLY: u64 = 3;
 const ZEROS: u64 = 4;
 const NONE: u64 = 5;
+const PADDED: u64 = 6;
 
 /// Chunks in a row that are lost. [`salvage`] has an example.
 #[derive(Clone, Debug, PartialEq, Eq)]
@@ -36,10 +37,11 @@ pub struct Salvaged {
     pub chunks: u64,
     /// The chunks that are lost.
     pub lost: Vec<Lost>,
-    /// The latest chunk that is marked as the last and cannot be it: `trailing` bytes of the file
-    /// follow it, or it is empty after other chunks.
+    /// The latest chunk that is marked as the last and cannot be it: a chunk follows it, or it is
+    /// empty after other chunks.
     pub early: Option<u64>,
-    /// The number of bytes of the file after the early chunk.
+    /// The number of bytes of the file after the early chunk, or after the last one if there is
+    /// none.
     pub trailing: u64,
     /// Whether the file is cut short. If its last chunk is lost, more may be missing too.
     pub is_cut: bool,
@@ -60,6 +62,7 @@ impl Salvaged {
             }
             (ZEROS, _) => self.lost.push(Lost { chunks: number..self.chunks, bytes: start..self.len, is_unread }),
             (EARLY, _) => (self.early, self.trailing) = (Some(number), 0),
+            (PADDED, _) if self.early.is_none() => self.trailing = sealed - TAG as u64 - saved.len,
             _ => {}
         }
     }

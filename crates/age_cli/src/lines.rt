@@ -119,11 +119,16 @@ impl<'a, 'b, E: Write> Report for LossLines<'a, 'b, E> {
             self.print(&format_args!(
                 "the file is cut short: the plaintext from byte {bytes} on is missing"
             ));
+        }
+        let number = chunks.saturating_sub(1);
+        if let Saved::Padded(padding) = last {
+            self.print(&format_args!(
+                "{padding} bytes follow chunk {number}, which is the last"
+            ));
         } else if early.is_none() && last == Saved::Zeros {
-            let last = chunks.saturating_sub(1);
             let len = bytes.saturating_sub(1) % CHUNK_SIZE as u128 + 1 + TAG_SIZE as u128;
             self.print(&format_args!(
-                "the file ends after {len} bytes of chunk {last}: more may be missing"
+                "the file ends after {len} bytes of chunk {number}: more may be missing"
             ));
         }
     }

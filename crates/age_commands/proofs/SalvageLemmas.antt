@@ -5,7 +5,7 @@ use Rattle.std.proofs.lemmas.Bool.Decides.{nat_tests}
 use Rattle.std.proofs.KnownBytes.{Consumes-whole}
 use Rattle.age_header.specs.Device.{Bytes, CountsIf, Known, Moved, OfGiven, Seen, flow}
 use Rattle.age_stream.specs.declared.salvaged.Saved.{Saved}
-use Rattle.age_stream.specs.declared.salvaged.Saved.TheVariants.{Chunk, LastChunk, Early, Zeros, Nothing}
+use Rattle.age_stream.specs.declared.salvaged.Saved.TheVariants.{Chunk, LastChunk, Padded, Early, Zeros, Nothing}
 use Rattle.age_stream.specs.Salvage.{KnownLosses, LossesMoved, is_whole_to, losses_of}
 use Rattle.age_file.specs.declared.fault.Fault.{Fault}
 use Rattle.age_file.specs.declared.fault.Fault.TheVariants.{BadChunk}
@@ -81,6 +81,7 @@ none_lost : (b : Bool) (last : Saved) (lost : ℕ) (early : Option ℕ) → (b &
 none_lost true LastChunk lost None e = grind (arith, nat_tests, e)
 none_lost true LastChunk lost (Some i) e = absurd (cc)
 none_lost true Chunk lost early e = absurd (cc)
+none_lost true (Padded k) lost early e = absurd (cc)
 none_lost true Early lost early e = absurd (cc)
 none_lost true Zeros lost early e = absurd (cc)
 none_lost true Nothing lost early e = absurd (cc)

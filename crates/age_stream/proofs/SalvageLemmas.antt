@@ -1,22 +1,23 @@
 -- The parts of pieces that are saved one after another.
-use Rattle.std.proofs.Common.{◌≡◌, ◌⊎◌, ◌∙◌, ◌++◌, ◌∷◌, ◌+◌, ◌-◌, ◌*◌, ◌<◌, ◌≤◌, ℕ, List, [], length, take, drop, ap, sym, subst, arith, append_assoc, append-nil, length-append, refl, Bool, not, inl, inr, None, Some, Result, Ok, Err, nat_le, min, suc}
+use Rattle.std.proofs.Common.{◌≡◌, ◌⊎◌, ◌∙◌, ◌++◌, ◌∷◌, ◌+◌, ◌-◌, ◌*◌, ◌<◌, ◌≤◌, ℕ, List, [], length, take, drop, ap, sym, subst, arith, append_assoc, append-nil, length-append, refl, Bool, not, inl, inr, None, Some, Result, Ok, Err, nat_le, min, suc, zero, true, false}
 use Rattle.std.specs.Prelude.{IfErr, IfOk, Option}
 use Rattle.std.specs.Io.KnownBytes.{Appends, IsAtEnd}
 use Rattle.std.proofs.KnownBytes.{Appends-trans, Appends-nil}
 use Rattle.std.proofs.lemmas.Bool.{le-leb, lt-leb, cases_lt}
-use Rattle.std.proofs.lemmas.List.{drop-append-le, take_all, take_at, drop_at, take-append-le, length-take-le, length-drop}
+use Rattle.std.proofs.lemmas.List.{drop-append-le, take_all, take_at, drop_at, take-append-le, length-take-le, length-drop, take-take}
 use Rattle.age_stream.specs.Words.{Bytes, opened_text, Gave, GaveSome, Known, OfGiven, Seen, WritesPart, flow, move_of, FileKey, StreamFault, NonceTruncated, TooManyChunks, Read, Write, Memory, chunk_size, sealed_chunk_size, chunk_buf_size}
 use Rattle.age_header.specs.Filling.{Filled}
-use Rattle.age_header.proofs.DeviceLemmas.{done_part, gave_more, gave_none, gave_then, of_any, of_ended, of_map, of_more, of_then}
+use Rattle.age_header.proofs.DeviceLemmas.{gave_more, gave_none, gave_then, of_any, of_ended, of_map, of_more, of_then}
 use Rattle.age_stream.specs.declared.salvaged.Lost.{Lost}
 use Rattle.age_stream.specs.declared.salvaged.Salvaged.{Salvaged}
 use Rattle.age_stream.specs.declared.salvaged.Saved.{Saved}
-use Rattle.age_stream.specs.declared.salvaged.Saved.TheVariants.{Nothing, Zeros, Chunk, Early, LastChunk}
+use Rattle.age_stream.specs.declared.salvaged.Saved.TheVariants.{Nothing, Zeros, Chunk, Early, LastChunk, Padded}
 use Rattle.age_cipher.proofs.OpeningLemmas.{length-sealed_text, opened_is}
 use Rattle.age_stream.specs.Opening.{EndsAt, GivesNonce}
 use Rattle.age_stream.specs.Payload.{chunk_nonce, payload_key, pieces}
 use Rattle.age_stream.specs.Reading.{piece_opening}
-use Rattle.age_stream.specs.Salvage.{EndsSaving, KnownLosses, Part, ReadsAhead, Reports, Salvages, SavesParts, SavesPayload, early_after, first_part, in_place, last_saved, latest_early, loss, losses, lost_part, opening_or, out_of_place, part, parts, payload_parts, salvaged_text, summary, losses_of, with_part}
+use Rattle.age_stream.specs.Salvage.{EndsSaving, KnownLosses, Part, ReadsAhead, Reports, Salvages, SavesParts, SavesPayload, early_after, first_part, in_place, last_saved, latest_early, loss, losses, lost_part, opening_or, out_of_place, closed_part, padded_part, padding, part, parts, payload_parts, salvaged_text, summary, losses_of, with_part}
+use Rattle.age_stream.specs.Sizes.{max_padding}
 use Rattle.age_stream.proofs.CuttingLemmas.{cut_last}
 use Rattle.age_stream.proofs.OpeningLemmas.{take_most}
 use Rattle.age_stream.proofs.ReadingLemmas.{cut_some, cut_step, is_end_cut}
@@ -37,22 +38,68 @@ pub part-opened : (key : Bytes) (i : ℕ) (last : Bool) (c t : Bytes) → piece_
     → part key i last c ≡ record { text = t; saved = in_place i last (length c) }
 part-opened key i last c t is =
     ap (λ x. opening_or (in_place i last (length c)) x (opening_or (out_of_place last)
-    (piece_opening key i (not last) c) (lost_part c))) is
+    (piece_opening key i (not last) c) (closed_part key i last c))) is
 
-pub part_lost : (key : Bytes) (i : ℕ) (last : Bool) (c : Bytes) → piece_opening key i last c ≡ None
-    → piece_opening key i (not last) c ≡ None → part key i last c ≡ lost_part c
-part_lost key i last c none other =
+pub part_closed : (key : Bytes) (i : ℕ) (last : Bool) (c : Bytes) → piece_opening key i last c ≡ None
+    → piece_opening key i (not last) c ≡ None → part key i last c ≡ closed_part key i last c
+part_closed key i last c none other =
     ap (λ x. opening_or (in_place i last (length c)) x (opening_or (out_of_place last)
-    (piece_opening key i (not last) c) (lost_part c))) none
-    ∙ ap (λ x. opening_or (out_of_place last) x (lost_part c)) other
+    (piece_opening key i (not last) c) (closed_part key i last c))) none
+    ∙ ap (λ x. opening_or (out_of_place last) x (closed_part key i last c)) other
+
+-- a piece that has no chunk without its last k bytes does not open with more of them taken off
+pub padded_short : (key : Bytes) (i k n : ℕ) (c : Bytes) → length c < k + 16 → padded_part key i k n c ≡ lost_part c
+unfolding padded_part
+padded_short key i k zero c short = refl
+padded_short key i k (suc n) c short =
+    let none = opened_short key (chunk_nonce i true) (take (length c - k) c)
+    (omega (arith, short, length-take-le (length c - k) c (omega arith))) in
+    rw none (padded_short key i (k + 1) n c (omega (arith, short)))
+
+-- a shorter prefix of the first `end` bytes
+shorter : (k end : ℕ) (b : Bytes) → end ≤ length b → take (length (take end b) - k) (take end b) ≡ take (end - k) b
+shorter k end b le =
+    ap (λ n. take (n - k) (take end b)) (length-take-le end b le) ∙ take-take (end - k) end b (omega arith)
+
+pub padded_opens : (key : Bytes) (i k n end : ℕ) {nonce : Bytes} (b text : Bytes) → end ≤ length b
+    → nonce ≡ chunk_nonce i true → opened_text key nonce [] (take (end - k) b) ≡ Some text
+    → padded_part key i k (suc n) (take end b) ≡ record { text = text; saved = Padded k }
+unfolding padded_part
+padded_opens key i k n end b text le is opens =
+    rw (shorter k end b le) (ap (λ o. opening_or (Padded k) o (padded_part key i (k + 1) n (take end b)))
+    (ap (λ x. opened_text key x [] (take (end - k) b)) (sym is) ∙ opens))
+
+pub padded_more : (key : Bytes) (i k n end : ℕ) {nonce : Bytes} (b : Bytes) → end ≤ length b
+    → nonce ≡ chunk_nonce i true → opened_text key nonce [] (take (end - k) b) ≡ None
+    → padded_part key i k (suc n) (take end b) ≡ padded_part key i (k + 1) n (take end b)
+unfolding padded_part
+padded_more key i k n end b le is none =
+    rw (shorter k end b le) (ap (λ o. opening_or (Padded k) o (padded_part key i (k + 1) n (take end b)))
+    (ap (λ x. opened_text key x [] (take (end - k) b)) (sym is) ∙ none))
+
+-- no padding is left
+pub padded_end : (key : Bytes) (i k : ℕ) {end most : ℕ} (c : Bytes) → length c ≡ end
+    → most ≡ min max_padding (end - 16) → most + 1 ≤ k → padded_part key i k (max_padding + 1 - k) c ≡ lost_part c
+unfolding padded_part
+padded_end key i k {end} {most} c len is past = elim (cases_lt end (k + 16)) [
+  | inl lt ↦ padded_short key i k (max_padding + 1 - k) c (omega (arith, len, lt))
+  | inr ge ↦
+      let none : max_padding + 1 - k ≡ 0 = omega (arith, is, past, ge) in
+      rw none refl
+]
+
+closed_short : (key : Bytes) (i : ℕ) (last : Bool) (c : Bytes) → length c < 16 → closed_part key i last c ≡ lost_part c
+closed_short key i false c short = refl
+closed_short key i true c short = padded_short key i 1 max_padding c (omega (arith, short))
 
 pub part_short : (key : Bytes) (i : ℕ) (last : Bool) (c : Bytes) (end : ℕ) (bytes : Bytes) → length c ≡ end → end < 16
-    → part key i last c ≡ record { text = take (end - 16) bytes; saved = Nothing }
+    → part key i last c ≡ record { text = take (end - 16 - 0) bytes; saved = Nothing }
 part_short key i last c end bytes len short =
     let none : length c - 16 ≡ 0 = omega arith in
-    let nothing : end - 16 ≡ 0 = omega arith in
-    part_lost key i last c (opened_short key (chunk_nonce i last) c (omega arith))
+    let nothing : end - 16 - 0 ≡ 0 = omega arith in
+    part_closed key i last c (opened_short key (chunk_nonce i last) c (omega arith))
     (opened_short key (chunk_nonce i (not last)) c (omega arith))
+    ∙ closed_short key i last c (omega arith)
     ∙ rw (none, le-leb (length c) 16 (omega arith), nothing)
 
 -- ---- the parts of what follows the nonce
@@ -165,8 +212,9 @@ reads_ahead (Err e) ahead carried after now next f end is size = tt
 -- the first piece of n bytes, in a buffer whose front was saved
 pub first_saved : (key : Bytes) (i n : ℕ) {end len : ℕ} {bytes : Bytes} (piece new rest : Bytes) {saved : Saved}
     → bytes ≡ piece ++ rest → length piece ≡ sealed_chunk_size → n ≤ length bytes → length new ≡ length piece
-    → end ≡ min n sealed_chunk_size → len ≡ end - 16
-    → part key i (nat_le n sealed_chunk_size) (take end piece) ≡ record { text = take (end - 16) new; saved = saved }
+    → end ≡ min n sealed_chunk_size → len ≡ end - 16 - padding saved
+    → part key i (nat_le n sealed_chunk_size) (take end piece)
+    ≡ record { text = take (end - 16 - padding saved) new; saved = saved }
     → first_part key i (take n bytes) ≡ record { text = take len (new ++ rest); saved = saved }
 first_saved key i n {end} {bytes} piece new rest {saved} is whole le same least text found =
     ap (λ k. part key i (nat_le k sealed_chunk_size) (take sealed_chunk_size (take n bytes)))
@@ -174,7 +222,7 @@ first_saved key i n {end} {bytes} piece new rest {saved} is whole le same least 
     ∙ ap (part key i (nat_le n sealed_chunk_size)) (take_most sealed_chunk_size n bytes
     ∙ ap (λ k. take k bytes) (sym least) ∙ ap (take end) is ∙ take-append-le end piece rest (omega arith))
     ∙ found ∙ ap (λ t. record { text = t; saved = saved })
-    (sym (take-append-le (end - 16) new rest (omega arith)) ∙ ap (λ k. take k (new ++ rest)) (sym text))
+    (sym (take-append-le (end - 16 - padding saved) new rest (omega arith)) ∙ ap (λ k. take k (new ++ rest)) (sym text))
 
 -- what follows the piece is as it was
 pub first_rest : (bytes piece new rest : Bytes) → bytes ≡ piece ++ rest → length piece ≡ sealed_chunk_size
@@ -236,6 +284,7 @@ loss_len Zeros lost = omega arith
 loss_len Chunk lost = omega arith
 loss_len Early lost = omega arith
 loss_len LastChunk lost = omega arith
+loss_len (Padded k) lost = omega arith
 loss_len Nothing lost = omega arith
 
 losses_next : (done : List Part) (s : Salvaged) (y : Part) → s.bytes ≡ length (salvaged_text done)

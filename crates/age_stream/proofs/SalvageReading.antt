@@ -1,19 +1,20 @@
 -- What a reading gives is saved.
-use Rattle.std.proofs.Common.{nat_le, ◌≡◌, ◌↔◌, ◌⊎◌, ◌∙◌, ◌++◌, ◌∷◌, ◌+◌, ◌-◌, ◌<◌, ◌≤◌, ◌&&◌, ℕ, List, [], length, take, drop, ap, sym, arith, append_assoc, refl, subst, inl, inr, Bool, true, false, not, Option, None, Some, Ok, cond, suc, nat_lt, nat_eq}
+use Rattle.std.proofs.Common.{nat_le, ◌≡◌, ◌↔◌, ◌⊎◌, ◌∙◌, ◌++◌, ◌∷◌, ◌+◌, ◌-◌, ◌<◌, ◌≤◌, ◌&&◌, ℕ, List, [], length, take, drop, ap, sym, arith, append_assoc, refl, subst, inl, inr, Bool, true, false, not, Option, None, Some, Ok, cond, zero, suc, nat_lt, nat_eq}
 use Rattle.std.proofs.lemmas.Bool.{cases_lt, le-ltb, lt-ltb, lt-leb}
 use Rattle.std.proofs.lemmas.Bool.Decides.{nat_tests}
 use Rattle.std.proofs.lemmas.List.{take_all}
 use Rattle.age_stream.specs.Words.{Bytes, FileKey, Known, StreamFault, sealed_chunk_size}
 use Rattle.age_cipher.proofs.OpeningLemmas.{length-sealed_text, opened_is}
 use Rattle.age_stream.specs.declared.salvaged.Saved.{Saved}
-use Rattle.age_stream.specs.declared.salvaged.Saved.TheVariants.{Chunk, Early, LastChunk, Nothing, Zeros}
+use Rattle.age_stream.specs.declared.salvaged.Saved.TheVariants.{Chunk, Early, LastChunk, Nothing, Padded, Zeros}
 use Rattle.age_stream.specs.Payload.{chunk_nonce, is_end, payload_key, pieces}
 use Rattle.age_stream.specs.Reading.{Reading, first_fault, plaintext_of, outcome, outcomes, payload_reading, piece_opening, reading_from, whole}
-use Rattle.age_stream.specs.Salvage.{Part, early_after, in_place, is_whole, is_whole_to, last_saved, latest_early, losses, lost_part, opening_or, out_of_place, part, parts, payload_parts, salvaged_text, summary}
+use Rattle.age_stream.specs.Salvage.{Part, closed_part, early_after, in_place, is_whole, is_whole_to, last_saved, latest_early, losses, lost_part, out_of_place, padded_part, part, parts, payload_parts, salvaged_text, summary}
+use Rattle.age_stream.specs.Sizes.{max_padding}
 use Rattle.age_stream.proofs.CuttingLemmas.{AtMost, cut_at_most}
 use Rattle.age_stream.proofs.PayloadLemmas.{opens_outcome, outcome_opens, result_cases}
 use Rattle.age_stream.proofs.ReadingLemmas.{cut_some}
-use Rattle.age_stream.proofs.SalvageLemmas.{length-parts, part-opened, part_lost}
+use Rattle.age_stream.proofs.SalvageLemmas.{length-parts, part-opened, part_closed}
 
 abbrev text_part : Bool → Bytes → Part
 text_part last text = record { text = text; saved = cond last LastChunk Chunk }
@@ -90,6 +91,7 @@ after_some : (s : Saved) (i j : ℕ) → (k : ℕ) × (early_after s i (Some j) 
 after_some Early i j = (i, refl)
 after_some Chunk i j = (j, refl)
 after_some LastChunk i j = (j, refl)
+after_some (Padded k) i j = (j, refl)
 after_some Zeros i j = (j, refl)
 after_some Nothing i j = (j, refl)
 
@@ -103,16 +105,16 @@ zeros_lost i at c ps lt e = let some = rw (lt-leb (length c) 16 lt) at e in cc
 -- what a piece is
 part_cases : (key : Bytes) (i : ℕ) (last : Bool) (c : Bytes)
     → ((t : Bytes) × (piece_opening key i last c ≡ Some t))
-    ⊎ ((part key i last c).saved ≡ out_of_place last) ⊎ (part key i last c ≡ lost_part c)
+    ⊎ ((part key i last c).saved ≡ out_of_place last) ⊎ (part key i last c ≡ closed_part key i last c)
 part_cases key i last c = go (piece_opening key i last c) refl
   where
     other : (o : Known) → piece_opening key i (not last) c ≡ o → piece_opening key i last c ≡ None
-        → ((part key i last c).saved ≡ out_of_place last) ⊎ (part key i last c ≡ lost_part c)
-    other None e none = inr (part_lost key i last c none e)
+        → ((part key i last c).saved ≡ out_of_place last) ⊎ (part key i last c ≡ closed_part key i last c)
+    other None e none = inr (part_closed key i last c none e)
     other (Some t) e none = inl (rw (none, e) refl)
 
     go : (o : Known) → piece_opening key i last c ≡ o → ((t : Bytes) × (piece_opening key i last c ≡ Some t))
-        ⊎ ((part key i last c).saved ≡ out_of_place last) ⊎ (part key i last c ≡ lost_part c)
+        ⊎ ((part key i last c).saved ≡ out_of_place last) ⊎ (part key i last c ≡ closed_part key i last c)
     go None e = inr (other (piece_opening key i (not last) c) refl e)
     go (Some t) e = inl (t, e)
 
@@ -136,6 +138,24 @@ place_reads key max i last c t within is place =
           let text = some_text i (length c) (rw l at (place l)) pos (omega (arith, len)) in omega (arith, len, text);
     })
 
+lost_last : (piece : Bytes) → (lost_part piece).saved ≡ LastChunk → ⊥
+lost_last piece e = go (nat_le (length piece) 16) refl
+  where
+    go : (b : Bool) → nat_le (length piece) 16 ≡ b → ⊥
+    go true is = let no = rw is at e in cc
+    go false is = let no = rw is at e in cc
+
+padded_last : (key : Bytes) (i k n : ℕ) (c : Bytes) → (padded_part key i k n c).saved ≡ LastChunk → ⊥
+unfolding padded_part
+padded_last key i k zero c e = lost_last c e
+padded_last key i k (suc n) c e =
+    go (piece_opening key i true (take (length c - k) c)) refl (padded_last key i (k + 1) n c)
+  where
+    go : (o : Known) → piece_opening key i true (take (length c - k) c) ≡ o
+        → ((padded_part key i (k + 1) n c).saved ≡ LastChunk → ⊥) → ⊥
+    go None is more = more (rw is at e)
+    go (Some t) is more = let no : Padded k ≡ LastChunk = rw is at e in cc
+
 pub all_read : (key : Bytes) (max i at : ℕ) (c : Bytes) (cs : List Bytes) → AtMost sealed_chunk_size (c ∷ cs)
     → i + length (c ∷ cs) ≤ max → losses i at (parts key i (c ∷ cs)) ≡ []
     → latest_early i None (parts key i (c ∷ cs)) ≡ None → last_saved (parts key i (c ∷ cs)) ≡ LastChunk
@@ -145,15 +165,9 @@ all_read key max i at c [] full within none early ends = elim (part_cases key i 
       let place = ap (λ (p : Part). p.saved) (sym (part-opened key i true c t is)) ∙ ends in
       rw (place_reads key max i true c t (omega (arith, within)) is (λ l. place)) refl
   | inr (inl is) ↦ let no : Chunk ≡ LastChunk = sym is ∙ ends in absurd (cc)
-  | inr (inr is) ↦ absurd (lost_last c (ap (λ (p : Part). p.saved) (sym is) ∙ ends))
+  | inr (inr is) ↦
+      absurd (padded_last key i 1 max_padding c (ap (λ (p : Part). p.saved) (sym is) ∙ ends))
 ]
-  where
-    lost_last : (piece : Bytes) → (lost_part piece).saved ≡ LastChunk → ⊥
-    lost_last piece e = go (nat_le (length piece) 16) refl
-      where
-        go : (b : Bool) → nat_le (length piece) 16 ≡ b → ⊥
-        go true is = let no = rw is at e in cc
-        go false is = let no = rw is at e in cc
 all_read key max i at c (d ∷ ds) full within none early ends = elim (part_cases key i false c) [
   | inl (t, is) ↦
       let same = part-opened key i false c t is in
@@ -208,6 +222,7 @@ whole_to : (last : Saved) (lost : ℕ) (early : Option ℕ) → is_whole_to last
 whole_to LastChunk lost None e = (refl, grind (arith, nat_tests, e), refl)
 whole_to LastChunk lost (Some i) e = absurd (cc)
 whole_to Chunk lost early e = absurd (cc)
+whole_to (Padded k) lost early e = absurd (cc)
 whole_to Early lost early e = absurd (cc)
 whole_to Zeros lost early e = absurd (cc)
 whole_to Nothing lost early e = absurd (cc)

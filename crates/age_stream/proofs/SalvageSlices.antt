@@ -1,55 +1,129 @@
 -- What is saved stands at its offset.
-use Rattle.std.proofs.Common.{◌≡◌, ◌∙◌, ◌++◌, ◌∷◌, ◌+◌, ◌-◌, ◌*◌, ◌/◌, ◌%◌, ◌<◌, ℕ, List, [], length, take, drop, get_or, slice_get, slice_index, ap, sym, arith, refl, subst, Bool, false, not, None, Some, zero, suc}
+use Rattle.std.proofs.Common.{◌≡◌, ◌∙◌, ◌++◌, ◌∷◌, ◌+◌, ◌-◌, ◌*◌, ◌/◌, ◌%◌, ◌<◌, ℕ, List, [], length, take, drop, get_or, slice_get, slice_index, ap, sym, arith, refl, replicate, if◌then◌else◌, subst, Bool, true, false, not, None, Some, nat_eq, nat_le, nat_lt, ◌&&◌, zero, suc}
 use Rattle.std.specs.List.{sum_by}
 use Rattle.std.proofs.lemmas.Option.{none-some, get_or_from_slice_get, slice_get_within}
-use Rattle.std.proofs.lemmas.List.{length-append, length-replicate, get_or_append_left, get_or-append-add}
+use Rattle.std.proofs.lemmas.List.{length-append, length-replicate, length-take-le, get_or_append_left, get_or-append-add}
 use Rattle.std.proofs.lemmas.List.Sums.{sum_by-cons}
 use Rattle.age_stream.specs.Words.{Bytes, Known, FileKey, chunk_size, sealed_chunk_size}
 use Rattle.age_cipher.proofs.OpeningLemmas.{length-sealed_text, opened_is}
 use Rattle.age_stream.specs.declared.salvaged.Saved.{Saved}
+use Rattle.age_stream.specs.declared.salvaged.Saved.TheVariants.{Chunk, Early, LastChunk, Nothing, Padded, Zeros}
 use Rattle.age_stream.specs.Payload.{chunk_nonce, is_end, payload_key, pieces}
 use Rattle.age_stream.specs.Reading.{piece_opening}
-use Rattle.age_stream.specs.Salvage.{Part, in_place, lost_part, opening_or, out_of_place, part, parts, payload_parts, salvaged_text}
+use Rattle.age_stream.specs.Salvage.{Part, closed_part, in_place, last_saved, lost_part, opening_or, out_of_place, padded_part, padding, part, parts, payload_parts, salvaged_text}
+use Rattle.age_stream.specs.Sizes.{max_padding}
 use Rattle.age_stream.specs.Slice.{IsSlice, opening, openings}
 use Rattle.age_stream.proofs.CuttingLemmas.{AtMost, cut_at_most}
 use Rattle.age_stream.proofs.SalvageLemmas.{part-opened}
 use Rattle.age_stream.proofs.SliceLemmas.{slice_of}
 
-opened_has_len : (key : Bytes) (i : ℕ) (last : Bool) (c t : Bytes) → piece_opening key i last c ≡ Some t
-    → length t ≡ length c - 16
-opened_has_len key i last c t is =
-    let l : length c ≡ length t + 16 = ap length (sym ((opened_is key (chunk_nonce i last) [] c t).0 is))
-    ∙ length-sealed_text key (chunk_nonce i last) [] t in
-    omega arith
+opened_len : (key : Bytes) (i : ℕ) (last : Bool) (c t : Bytes) → piece_opening key i last c ≡ Some t
+    → length c ≡ length t + 16
+opened_len key i last c t is =
+    ap length (sym ((opened_is key (chunk_nonce i last) [] c t).0 is))
+    ∙ length-sealed_text key (chunk_nonce i last) [] t
 
--- an opening has as many bytes as the piece, less the tag's, and so has what stands for it
-or_len : (key : Bytes) (i : ℕ) (last : Bool) (c : Bytes) (saved : Saved) (other : Part)
-    → length other.text ≡ length c - 16
-    → length (opening_or saved (piece_opening key i last c) other).text ≡ length c - 16
-or_len key i last c saved other same = go (piece_opening key i last c) refl
+-- with its padding, the text of a part has as many bytes as the piece, less the tag's
+abbrev Fills : (c : Bytes) (p : Part) → Type 0
+Fills c p = length p.text + padding p.saved ≡ length c - 16
+
+or_fills : (key : Bytes) (i : ℕ) (last : Bool) (c : Bytes) (saved : Saved) (other : Part)
+    → padding saved ≡ 0 → Fills c other → Fills c (opening_or saved (piece_opening key i last c) other)
+or_fills key i last c saved other none same = go (piece_opening key i last c) refl
   where
-    go : (o : Known) → piece_opening key i last c ≡ o → length (opening_or saved o other).text ≡ length c - 16
+    go : (o : Known) → piece_opening key i last c ≡ o → Fills c (opening_or saved o other)
     go None e = same
-    go (Some t) e = opened_has_len key i last c t e
+    go (Some t) e = omega (arith, opened_len key i last c t e, none)
 
-pub part_len : (key : Bytes) (i : ℕ) (last : Bool) (c : Bytes) → length (part key i last c).text ≡ length c - 16
-part_len key i last c =
-    or_len key i last c (in_place i last (length c))
-    (opening_or (out_of_place last) (piece_opening key i (not last) c) (lost_part c))
-    (or_len key i (not last) c (out_of_place last) (lost_part c) (length-replicate (length c - 16) 0))
+lost_fills : (c : Bytes) → Fills c (lost_part c)
+lost_fills c = go (nat_le (length c) 16)
+  where
+    zeros : Bytes
+    zeros = replicate (length c - 16) 0
+
+    size : length zeros ≡ length c - 16
+    size = length-replicate (length c - 16) 0
+
+    go : (b : Bool) → length zeros + padding (if b then Nothing else Zeros) ≡ length c - 16
+    go true = omega (arith, size)
+    go false = omega (arith, size)
+
+padded_fills : (key : Bytes) (i k n : ℕ) (c : Bytes) → Fills c (padded_part key i k n c)
+unfolding padded_part
+padded_fills key i k zero c = lost_fills c
+padded_fills key i k (suc n) c =
+    go (piece_opening key i true (take (length c - k) c)) refl (padded_fills key i (k + 1) n c)
+  where
+    go : (o : Known) → piece_opening key i true (take (length c - k) c) ≡ o
+        → Fills c (padded_part key i (k + 1) n c)
+        → Fills c (opening_or (Padded k) o (padded_part key i (k + 1) n c))
+    go None e more = more
+    go (Some t) e more =
+        let l = opened_len key i true (take (length c - k) c) t e in
+        omega (arith, l, length-take-le (length c - k) c (omega arith))
+
+closed_fills : (key : Bytes) (i : ℕ) (last : Bool) (c : Bytes) → Fills c (closed_part key i last c)
+closed_fills key i false c = lost_fills c
+closed_fills key i true c = padded_fills key i 1 max_padding c
+
+in_place_full : (i : ℕ) (last : Bool) (len : ℕ) → padding (in_place i last len) ≡ 0
+in_place_full i false len = refl
+in_place_full i true len = go (nat_lt 0 i && nat_eq len 16)
+  where
+    go : (b : Bool) → padding (if b then Early else LastChunk) ≡ 0
+    go true = refl
+    go false = refl
+
+out_full : (last : Bool) → padding (out_of_place last) ≡ 0
+out_full true = refl
+out_full false = refl
+
+pub part_fills : (key : Bytes) (i : ℕ) (last : Bool) (c : Bytes) → Fills c (part key i last c)
+part_fills key i last c =
+    or_fills key i last c (in_place i last (length c))
+    (opening_or (out_of_place last) (piece_opening key i (not last) c) (closed_part key i last c))
+    (in_place_full i last (length c))
+    (or_fills key i (not last) c (out_of_place last) (closed_part key i last c) (out_full last)
+    (closed_fills key i last c))
+
+-- only the last piece may be padded
+pub inner_full : (key : Bytes) (i : ℕ) (c : Bytes) → padding (part key i false c).saved ≡ 0
+inner_full key i c = go (piece_opening key i false c) (piece_opening key i true c)
+  where
+    lost : (b : Bool) → padding (if b then Nothing else Zeros) ≡ 0
+    lost true = refl
+    lost false = refl
+
+    go : (o other : Known)
+        → padding (opening_or Chunk o (opening_or Early other (lost_part c))).saved ≡ 0
+    go (Some t) other = refl
+    go None (Some t) = refl
+    go None None = lost (nat_le (length c) 16)
+
+pub part_len : (key : Bytes) (i : ℕ) (c : Bytes) → length (part key i false c).text ≡ length c - 16
+part_len key i c = omega (arith, part_fills key i false c, inner_full key i c)
 
 pub salvaged_len : (key : Bytes) (i : ℕ) (cs : List Bytes)
-    → length (salvaged_text (parts key i cs)) ≡ sum_by (λ piece. length piece - 16) cs
+    → length (salvaged_text (parts key i cs)) + padding (last_saved (parts key i cs))
+    ≡ sum_by (λ piece. length piece - 16) cs
 salvaged_len key i [] = refl
-salvaged_len key i (c ∷ cs) =
-    let text : Bytes = (part key i (is_end cs) c).text in
-    let rest : Bytes = salvaged_text (parts key (i + 1) cs) in
+salvaged_len key i (c ∷ []) =
+    let text : Bytes = (part key i true c).text in
+    omega (
+      arith,
+      length-append text [],
+      sum_by-cons (λ piece. length piece - 16) c [],
+      part_fills key i true c,
+    )
+salvaged_len key i (c ∷ d ∷ cs) =
+    let text : Bytes = (part key i false c).text in
+    let rest : Bytes = salvaged_text (parts key (i + 1) (d ∷ cs)) in
     omega (
       arith,
       length-append text rest,
-      sum_by-cons (λ piece. length piece - 16) c cs,
-      part_len key i (is_end cs) c,
-      salvaged_len key (i + 1) cs,
+      sum_by-cons (λ piece. length piece - 16) c (d ∷ cs),
+      part_len key i c,
+      salvaged_len key (i + 1) (d ∷ cs),
     )
 
 -- byte r of what the piece with number n from here opens to, in what is saved
@@ -78,7 +152,7 @@ saved_at key i (suc n) r (c ∷ d ∷ ds) text full is lt =
     let first : Bytes = (part key i false c).text in
     let more : Bytes = salvaged_text (parts key (i + 1) (d ∷ ds)) in
     let h = saved_at key (i + 1) n r (d ∷ ds) text full.1 is lt in
-    let size : length first ≡ chunk_size = omega (arith, part_len key i false c, full.0) in
+    let size : length first ≡ chunk_size = omega (arith, part_len key i c, full.0) in
     let l : length (first ++ more) ≡ length first + length more = length-append first more in
     let at : chunk_size * suc n + r ≡ length first + (chunk_size * n + r) = omega arith in
     record {

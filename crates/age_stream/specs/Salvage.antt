@@ -1,12 +1,13 @@
 -- Saving what is left of a payload if some chunks do not open.
-use Rattle.std.specs.Prelude.{ℕ, ◌+◌, ◌-◌, ◌≡◌, ◌≤◌, ◌<◌, ◌&&◌, ⊤, List, [], ◌∷◌, ◌++◌, Bool, true, false, not, length, map, take, drop, replicate, nat_eq, nat_le, nat_lt, IfSome, Option, Some, None, Result, Ok, Err, if◌then◌else◌}
+use Rattle.std.specs.Prelude.{ℕ, zero, suc, ◌+◌, ◌-◌, ◌≡◌, ◌≤◌, ◌<◌, ◌&&◌, ⊤, List, [], ◌∷◌, ◌++◌, Bool, true, false, not, length, map, take, drop, replicate, nat_eq, nat_le, nat_lt, IfSome, Option, Some, None, Result, Ok, Err, if◌then◌else◌}
 use Rattle.std.specs.Io.KnownBytes.{IsAtEnd}
 use Rattle.std.specs.List.{concat}
 use Rattle.age_stream.specs.Words.{Bytes, Key, Flow, Gave, Moved, OfGiven, Took, FileKey, StreamFault, NonceTruncated, TooManyChunks, Read, Write, Memory, chunk_buf_size, nonce_size, sealed_chunk_size, tag_size}
+use Rattle.age_stream.specs.Sizes.{max_padding}
 use Rattle.age_stream.specs.declared.salvaged.Lost.{Lost}
 use Rattle.age_stream.specs.declared.salvaged.Salvaged.{Salvaged}
 use Rattle.age_stream.specs.declared.salvaged.Saved.{Saved}
-use Rattle.age_stream.specs.declared.salvaged.Saved.TheVariants.{Chunk, LastChunk, Early, Zeros, Nothing}
+use Rattle.age_stream.specs.declared.salvaged.Saved.TheVariants.{Chunk, LastChunk, Padded, Early, Zeros, Nothing}
 use Rattle.age_stream.specs.Opening.{EndsAt}
 use Rattle.age_stream.specs.Payload.{is_end, payload_key, pieces}
 use Rattle.age_stream.specs.Reading.{piece_opening}
@@ -38,12 +39,26 @@ in_place i true len = if nat_lt 0 i && nat_eq len tag_size then Early else LastC
 abbrev pub out_of_place : (last : Bool) → Saved
 out_of_place last = if last then Chunk else Early
 
+-- Piece i as the last chunk with k bytes of padding behind it, or with as few more as possible, up
+-- to k + n - 1; if it opens with none of them, zeros.
+unfoldable pub padded_part : (key : Key) (i k n : ℕ) (piece : Bytes) → Part
+padded_part key i k zero piece = lost_part piece
+padded_part key i k (suc n) piece =
+    opening_or (Padded k) (piece_opening key i true (take (length piece - k) piece))
+    (padded_part key i (k + 1) n piece)
+
+-- a piece that opens neither as the last chunk nor as another
+abbrev pub closed_part : (key : Key) (i : ℕ) (last : Bool) (piece : Bytes) → Part
+closed_part key i false piece = lost_part piece
+closed_part key i true piece = padded_part key i 1 max_padding piece
+
 -- Piece i as the chunk of its position; if that fails, with the other value of the last-chunk byte;
--- if that fails too, zeros.
+-- if that fails too, and it is the last, without the padding behind it; otherwise zeros.
 abbrev pub part : (key : Key) (i : ℕ) (last : Bool) (piece : Bytes) → Part
 part key i last piece =
     opening_or (in_place i last (length piece)) (piece_opening key i last piece)
-    (opening_or (out_of_place last) (piece_opening key i (not last) piece) (lost_part piece))
+    (opening_or (out_of_place last) (piece_opening key i (not last) piece)
+    (closed_part key i last piece))
 
 -- the parts of these pieces, with numbers from i on
 abbrev pub parts : (key : Key) (i : ℕ) (pieces : List Bytes) → List Part
@@ -54,6 +69,11 @@ parts key i (piece ∷ more) = part key i (is_end more) piece ∷ parts key (i +
 abbrev pub payload_parts : (file_key : FileKey) (text : Bytes) → List Part
 payload_parts file_key text =
     parts (payload_key file_key (take nonce_size text)) 0 (pieces (drop nonce_size text))
+
+-- the bytes of the piece behind its chunk
+abbrev pub padding : (saved : Saved) → ℕ
+padding (Padded k) = k
+padding _ = 0
 
 -- the texts of the parts, concatenated
 abbrev pub salvaged_text : List Part → Bytes

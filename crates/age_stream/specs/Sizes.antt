@@ -18,6 +18,10 @@ sealed_chunk_size = chunk_size + tag_size
 abbrev pub chunk_buf_size : ℕ
 chunk_buf_size = sealed_chunk_size + 1
 
+-- the longest padding that is looked for behind a last chunk: that to a block of 4,096 bytes
+abbrev pub max_padding : ℕ
+max_padding = 4095
+
 -- the number of chunks that a counter of eleven bytes can number
 abbrev pub most_chunks : ℕ
 most_chunks = 2 ^ 88

@@ -1,12 +1,12 @@
 //! Laws: facts about the definitions alone, each the contract of a function that does nothing.
 
-ghost use Rattle.std.specs.Prelude.{◌≡◌, ◌↔◌, ◌<◌, ◌≤◌, ◌++◌, ℕ, List, None, Ok, drop, length, take, true};
+ghost use Rattle.std.specs.Prelude.{◌≡◌, ◌↔◌, ◌<◌, ◌≤◌, ◌+◌, ◌++◌, ℕ, List, None, Ok, drop, length, take, true};
 ghost use Rattle.age_kdf.specs.Bytes.{Bytes};
 ghost use Rattle.age_header.specs.declared.file_key.FileKey.{FileKey};
 ghost use Rattle.age_stream.specs.Cutting.{cut, IsCut};
 ghost use Rattle.age_stream.specs.Payload.{chunks, payload, payload_key, pieces};
 ghost use Rattle.age_stream.specs.Reading.{payload_reading, whole};
-ghost use Rattle.age_stream.specs.Salvage.{is_whole, payload_parts, salvaged_text, summary};
+ghost use Rattle.age_stream.specs.Salvage.{is_whole, last_saved, padding, payload_parts, salvaged_text, summary};
 ghost use Rattle.age_stream.specs.Slice.{IsSlice, plain_len, range_outcome};
 ghost use Rattle.age_stream.specs.Sizes.{nonce_size};
 
@@ -64,14 +64,17 @@ pub fn salvage_is_reading()
 {}
 
 /// Salvaging keeps offsets: the bytes that a range of a damaged payload reads are at the same
-/// offsets in the saved text, which is as long as the plaintext was.
+/// offsets in the saved text, which, with the padding after the
+/// last chunk, is as long as the plaintext was.
 pub fn salvage_is_sliced()
     // A slice of the payload, which needs only the chunks that it touches, is the same slice of the
     // saved text.
     ensures slice { (file_key : FileKey) (text xs : Bytes) (at : ℕ)
         → IsSlice (payload_key file_key (take nonce_size text)) (drop nonce_size text) at xs
         → xs ≡ take (length xs) (drop at (salvaged_text (payload_parts file_key text))) }
-    // The length is that of the plaintext, as a reader of ranges finds it.
+    // The length, with the padding behind the last chunk, is that of the plaintext, as a reader of
+    // ranges finds it.
     ensures len { (file_key : FileKey) (text : Bytes)
-        → length (salvaged_text (payload_parts file_key text)) ≡ plain_len (drop nonce_size text) }
+        → length (salvaged_text (payload_parts file_key text))
+        + padding (last_saved (payload_parts file_key text)) ≡ plain_len (drop nonce_size text) }
 {}

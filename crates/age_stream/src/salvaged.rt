@@ -1,6 +1,6 @@
 //! What was saved of a payload, and what was lost.
 ghost use Rattle.std.specs.Prelude.{◌≡◌, [], ◌∷◌};
-ghost use Rattle.age_stream.specs.Salvage.{KnownLosses, Reports, is_cut, is_whole, losses_by};
+ghost use Rattle.age_stream.specs.Salvage.{KnownLosses, Reports, is_cut, is_whole, losses_by, padding};
 
 /// What was saved of one piece of a payload.
 #[derive(Clone, Copy, Debug, Drop, PartialEq, Eq)]
@@ -9,13 +9,27 @@ pub enum Saved {
     Chunk,
     /// The last chunk.
     LastChunk,
+    /// The last chunk, once this many bytes behind it are taken off.
+    Padded(usize),
     /// A chunk that is marked as the last and may not be: more follows, or it is empty and others
     /// stand before it.
     Early,
-    /// The piece opens neither as the last chunk nor as another: zeros stand in its place.
+    /// The piece does not open: zeros stand in its place.
     Zeros,
     /// The same of a piece without text: it has no more bytes than a tag, 16.
     Nothing,
+}
+
+impl Saved {
+    /// The number of bytes behind the last chunk that are no part of it, in the same piece.
+    pub fn padding(self) -> usize
+        ensures { result ≡ padding self }
+    {
+        match self {
+            Saved::Padded(padding) => padding,
+            _ => 0,
+        }
+    }
 }
 
 /// A chunk that was lost. Chunks are numbered from 0.

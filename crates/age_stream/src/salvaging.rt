@@ -1,20 +1,20 @@
 //! Saving the chunks that open of a damaged payload.
-ghost use Rattle.std.specs.Prelude.{◌≡◌, ◌⊎◌, ◌<◌, ◌≤◌, ◌+◌, ◌-◌, ◌^◌, length, take, drop, Some, None, Ok, Err, IfOk, OnErr, IfErr};
+ghost use Rattle.std.specs.Prelude.{◌≡◌, ◌⊎◌, ◌<◌, ◌≤◌, ◌+◌, ◌-◌, ◌^◌, length, take, drop, false, Some, None, Ok, Err, IfOk, IfSome, OnErr, IfErr};
 ghost use Rattle.std.specs.Io.KnownBytes.{IsAtEnd};
 ghost use Rattle.age_header.specs.Device.{Counts, CountsIf, GaveSome, OfGiven, flow_by, move_by};
 ghost use Rattle.age_header.specs.Filling.{Filled};
 ghost use Rattle.age_stream.specs.Counts.{is_read, is_write};
 ghost use Rattle.age_stream.specs.Opening.{EndsAt};
 ghost use Rattle.age_stream.specs.Payload.{pieces};
-ghost use Rattle.age_stream.specs.Salvage.{EndsSaving, IsOfPieces, ReadsAhead, Reports, Salvages, SavesParts, first_part, in_place, loss, part, parts, losses_by, with_part};
-ghost use Rattle.age_stream.specs.Sizes.{chunk_size, sealed_chunk_size, most_chunks, tag_size, chunk_buf_size};
+ghost use Rattle.age_stream.specs.Salvage.{EndsSaving, IsOfPieces, ReadsAhead, Reports, Salvages, SavesParts, first_part, in_place, loss, lost_part, losses_by, padded_part, padding, part, parts, with_part};
+ghost use Rattle.age_stream.specs.Sizes.{chunk_size, max_padding, sealed_chunk_size, most_chunks, tag_size, chunk_buf_size};
 
 use crate::buffer::ChunkBuf;
 use crate::chunk_keys::{chunk_nonce, payload_key};
 use crate::fault::StreamFault;
 use crate::opening::{carry, open_prefix, read_nonce};
 use crate::salvaged::{Losses, Lost, Salvaged, Saved};
-use crate::sizes::{SEALED_CHUNK_SIZE, TAG_SIZE};
+use crate::sizes::{MAX_PADDING, SEALED_CHUNK_SIZE, TAG_SIZE};
 use age_header::{DeviceFault, FileKey, Sink, Source, fill_from, write_all};
 use std::alloc::Global;
 
@@ -147,12 +147,13 @@ fn save_first(key: &[u8; 32], i: u128, bytes: &mut [u8], n: usize) -> (usize, Sa
     let (piece, _) = bytes.split_at_mut(SEALED_CHUNK_SIZE);
     let end = n.min(SEALED_CHUNK_SIZE);
     let saved = save_piece(key, i, n <= SEALED_CHUNK_SIZE, piece, end);
-    (end.saturating_sub(TAG_SIZE), saved)
+    let len = end.saturating_sub(TAG_SIZE).saturating_sub(saved.padding());
+    (len, saved)
 }
 
 /// Saves what it can of the first `end` bytes, in place, as piece i. `last` says whether no byte
 /// follows them. The text of the chunk to which they open, or zeros, is then at the start of the
-/// buffer, `end - 16` bytes. What follows is unchanged.
+/// buffer, `end - 16` bytes less the padding. What follows is unchanged.
 pub fn save_piece(key: &[u8; 32], i: u128, last: bool, bytes: &mut [u8], end: usize) -> Saved
     requires high { end ≤ length bytes.old }
     requires size { end ≤ sealed_chunk_size }
@@ -160,9 +161,12 @@ pub fn save_piece(key: &[u8; 32], i: u128, last: bool, bytes: &mut [u8], end: us
     ensures len { length bytes.new ≡ length bytes.old }
     // The part that stands for the piece is returned, and its text is at the start of the buffer.
     ensures part { part key.now i last (take end bytes.old)
-        ≡ record { text = take (end - tag_size) bytes.new; saved = result } }
+        ≡ record { text = take (end - tag_size - padding result) bytes.new; saved = result } }
     // The bytes after the text are unchanged.
-    ensures rest { drop (end - tag_size) bytes.new ≡ drop (end - tag_size) bytes.old }
+    ensures rest { drop (end - tag_size - padding result) bytes.new
+        ≡ drop (end - tag_size - padding result) bytes.old }
+    // Only the last piece is taken for a chunk with padding.
+    ensures padding { last ≡ false → padding result ≡ 0 }
 {
     if end < TAG_SIZE {
         return Saved::Nothing;
@@ -173,6 +177,11 @@ pub fn save_piece(key: &[u8; 32], i: u128, last: bool, bytes: &mut [u8], end: us
     if open_prefix(key, &chunk_nonce(i, !last), bytes, end) {
         return if last { Saved::Chunk } else { Saved::Early };
     }
+    if last {
+        if let Some(padding) = open_padded(key, i, bytes, end) {
+            return Saved::Padded(padding);
+        }
+    }
     let (text, _) = bytes.split_at_mut(end - TAG_SIZE);
     text.fill(0);
     if end == TAG_SIZE {
@@ -180,6 +189,33 @@ pub fn save_piece(key: &[u8; 32], i: u128, last: bool, bytes: &mut [u8], end: us
     } else {
         Saved::Zeros
     }
+}
+
+/// Opens the first `end` bytes in place as the last chunk i, without the fewest bytes at their end
+/// with which they don't open. Returns how many these are; if there are none, the buffer is
+/// unchanged.
+fn open_padded(key: &[u8; 32], i: u128, bytes: &mut [u8], end: usize) -> Option<usize>
+    requires low { tag_size ≤ end }
+    requires high { end ≤ length bytes.old }
+    requires size { end ≤ sealed_chunk_size }
+    requires small { i < most_chunks }
+    ensures len { length bytes.new ≡ length bytes.old }
+    ensures opened { IfSome result (λ k.
+        padded_part key.now i 1 max_padding (take end bytes.old)
+        ≡ record { text = take (end - tag_size - k) bytes.new; saved = Saved.Padded k }) }
+    ensures rest { IfSome result (λ k.
+        drop (end - tag_size - k) bytes.new ≡ drop (end - tag_size - k) bytes.old) }
+    ensures none { result ≡ None → (bytes.new ≡ bytes.old)
+        × (padded_part key.now i 1 max_padding (take end bytes.old)
+        ≡ lost_part (take end bytes.old)) }
+{
+    let most = MAX_PADDING.min(end - TAG_SIZE);
+    'lengths: for padding in 1..most + 1 {
+        if open_prefix(key, &chunk_nonce(i, true), bytes, end - padding) {
+            return Some(padding);
+        }
+    }
+    None
 }
 
 /// What a piece of `len` bytes is that opens as the chunk of its position.

@@ -3,7 +3,7 @@ use Rattle.std.specs.Prelude.{◌≡◌, ℕ, ◌⊎◌, ◌<◌, ◌≤◌, Lis
 use Rattle.age_kdf.specs.Bytes.{Bytes}
 use Rattle.age_file.specs.declared.fault.Fault.TheVariants.{TooManyChunks}
 use Rattle.age_stream.specs.declared.salvaged.Saved.{Saved}
-use Rattle.age_stream.specs.declared.salvaged.Saved.TheVariants.{Chunk, LastChunk, Early, Zeros, Nothing}
+use Rattle.age_stream.specs.declared.salvaged.Saved.TheVariants.{Chunk, LastChunk, Padded, Early, Zeros, Nothing}
 use Rattle.age_stream.specs.Payload.{is_end}
 use Rattle.age_stream.specs.Salvage.{Part, part}
 use Rattle.agefile.specs.declared.payload.Payload.{Payload}
@@ -20,6 +20,7 @@ saved_number LastChunk = 2
 saved_number Early = 3
 saved_number Zeros = 4
 saved_number Nothing = 5
+saved_number (Padded k) = 6
 
 -- the chunk's buffer begins with the text of this part, and the rest of it is unchanged; the report
 -- has the length of the text, and what was saved

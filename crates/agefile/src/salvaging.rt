@@ -18,7 +18,8 @@ use age_stream::{Saved, TAG_SIZE, save_piece};
 /// the last or not; if they open as neither, with as many zeros. The report has the length of
 /// either and, as its place, what was saved: 1 a chunk that others follow, 2 the last chunk, 3 a
 /// chunk that is marked as the last and may not be, 4 zeros, 5 nothing, because there are at most
-/// 16 bytes, which do not open. The payload continues after the chunk. Allocates nothing.
+/// 16 bytes, which do not open, 6 the last chunk without up to 4,095 bytes behind it. The payload
+/// continues after the chunk. Allocates nothing.
 ///
 /// # Errors
 /// 23 if the payload is not open for reading, or the chunk has another length: only the report
@@ -54,7 +55,8 @@ fn save_as(key: &[u8; 32], number: u64, last: bool, chunk: &mut [u8], report: &m
     }
     let len = chunk.len();
     let saved = save_piece(key, number as u128, last, chunk, len);
-    *report = Report::of_len(len.saturating_sub(TAG_SIZE) as u64);
+    let text = len.saturating_sub(TAG_SIZE).saturating_sub(saved.padding());
+    *report = Report::of_len(text as u64);
     report.place = saved_number(saved);
     OK
 }
@@ -69,5 +71,6 @@ fn saved_number(saved: Saved) -> u64
         Saved::Early => 3,
         Saved::Zeros => 4,
         Saved::Nothing => 5,
+        Saved::Padded(_) => 6,
     }
 }
