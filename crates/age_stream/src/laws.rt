@@ -64,8 +64,7 @@ pub fn salvage_is_reading()
 {}
 
 /// Salvaging keeps offsets: the bytes that a range of a damaged payload reads are at the same
-/// offsets in the saved text, which, with the padding after the
-/// last chunk, is as long as the plaintext was.
+/// offsets in the saved text, which is as long as the plaintext was, but for the padding.
 pub fn salvage_is_sliced()
     // A slice of the payload, which needs only the chunks that it touches, is the same slice of the
     // saved text.
