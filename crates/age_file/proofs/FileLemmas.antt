@@ -72,7 +72,8 @@ ok_tested h (Ok j) k is =
     let mac = header_mac j.0 h.stanzas in
     (ap Ok both.1, (bytes_eq-Decides h.mac mac).0 both.0 ∙ ap (λ (x : FileKey). header_mac x.0 h.stanzas) both.1)
 
-unlocked_key : (answers : Answering) (h : HeaderParts) (k : FileKey) → header_key answers h ≡ Ok k → HasKey answers h k
+pub unlocked_key : (answers : Answering) (h : HeaderParts) (k : FileKey) → header_key answers h ≡ Ok k
+    → HasKey answers h k
 unlocked_key answers h k is = go (is_mixed h.stanzas) refl is
   where
     go : (mixed : Bool) → is_mixed h.stanzas ≡ mixed

@@ -1,6 +1,6 @@
 -- The verdict on bytes, for given identities and limits: a plaintext, or the first fault and the
 -- plaintext before it.
-use Rattle.std.specs.Prelude.{◌≡◌, Bool, List, length, drop, map, option_map, Result, Ok, Err, if◌then◌else◌}
+use Rattle.std.specs.Prelude.{◌≡◌, ◌⊎◌, Bool, true, List, length, drop, map, option_map, Result, Ok, Err, if◌then◌else◌}
 use Rattle.std.specs.Result.{result_map_both}
 use Rattle.std.specs.Str.{bytes_eq}
 use Rattle.age_header.specs.Device.{Bytes}
@@ -13,7 +13,7 @@ use Rattle.age_recipient.specs.declared.choice.UnlockFault.{UnlockFault}
 use Rattle.age_recipient.specs.declared.choice.UnlockFault.TheVariants as unlock
 use Rattle.age_header.specs.declared.file_key.FileKey.{FileKey}
 use Rattle.age_recipient.specs.declared.unwrapped.Unwrapped.{Unwrapped}
-use Rattle.age_recipient.specs.Choice.{choice}
+use Rattle.age_recipient.specs.Choice.{choice, lacks_memory}
 use Rattle.age_stream.specs.declared.fault.StreamFault.{StreamFault}
 use Rattle.age_stream.specs.declared.fault.StreamFault.TheVariants as stream
 use Rattle.age_stream.specs.Reading.{Reading, stop, payload_reading}
@@ -74,6 +74,12 @@ abbrev pub found_key : (answers : Answering) (h : HeaderParts) → Result (FileK
 found_key answers h = if is_mixed h.stanzas then Err MixedPassphrase
     else result_map_both (λ k. (k, bytes_eq h.mac (header_mac k.0 h.stanzas))) unlock_fault
     (choice (answers h.stanzas))
+
+-- Out of memory is a possible answer only if one of the identities up to the one that decides may
+-- run out, or if they choose a key, because the MAC under it is then computed.
+abbrev pub MayLackMemory : (answers : List Unwrapped) (may_run_out : List Bool) → Type 0
+MayLackMemory answers may_run_out =
+    (lacks_memory answers may_run_out ≡ true) ⊎ ((k : FileKey) × (choice answers ≡ Ok k))
 
 -- the key found, if the MAC is right
 abbrev pub if_right : Result (FileKey × Bool) Fault → Result FileKey Fault

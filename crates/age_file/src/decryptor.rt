@@ -1,9 +1,9 @@
 //! A file that is read in steps: its header, its key, then its payload chunk by chunk.
 
-ghost use Rattle.std.specs.Prelude.{◌≡◌, Ok, Err, IfOk, IfErr};
+ghost use Rattle.std.specs.Prelude.{◌≡◌, map, Ok, Err, IfOk, IfErr};
 ghost use Rattle.age_stream.specs.Reader.{opener_of, source_of};
 ghost use Rattle.age_stream.specs.Writer.{device_of, fault_of};
-ghost use Rattle.age_file.specs.Verdict.{answers_by, header_key};
+ghost use Rattle.age_file.specs.Verdict.{MayLackMemory, answers_by, header_key};
 
 use crate::fault::Fault;
 use crate::inspecting::inspect;
@@ -130,6 +130,12 @@ impl<'a, S: Source> Decryptor<'a, S> {
             (λ refused. StartsUnder S.to_come S.gave S.failed (limits_of self.entry)
             (header_key (answers_by identities.now (λ i s. meaning i s)) (header_of self.entry))
             (input_of self.entry).now (device_of refused).now (Err (fault_of refused))) }
+        // Returns `OutOfMemory` only if an identity may run out, up to the one that decides, or if
+        // the identities choose a key.
+        ensures memory { IfErr result (λ refused. fault_of refused ≡ Fault.OutOfMemory
+            → MayLackMemory
+            (answers_by identities.now (λ i s. meaning i s) (header_of self.entry).stanzas)
+            (map (λ i. may_run_out i (header_of self.entry).stanzas) identities.now)) }
     {
         let Decryptor {
             input,
@@ -174,6 +180,10 @@ impl<'a, S: Source> Decryptor<'a, S> {
             (λ fault. (last : S) × StartsUnder S.to_come S.gave S.failed (limits_of self.entry)
             (header_key (answers_by identities.now (λ i s. meaning i s)) (header_of self.entry))
             (input_of self.entry).now last (Err fault)) }
+        // As for `unlocked`.
+        ensures memory { IfErr result (λ fault. fault ≡ Fault.OutOfMemory → MayLackMemory
+            (answers_by identities.now (λ i s. meaning i s) (header_of self.entry).stanzas)
+            (map (λ i. may_run_out i (header_of self.entry).stanzas) identities.now)) }
     {
         match self.unlocked(alloc, identities) {
             Ok(reader) => Ok(reader),

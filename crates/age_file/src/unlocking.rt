@@ -1,13 +1,14 @@
 //! Finding the file key of a header.
 
-ghost use Rattle.std.specs.Prelude.{◌≡◌, ◌⊎◌, true, Err, IfErr};
+ghost use Rattle.std.specs.Prelude.{◌≡◌, ◌⊎◌, map, true, Ok, Err, IfErr};
 ghost use Rattle.std.specs.List.{list_any};
 ghost use Rattle.std.specs.Result.{result_map_both};
 ghost use Rattle.std.specs.Str.{bytes_eq};
 ghost use Rattle.age_header.specs.Mac.{header_mac};
+ghost use Rattle.age_header.specs.declared.file_key.FileKey.{FileKey};
 ghost use Rattle.age_file.specs.AgeFile.{is_mixed, is_scrypt};
 ghost use Rattle.age_file.specs.Device.{IsNoDeviceFault};
-ghost use Rattle.age_file.specs.Verdict.{answers_by, found_key, header_key, unlock_fault};
+ghost use Rattle.age_file.specs.Verdict.{MayLackMemory, answers_by, found_key, header_key, unlock_fault};
 
 use crate::fault::Fault;
 use crate::fault_conversions::unlock_fault;
@@ -35,6 +36,11 @@ pub fn unlock_header(
     ensures no_device { IfErr result IsNoDeviceFault }
     // If a scrypt stanza is not alone, the fault is `MixedPassphrase`, and never `OutOfMemory`.
     ensures mixed { is_mixed header.now.stanzas ≡ true → result ≡ Err Fault.MixedPassphrase }
+    // Returns `OutOfMemory` only if an identity may run out, up to the one that decides, or if the
+    // identities choose a key.
+    ensures memory { result ≡ Err Fault.OutOfMemory → MayLackMemory
+        (answers_by identities.now (λ i s. meaning i s) header.now.stanzas)
+        (map (λ i. may_run_out i header.now.stanzas) identities.now) }
 {
     match found_key(alloc, identities, header) {
         Ok((key, true)) => Ok(key),
@@ -54,6 +60,9 @@ pub(crate) fn found_key(
         ⊎ (result ≡ found_key (answers_by identities.now (λ i s. meaning i s)) header.now) }
     ensures no_device { IfErr result IsNoDeviceFault }
     ensures mixed { is_mixed header.now.stanzas ≡ true → result ≡ Err Fault.MixedPassphrase }
+    ensures memory { result ≡ Err Fault.OutOfMemory → MayLackMemory
+        (answers_by identities.now (λ i s. meaning i s) header.now.stanzas)
+        (map (λ i. may_run_out i header.now.stanzas) identities.now) }
 {
     if is_mixed(header.stanzas()) {
         return Err(Fault::MixedPassphrase);
@@ -71,6 +80,8 @@ fn tested(
         (λ k. (k, bytes_eq header.now.mac (header_mac k.0 header.now.stanzas))) unlock_fault
         chosen) }
     ensures no_device { IfErr result IsNoDeviceFault }
+    ensures memory { result ≡ Err Fault.OutOfMemory
+        → (chosen ≡ Err UnlockFault.Memory) ⊎ ((k : FileKey) × (chosen ≡ Ok k)) }
 {
     let key = match chosen {
         Ok(key) => key,

@@ -1,5 +1,7 @@
 -- The first answer that decides, one answer after the other.
-use Rattle.age_recipient.proofs.Common.{◌≡◌, ℕ, ◌+◌, ◌<◌, List, ◌∷◌, map, drop, length, get_or, drop_more, decision_from, drop-map, Unwrapped}
+use Rattle.std.proofs.Common.{Result, Ok, Err}
+use Rattle.std.specs.Result.{IfErr}
+use Rattle.age_recipient.proofs.Common.{◌≡◌, Bool, true, false, ◌||◌, ◌&&◌, not, ℕ, ◌+◌, ◌<◌, List, ◌∷◌, map, drop, length, get_or, drop_more, decides, decision_from, drop-map, lacks_memory, or-true, Unwrapped}
 
 -- what is decided by what is left, at an element whose answer is known
 pub decided_step : {A : Type 0} (f : A → Unwrapped) (xs : List A) {i : ℕ} {x : A} (so_far : Unwrapped) {a : Unwrapped}
@@ -8,3 +10,28 @@ pub decided_step : {A : Type 0} (f : A → Unwrapped) (xs : List A) {i : ℕ} {x
     → decision_from so_far (drop i (map f xs)) ≡ decision_from so_far (a ∷ drop (i + 1) (map f xs))
 decided_step f xs {i} {x} so_far {a} low is answer =
     rw (drop-map f i xs, drop-map f (i + 1) xs, drop_more xs i x low, ← is, answer)
+
+-- whether memory may run out in what is left, at an element
+lacks_step : {A : Type 0} (f : A → Unwrapped) (may : A → Bool) (xs : List A) {i : ℕ} {x : A}
+    → i < length xs → x ≡ get_or xs i x
+    → lacks_memory (drop i (map f xs)) (drop i (map may xs))
+    ≡ (may x || (not (decides (f x)) && lacks_memory (drop (i + 1) (map f xs)) (drop (i + 1) (map may xs))))
+lacks_step f may xs {i} {x} low is =
+    rw (drop-map f i xs, drop-map may i xs, drop-map f (i + 1) xs, drop-map may (i + 1) xs, drop_more xs i x low, ← is)
+
+pub lacks_here : {A : Type 0} (f : A → Unwrapped) (may : A → Bool) (xs : List A) {i : ℕ} {x : A}
+    → i < length xs → x ≡ get_or xs i x → may x ≡ true
+    → lacks_memory (drop i (map f xs)) (drop i (map may xs)) ≡ true
+lacks_here f may xs low is here = rw (lacks_step f may xs low is, here)
+
+pub lacks_later : {A : Type 0} (f : A → Unwrapped) (may : A → Bool) (xs : List A) {i : ℕ} {x : A} {a : Unwrapped}
+    → i < length xs → x ≡ get_or xs i x → a ≡ f x → decides a ≡ false
+    → lacks_memory (drop (i + 1) (map f xs)) (drop (i + 1) (map may xs)) ≡ true
+    → lacks_memory (drop i (map f xs)) (drop i (map may xs)) ≡ true
+lacks_later f may xs {i} {x} low is answer goes_on later =
+    rw (lacks_step f may xs low is, ← answer, goes_on, later) (or-true (may x))
+
+-- what holds anyway holds of an error
+pub if_err_of : {A E P : Type 0} (result : Result A E) → P → IfErr result (λ _. P)
+if_err_of (Ok _) p = tt
+if_err_of (Err _) p = p

@@ -1,10 +1,11 @@
 -- The names that the proofs of this crate cite, passed on from one place.
 pub use Rattle.std.proofs.Common.{Bool, Bor, List, None, Option, Some, String, [], ap, arith, cond, drop, false, flat_map, get_or, inl, inr, length, length-append, map, nat_eq, nat_le, not, refl, sym, take, take-append-drop, true, true≢false, ℕ, ◌&&◌, ◌*◌, ◌++◌, ◌+◌, ◌-◌, ◌/◌, ◌<◌, ◌||◌, ◌∙◌, ◌∷◌, ◌≡◌, ◌≤◌}
+pub use Rattle.std.proofs.Math.Bool.{or-true}
 pub use Rattle.std.proofs.lemmas.Bool.{and_parts, cases_Bool, eqb-true, leb-true}
 pub use Rattle.std.proofs.lemmas.Cmp.{lists_equiv}
 pub use Rattle.std.proofs.lemmas.Fmt.{length-decimal-le}
 pub use Rattle.std.proofs.lemmas.List.{drop-map, drop_more, take_all}
-pub use Rattle.std.proofs.lemmas.List.Folds.{list_any_more}
+pub use Rattle.std.proofs.lemmas.List.Folds.{list_any_at, list_any_more}
 pub use Rattle.std.proofs.lemmas.Map.Text.{btree_set_updates_text, is_eq-slice_cmp}
 pub use Rattle.std.proofs.lemmas.Result.{IfOk-weaker}
 pub use Rattle.std.specs.BTreeMap.{is_at}
@@ -34,7 +35,8 @@ pub use Rattle.age_header.specs.Header.{Head, StanzaParts, argument_line, line}
 pub use Rattle.age_header.specs.Text.{stanza_text}
 pub use Rattle.age_header.specs.declared.file_key.FileKey.{FileKey}
 pub use Rattle.age_kdf.specs.Bytes.{Bytes}
-pub use Rattle.age_recipient.specs.Answer.{decision, decision_from}
+pub use Rattle.age_recipient.specs.Answer.{decides, decision, decision_from}
+pub use Rattle.age_recipient.specs.Choice.{lacks_memory}
 pub use Rattle.age_recipient.specs.Key.{file_key_size}
 pub use Rattle.age_recipient.specs.KeyedStanza.{keyed_type}
 unfoldable pub use Rattle.age_recipient.specs.KeyedStanza.{keyed_answer, keyed_stanza, keyed_wrap_key}

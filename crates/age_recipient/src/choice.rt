@@ -1,8 +1,8 @@
 //! The choice of a file key by several identities.
 
-ghost use Rattle.std.specs.Prelude.{◌≡◌, ◌⊎◌, map, Err, IfOk};
+ghost use Rattle.std.specs.Prelude.{◌≡◌, ◌⊎◌, map, true, Err, IfOk, IfErr};
 ghost use Rattle.age_recipient.specs.Answer.{decision};
-ghost use Rattle.age_recipient.specs.Choice.{choice};
+ghost use Rattle.age_recipient.specs.Choice.{choice, lacks_memory};
 
 use crate::identity::Identity;
 use crate::unwrapped::{StanzaFault, Unwrapped};
@@ -36,8 +36,12 @@ pub fn unlock(
     stanzas: &[Stanza],
 ) -> Result<FileKey, UnlockFault>
     // Returns the decision of the identities' answers, in order, or out of memory.
-    ensures { (result ≡ Err UnlockFault.Memory)
+    ensures choice { (result ≡ Err UnlockFault.Memory)
         ⊎ (result ≡ choice (map (λ b. meaning b stanzas.now) identities.now)) }
+    // Returns out of memory only if an identity may run out, up to the one that decides.
+    ensures memory { result ≡ Err UnlockFault.Memory → lacks_memory
+        (map (λ b. meaning b stanzas.now) identities.now)
+        (map (λ b. may_run_out b stanzas.now) identities.now) ≡ true }
 {
     match first_decided(alloc, identities, stanzas) {
         Ok(Unwrapped::NotMine) => Err(UnlockFault::NoMatch),
@@ -54,8 +58,11 @@ fn first_decided(
     identities: &[Box<dyn Identity>],
     stanzas: &[Stanza],
 ) -> Result<Unwrapped, AllocError>
-    ensures { IfOk result
+    ensures answer { IfOk result
         (λ answer. answer ≡ decision (map (λ b. meaning b stanzas.now) identities.now)) }
+    ensures memory { IfErr result (λ _. lacks_memory
+        (map (λ b. meaning b stanzas.now) identities.now)
+        (map (λ b. may_run_out b stanzas.now) identities.now) ≡ true) }
 {
     let mut so_far = Unwrapped::NotMine;
     for identity in identities {
@@ -74,7 +81,8 @@ fn ask(
     identity: &Box<dyn Identity>,
     stanzas: &[Stanza],
 ) -> Result<Unwrapped, AllocError>
-    ensures { IfOk result (λ answer. answer ≡ meaning identity.now stanzas.now) }
+    ensures answer { IfOk result (λ answer. answer ≡ meaning identity.now stanzas.now) }
+    ensures memory { IfErr result (λ _. may_run_out identity.now stanzas.now ≡ true) }
 {
     identity.unwrap(alloc, stanzas)
 }

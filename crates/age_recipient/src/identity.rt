@@ -6,12 +6,15 @@ use std::alloc::{AllocError, Global};
 
 /// A secret that unwraps the file key from a header's stanzas (C2SP `age.md`, "File key").
 pub trait Identity: Drop {
-    ghost use Rattle.std.specs.Prelude.{List, ◌≡◌, IfOk};
+    ghost use Rattle.std.specs.Prelude.{List, Bool, true, ◌≡◌, IfOk, IfErr};
     ghost use Rattle.age_header.specs.Header.{StanzaParts};
     ghost use Rattle.age_recipient.specs.declared.unwrapped.Unwrapped.{Unwrapped};
 
     // The identity's meaning: its result for each list of stanzas.
     ghost meaning: { Self → List StanzaParts → Unwrapped };
+
+    // Whether it may run out of memory for a list of stanzas. The default is that it may.
+    ghost may_run_out: { Self → List StanzaParts → Bool } = { λ _ _. true };
 
     /// Unwraps the file key from a header's stanzas. The result is the identity's meaning for them.
     ///
@@ -20,5 +23,7 @@ pub trait Identity: Drop {
     fn unwrap(&self, alloc: Global, stanzas: &[Stanza]) -> Result<Unwrapped, AllocError>
         // An identity returns its own meaning, if no allocation was refused. Each impl is proved to
         // do so.
-        ensures { IfOk result (λ answer. answer ≡ meaning self.now stanzas.now) };
+        ensures answer { IfOk result (λ answer. answer ≡ meaning self.now stanzas.now) }
+        // It returns out of memory only where it may.
+        ensures memory { IfErr result (λ _. may_run_out self.now stanzas.now ≡ true) };
 }

@@ -1,9 +1,10 @@
 //! The loop of an identity over a header's stanzas.
 
-ghost use Rattle.std.specs.Prelude.{◌≡◌, map, option_map, IfOk};
+ghost use Rattle.std.specs.Prelude.{◌≡◌, map, option_map, true, IfOk, IfErr};
+ghost use Rattle.std.specs.List.{list_any};
 ghost use Rattle.std.specs.String.{string_bytes};
 ghost use Rattle.age_header.specs.Base64.{decoded_bytes};
-ghost use Rattle.age_recipient.specs.Answer.{after_type, decision};
+ghost use Rattle.age_recipient.specs.Answer.{after_type, decision, is_of};
 ghost use Rattle.age_recipient.specs.Salt.{salt_of};
 
 use crate::unwrapped::Unwrapped;
@@ -13,15 +14,21 @@ use std::convert::TryFrom;
 
 /// An identity that examines one stanza at a time.
 pub(crate) trait Opener {
-    ghost use Rattle.std.specs.Prelude.{◌≡◌, IfOk};
+    ghost use Rattle.std.specs.Prelude.{◌≡◌, true, IfOk, IfErr};
+    ghost use Rattle.age_kdf.specs.Bytes.{Bytes};
     ghost use Rattle.age_header.specs.Header.{StanzaParts};
+    ghost use Rattle.age_recipient.specs.Answer.{is_of};
     ghost use Rattle.age_recipient.specs.declared.unwrapped.Unwrapped.{Unwrapped};
 
     // The answer of one stanza.
     ghost gives: { Self → StanzaParts → Unwrapped };
 
+    // The type of stanzas that it opens.
+    ghost kind: { Self → Bytes };
+
     fn open(&self, alloc: Global, stanza: &Stanza) -> Result<Unwrapped, AllocError>
-        ensures { IfOk result (λ answer. answer ≡ gives self.now stanza.now) };
+        ensures answer { IfOk result (λ answer. answer ≡ gives self.now stanza.now) }
+        ensures memory { IfErr result (λ _. is_of (kind self.now) stanza.now ≡ true) };
 }
 
 /// Returns the first of these stanzas' answers that decides. Later stanzas are not examined.
@@ -30,7 +37,10 @@ pub(crate) fn first_opened<O: Opener>(
     opener: &O,
     stanzas: &[Stanza],
 ) -> Result<Unwrapped, AllocError>
-    ensures { IfOk result (λ answer. answer ≡ decision (map (O.gives opener.now) stanzas.now)) }
+    ensures answer { IfOk result
+        (λ answer. answer ≡ decision (map (O.gives opener.now) stanzas.now)) }
+    ensures memory { IfErr result
+        (λ _. list_any (is_of (O.kind opener.now)) stanzas.now ≡ true) }
 {
     let mut so_far = Unwrapped::NotMine;
     for stanza in stanzas {

@@ -1,7 +1,7 @@
 //! The answer of an identity to the stanzas of a header.
 
-ghost use Rattle.std.specs.Prelude.{◌≡◌, List, ◌∷◌, IfOk, IfErr};
-ghost use Rattle.age_recipient.specs.Answer.{decision_from};
+ghost use Rattle.std.specs.Prelude.{◌≡◌, List, ◌∷◌, false, IfOk, IfErr};
+ghost use Rattle.age_recipient.specs.Answer.{decides, decision_from};
 
 use age_header::FileKey;
 use thiserror::Error;
@@ -51,6 +51,8 @@ impl Unwrapped {
         // answers.
         ensures continues { IfOk result (λ both.
             (more : List Unwrapped) → decision_from self (next ∷ more) ≡ decision_from both more) }
+        // Then the next answer does not decide.
+        ensures undecided { IfOk result (λ _. decides next ≡ false) }
         // If the next answer is a key or a malformed stanza, it decides, whatever follows.
         ensures decides { IfErr result (λ decision.
             (more : List Unwrapped) → decision_from self (next ∷ more) ≡ decision) }

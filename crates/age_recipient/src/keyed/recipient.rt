@@ -78,9 +78,15 @@ impl KeyIdentity {
 }
 
 impl Identity for KeyIdentity {
+    ghost use Rattle.std.specs.List.{list_any};
+    ghost use Rattle.age_recipient.specs.Answer.{is_of};
     ghost use Rattle.age_recipient.specs.KeyedHolders.{key_unwraps};
+    ghost use Rattle.age_recipient.specs.KeyedStanza.{keyed_type};
 
     ghost meaning = { λ key stanzas. key_unwraps key stanzas };
+
+    // Only where there is a stanza of its type.
+    ghost may_run_out = { λ _ stanzas. list_any (is_of keyed_type) stanzas };
 
     fn unwrap(&self, alloc: Global, stanzas: &[Stanza]) -> Result<Unwrapped, AllocError> {
         first_opened(alloc, self, stanzas)
@@ -88,9 +94,11 @@ impl Identity for KeyIdentity {
 }
 
 impl Opener for KeyIdentity {
-    ghost use Rattle.age_recipient.specs.KeyedStanza.{keyed_answer};
+    ghost use Rattle.age_recipient.specs.KeyedStanza.{keyed_answer, keyed_type};
 
     ghost gives = { λ key stanza. keyed_answer key stanza };
+
+    ghost kind = { λ _. keyed_type };
 
     fn open(&self, alloc: Global, stanza: &Stanza) -> Result<Unwrapped, AllocError> {
         keyed_answer(alloc, &self.key, stanza)

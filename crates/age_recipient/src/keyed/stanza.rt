@@ -1,8 +1,9 @@
 //! Keyed stanzas, this project's own type: they wrap a file key under a key of 32 bytes.
 
-ghost use Rattle.std.specs.Prelude.{◌≡◌, Some, map, IfOk};
+ghost use Rattle.std.specs.Prelude.{◌≡◌, Some, map, true, IfOk, IfErr};
 ghost use Rattle.std.specs.String.{string_bytes};
-ghost use Rattle.age_recipient.specs.KeyedStanza.{arguments_answer, keyed_answer, keyed_stanza, keyed_wrap_key, salted_answer};
+ghost use Rattle.age_recipient.specs.Answer.{is_of};
+ghost use Rattle.age_recipient.specs.KeyedStanza.{arguments_answer, keyed_answer, keyed_stanza, keyed_type, keyed_wrap_key, salted_answer};
 
 use crate::sealing::{SEALED_KEY_SIZE, seal_key, unseal_key};
 use crate::stanza_list::{after_type, salt_of};
@@ -47,7 +48,8 @@ pub(crate) fn keyed_answer(
     key: &[u8; 32],
     stanza: &Stanza,
 ) -> Result<Unwrapped, AllocError>
-    ensures { IfOk result (λ answer. answer ≡ keyed_answer key.now stanza.now) }
+    ensures answer { IfOk result (λ answer. answer ≡ keyed_answer key.now stanza.now) }
+    ensures memory { IfErr result (λ _. is_of keyed_type stanza.now ≡ true) }
 {
     match after_type(stanza, KEYED_TYPE) {
         None => Ok(Unwrapped::NotMine),

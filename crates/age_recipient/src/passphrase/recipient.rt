@@ -141,9 +141,15 @@ impl PassIdentity {
 }
 
 impl Identity for PassIdentity {
+    ghost use Rattle.std.specs.List.{list_any};
+    ghost use Rattle.age_recipient.specs.Answer.{is_of};
     ghost use Rattle.age_recipient.specs.PassphraseHolders.{pass_unwraps};
+    ghost use Rattle.age_recipient.specs.PassphraseStanza.{scrypt_type};
 
     ghost meaning = { λ i stanzas. pass_unwraps i stanzas };
+
+    // Only where there is a stanza of its type.
+    ghost may_run_out = { λ _ stanzas. list_any (is_of scrypt_type) stanzas };
 
     fn unwrap(&self, alloc: Global, stanzas: &[Stanza]) -> Result<Unwrapped, AllocError> {
         first_opened(alloc, self, stanzas)
@@ -151,9 +157,11 @@ impl Identity for PassIdentity {
 }
 
 impl Opener for PassIdentity {
-    ghost use Rattle.age_recipient.specs.PassphraseStanza.{pass_answer};
+    ghost use Rattle.age_recipient.specs.PassphraseStanza.{pass_answer, scrypt_type};
 
     ghost gives = { λ i stanza. pass_answer i.pass i.max stanza };
+
+    ghost kind = { λ _. scrypt_type };
 
     fn open(&self, alloc: Global, stanza: &Stanza) -> Result<Unwrapped, AllocError> {
         pass_answer(alloc, self.pass.as_slice(), self.max, stanza)

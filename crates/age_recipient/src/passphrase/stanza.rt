@@ -2,7 +2,8 @@
 
 ghost use Rattle.std.specs.Prelude.{◌≡◌, ◌≤◌, ◌++◌, Some, map, length, true, IfOk, IfErr};
 ghost use Rattle.std.specs.String.{string_bytes};
-ghost use Rattle.age_recipient.specs.PassphraseStanza.{arguments_answer, is_work_factor, number_from, pass_answer, pass_stanza, pass_wrap_key, salted_answer};
+ghost use Rattle.age_recipient.specs.Answer.{is_of};
+ghost use Rattle.age_recipient.specs.PassphraseStanza.{arguments_answer, is_work_factor, number_from, pass_answer, pass_stanza, pass_wrap_key, salted_answer, scrypt_type};
 ghost use Rattle.age_recipient.specs.PassphraseHolders.{most_work};
 ghost use Rattle.age_recipient.specs.Sealing.{sealed_key_size};
 
@@ -84,7 +85,8 @@ pub(crate) fn pass_answer(
     stanza: &Stanza,
 ) -> Result<Unwrapped, AllocError>
     requires { max ≤ most_work }
-    ensures { IfOk result (λ answer. answer ≡ pass_answer pass.now max stanza.now) }
+    ensures answer { IfOk result (λ answer. answer ≡ pass_answer pass.now max stanza.now) }
+    ensures memory { IfErr result (λ _. is_of scrypt_type stanza.now ≡ true) }
 {
     match after_type(stanza, SCRYPT_TYPE) {
         None => Ok(Unwrapped::NotMine),
