@@ -1,5 +1,5 @@
 -- Ranges of a file whose verdict has no fault.
-use Rattle.std.proofs.Common.{◌≡◌, ◌⊎◌, ℕ, length, take, drop, sym, ◌∙◌, ap, subst, inl, inr, Some, Result, Ok, Err}
+use Rattle.std.proofs.Common.{◌≡◌, ◌⊎◌, ◌+◌, ◌*◌, ◌<◌, ℕ, length, take, drop, sym, ◌∙◌, ap, subst, inl, inr, Some, Result, Ok, Err}
 use Rattle.std.specs.Result.{result_map_both}
 use Rattle.std.proofs.lemmas.List.{drop-drop}
 use Rattle.age_header.specs.Device.{Bytes}
@@ -7,10 +7,13 @@ use Rattle.age_header.specs.declared.fault.HeaderFault.{HeaderFault}
 use Rattle.age_header.specs.Verdict.{Found}
 use Rattle.age_header.proofs.VerdictUniqueLemmas as headers
 use Rattle.age_header.specs.declared.file_key.FileKey.{FileKey}
-use Rattle.age_stream.specs.Ranges.{HasPlain, RangeState}
+use Rattle.age_stream.specs.declared.layout.Layout.{Layout}
+use Rattle.age_stream.specs.Payload.{payload_key}
+use Rattle.age_stream.specs.Ranges.{HasPlain, RangeState, source_opening}
 use Rattle.age_stream.specs.Reading.{payload_reading, whole}
-use Rattle.age_stream.specs.Slice.{IsSlice, plain_len}
-use Rattle.age_stream.proofs.WholeSlices.{whole_len, whole_opens, whole_slice}
+use Rattle.age_stream.specs.Sizes.{chunk_size}
+use Rattle.age_stream.specs.Slice.{IsSlice, opening, plain_len}
+use Rattle.age_stream.proofs.WholeSlices.{whole_chunk, whole_len, whole_opens, whole_slice}
 use Rattle.age_file.specs.declared.fault.Fault.{Fault}
 use Rattle.age_file.specs.declared.fault.Fault.TheVariants.{OutOfMemory, Read}
 use Rattle.age_file.specs.AgeFile.{Bounds}
@@ -47,32 +50,53 @@ file_opens limits answers b p fault v (inr (inr m)) =
     (subst (λ (r : Result Found HeaderFault). IsRangeFault limits answers b r fault)
     (headers.one_verdict b limits.max_header m.0 v.header m.1 v.header_verdict) m.2))
 
--- its payload reads whole under the reader's key
-payload_whole : (limits : Bounds) (answers : Answering) (b p : Bytes) (chunks : RangeState) (given given2 : ℕ)
-    → IsVerdict limits answers b (whole p)
-    → (r : IsRangesOf limits answers b chunks given given2)
-    → payload_reading r.key limits.max_chunks (drop (length r.found.text) b) ≡ whole p
-payload_whole limits answers b p chunks given given2 v r =
-    with_file_fault_whole (v.is ∙ ap (reading_after limits answers b)
-    (headers.one_verdict b limits.max_header v.header (Ok r.found) v.header_verdict r.header)
-    ∙ ap (reading_under limits (drop (length r.found.text) b)) r.chosen)
+-- its payload reads whole under the reader's key, and its chunks are those of the layout
+record IsWholeUnder (max : ℕ) (b p : Bytes) (layout : Layout) : Type 0 where
+  key : FileKey
+  rest : Bytes
+  reads : payload_reading key max rest ≡ whole p
+  plain : layout.plain ≡ plain_len (drop 16 rest)
+  chunk_key : layout.key ≡ payload_key key (take 16 rest)
+  sealed : drop layout.first b ≡ drop 16 rest
+
+whole_under : (limits : Bounds) (answers : Answering) (b p : Bytes) (chunks : RangeState) (given given2 : ℕ)
+    → IsVerdict limits answers b (whole p) → IsRangesOf limits answers b chunks given given2
+    → IsWholeUnder limits.max_chunks b p chunks.layout
+whole_under limits answers b p chunks given given2 v r =
+    let n : ℕ = length r.found.text in
+    record {
+      key = r.key;
+      rest = drop n b;
+      reads = with_file_fault_whole (v.is ∙ ap (reading_after limits answers b)
+          (headers.one_verdict b limits.max_header v.header (Ok r.found) v.header_verdict r.header)
+          ∙ ap (reading_under limits (drop n b)) r.chosen);
+      plain = r.opened.plain ∙ ap plain_len (sym (drop-drop 16 n b));
+      chunk_key = r.opened.key;
+      sealed = ap (λ m. drop m b) r.opened.first ∙ sym (drop-drop 16 n b);
+    }
 
 pub file_has_len : (limits : Bounds) (answers : Answering) (b p : Bytes) (chunks : RangeState) (given given2 : ℕ)
     → IsVerdict limits answers b (whole p)
     → IsRangesOf limits answers b chunks given given2 → chunks.layout.plain ≡ length p
 file_has_len limits answers b p chunks given given2 v r =
-    r.opened.plain ∙ ap plain_len (sym (drop-drop 16 (length r.found.text) b))
-    ∙ whole_len r.key (drop (length r.found.text) b) p limits.max_chunks
-    (payload_whole limits answers b p chunks given given2 v r)
+    let w = whole_under limits answers b p chunks given given2 v r in
+    w.plain ∙ whole_len w.key w.rest p limits.max_chunks w.reads
 
 pub file_slice : (limits : Bounds) (answers : Answering) (b p xs : Bytes) (chunks : RangeState) (given given2 at : ℕ)
     → IsVerdict limits answers b (whole p)
     → IsRangesOf limits answers b chunks given given2 → HasPlain (Some b) chunks.layout at xs
     → xs ≡ take (length xs) (drop at p)
 file_slice limits answers b p xs chunks given given2 at v r s =
-    let n : ℕ = length r.found.text in
-    let rest : drop chunks.layout.first b ≡ drop 16 (drop n b) = ap (λ m. drop m b) r.opened.first
-    ∙ sym (drop-drop 16 n b) in
-    whole_slice r.key (drop n b) p xs limits.max_chunks at (payload_whole limits answers b p chunks given given2 v r)
-    (subst (λ k. IsSlice k (drop 16 (drop n b)) at xs) r.opened.key
-    (subst (λ t. IsSlice chunks.layout.key t at xs) rest s))
+    let w = whole_under limits answers b p chunks given given2 v r in
+    whole_slice w.key w.rest p xs limits.max_chunks at w.reads
+    (subst (λ k. IsSlice k (drop 16 w.rest) at xs) w.chunk_key
+    (subst (λ t. IsSlice chunks.layout.key t at xs) w.sealed s))
+
+pub file_chunk : (limits : Bounds) (answers : Answering) (b p : Bytes) (chunks : RangeState) (given given2 i : ℕ)
+    → IsVerdict limits answers b (whole p)
+    → IsRangesOf limits answers b chunks given given2 → chunk_size * i < length p
+    → source_opening (Some b) chunks.layout i ≡ Some (take chunk_size (drop (chunk_size * i) p))
+file_chunk limits answers b p chunks given given2 i v r less =
+    let w = whole_under limits answers b p chunks given given2 v r in
+    ap (λ t. opening chunks.layout.key t i) w.sealed ∙ ap (λ k. opening k (drop 16 w.rest) i) w.chunk_key
+    ∙ whole_chunk w.key w.rest p limits.max_chunks i w.reads less

@@ -1,14 +1,15 @@
 //! Laws: facts about the definitions alone, each the contract of a function that does nothing.
 
-ghost use Rattle.std.specs.Prelude.{◌≡◌, ◌↔◌, ◌⊎◌, ℕ, ◌+◌, List, [], ◌∷◌, ◌++◌, replicate, length, take, drop, Option, Some, None, Ok, Err, true};
+ghost use Rattle.std.specs.Prelude.{◌≡◌, ◌↔◌, ◌⊎◌, ◌<◌, ℕ, ◌+◌, ◌*◌, List, [], ◌∷◌, ◌++◌, replicate, length, take, drop, Option, Some, None, Ok, Err, true};
 ghost use Rattle.age_header.specs.Device.{Bytes, Moved, Took};
 ghost use Rattle.age_header.specs.Header.{StanzaParts};
 ghost use Rattle.age_header.specs.declared.file_key.FileKey.{FileKey};
 ghost use Rattle.age_recipient.specs.Choice.{choice};
 ghost use Rattle.age_recipient.specs.Key.{IsFileKey};
 ghost use Rattle.age_recipient.specs.Labels.{first_incompatible};
-ghost use Rattle.age_stream.specs.Ranges.{HasPlain, RangeState};
+ghost use Rattle.age_stream.specs.Ranges.{HasPlain, RangeState, source_opening};
 ghost use Rattle.age_stream.specs.Reading.{Reading, stop, whole};
+ghost use Rattle.age_stream.specs.Sizes.{chunk_size};
 ghost use Rattle.age_stream.specs.Salvage.{Reports, LossesMoved};
 ghost use Rattle.age_file.specs.declared.fault.Fault.{Fault};
 ghost use Rattle.age_file.specs.declared.fault.Fault.TheVariants.{BadMac, OutOfMemory, Read};
@@ -46,7 +47,8 @@ pub fn pair_opens<M: Matched>(pair: &M)
 
 /// Bytes whose verdict is this plaintext (by `ok_is_age_file`, an age file of it for the key that
 /// the identities choose) open for ranges: the only faults are a failed read and out of memory. The
-/// length for ranges is the plaintext's, and each slice is a part of the plaintext.
+/// length for ranges is the plaintext's, and each slice is a part of the plaintext. Each chunk
+/// opens to its part of the plaintext, so no chunk is bad.
 pub fn file_is_sliced()
     ensures opens { (limits : Bounds) (answers : Answering) (b plain : Bytes) (fault : Fault)
         → IsVerdict limits answers b (whole plain) → MissesRanges limits answers (Some b) fault
@@ -58,6 +60,11 @@ pub fn file_is_sliced()
         (chunks : RangeState) (before after at : ℕ) → IsVerdict limits answers b (whole plain)
         → IsRangesOf limits answers b chunks before after → HasPlain (Some b) chunks.layout at xs
         → xs ≡ take (length xs) (drop at plain) }
+    ensures chunk { (limits : Bounds) (answers : Answering) (b plain : Bytes) (chunks : RangeState)
+        (before after i : ℕ) → IsVerdict limits answers b (whole plain)
+        → IsRangesOf limits answers b chunks before after → chunk_size * i < length plain
+        → source_opening (Some b) chunks.layout i
+        ≡ Some (take chunk_size (drop (chunk_size * i) plain)) }
 {}
 
 /// Which of this crate's own recipients go together. For a single recipient, and for keyed ones,

@@ -1,3 +1,2 @@
 mod OwnHeaders
-mod PartLemmas
 mod TripLemmas

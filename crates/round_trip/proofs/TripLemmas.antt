@@ -16,7 +16,7 @@ use Rattle.age_file.specs.Verdict.{Answering, IsVerdict}
 use Rattle.age_file.specs.Words.{Bytes, Done, Known, Labels, Reading, StanzaParts, Unwrapped, whole}
 use Rattle.round_trip.specs.Losses.{IsLoss, IsMemoryFault, IsUnwritten, none}
 use Rattle.round_trip.specs.declared.pairs.Lost.{Lost}
-use Rattle.round_trip.specs.declared.pairs.Lost.TheVariants.{Unpaired, Memory, Encrypting, Decrypting}
+use Rattle.round_trip.specs.declared.pairs.Lost.TheVariants.{Encrypting}
 
 -- what one recipient gives is what all give
 pub gathered_one : (wrapped : Result (List StanzaParts) ℕ) (meant : List Labels) (stanzas : List StanzaParts)
@@ -101,23 +101,11 @@ unwritten_of_one limits fresh wraps labels {x} {plain} {fault} old new list coun
     list (of_known _ source plain come h))
 
 -- a loss, if no header is refused
-pub no_refusal : {refuses : Fault → Type 0} (limits : Bounds) (plain : Bytes) {fault : Fault}
-    → ((fault : Fault) → refuses fault → ⊥)
-    → IsUnwritten refuses limits plain fault → IsUnwritten none limits plain fault
-no_refusal limits plain {fault} never (inl memory) = inl memory
-no_refusal limits plain {fault} never (inr (inl long)) = inr (inl long)
-no_refusal limits plain {fault} never (inr (inr refused)) = absurd (never fault refused)
-
-no_loss : (refuses : Fault → Type 0) (limits : Bounds) (plain : Bytes) (lost : Lost)
-    → ((fault : Fault) → refuses fault → ⊥)
-    → IsLoss refuses limits plain lost → IsLoss none limits plain lost
-no_loss refuses limits plain (Unpaired error) never loss = tt
-no_loss refuses limits plain Memory never loss = tt
-no_loss refuses limits plain (Encrypting fault) never loss = no_refusal limits plain never loss
-no_loss refuses limits plain (Decrypting fault) never loss = loss
-
 pub without_refusal : {A : Type 0} {refuses : Fault → Type 0} (limits : Bounds) (plain : Bytes) (r : Result A Lost)
     → ((fault : Fault) → refuses fault → ⊥)
     → IfErr r (IsLoss refuses limits plain) → IfErr r (IsLoss none limits plain)
 without_refusal limits plain (Ok x) never h = tt
-without_refusal {refuses} limits plain (Err lost) never h = no_loss refuses limits plain lost never h
+without_refusal limits plain (Err (Encrypting fault)) never (inl memory) = inl memory
+without_refusal limits plain (Err (Encrypting fault)) never (inr (inl long)) = inr (inl long)
+without_refusal limits plain (Err (Encrypting fault)) never (inr (inr refused)) = absurd (never fault refused)
+without_refusal limits plain (Err lost) never h = h

@@ -1,2 +1,1 @@
 pub mod Losses
-pub mod Slices

@@ -1,13 +1,13 @@
 //! The identity of a pair decrypts what was encrypted for the pair's recipient to the same
-//! plaintext, or to its ranges.
+//! plaintext.
 //!
 //! ```
 //! let text = key_there_and_back(alloc, key, salt, plain, &fresh, &limits)?; // equals `plain`
 //! ```
 //!
-//! *What a contract sees.* Everything is in memory. A plaintext and a file are lists of bytes, a
-//! pair is the meanings of its recipient and its identity, and a range is an offset and a length. A
-//! loss is the reason why no plaintext came back.
+//! *What a contract sees.* Everything is in memory. A plaintext and a file are lists of bytes. A
+//! pair is the meanings of its recipient and its identity. A loss is the reason why no plaintext
+//! came back.
 //!
 //! Limits: one recipient, and everything in memory. The only errors of a passphrase's or a key's
 //! round trip are work factors out of range, too many chunks, and a refused allocation.
@@ -15,8 +15,6 @@
 
 mod file;
 mod pairs;
-mod slicing;
 
 pub use file::{decrypted, encrypted};
 pub use pairs::{Lost, key_there_and_back, pass_there_and_back, there_and_back};
-pub use slicing::{Range, sliced};
