@@ -11,7 +11,7 @@
 #include <sys/random.h>
 #include <sys/stat.h>
 #include <unistd.h>
-#define MOST_THREADS 64
+#define MAX_THREADS 64
 
 /* The chunks of one thread: a part of the payload, or the payload itself with the rest. `from` and
  * `to` are the offsets of its next chunk in both files, `left` is the number of bytes that IN has
@@ -128,14 +128,14 @@ static bool open_out(const char *name, const struct stat *source, int key)
 
 int main(int argc, char **argv)
 {
-    static struct work works[MOST_THREADS];
+    static struct work works[MAX_THREADS];
     uint8_t key[33];
     struct stat source;
     struct work rest = {.is_sealing = argc == 6 && strcmp(argv[1], "-e") == 0};
     char **words = argv + 1 + rest.is_sealing;
     FILE *file = argc == 5 + rest.is_sealing ? fopen(words[0], "rb") : NULL;
     int count = file == NULL ? 0 : atoi(words[1]);
-    if (count < 1 || count > MOST_THREADS || fread(key, 1, sizeof key, file) != 32)
+    if (count < 1 || count > MAX_THREADS || fread(key, 1, sizeof key, file) != 32)
         return fputs("usage: parallel [-e] KEY_FILE N IN OUT\n", stderr), 2;
     if ((in = open(words[2], O_RDONLY)) < 0 || fstat(in, &source) != 0 || !S_ISREG(source.st_mode))
         return fail("IN cannot be read at offsets"), 1;

@@ -13,7 +13,7 @@ use crate::Error;
 const STANZA_ROOM: usize = 128;
 
 /// The maximum size of a passphrase file in bytes.
-const MOST_BYTES: u64 = 65_536;
+const MAX_BYTES: u64 = 65_536;
 
 /// The 16 bytes from which a file's keys are derived. [`Recipient`] and [`Identity`] have examples.
 #[derive(Clone, Copy, PartialEq, Eq)]
@@ -139,8 +139,8 @@ impl Passphrase {
     /// That of the system, or `InvalidInput` if the file has more bytes.
     pub fn from_file(path: impl AsRef<Path>) -> io::Result<Passphrase> {
         let mut text = Vec::new();
-        File::open(path)?.take(MOST_BYTES + 1).read_to_end(&mut text)?;
-        if text.len() as u64 > MOST_BYTES {
+        File::open(path)?.take(MAX_BYTES + 1).read_to_end(&mut text)?;
+        if text.len() as u64 > MAX_BYTES {
             return Err(io::Error::new(io::ErrorKind::InvalidInput, "passphrase file is too long"));
         }
         if text.last() == Some(&b'\n') {

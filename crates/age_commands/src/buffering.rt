@@ -5,7 +5,7 @@ ghost use Rattle.age_commands.specs.Secret.{limits_of};
 ghost use Rattle.age_commands.specs.Skipping.{come_by};
 
 use crate::skipping::{Begun, SkippingSource};
-use age_file::{BUFFER_SIZE, Fault, FileAt, Limits, MOST_CHUNKS, ReadAt, ReadSource, Source};
+use age_file::{BUFFER_SIZE, Fault, FileAt, Limits, MAX_CHUNKS, ReadAt, ReadSource, Source};
 use age_job::Job;
 use std::alloc::Global;
 use std::io::{BufReader, Read, Seek};
@@ -20,7 +20,7 @@ pub fn limits_of(job: &Job) -> Limits
     // The limits are that of `-H` and 2^88 chunks.
     ensures { result ≡ limits_of job.now }
 {
-    let Some(limits) = Limits::new(job.max_header, MOST_CHUNKS) else {
+    let Some(limits) = Limits::new(job.max_header, MAX_CHUNKS) else {
         unreachable!();
     };
     limits

@@ -4,7 +4,7 @@
 ghost use Rattle.std.specs.Prelude.{◌≡◌, ◌<◌, ◌≤◌, ◌+◌, ◌*◌, ◌^◌, Some, IfSome, IfNone};
 ghost use Rattle.age_stream.specs.Sizes.{chunk_size, most_chunks, nonce_size, sealed_chunk_size};
 ghost use Rattle.age_job.specs.Job.{IsInRange};
-ghost use Rattle.age_job.specs.declared.ranges.TheConstants.{MOST_WORK};
+ghost use Rattle.age_job.specs.declared.ranges.TheConstants.{MAX_WORK_FACTOR};
 ghost use Rattle.age_commands.specs.Hint.{unit_size};
 
 use crate::buffering::limits_of;
@@ -12,14 +12,14 @@ use age_file::{
     CHUNK_SIZE, Fault, Header, MemSource, NONCE_SIZE, SEALED_CHUNK_SIZE, Stanza, StanzaFault,
     TAG_SIZE, inspect,
 };
-use age_job::{Bytes, Command, Job, MOST_HEADER, MOST_WORK, Watched};
+use age_job::{Bytes, Command, Job, MAX_HEADER_SIZE, MAX_WORK_FACTOR, Watched};
 use age_recipient::{KEYED_TYPE, SCRYPT_TYPE};
 use std::alloc::Global;
 use std::fmt;
 use std::fmt::Write;
 
 /// The most types of stanzas that a message names.
-const MOST_TYPES: usize = 5;
+const MAX_TYPES: usize = 5;
 
 /// What is known about a file beside its fault.
 #[derive(Drop)]
@@ -201,7 +201,7 @@ impl fmt::Display for Hint {
             }
             Hint::HeaderLimit(limit) => write!(
                 f,
-                "the header is longer than {limit} bytes; -H accepts up to {MOST_HEADER}"
+                "the header is longer than {limit} bytes; -H accepts up to {MAX_HEADER_SIZE}"
             ),
             Hint::Stanzas(header) => write_stanzas(header.stanzas(), f),
             Hint::WorkFactor(header) => write_work(header.stanzas(), f),
@@ -279,7 +279,7 @@ fn type_of(stanza: &Stanza) -> &str {
 fn write_stanzas<W: fmt::Write>(stanzas: &[Stanza], f: &mut fmt::Formatter<W>) -> fmt::Result {
     f.write_str("its stanzas are of type ")?;
     // No type is empty, so an empty name is free.
-    let mut named = [""; MOST_TYPES];
+    let mut named = [""; MAX_TYPES];
     let mut count = 0usize;
     for stanza in stanzas {
         let name = type_of(stanza);
@@ -329,7 +329,7 @@ fn write_work<W: fmt::Write>(stanzas: &[Stanza], f: &mut fmt::Formatter<W>) -> f
         return f.write_str("its work factor is too high");
     };
     match digits.parse::<u64>() {
-        Ok(work) if work <= MOST_WORK => {
+        Ok(work) if work <= MAX_WORK_FACTOR => {
             let table = Table(work);
             write!(
                 f,
@@ -339,14 +339,14 @@ fn write_work<W: fmt::Write>(stanzas: &[Stanza], f: &mut fmt::Formatter<W>) -> f
         Ok(work) => {
             write!(
                 f,
-                "its work factor is {work}; agep accepts at most {MOST_WORK}"
+                "its work factor is {work}; agep accepts at most {MAX_WORK_FACTOR}"
             )
         }
         Err(_) => {
             let len = digits.len();
             write!(
                 f,
-                "its work factor has {len} digits; agep accepts at most {MOST_WORK}"
+                "its work factor has {len} digits; agep accepts at most {MAX_WORK_FACTOR}"
             )
         }
     }
@@ -383,7 +383,7 @@ impl fmt::Display for Table {
 
 /// The memory that scrypt needs for this work factor, 2^work KiB.
 fn memory_of(work: u64) -> (u64, Unit)
-    ensures { work ≤ MOST_WORK → result.0 * unit_size result.1 ≡ 2 ^ (work + 10) }
+    ensures { work ≤ MAX_WORK_FACTOR → result.0 * unit_size result.1 ≡ 2 ^ (work + 10) }
 {
     match work {
         0..10 => (1 << work, Unit::KiB),

@@ -5,7 +5,7 @@ ghost use Rattle.age_stream.specs.Ranges.{IsSound, KeepsVerified, chunks_of, ran
 ghost use Rattle.age_stream.specs.Sizes.{chunk_size};
 ghost use Rattle.age_file.specs.Device.{IsQuiet, is_read, is_write};
 ghost use Rattle.age_job.specs.Job.{IsInRange};
-ghost use Rattle.age_job.specs.declared.ranges.TheConstants.{MOST_OFFSET};
+ghost use Rattle.age_job.specs.declared.ranges.TheConstants.{MAX_OFFSET};
 ghost use Rattle.age_commands.specs.Range.{Ranging, RangingAny, WritesNext, WritesNextAny, WritesAny, WritesRange};
 ghost use Rattle.age_commands.specs.Secret.{answers_of, limits_of};
 ghost use Rattle.age_header.specs.Device.{CountsIf, move_by};
@@ -73,8 +73,8 @@ fn write_range<D: ReadAt, W: Sink>(
     piece: &mut [u8],
     out: &mut W,
 ) -> Result<(), Fault>
-    requires at { at ≤ MOST_OFFSET }
-    requires len { len ≤ MOST_OFFSET }
+    requires at { at ≤ MAX_OFFSET }
+    requires len { len ≤ MAX_OFFSET }
     requires piece { length piece.old ≡ CHUNK_SIZE }
     ensures same_reference { (source_at_of reader.new).ghost_name
         ≡ (source_at_of reader.old).ghost_name }

@@ -76,7 +76,7 @@ pub use encrypting::{encrypt, write_front};
 pub use encryptor::Encryptor;
 pub use fault::Fault;
 pub use inspecting::inspect;
-pub use limits::{Fresh, Limits, MOST_CHUNKS};
+pub use limits::{Fresh, Limits, MAX_CHUNKS};
 pub use new_header::{header_for, header_text};
 pub use ranges::{open_ranges, opened_ranges};
 pub use rewrapping::rewrap;

@@ -8,17 +8,17 @@ use age_recipient::FileKey;
 use std::marker::Model;
 
 /// The smallest limit on the size of a header, 1 KiB.
-const LEAST_MAX_HEADER: usize = 1_024;
+const MIN_HEADER_LIMIT: usize = 1_024;
 
 /// The largest limit on the size of a header, 16 MiB.
-const MOST_MAX_HEADER: usize = 16_777_216;
+const MAX_HEADER_LIMIT: usize = 16_777_216;
 
 /// The default limit on the size of a header, 64 KiB.
 const DEFAULT_MAX_HEADER: usize = 65_536;
 
 /// The maximum number of chunks of a payload, because a chunk's number has eleven bytes in its
 /// nonce.
-pub const MOST_CHUNKS: u128 = 1 << 88;
+pub const MAX_CHUNKS: u128 = 1 << 88;
 
 /// The maximum size of a header in bytes, and of a payload in chunks.
 #[derive(Clone, Copy, Debug, PartialEq, Eq)]
@@ -54,10 +54,10 @@ impl Limits {
         ensures none { IfNone result
             (IsBounds (record { max_header = max_header; max_chunks = max_chunks }) → ⊥) }
     {
-        if max_header < LEAST_MAX_HEADER
-            || max_header > MOST_MAX_HEADER
+        if max_header < MIN_HEADER_LIMIT
+            || max_header > MAX_HEADER_LIMIT
             || max_chunks < 1
-            || max_chunks > MOST_CHUNKS
+            || max_chunks > MAX_CHUNKS
         {
             return None;
         }
@@ -94,7 +94,7 @@ impl Default for Limits {
     fn default() -> Limits {
         Limits {
             max_header: DEFAULT_MAX_HEADER,
-            max_chunks: MOST_CHUNKS,
+            max_chunks: MAX_CHUNKS,
         }
     }
 }

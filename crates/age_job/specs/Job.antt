@@ -4,7 +4,7 @@ use Rattle.std.specs.declared.option.Option.{Option}
 use Rattle.age_job.specs.declared.job.Command.{Command}
 use Rattle.age_job.specs.declared.job.Command.TheVariants.{Range}
 use Rattle.age_job.specs.declared.job.Job.{Job}
-use Rattle.age_job.specs.declared.ranges.TheConstants.{LEAST_HEADER, LEAST_WORK, MOST_HEADER, MOST_OFFSET, MOST_WORK}
+use Rattle.age_job.specs.declared.ranges.TheConstants.{MIN_HEADER_SIZE, MIN_WORK_FACTOR, MAX_HEADER_SIZE, MAX_OFFSET, MAX_WORK_FACTOR}
 
 -- n is at least `least` and at most `most`
 abbrev pub IsBetween : (least most n : ℕ) → Type 0
@@ -17,9 +17,9 @@ NamesInput _ input = ⊤
 
 -- each number is in its range
 pub record IsInRange (job : Job) : Type 0 where
-  pub work : IsBetween LEAST_WORK MOST_WORK job.work
-  pub max_work : IsBetween LEAST_WORK MOST_WORK job.max_work
-  pub max_header : IsBetween LEAST_HEADER MOST_HEADER job.max_header
-  pub at : job.at ≤ MOST_OFFSET
-  pub len : job.len ≤ MOST_OFFSET
+  pub work : IsBetween MIN_WORK_FACTOR MAX_WORK_FACTOR job.work
+  pub max_work : IsBetween MIN_WORK_FACTOR MAX_WORK_FACTOR job.max_work
+  pub max_header : IsBetween MIN_HEADER_SIZE MAX_HEADER_SIZE job.max_header
+  pub at : job.at ≤ MAX_OFFSET
+  pub len : job.len ≤ MAX_OFFSET
   pub input : NamesInput job.command job.input

@@ -2,7 +2,7 @@
 
 use crate::fault::Fault;
 use crate::file_names::{Bytes, Name, Quoted, Role};
-use crate::files::{MOST_SMALL, NamedFile, ReadFile};
+use crate::files::{MAX_SMALL, NamedFile, ReadFile};
 use crate::secret::Ends;
 use std::alloc::{AllocError, AllocFailed};
 use std::fmt::Write;
@@ -142,8 +142,8 @@ fn write_size<W: fmt::Write>(
 ) -> fmt::Result {
     let (words, name) = (role.words(), Quoted(name));
     write!(f, "{words} {name}: ")?;
-    if len > MOST_SMALL {
-        write!(f, "more than {MOST_SMALL} bytes")?;
+    if len > MAX_SMALL {
+        write!(f, "more than {MAX_SMALL} bytes")?;
     } else {
         let len = Bytes(len as u128);
         write!(f, "{len}")?;

@@ -14,7 +14,7 @@ use std::rt::Files;
 use std::{fs, io};
 
 /// The maximum size of a small file in bytes.
-pub(crate) const MOST_SMALL: usize = 65_536;
+pub(crate) const MAX_SMALL: usize = 65_536;
 
 /// A file named in the arguments, with its role in the job.
 #[derive(Clone, Copy, Drop)]

@@ -45,7 +45,9 @@ pub use files::ReadFiles;
 pub use job::{Command, Job};
 pub use output::{Output, refuse_output};
 pub use progress::{ERASE, Shown, shows_progress};
-pub use ranges::{DEFAULT_SEED, LEAST_HEADER, LEAST_WORK, MOST_HEADER, MOST_OFFSET, MOST_WORK};
+pub use ranges::{
+    DEFAULT_SEED, MAX_HEADER_SIZE, MAX_OFFSET, MAX_WORK_FACTOR, MIN_HEADER_SIZE, MIN_WORK_FACTOR,
+};
 pub use secret::{SEED_LEN, Secret, exactly};
 pub use small_files::{read_encrypt_secrets, read_file_key, read_rewrap_secrets, read_secret};
 pub use target::Target;

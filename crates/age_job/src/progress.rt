@@ -25,7 +25,7 @@ const CUT: &str = "\x1b[?7l";
 const WRAP: &str = "\x1b[?7h";
 
 /// The maximum number of bytes of a drawing. The longest has fewer.
-const MOST_DRAWN: usize = 256;
+const MAX_DRAWN: usize = 256;
 
 /// Whether to show how much was read: with `--verbose`, if standard error is a terminal that can
 /// erase a line and the output does not go to a terminal.
@@ -145,10 +145,10 @@ impl<C: Clock, T: Write + Drop> Line<'_, C, T> {
     /// the terminal cutting lines. Ignores a failed write.
     fn draw(&mut self) {
         let portion = self.portion;
-        let mut drawn = [0u8; MOST_DRAWN];
+        let mut drawn = [0u8; MAX_DRAWN];
         let mut room = &mut drawn[..];
         if write!(room, "{ERASE}{CUT}{portion}{WRAP}").is_ok() {
-            let len = MOST_DRAWN.saturating_sub(room.len());
+            let len = MAX_DRAWN.saturating_sub(room.len());
             let _ = self.terminal.write_all(&drawn[..len]);
         }
     }

@@ -7,7 +7,7 @@ ghost use Rattle.age_job.specs.Secret.{IsChoice, IsFileKeyOf, IsNewSecret, IsRea
 use crate::failure::{Detail, Failure};
 use crate::fault::Fault;
 use crate::file_names::{Name, Role};
-use crate::files::{Held, MOST_SMALL, NamedFile, ReadFiles, read_prefix, unidentified};
+use crate::files::{Held, MAX_SMALL, NamedFile, ReadFiles, read_prefix, unidentified};
 use crate::inode::{Inode, Kind};
 use crate::job::Job;
 use crate::output::refuse_terminal;
@@ -216,9 +216,9 @@ fn read_passphrase<'a, F: Files + AllocGlobal>(
 ) -> Result<Vec<u8>, Failure<'a>> {
     let NamedFile { role, name } = named;
     let file = read.open_small(rt, named)?;
-    let bytes = read_prefix(rt.alloc(), named, file, MOST_SMALL + 1)?;
+    let bytes = read_prefix(rt.alloc(), named, file, MAX_SMALL + 1)?;
     let len = bytes.len();
-    if len > MOST_SMALL {
+    if len > MAX_SMALL {
         return Err(Failure::with(Fault::PassphraseLength, Detail::Size(role, Name(name), len)));
     }
     let passphrase = without_line_end(bytes);
@@ -296,7 +296,7 @@ fn read_just<'a, F: Files + AllocGlobal, const N: usize>(
 ) -> Result<[u8; N], Failure<'a>> {
     let NamedFile { role, name } = named;
     let file = read.open_small(rt, named)?;
-    let bytes = read_prefix(rt.alloc(), named, file, MOST_SMALL + 1)?;
+    let bytes = read_prefix(rt.alloc(), named, file, MAX_SMALL + 1)?;
     let len = bytes.len();
     read.note(Held {
         len: len as u64,

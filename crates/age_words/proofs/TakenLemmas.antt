@@ -31,16 +31,16 @@ use Rattle.age_job.specs.Job.{NamesInput}
 use Rattle.age_words.specs.JobOf.{HasNumber, IsTaken, name_of}
 use Rattle.age_job.specs.declared.job.Command.{Command}
 use Rattle.age_job.specs.declared.job.Command.TheVariants.{Encrypt, Decrypt, Inspect, Range, Rewrap, Salvage}
-use Rattle.age_job.specs.declared.ranges.TheConstants.{LEAST_HEADER, LEAST_WORK, MOST_HEADER, MOST_OFFSET, MOST_WORK}
+use Rattle.age_job.specs.declared.ranges.TheConstants.{MIN_HEADER_SIZE, MIN_WORK_FACTOR, MAX_HEADER_SIZE, MAX_OFFSET, MAX_WORK_FACTOR}
 use Rattle.age_words.proofs.Booleans.{both, neither, not_false, not_true, same_number}
 use Rattle.age_words.proofs.LevelLemmas.{DefaultsWell, Each, UsesWell, both_none, level_ok, test_fails}
 
 -- what the values of an option have to pass
 abbrev parser_for : Text → ValueParser
 parser_for id =
-    if bytes_eq id (codes "work") || bytes_eq id (codes "max-work") then vp.Unsigned LEAST_WORK MOST_WORK
-    else if bytes_eq id (codes "max-header") then vp.Unsigned LEAST_HEADER MOST_HEADER
-    else if bytes_eq id (codes "at") || bytes_eq id (codes "len") then vp.Unsigned 0 MOST_OFFSET
+    if bytes_eq id (codes "work") || bytes_eq id (codes "max-work") then vp.Unsigned MIN_WORK_FACTOR MAX_WORK_FACTOR
+    else if bytes_eq id (codes "max-header") then vp.Unsigned MIN_HEADER_SIZE MAX_HEADER_SIZE
+    else if bytes_eq id (codes "at") || bytes_eq id (codes "len") then vp.Unsigned 0 MAX_OFFSET
     else vp.String
 
 abbrev Passes : Text → Text → Type 0

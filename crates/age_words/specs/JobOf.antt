@@ -18,7 +18,7 @@ use Rattle.age_job.specs.declared.job.Job.{Job}
 use Rattle.age_words.specs.declared.fault.WordsFault.{WordsFault}
 use Rattle.age_words.specs.declared.fault.WordsFault.TheVariants.{Memory, Refused}
 use Rattle.age_words.specs.declared.options.TheConstants.{DEFAULT_MAX_HEADER, DEFAULT_MAX_WORK, DEFAULT_WORK}
-use Rattle.age_job.specs.declared.ranges.TheConstants.{DEFAULT_SEED, LEAST_HEADER, LEAST_WORK, MOST_HEADER, MOST_OFFSET, MOST_WORK}
+use Rattle.age_job.specs.declared.ranges.TheConstants.{DEFAULT_SEED, MIN_HEADER_SIZE, MIN_WORK_FACTOR, MAX_HEADER_SIZE, MAX_OFFSET, MAX_WORK_FACTOR}
 
 abbrev pub name_of : (command : Command) → Text
 name_of Encrypt = codes "encrypt"
@@ -133,9 +133,9 @@ HasNumber least most id rows = IfSome (one_of id rows) (IsUnsignedIn least most)
 -- what `clap` guarantees about the values of a command: each number is in its range, and `range`
 -- has a file to read
 pub record IsTaken (command : Command) (rows : List Row) : Type 0 where
-  pub work : HasNumber LEAST_WORK MOST_WORK (codes "work") rows
-  pub max_work : HasNumber LEAST_WORK MOST_WORK (codes "max-work") rows
-  pub max_header : HasNumber LEAST_HEADER MOST_HEADER (codes "max-header") rows
-  pub at : HasNumber 0 MOST_OFFSET (codes "at") rows
-  pub len : HasNumber 0 MOST_OFFSET (codes "len") rows
+  pub work : HasNumber MIN_WORK_FACTOR MAX_WORK_FACTOR (codes "work") rows
+  pub max_work : HasNumber MIN_WORK_FACTOR MAX_WORK_FACTOR (codes "max-work") rows
+  pub max_header : HasNumber MIN_HEADER_SIZE MAX_HEADER_SIZE (codes "max-header") rows
+  pub at : HasNumber 0 MAX_OFFSET (codes "at") rows
+  pub len : HasNumber 0 MAX_OFFSET (codes "len") rows
   pub input : NamesInput command (first_of (codes "input") rows)

@@ -11,7 +11,9 @@ use crate::texts::{
     NO_CLOBBER_HELP, PASS_HELP, PLAIN_OUTPUT_HELP, RANGE_END, REWRAP_END, SALT_HELP, SALVAGE_END,
     SEED_HELP, SEEKABLE_INPUT_HELP, VERBOSE_HELP, WHOLE_END, WORK_HELP,
 };
-use age_job::{DEFAULT_SEED, LEAST_HEADER, LEAST_WORK, MOST_HEADER, MOST_OFFSET, MOST_WORK};
+use age_job::{
+    DEFAULT_SEED, MAX_HEADER_SIZE, MAX_OFFSET, MAX_WORK_FACTOR, MIN_HEADER_SIZE, MIN_WORK_FACTOR,
+};
 use clap::{Arg, ArgAction, Command, value_parser};
 use std::alloc::{AllocError, Global};
 
@@ -275,7 +277,7 @@ fn work_option<'a>(alloc: Global) -> Arg<'a>
     ensures { IsArg line.work result }
 {
     text_option(alloc, WORK, 'w', "N", WORK_HELP)
-        .value_parser(value_parser!(u64).range(LEAST_WORK as i64..=MOST_WORK as i64))
+        .value_parser(value_parser!(u64).range(MIN_WORK_FACTOR as i64..=MAX_WORK_FACTOR as i64))
         .default_value(DEFAULT_WORK_TEXT)
 }
 
@@ -289,7 +291,7 @@ fn max_work_option<'a>(alloc: Global) -> Arg<'a>
     ensures { IsArg line.max_work result }
 {
     text_option(alloc, MAX_WORK, 'm', "N", MAX_WORK_HELP)
-        .value_parser(value_parser!(u64).range(LEAST_WORK as i64..=MOST_WORK as i64))
+        .value_parser(value_parser!(u64).range(MIN_WORK_FACTOR as i64..=MAX_WORK_FACTOR as i64))
         .default_value(DEFAULT_MAX_WORK_TEXT)
 }
 
@@ -297,7 +299,7 @@ fn max_header_option<'a>(alloc: Global) -> Arg<'a>
     ensures { IsArg line.max_header result }
 {
     text_option(alloc, MAX_HEADER, 'H', "N", MAX_HEADER_HELP)
-        .value_parser(value_parser!(u64).range(LEAST_HEADER as i64..=MOST_HEADER as i64))
+        .value_parser(value_parser!(u64).range(MIN_HEADER_SIZE as i64..=MAX_HEADER_SIZE as i64))
         .default_value(DEFAULT_MAX_HEADER_TEXT)
 }
 
@@ -338,7 +340,7 @@ fn offset_word<'a>(alloc: Global, id: &'a str, value_name: &'a str, help: &'a st
     ensures { IsArg (line.offset id.entry.now) result }
 {
     required_word(alloc, id, value_name, help).value_parser(value_parser!(u64).range(
-        0..=MOST_OFFSET as i64,
+        0..=MAX_OFFSET as i64,
     ))
 }
 

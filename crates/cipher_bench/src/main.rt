@@ -11,9 +11,9 @@ use age_cipher::{Poly1305, chacha20_xor, open_in_place, seal_in_place};
 use std::alloc::{AllocError, Global};
 use std::{env, io};
 
-const LEAST_SIZE: usize = 8;
+const MIN_SIZE: usize = 8;
 
-const MOST_SIZE: usize = 65_536;
+const MAX_SIZE: usize = 65_536;
 
 const MIB: u64 = 1_048_576;
 
@@ -63,8 +63,8 @@ fn one_text(
     sealed: &[u8],
     tag: &[u8; 16],
 ) -> u64
-    requires least { LEAST_SIZE ≤ length text.old }
-    requires most { length text.old ≤ MOST_SIZE }
+    requires least { MIN_SIZE ≤ length text.old }
+    requires most { length text.old ≤ MAX_SIZE }
     requires same_size { length sealed.now ≡ length text.old }
 {
     match part {
@@ -93,8 +93,8 @@ fn one_text(
 
 // A checksum over all texts.
 fn checksum(part: Part, byte: u8, texts: u64, text: &mut [u8], sealed: &mut [u8]) -> u64
-    requires least { LEAST_SIZE ≤ length text.old }
-    requires most { length text.old ≤ MOST_SIZE }
+    requires least { MIN_SIZE ≤ length text.old }
+    requires most { length text.old ≤ MAX_SIZE }
     requires same_size { length sealed.old ≡ length text.old }
 {
     let key = [byte; 32];
@@ -122,7 +122,7 @@ fn main(rt: HostRuntime) -> io::Result<()> {
         return Err(io::Error::from(io::ErrorKind::InvalidInput));
     };
     let size = size as usize;
-    if size < LEAST_SIZE || size > MOST_SIZE {
+    if size < MIN_SIZE || size > MAX_SIZE {
         return Err(io::Error::from(io::ErrorKind::InvalidInput));
     }
     let mut text = filled(rt.alloc(), byte, size)?;

@@ -5,7 +5,7 @@ ghost use Rattle.age_recipient.specs.PassphraseHolders.{IsPassError, PairFits};
 ghost use Rattle.age_recipient.specs.Salt.{IsSalt};
 
 use super::recipient::{PassError, PassIdentity, PassRecipient};
-use super::work::MOST_WORK;
+use super::work::MAX_WORK_FACTOR;
 use crate::identity::Identity;
 use crate::matched::Matched;
 use crate::recipient::Recipient;
@@ -45,7 +45,7 @@ impl PassPair {
         // Returns `WorkFactor` exactly if a work factor is not 1 to 30, or `work` is above `max`.
         ensures err { IfErr result (IsPassError (PairFits work max)) }
     {
-        if work < 1 || max > MOST_WORK || work > max {
+        if work < 1 || max > MAX_WORK_FACTOR || work > max {
             return Err(PassError::WorkFactor);
         }
         let recipient = PassRecipient::new(alloc, pass, salt, work)?;

@@ -4,7 +4,7 @@ ghost use Rattle.std.specs.Prelude.{◌≡◌, Ok, IfOk, IfErr};
 ghost use Rattle.age_recipient.specs.PassphraseHolders.{IsPassError, WorkFits};
 
 use super::stanza::{pass_answer, pass_stanza};
-use super::work::MOST_WORK;
+use super::work::MAX_WORK_FACTOR;
 use crate::identity::Identity;
 use crate::labels::Labels;
 use crate::recipient::{Recipient, WrapFault};
@@ -64,7 +64,7 @@ impl PassRecipient {
         // Returns `WorkFactor` exactly if the work factor is not 1 to 30.
         ensures err { IfErr result (IsPassError (WorkFits work)) }
     {
-        if work < 1 || work > MOST_WORK {
+        if work < 1 || work > MAX_WORK_FACTOR {
             return Err(PassError::WorkFactor);
         }
         match Vec::from_slice(alloc, pass) {
@@ -130,7 +130,7 @@ impl PassIdentity {
         // Returns `WorkFactor` exactly if the maximum is not 1 to 30.
         ensures err { IfErr result (IsPassError (WorkFits max)) }
     {
-        if max < 1 || max > MOST_WORK {
+        if max < 1 || max > MAX_WORK_FACTOR {
             return Err(PassError::WorkFactor);
         }
         match Vec::from_slice(alloc, pass) {

@@ -6,7 +6,7 @@ ghost use Rattle.age_recipient.specs.PassphraseStanza.{is_digit, is_work_factor,
 ghost use Rattle.age_recipient.specs.PassphraseHolders.{most_work};
 
 /// The maximum work factor.
-pub(super) const MOST_WORK: u8 = 30;
+pub(super) const MAX_WORK_FACTOR: u8 = 30;
 
 /// Whether this is a digit 1 to 9, then any digits.
 pub(crate) fn is_work_factor(text: &[u8]) -> bool
