@@ -24,7 +24,7 @@ from ._errors import AgeChangedError, AgeError, AgeMemoryError, Code
 from ._files import open
 from ._library import version as library_version
 from ._reader import Reader, _reopen
-from ._salvage import Lost, Salvaged, salvage
+from ._salvage import LostChunks, Salvaged, salvage
 from ._secrets import Header, Identity, Key, Passphrase, Recipient, Stanza
 from ._version import __version__
 from ._whole import copy, decrypt, encrypt, inspect, rewrap, rewrap_copy
@@ -39,7 +39,7 @@ __all__ = [
     "Header",
     "Identity",
     "Key",
-    "Lost",
+    "LostChunks",
     "Passphrase",
     "Reader",
     "Recipient",

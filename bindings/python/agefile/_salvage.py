@@ -18,7 +18,7 @@ CHUNK, LAST, EARLY, ZEROS, NONE, PADDED = range(1, 7)
 BLOCK = 4096
 
 
-class Lost(NamedTuple):
+class LostChunks(NamedTuple):
     """Chunks in a row that are lost. `chunks` are their numbers, counted from 0. Their plaintext is
     `length` bytes from `offset` on, for which zeros were written. `unread` says that reads of them
     failed; otherwise they are damaged."""
@@ -42,7 +42,7 @@ class Salvaged(NamedTuple):
 
     length: int
     chunks: int
-    lost: tuple[Lost, ...]
+    lost: tuple[LostChunks, ...]
     early: int | None
     trailing: int
     cut: bool
@@ -126,14 +126,14 @@ def salvage(
 
 
 def _save(payload: lib.Payload, source: BinaryIO, unread: set[int], sink: Any) -> Salvaged:
-    lost: list[Lost] = []
+    lost: list[LostChunks] = []
     early, total, sealed = None, 0, 0
     for number, (chunk, length, is_last) in enumerate(pieces(source, lib.SEALED_CHUNK)):
         report = lib.check("salvage_next", ctypes.byref(payload), chunk.base, length, is_last)
         saved, text = report.place, chunk.view[: report.len]
         write_all(sink, text)
         if saved == ZEROS:
-            _join(lost, Lost(range(number, number + 1), total, len(text), number in unread))
+            _join(lost, LostChunks(range(number, number + 1), total, len(text), number in unread))
         early = number if saved == EARLY else early
         unread.discard(number)
         total, sealed = total + len(text), sealed + length
@@ -144,10 +144,10 @@ def _save(payload: lib.Payload, source: BinaryIO, unread: set[int], sink: Any) -
     return Salvaged(total, number + 1, tuple(lost), early, trailing, is_cut, is_whole)
 
 
-def _join(lost: list[Lost], new: Lost) -> None:
+def _join(lost: list[LostChunks], new: LostChunks) -> None:
     """Adds a chunk to the run that it continues, or as a new one."""
     if lost and lost[-1].chunks.stop == new.chunks.start and lost[-1].unread == new.unread:
         run = lost.pop()
         chunks = range(run.chunks.start, new.chunks.stop)
-        new = Lost(chunks, run.offset, run.length + new.length, new.unread)
+        new = LostChunks(chunks, run.offset, run.length + new.length, new.unread)
     lost.append(new)

@@ -10,7 +10,7 @@ import threading
 import unittest
 
 import agefile
-from agefile import AgeError, Code, Key, Lost
+from agefile import AgeError, Code, Key, LostChunks
 from support import KEY, SEALED, TEXT, InFolder, damaged, in_time, text
 
 import fixture
@@ -112,7 +112,7 @@ class FailedReads(unittest.TestCase):
         found, report = saved(source)
         self.assertTrue(found == self.without(*chunks))
         ends = [min(run[0].stop * TEXT, len(self.plain)) for run in runs]
-        wanted = tuple(Lost(run, run[0] * TEXT, end - run[0] * TEXT, unread) for (run, unread), end in zip(runs, ends))
+        wanted = tuple(LostChunks(run, run[0] * TEXT, end - run[0] * TEXT, unread) for (run, unread), end in zip(runs, ends))
         self.assertEqual(report, (len(self.plain), 5, wanted, None, 0, False, not chunks))
 
     def test_bad_blocks(self):
@@ -260,7 +260,7 @@ class Arguments(InFolder):
             found, report = saved(source)
             thread.join()
         self.assertTrue(found == text(2 * TEXT)[:TEXT] + bytes(TEXT - 1))
-        self.assertEqual(report.lost, (Lost(range(1, 2), TEXT, TEXT - 1, False),))
+        self.assertEqual(report.lost, (LostChunks(range(1, 2), TEXT, TEXT - 1, False),))
 
     def test_old_file(self):
         """After a wrong key, an old file at the sink's path stays. With `atomic` it stays after any
@@ -300,7 +300,7 @@ class Arguments(InFolder):
         """The names of its fields; it can be pickled and compared."""
         _, report = saved(io.BytesIO(damaged(agefile.encrypt(text(TEXT + 1), recipients=KEY), 0)))
         self.assertEqual(repr(report), "Salvaged(length=65537, chunks=2, "
-                         "lost=(Lost(chunks=range(0, 1), offset=0, length=65536, unread=False),), early=None, trailing=0, cut=False, whole=False)")
+                         "lost=(LostChunks(chunks=range(0, 1), offset=0, length=65536, unread=False),), early=None, trailing=0, cut=False, whole=False)")
         self.assertEqual(pickle.loads(pickle.dumps(report)), report)
 
 

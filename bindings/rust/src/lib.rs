@@ -49,7 +49,7 @@ pub use error::{Error, Part};
 pub use header::{inspect, Header, Stanza};
 pub use range_reader::RangeReader;
 pub use reader::{Opening, Reader};
-pub use salvage::{salvage, Lost, Salvaged};
+pub use salvage::{salvage, LostChunks, Salvaged};
 pub use secret::{FileKey, Identity, Key, Passphrase, Recipient};
 pub use whole::{decrypt, encrypt, library_version, rewrap, rewrap_copy};
 pub use writer::{FinishError, Writer};

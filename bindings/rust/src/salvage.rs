@@ -18,7 +18,7 @@ const PADDED: u64 = 6;
 /// Chunks in a row that are lost. [`salvage`] has an example.
 #[derive(Clone, Debug, PartialEq, Eq)]
 #[non_exhaustive]
-pub struct Lost {
+pub struct LostChunks {
     /// The numbers of the chunks, counted from 0.
     pub chunks: Range<u64>,
     /// The offsets of their plaintext, for which zeros were written.
@@ -36,7 +36,7 @@ pub struct Salvaged {
     /// The number of chunks.
     pub chunks: u64,
     /// The chunks that are lost.
-    pub lost: Vec<Lost>,
+    pub lost: Vec<LostChunks>,
     /// The latest chunk that is marked as the last and cannot be it: a chunk follows it, or it is
     /// empty after other chunks.
     pub early: Option<u64>,
@@ -60,7 +60,7 @@ impl Salvaged {
             (ZEROS, Some(run)) if run.chunks.end == number && run.is_unread == is_unread => {
                 (run.chunks.end, run.bytes.end) = (self.chunks, self.len);
             }
-            (ZEROS, _) => self.lost.push(Lost { chunks: number..self.chunks, bytes: start..self.len, is_unread }),
+            (ZEROS, _) => self.lost.push(LostChunks { chunks: number..self.chunks, bytes: start..self.len, is_unread }),
             (EARLY, _) => (self.early, self.trailing) = (Some(number), 0),
             (PADDED, _) if self.early.is_none() => self.trailing = sealed - TAG as u64 - saved.len,
             _ => {}

@@ -3,7 +3,7 @@
 use crate::program::say;
 use age_commands::{Report, Unread};
 use age_file::{
-    CHUNK_SIZE, Losses, Lost, LostRun, Salvaged, SalvagedFile, Saved, TAG_SIZE, join_lost,
+    CHUNK_SIZE, Losses, LostChunk, LostRun, Salvaged, SalvagedFile, Saved, TAG_SIZE, join_lost,
 };
 use age_job::{Detail, Doing, ERASE, Name};
 use std::alloc::Global;
@@ -88,7 +88,7 @@ impl<'a, 'b, E: Write> Losses for LossLines<'a, 'b, E> {
 
     ghost lost = { λ _. None };
 
-    fn lose(&mut self, chunk: Lost) {
+    fn lose(&mut self, chunk: LostChunk) {
         if chunk.start.checked_add(chunk.len as u128).is_none() {
             return;
         }
@@ -122,9 +122,7 @@ impl<'a, 'b, E: Write> Report for LossLines<'a, 'b, E> {
         }
         let number = chunks.saturating_sub(1);
         if let Saved::Padded(padding) = last {
-            self.print(&format_args!(
-                "{padding} bytes follow chunk {number}, which is the last"
-            ));
+            self.print(&format_args!("{padding} bytes follow chunk {number}, which is the last"));
         } else if early.is_none() && last == Saved::Zeros {
             let len = bytes.saturating_sub(1) % CHUNK_SIZE as u128 + 1 + TAG_SIZE as u128;
             self.print(&format_args!(

@@ -65,7 +65,7 @@ pub use age_recipient::{
     WrapFault, first_incompatible, unlock,
 };
 pub use age_stream::{
-    CHUNK_SIZE, ChunkBuf, Done, FileAt, Losses, Lost, LostRun, MemAt, NONCE_SIZE, RangeReader,
+    CHUNK_SIZE, ChunkBuf, Done, FileAt, Losses, LostChunk, LostRun, MemAt, NONCE_SIZE, RangeReader,
     ReadAt, Refused, SEALED_CHUNK_SIZE, Salvaged, Saved, StreamFault, StreamReader, StreamWriter,
     TAG_SIZE, chunk_nonce, join_lost,
 };

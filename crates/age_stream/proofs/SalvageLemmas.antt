@@ -8,7 +8,7 @@ use Rattle.std.proofs.lemmas.List.{drop-append-le, take_all, take_at, drop_at, t
 use Rattle.age_stream.specs.Words.{Bytes, opened_text, Gave, GaveSome, Known, OfGiven, Seen, WritesPart, flow, move_of, FileKey, StreamFault, NonceTruncated, TooManyChunks, Read, Write, Memory, chunk_size, sealed_chunk_size, chunk_buf_size}
 use Rattle.age_header.specs.Filling.{Filled}
 use Rattle.age_header.proofs.DeviceLemmas.{gave_more, gave_none, gave_then, of_any, of_ended, of_map, of_more, of_then}
-use Rattle.age_stream.specs.declared.salvaged.Lost.{Lost}
+use Rattle.age_stream.specs.declared.salvaged.LostChunk.{LostChunk}
 use Rattle.age_stream.specs.declared.salvaged.Salvaged.{Salvaged}
 use Rattle.age_stream.specs.declared.salvaged.Saved.{Saved}
 use Rattle.age_stream.specs.declared.salvaged.Saved.TheVariants.{Nothing, Zeros, Chunk, Early, LastChunk, Padded}
@@ -187,7 +187,8 @@ pub reports_none : (a : KnownLosses) → Reports (losses_of a a) []
 reports_none None = tt
 reports_none (Some past) = ap Some (sym (append-nil past))
 
-pub reports_then : (a b c : KnownLosses) (xs ys : List Lost) → Reports (losses_of a b) xs → Reports (losses_of b c) ys
+pub reports_then : (a b c : KnownLosses) (xs ys : List LostChunk) → Reports (losses_of a b) xs
+    → Reports (losses_of b c) ys
     → Reports (losses_of a c) (xs ++ ys)
 reports_then None b c xs ys g h = tt
 reports_then (Some past) b c xs ys g h = rw (g, append_assoc past xs ys) at h
@@ -279,7 +280,7 @@ salvaging_none {key} {ahead} {from} {old} {before} bytes chunks lost early none 
   short = omega (arith, ap length none);
 }
 
-loss_len : (s : Saved) (lost : Lost) → length (loss s lost) ≤ 1
+loss_len : (s : Saved) (lost : LostChunk) → length (loss s lost) ≤ 1
 loss_len Zeros lost = omega arith
 loss_len Chunk lost = omega arith
 loss_len Early lost = omega arith
@@ -299,7 +300,7 @@ snoc_summary : (done : List Part) (s : Salvaged) (y : Part) → s.bytes ≡ leng
     → s.chunks ≡ length done → s.lost ≡ length (losses 0 0 done) → s.early ≡ latest_early 0 None done
     → with_part s (length y.text) y.saved ≡ summary (done ++ y ∷ [])
 snoc_summary done s y bytes chunks lost early =
-    let one : List Lost = loss y.saved (record { chunk = s.chunks; start = s.bytes; len = length y.text }) in
+    let one : List LostChunk = loss y.saved (record { chunk = s.chunks; start = s.bytes; len = length y.text }) in
     let text : length (salvaged_text (done ++ y ∷ [])) ≡ length (salvaged_text done) + length y.text =
     ap length (salvaged_snoc done y) ∙ length-append (salvaged_text done) y.text in
     let all : losses 0 0 (done ++ y ∷ []) ≡ losses 0 0 done ++ one =

@@ -1,10 +1,10 @@
 -- Runs of consecutive lost chunks.
 use Rattle.std.specs.Prelude.{◌+◌, List, [], ◌∷◌, nat_eq, Option, Some, None, if◌then◌else◌}
 use Rattle.age_stream.specs.declared.runs.LostRun.{LostRun}
-use Rattle.age_stream.specs.declared.salvaged.Lost.{Lost}
+use Rattle.age_stream.specs.declared.salvaged.LostChunk.{LostChunk}
 
 -- the run of a single chunk
-abbrev pub run_of : (chunk : Lost) → LostRun
+abbrev pub run_of : (chunk : LostChunk) → LostRun
 run_of chunk = record {
   first = chunk.chunk;
   last = chunk.chunk;
@@ -24,7 +24,7 @@ runs_from run (next ∷ more) =
     if nat_eq next.first (run.last + 1) then span run next ∷ more else run ∷ next ∷ more
 
 -- the runs of these chunks
-abbrev pub runs : List Lost → List LostRun
+abbrev pub runs : List LostChunk → List LostRun
 runs [] = []
 runs (chunk ∷ more) = runs_from (run_of chunk) (runs more)
 

@@ -4,7 +4,7 @@ use Rattle.std.specs.Io.KnownBytes.{IsAtEnd}
 use Rattle.std.specs.List.{concat}
 use Rattle.age_stream.specs.Words.{Bytes, Key, Flow, Gave, Moved, OfGiven, Took, FileKey, StreamFault, NonceTruncated, TooManyChunks, Read, Write, Memory, chunk_buf_size, nonce_size, sealed_chunk_size, tag_size}
 use Rattle.age_stream.specs.Sizes.{max_padding}
-use Rattle.age_stream.specs.declared.salvaged.Lost.{Lost}
+use Rattle.age_stream.specs.declared.salvaged.LostChunk.{LostChunk}
 use Rattle.age_stream.specs.declared.salvaged.Salvaged.{Salvaged}
 use Rattle.age_stream.specs.declared.salvaged.Saved.{Saved}
 use Rattle.age_stream.specs.declared.salvaged.Saved.TheVariants.{Chunk, LastChunk, Padded, Early, Zeros, Nothing}
@@ -80,12 +80,12 @@ abbrev pub salvaged_text : List Part → Bytes
 salvaged_text parts = concat (map (λ p. p.text) parts)
 
 -- this chunk, if zeros stand for it
-abbrev pub loss : (saved : Saved) (lost : Lost) → List Lost
+abbrev pub loss : (saved : Saved) (lost : LostChunk) → List LostChunk
 loss Zeros lost = lost ∷ []
 loss _ lost = []
 
 -- the lost chunks, in order, if the first part is chunk i at offset `at`
-abbrev pub losses : (i at : ℕ) (parts : List Part) → List Lost
+abbrev pub losses : (i at : ℕ) (parts : List Part) → List LostChunk
 losses i at [] = []
 losses i at (p ∷ more) =
     loss p.saved (record { chunk = i; start = at; len = length p.text })
@@ -139,7 +139,7 @@ is_whole s = is_whole_to s.last s.lost s.early
 
 -- the chunks reported as lost so far, if they are known
 abbrev pub KnownLosses : Type 0
-KnownLosses = Option (List Lost)
+KnownLosses = Option (List LostChunk)
 
 -- the same before and after a call
 pub record LossesMoved : Type 0 where
@@ -153,7 +153,7 @@ abbrev pub losses_by : {L : Type 0} (lost : L → KnownLosses) (old new : L) →
 losses_by lost old new = losses_of (lost old) (lost new)
 
 -- these chunks were reported after those reported before
-abbrev pub Reports : (losses : LossesMoved) (list : List Lost) → Type 0
+abbrev pub Reports : (losses : LossesMoved) (list : List LostChunk) → Type 0
 Reports losses list = IfSome losses.before (λ past. losses.after ≡ Some (past ++ list))
 
 -- the first n parts were written, and the lost chunks among them were reported

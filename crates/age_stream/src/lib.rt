@@ -57,7 +57,7 @@ pub use read_at::{FileAt, MemAt, ReadAt};
 pub use reader::StreamReader;
 pub use refused::Refused;
 pub use runs::{LostRun, join_lost};
-pub use salvaged::{Losses, Lost, Salvaged, Saved};
+pub use salvaged::{Losses, LostChunk, Salvaged, Saved};
 pub use salvaging::{salvage_payload, save_piece};
 pub use sealing::{ChunkSealer, seal_chunk};
 pub use sizes::{CHUNK_SIZE, NONCE_SIZE, SEALED_CHUNK_SIZE, TAG_SIZE};

@@ -2,7 +2,7 @@
 ghost use Rattle.std.specs.Prelude.{◌≡◌, ◌<◌, ◌+◌, ◌^◌, ◌∷◌, ◌++◌, List, option_to_list};
 ghost use Rattle.age_stream.specs.Runs.{runs_after, runs};
 
-use crate::salvaged::Lost;
+use crate::salvaged::LostChunk;
 
 /// A run of lost chunks, with none between them that was saved, and the bytes of the plaintext that
 /// they had. Chunks and bytes are numbered from 0.
@@ -20,11 +20,11 @@ pub struct LostRun {
 
 /// Adds a lost chunk to the run that may go on. Returns that run, if it ends before this chunk,
 /// which then begins the next.
-pub fn join_lost(run: &mut Option<LostRun>, chunk: Lost) -> Option<LostRun>
+pub fn join_lost(run: &mut Option<LostRun>, chunk: LostChunk) -> Option<LostRun>
     requires { chunk.start + chunk.len < 2 ^ 128 }
     // Whatever chunks follow, the runs from here on are the one returned, if there is one, and
     // those after it.
-    ensures { (rest : List Lost) → runs_after run.old (runs (chunk ∷ rest))
+    ensures { (rest : List LostChunk) → runs_after run.old (runs (chunk ∷ rest))
         ≡ option_to_list result ++ runs_after run.new (runs rest) }
 {
     let end = chunk.start + chunk.len as u128;

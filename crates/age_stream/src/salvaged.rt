@@ -34,7 +34,7 @@ impl Saved {
 
 /// A chunk that was lost. Chunks are numbered from 0.
 #[derive(Clone, Copy, Debug, Drop, PartialEq, Eq)]
-pub struct Lost {
+pub struct LostChunk {
     /// The chunk's number.
     pub chunk: u128,
     /// The offset of its text in the plaintext.
@@ -90,6 +90,6 @@ pub trait Losses {
     ghost lost: { Self → KnownLosses };
 
     /// Reports one more lost chunk.
-    fn lose(&mut self, chunk: Lost)
+    fn lose(&mut self, chunk: LostChunk)
         ensures { Reports (losses_by lost self.old self.new) (chunk ∷ []) };
 }

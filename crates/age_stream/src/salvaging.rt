@@ -13,7 +13,7 @@ use crate::buffer::ChunkBuf;
 use crate::chunk_keys::{chunk_nonce, payload_key};
 use crate::fault::StreamFault;
 use crate::opening::{carry, open_prefix, read_nonce};
-use crate::salvaged::{Losses, Lost, Salvaged, Saved};
+use crate::salvaged::{Losses, LostChunk, Salvaged, Saved};
 use crate::sizes::{MAX_PADDING, SEALED_CHUNK_SIZE, TAG_SIZE};
 use age_header::{DeviceFault, FileKey, Sink, Source, fill_from, write_all};
 use std::alloc::Global;
@@ -243,7 +243,7 @@ fn note<L: Losses>(done: &mut Salvaged, losses: &mut L, len: usize, saved: Saved
 {
     match saved {
         Saved::Zeros => {
-            losses.lose(Lost {
+            losses.lose(LostChunk {
                 chunk: done.chunks,
                 start: done.bytes,
                 len,

@@ -1,7 +1,7 @@
 //! These calls succeed if there is enough memory, which no contract says.
 
 use age_file::{FileKey, Fresh, Limits, PassError};
-use round_trip::{Lost, key_there_and_back, pass_there_and_back};
+use round_trip::{TripError, key_there_and_back, pass_there_and_back};
 use std::process::Abort;
 
 const FRESH: Fresh = Fresh {
@@ -9,7 +9,7 @@ const FRESH: Fresh = Fresh {
     nonce: [2; 16],
 };
 
-fn is_hello(back: &Result<Vec<u8>, Lost>) -> bool {
+fn is_hello(back: &Result<Vec<u8>, TripError>) -> bool {
     match back {
         Ok(text) => text.as_slice() == b"hello".as_slice(),
         Err(_) => false,
@@ -40,7 +40,7 @@ fn passphrase_round_trip_returns_the_plaintext(rt: HostRuntime) {
         &FRESH,
         &limits,
     );
-    assert!(rt; matches!(&none, Err(Lost::Unpaired(PassError::WorkFactor))));
+    assert!(rt; matches!(&none, Err(TripError::Unpaired(PassError::WorkFactor))));
 }
 
 #[test]

@@ -15,8 +15,8 @@ use Rattle.age_file.specs.NewFile.{EncryptsGiven, EncryptsText, Gathered, Gather
 use Rattle.age_file.specs.Verdict.{Answering, IsVerdict}
 use Rattle.age_file.specs.Words.{Bytes, Done, Known, Labels, Reading, StanzaParts, Unwrapped, whole}
 use Rattle.round_trip.specs.Losses.{IsLoss, IsMemoryFault, IsUnwritten, none}
-use Rattle.round_trip.specs.declared.pairs.Lost.{Lost}
-use Rattle.round_trip.specs.declared.pairs.Lost.TheVariants.{Encrypting}
+use Rattle.round_trip.specs.declared.pairs.TripError.{TripError}
+use Rattle.round_trip.specs.declared.pairs.TripError.TheVariants.{Encrypting}
 
 -- what one recipient gives is what all give
 pub gathered_one : (wrapped : Result (List StanzaParts) ℕ) (meant : List Labels) (stanzas : List StanzaParts)
@@ -101,7 +101,7 @@ unwritten_of_one limits fresh wraps labels {x} {plain} {fault} old new list coun
     list (of_known _ source plain come h))
 
 -- a loss, if no header is refused
-pub without_refusal : {A : Type 0} {refuses : Fault → Type 0} (limits : Bounds) (plain : Bytes) (r : Result A Lost)
+pub without_refusal : {A : Type 0} {refuses : Fault → Type 0} (limits : Bounds) (plain : Bytes) (r : Result A TripError)
     → ((fault : Fault) → refuses fault → ⊥)
     → IfErr r (IsLoss refuses limits plain) → IfErr r (IsLoss none limits plain)
 without_refusal limits plain (Ok x) never h = tt

@@ -5,8 +5,8 @@ use Rattle.age_file.specs.declared.fault.Fault.{Fault}
 use Rattle.age_file.specs.declared.fault.Fault.TheVariants.{OutOfMemory, TooManyChunks, Write}
 use Rattle.age_file.specs.AgeFile.{Bounds}
 use Rattle.age_file.specs.Words.{Bytes, IsPassError}
-use Rattle.round_trip.specs.declared.pairs.Lost.{Lost}
-use Rattle.round_trip.specs.declared.pairs.Lost.TheVariants.{Unpaired, Memory, Encrypting, Decrypting}
+use Rattle.round_trip.specs.declared.pairs.TripError.{TripError}
+use Rattle.round_trip.specs.declared.pairs.TripError.TheVariants.{Unpaired, Memory, Encrypting, Decrypting}
 
 -- an allocation was refused; if it was one of the sink, the fault is `Write`
 abbrev pub IsMemoryFault : Fault → Type 0
@@ -25,7 +25,7 @@ IsUnwritten refuses limits plain fault =
     IsMemoryFault fault ⊎ (IsTooLong limits plain fault ⊎ refuses fault)
 
 -- no file was written, or an allocation was refused; of `Unpaired` this says nothing
-abbrev pub IsLoss : (refuses : Fault → Type 0) (limits : Bounds) (plain : Bytes) (lost : Lost)
+abbrev pub IsLoss : (refuses : Fault → Type 0) (limits : Bounds) (plain : Bytes) (lost : TripError)
     → Type 0
 IsLoss refuses limits plain (Unpaired error) = ⊤
 IsLoss refuses limits plain Memory = ⊤
@@ -37,11 +37,11 @@ abbrev pub none : Fault → Type 0
 none fault = ⊥
 
 -- the pair was made
-abbrev pub IsPaired : Lost → Type 0
+abbrev pub IsPaired : TripError → Type 0
 IsPaired (Unpaired error) = ⊥
 IsPaired _ = ⊤
 
 -- if the pair was refused for its work factors, they are out of range; on every other loss they fit
-abbrev pub IsPairedIf : (fits : Type 0) (lost : Lost) → Type 0
+abbrev pub IsPairedIf : (fits : Type 0) (lost : TripError) → Type 0
 IsPairedIf fits (Unpaired error) = IsPassError fits error
 IsPairedIf fits _ = fits

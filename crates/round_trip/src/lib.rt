@@ -17,4 +17,4 @@ mod file;
 mod pairs;
 
 pub use file::{decrypted, encrypted};
-pub use pairs::{Lost, key_there_and_back, pass_there_and_back, there_and_back};
+pub use pairs::{TripError, key_there_and_back, pass_there_and_back, there_and_back};

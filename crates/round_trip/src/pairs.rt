@@ -15,7 +15,7 @@ use std::alloc::Global;
 
 /// Why a plaintext did not come back.
 #[derive(Debug, Drop)]
-pub enum Lost {
+pub enum TripError {
     /// The pair or one of its parts could not be made.
     Unpaired(PassError),
     /// A box for the recipient or the identity was refused.
@@ -41,7 +41,7 @@ pub fn there_and_back<M: Matched>(
     plain: &[u8],
     fresh: &Fresh,
     limits: &Limits,
-) -> Result<Vec<u8>, Lost>
+) -> Result<Vec<u8>, TripError>
     requires recipient { (⟦<dyn Recipient as Recipient>⟧ recipient.vtable).wraps recipient.value
         ≡ M.R.wraps (M.the_recipient pair.now) }
     requires identity { (⟦<dyn Identity as Identity>⟧ identity.vtable).meaning identity.value
@@ -62,11 +62,11 @@ pub fn there_and_back<M: Matched>(
     has_sixteen_bytes(fresh.file_key);
     let file = match encrypted(alloc, recipient, plain, fresh, limits) {
         Ok(file) => file,
-        Err(fault) => return Err(Lost::Encrypting(fault)),
+        Err(fault) => return Err(TripError::Encrypting(fault)),
     };
     match decrypted(alloc, identity, file.as_slice(), limits) {
         Ok(text) => Ok(text),
-        Err(fault) => Err(Lost::Decrypting(fault)),
+        Err(fault) => Err(TripError::Decrypting(fault)),
     }
 }
 
@@ -99,7 +99,7 @@ pub fn pass_there_and_back(
     plain: &[u8],
     fresh: &Fresh,
     limits: &Limits,
-) -> Result<Vec<u8>, Lost>
+) -> Result<Vec<u8>, TripError>
     // The pair's identity decrypts what was encrypted for its recipient to the same plaintext.
     ensures back { IfOk result (λ text. text.items ≡ plain.now) }
     // Encrypting fails only if an allocation was refused, perhaps one of the sink, or if the
@@ -113,19 +113,19 @@ pub fn pass_there_and_back(
 {
     let pair = match PassPair::new(alloc, pass, salt, work, max) {
         Ok(pair) => pair,
-        Err(error) => return Err(Lost::Unpaired(error)),
+        Err(error) => return Err(TripError::Unpaired(error)),
     };
     let recipient = match PassRecipient::new(alloc, pass, salt, work) {
         Ok(recipient) => recipient,
-        Err(error) => return Err(Lost::Unpaired(error)),
+        Err(error) => return Err(TripError::Unpaired(error)),
     };
     let identity = match PassIdentity::new(alloc, pass, max) {
         Ok(identity) => identity,
-        Err(error) => return Err(Lost::Unpaired(error)),
+        Err(error) => return Err(TripError::Unpaired(error)),
     };
     let (Ok(recipient), Ok(identity)) = (Box::new(alloc, recipient), Box::new(alloc, identity))
     else {
-        return Err(Lost::Memory);
+        return Err(TripError::Memory);
     };
     are_bounds(limits);
     has_sixteen_bytes(fresh.file_key);
@@ -144,7 +144,7 @@ pub fn key_there_and_back(
     plain: &[u8],
     fresh: &Fresh,
     limits: &Limits,
-) -> Result<Vec<u8>, Lost>
+) -> Result<Vec<u8>, TripError>
     // The pair's identity decrypts what was encrypted for its recipient to the same plaintext.
     ensures back { IfOk result (λ text. text.items ≡ plain.now) }
     // Encrypting fails only if an allocation was refused, perhaps one of the sink, or if the
@@ -158,7 +158,7 @@ pub fn key_there_and_back(
     let recipient = Box::new(alloc, KeyRecipient::new(key, salt));
     let identity = Box::new(alloc, KeyIdentity::new(key));
     let (Ok(recipient), Ok(identity)) = (recipient, identity) else {
-        return Err(Lost::Memory);
+        return Err(TripError::Memory);
     };
     are_bounds(limits);
     has_sixteen_bytes(fresh.file_key);

@@ -5,7 +5,9 @@
 use super::devices::FailingSink;
 use super::failing::FILE;
 use super::key_identities;
-use age_file::{Fault, Limits, Losses, Lost, Salvaged, SalvagedFile, Saved, Sink, Source, salvage};
+use age_file::{
+    Fault, Limits, Losses, LostChunk, Salvaged, SalvagedFile, Saved, Sink, Source, salvage,
+};
 use age_header::{MemSink, MemSource};
 use sha2::{Digest, Sha256};
 use std::alloc::Global;
@@ -83,7 +85,7 @@ const FIRST_AS_LAST_TEXT: [u8; 32] = [
 /// Keeps the reports.
 #[derive(Drop)]
 struct Kept {
-    chunks: Vec<Lost>,
+    chunks: Vec<LostChunk>,
 }
 
 impl Losses for Kept {
@@ -91,7 +93,7 @@ impl Losses for Kept {
 
     ghost lost = { λ _. None };
 
-    fn lose(&mut self, chunk: Lost) {
+    fn lose(&mut self, chunk: LostChunk) {
         let _ = self.chunks.push(chunk);
     }
 }
@@ -115,7 +117,7 @@ fn salvaged<S: Source, W: Sink>(
     source: &mut S,
     sink: &mut W,
     limits: &Limits,
-) -> (Result<SalvagedFile, Fault>, Vec<Lost>) {
+) -> (Result<SalvagedFile, Fault>, Vec<LostChunk>) {
     let mut kept = Kept {
         chunks: Vec::new(alloc),
     };
@@ -132,8 +134,8 @@ fn salvaged<S: Source, W: Sink>(
     (answer, chunks)
 }
 
-fn lost(chunk: u128, len: usize) -> Lost {
-    Lost {
+fn lost(chunk: u128, len: usize) -> LostChunk {
+    LostChunk {
         chunk,
         start: 65_536u128.wrapping_mul(chunk),
         len,
@@ -142,7 +144,7 @@ fn lost(chunk: u128, len: usize) -> Lost {
 
 /// Checks a saved text: zeros for these lost chunks, and for each other chunk the text with this
 /// SHA-256.
-fn expect_text(rt: &impl Abort, text: &[u8], texts: &[[u8; 32]; 3], losses: &[Lost]) {
+fn expect_text(rt: &impl Abort, text: &[u8], texts: &[[u8; 32]; 3], losses: &[LostChunk]) {
     for (i, chunk) in text.chunks(65_536).enumerate() {
         let is_right = if losses.iter().any(|lost| lost.chunk == i as u128) {
             chunk.iter().all(|byte| *byte == 0)
@@ -162,7 +164,7 @@ fn expect(
     pieces: &[Piece],
     texts: &[[u8; 32]; 3],
     end: (usize, u128, Saved),
-    losses: &[Lost],
+    losses: &[LostChunk],
 ) {
     expect_early(rt, alloc, pieces, texts, end, losses, None);
 }
@@ -174,7 +176,7 @@ fn expect_early(
     pieces: &[Piece],
     texts: &[[u8; 32]; 3],
     (bytes, chunks, last): (usize, u128, Saved),
-    losses: &[Lost],
+    losses: &[LostChunk],
     early: Option<u128>,
 ) {
     let file = file_of(rt, alloc, pieces);
