@@ -111,7 +111,7 @@ fn seal_rest<S: Source, W: Sink>(
 ///
 /// # Errors
 /// `DeviceFault` if the sink failed: a prefix of header and nonce was written.
-pub fn write_front<W: Sink>(
+pub fn write_header_and_nonce<W: Sink>(
     header: &Header,
     nonce: &[u8; 16],
     out: &mut W,

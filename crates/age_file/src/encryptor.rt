@@ -5,7 +5,7 @@ ghost use Rattle.age_header.specs.Mac.{header_mac};
 ghost use Rattle.age_stream.specs.Writer.{device_of, fault_of, sealer_of, sink_of};
 ghost use Rattle.age_file.specs.NewFile.{FailsHeading, IsHeading, gathering_by};
 
-use crate::encrypting::write_front;
+use crate::encrypting::write_header_and_nonce;
 use crate::fault::Fault;
 use crate::limits::{Fresh, Limits};
 use crate::new_header::header_for;
@@ -93,7 +93,7 @@ impl Encryptor {
         let Ok(buf) = ChunkBuf::new(alloc) else {
             return Err(Refused::of(out, Fault::OutOfMemory));
         };
-        let Ok(()) = write_front(&self.header, &self.fresh.nonce, out) else {
+        let Ok(()) = write_header_and_nonce(&self.header, &self.fresh.nonce, out) else {
             return Err(Refused::of(out, Fault::Write));
         };
         let max_chunks = self.limits.max_chunks();

@@ -72,7 +72,7 @@ pub use age_stream::{
 pub use copying::BUFFER_SIZE;
 pub use decrypting::decrypt;
 pub use decryptor::Decryptor;
-pub use encrypting::{encrypt, write_front};
+pub use encrypting::{encrypt, write_header_and_nonce};
 pub use encryptor::Encryptor;
 pub use fault::Fault;
 pub use inspecting::inspect;
