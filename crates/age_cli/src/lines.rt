@@ -5,7 +5,7 @@ use age_commands::{Report, Unread};
 use age_file::{
     CHUNK_SIZE, Losses, LostChunk, LostRun, Salvaged, SalvagedFile, Saved, TAG_SIZE, join_lost,
 };
-use age_job::{Detail, Doing, ERASE, Name};
+use age_job::{Detail, ERASE, Name, Operation};
 use std::alloc::Global;
 use std::fmt;
 use std::io::Write;
@@ -137,7 +137,7 @@ impl<'a, 'b, E: Write> Report for LossLines<'a, 'b, E> {
             bytes,
             reason,
         } = *unread;
-        let detail = Detail::System(Doing::Reading, self.input, reason);
+        let detail = Detail::System(Operation::Reading, self.input, reason);
         self.print(&format_args!(
             "{detail}; {bytes} bytes were left out, the first at byte {first}"
         ));

@@ -19,7 +19,7 @@ pub struct Failure<'a> {
 #[derive(Drop)]
 pub enum Detail<'a> {
     /// An operation of the system on this file, and the reason why it failed.
-    System(Doing, Name<'a>, io::Error),
+    System(Operation, Name<'a>, io::Error),
     /// The size of a small file in bytes.
     Size(Role, Name<'a>, usize),
     /// The passphrase file is empty.
@@ -34,7 +34,7 @@ pub enum Detail<'a> {
 
 /// An operation of the system on a file.
 #[derive(Clone, Copy, Debug, PartialEq, Eq)]
-pub enum Doing {
+pub enum Operation {
     Opening,
     Identifying,
     Creating,
@@ -51,11 +51,11 @@ impl<'a> Failure<'a> {
     /// Makes a failure of this fault, with the operation and the system's reason.
     pub fn of_system(
         fault: Fault<'a>,
-        doing: Doing,
+        operation: Operation,
         name: &'a str,
         reason: io::Error,
     ) -> Failure<'a> {
-        Failure::with(fault, Detail::System(doing, Name(name), reason))
+        Failure::with(fault, Detail::System(operation, Name(name), reason))
     }
 
     pub fn with(fault: Fault<'a>, detail: Detail<'a>) -> Failure<'a> {
@@ -87,18 +87,18 @@ impl<T: Drop> From<AllocFailed<T>> for Failure<'_> {
     }
 }
 
-impl fmt::Display for Doing {
+impl fmt::Display for Operation {
     fn fmt<W: fmt::Write>(&self, f: &mut fmt::Formatter<W>) -> fmt::Result {
         f.write_str(match self {
-            Doing::ReadingAs(role) => return write!(f, "reading {role}"),
-            Doing::Opening => "opening",
-            Doing::Identifying => "identifying",
-            Doing::Creating => "creating",
-            Doing::Reading => "reading",
-            Doing::Writing => "writing",
-            Doing::Truncating => "truncating",
-            Doing::Syncing => "syncing",
-            Doing::Replacing => "replacing",
+            Operation::ReadingAs(role) => return write!(f, "reading {role}"),
+            Operation::Opening => "opening",
+            Operation::Identifying => "identifying",
+            Operation::Creating => "creating",
+            Operation::Reading => "reading",
+            Operation::Writing => "writing",
+            Operation::Truncating => "truncating",
+            Operation::Syncing => "syncing",
+            Operation::Replacing => "replacing",
         })
     }
 }
@@ -106,9 +106,9 @@ impl fmt::Display for Doing {
 impl fmt::Display for Detail<'_> {
     fn fmt<W: fmt::Write>(&self, f: &mut fmt::Formatter<W>) -> fmt::Result {
         match self {
-            Detail::System(doing, name, reason) => {
+            Detail::System(operation, name, reason) => {
                 let name = Quoted(*name);
-                write!(f, "{doing} {name}: ")?;
+                write!(f, "{operation} {name}: ")?;
                 let mut text = BeforeCode { f, ended: false };
                 write!(text, "{reason}")
             }

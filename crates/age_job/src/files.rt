@@ -2,7 +2,7 @@
 
 ghost use Rattle.std.specs.Prelude.{◌≡◌, take, IfOk, IfSome};
 
-use crate::failure::{Doing, Failure, Tried};
+use crate::failure::{Failure, Operation, Tried};
 use crate::fault::Fault;
 use crate::file_names::{Name, Role};
 use crate::inode::{Inode, Kind, STANDARD_INPUT, STANDARD_OUTPUT};
@@ -56,13 +56,18 @@ pub struct ReadFiles<'a> {
 }
 
 fn cannot_open<'a>(name: &'a str, reason: io::Error) -> Failure<'a> {
-    Failure::of_system(Fault::CannotOpen(Name(name)), Doing::Opening, name, reason)
+    Failure::of_system(
+        Fault::CannotOpen(Name(name)),
+        Operation::Opening,
+        name,
+        reason,
+    )
 }
 
 pub(crate) fn unidentified<'a>(name: &'a str, reason: io::Error) -> Failure<'a> {
     Failure::of_system(
         Fault::Unidentified(Name(name)),
-        Doing::Identifying,
+        Operation::Identifying,
         name,
         reason,
     )
@@ -317,7 +322,7 @@ pub(crate) fn read_prefix<'a, R: Read + Drop>(
         Err(reason) if reason.kind() == ErrorKind::OutOfMemory => Err(Fault::OutOfMemory.into()),
         Err(reason) => {
             let NamedFile { role, name } = named;
-            Err(Failure::of_system(Fault::Read, Doing::ReadingAs(role), name, reason))
+            Err(Failure::of_system(Fault::Read, Operation::ReadingAs(role), name, reason))
         }
     }
 }

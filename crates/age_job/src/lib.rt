@@ -38,7 +38,7 @@ mod small_files;
 mod target;
 mod watched;
 
-pub use failure::{Detail, Doing, Failure, Tried};
+pub use failure::{Detail, Failure, Operation, Tried};
 pub use fault::Fault;
 pub use file_names::{Bytes, Lines, Name, Quoted, Role};
 pub use files::ReadFiles;

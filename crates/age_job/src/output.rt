@@ -2,7 +2,7 @@
 ghost use Rattle.std.specs.Prelude.{◌≡◌, ◌<◌, false, true, length, Err, None, IfOk, IsOk};
 ghost use Rattle.age_job.specs.Mode.{new_mode};
 
-use crate::failure::{Doing, Failure};
+use crate::failure::{Failure, Operation};
 use crate::fault::Fault;
 use crate::file_names::Name;
 use crate::files::{ReadFiles, unidentified};
@@ -87,7 +87,7 @@ pub(crate) fn new_file(mode: u32) -> OpenOptions {
 pub(crate) fn cannot_create<'a>(name: &'a str, reason: io::Error) -> Failure<'a> {
     Failure::of_system(
         Fault::CannotCreate(Name(name)),
-        Doing::Creating,
+        Operation::Creating,
         name,
         reason,
     )
@@ -160,11 +160,11 @@ impl<F: OpenFile> Output<F> {
         F: Drop,
     {
         if let Err(reason) = self.empty() {
-            return Err(failed_write(Doing::Truncating, name, reason));
+            return Err(failed_write(Operation::Truncating, name, reason));
         }
         match self.sync() {
             Ok(()) => Ok(()),
-            Err(reason) => Err(failed_write(Doing::Syncing, name, reason)),
+            Err(reason) => Err(failed_write(Operation::Syncing, name, reason)),
         }
     }
 
@@ -176,8 +176,12 @@ impl<F: OpenFile> Output<F> {
     }
 }
 
-pub(crate) fn failed_write<'a>(doing: Doing, name: &'a str, reason: io::Error) -> Failure<'a> {
-    Failure::of_system(Fault::Write, doing, name, reason)
+pub(crate) fn failed_write<'a>(
+    operation: Operation,
+    name: &'a str,
+    reason: io::Error,
+) -> Failure<'a> {
+    Failure::of_system(Fault::Write, operation, name, reason)
 }
 
 // The contents of an output are those of its file, and a write returns the number of bytes that the

@@ -2,7 +2,7 @@
 
 ghost use Rattle.std.specs.Prelude.{◌≡◌, false};
 
-use crate::failure::{Detail, Doing, Failure};
+use crate::failure::{Detail, Failure, Operation};
 use crate::fault::Fault;
 use crate::file_names::Name;
 use crate::files::{ReadFiles, unidentified};
@@ -107,7 +107,7 @@ impl Target {
         refuse_output(rt, job)?;
         match fs::rename(rt, new.as_str(), old.as_str()) {
             Ok(()) => Ok(()),
-            Err(reason) => Err(failed_write(Doing::Replacing, name, reason)),
+            Err(reason) => Err(failed_write(Operation::Replacing, name, reason)),
         }
     }
 
