@@ -4,8 +4,8 @@ use Rattle.std.specs.Prelude.{◌≢◌, ⊤}
 use Rattle.age_header.specs.Device.{Bytes, Known, Moved, Stays, move_of}
 use Rattle.age_file.specs.declared.fault.Fault.{Fault as FileFault}
 use Rattle.age_job.specs.declared.job.Job.{Job}
-use Rattle.age_words.specs.declared.fault.WordsFault.{WordsFault}
-use Rattle.age_words.specs.declared.fault.WordsFault.TheVariants.{Memory, Refused}
+use Rattle.age_words.specs.declared.fault.ArgsFault.{ArgsFault}
+use Rattle.age_words.specs.declared.fault.ArgsFault.TheVariants.{Memory, Refused}
 use Rattle.age_words.specs.JobOf.{AreWrong, AskForText, Makes, Reads}
 use Rattle.age_words.proofs.RefusalLemmas.{shown, wrong}
 use Rattle.age_cli.specs.declared.failure.Failure.{Failure}
@@ -80,32 +80,32 @@ alone F remaining contents job {from} {sink} none silent (source, i, (target, o,
     (subst (λ (s : Moved). Finishes job source s) (output_is F contents job.output sink target silent o) h)
 
 -- what the status after a refusal says of the words
-pub refused : (words : List Bytes) (unwritten : Type 0) (fault : WordsFault) (status : ℕ) → Reads words (Err fault)
+pub refused : (words : List Bytes) (unwritten : Type 0) (fault : ArgsFault) (status : ℕ) → Reads words (Err fault)
     → AnswersRefusal fault status unwritten → status ≡ 2 → unwritten × AreWrong words
 refused words unwritten Memory status h a two = absurd (omega arith)
 refused words unwritten (Refused error) status h (inl (low, is)) two = absurd (omega arith)
 refused words unwritten (Refused error) status h (inr (is, stays, hidden)) two = (stays, wrong words error h hidden)
 
-pub answered : (words : List Bytes) (unwritten : Type 0) (fault : WordsFault) (status : ℕ) → Reads words (Err fault)
+pub answered : (words : List Bytes) (unwritten : Type 0) (fault : ArgsFault) (status : ℕ) → Reads words (Err fault)
     → AnswersRefusal fault status unwritten → status ≡ 0 → AskForText words
 answered words unwritten Memory status h a none = absurd (omega arith)
 answered words unwritten (Refused error) status h (inl (low, is)) none = shown words error h is
 answered words unwritten (Refused error) status h (inr (two, stays, hidden)) none = absurd (omega arith)
 
-pub failed : (words : List Bytes) (unwritten : Type 0) (fault : WordsFault) (status : ℕ) → Reads words (Err fault)
+pub failed : (words : List Bytes) (unwritten : Type 0) (fault : ArgsFault) (status : ℕ) → Reads words (Err fault)
     → AnswersRefusal fault status unwritten → status ≡ 1 → AskForText words ⊎ unwritten
 failed words unwritten Memory status h a one = inr a.1
 failed words unwritten (Refused error) status h (inl (low, is)) one = inl (shown words error h is)
 failed words unwritten (Refused error) status h (inr (two, stays, hidden)) one = absurd (omega arith)
 
-pub unused : (words : List Bytes) {unread unwritten : Type 0} (fault : WordsFault) (status : ℕ)
+pub unused : (words : List Bytes) {unread unwritten : Type 0} (fault : ArgsFault) (status : ℕ)
     → Reads words (Err fault) → AnswersRefusal fault status unwritten → unread → UsesStreams words unread unwritten
 unused words Memory status h a kept = inr (inl (kept, a.1))
 unused words (Refused error) status h (inl (low, is)) kept = inl (shown words error h is, kept)
 unused words (Refused error) status h (inr (two, stays, hidden)) kept = inr (inl (kept, stays))
 
 -- the status of words that make no job
-pub wrong_status : (words : List Bytes) {unwritten : Type 0} (fault : WordsFault) (status : ℕ) → Reads words (Err fault)
+pub wrong_status : (words : List Bytes) {unwritten : Type 0} (fault : ArgsFault) (status : ℕ) → Reads words (Err fault)
     → AnswersRefusal fault status unwritten → AskForText words ⊎ ((status ≡ 2) ⊎ ((status ≡ 1) × unwritten))
 wrong_status words Memory status h a = inr (inr a)
 wrong_status words (Refused error) status h (inl (low, is)) = inl (shown words error h is)

@@ -14,7 +14,7 @@ use age_job::{
     Command, Job, Lines, Pipe, ReadFiles, SEED_LEN, Shown, Target, Watched, read_encrypt_secrets,
     read_file_key, read_rewrap_secrets, read_secret, refuse_output, shows_progress,
 };
-use age_words::{WordsFault, read_words};
+use age_words::{ArgsFault, parse_args};
 use std::alloc::Global;
 use std::fmt::Display;
 use std::io::{IsTerminal, Read, Seek, Write};
@@ -73,7 +73,7 @@ pub fn run<
     ensures streams { UsesStreams (texts words.now) (input.new ≡ input.old)
         (out.new ≡ out.old) }
 {
-    match read_words(rt.alloc(), words) {
+    match parse_args(rt.alloc(), words) {
         Ok(job) => run_job(rt, &job, input, out, err),
         Err(fault) => answer_refusal(rt.alloc(), &fault, out, err),
     }
@@ -290,7 +290,7 @@ fn refuse<D: Display, E: Write>(alloc: Global, why: &D, err: &mut E) -> u8
 /// Prints why the arguments are not a job, or prints the help or the version.
 fn answer_refusal<W: Write, E: Write>(
     alloc: Global,
-    fault: &WordsFault,
+    fault: &ArgsFault,
     out: &mut W,
     err: &mut E,
 ) -> u8
@@ -298,7 +298,7 @@ fn answer_refusal<W: Write, E: Write>(
     ensures quiet { result ≡ 0 → err.new ≡ err.old }
 {
     match fault {
-        WordsFault::Refused(error) => {
+        ArgsFault::Refused(error) => {
             if error.use_stderr() {
                 return refuse(alloc, &Lines(error), err);
             }
@@ -307,7 +307,7 @@ fn answer_refusal<W: Write, E: Write>(
                 Err(_) => report(alloc, &Failure::from(age_file::Fault::Write), None, err),
             }
         }
-        WordsFault::Memory => {
+        ArgsFault::Memory => {
             report(
                 alloc,
                 &Failure::from(age_file::Fault::OutOfMemory),

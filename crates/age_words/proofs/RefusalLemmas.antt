@@ -6,7 +6,7 @@ use Rattle.clap.specs.declared.error.Error.{Error}
 use Rattle.clap.specs.declared.error.kind.ErrorKind.{ErrorKind}
 use Rattle.age_words.specs.CommandLine.{agep}
 use Rattle.age_words.specs.JobOf.{AreWrong, AskForText, IsShown, Reads, is_display}
-use Rattle.age_words.specs.declared.fault.WordsFault.TheVariants.{Refused}
+use Rattle.age_words.specs.declared.fault.ArgsFault.TheVariants.{Refused}
 
 among : (p : ErrorKind → Bool) (k : ErrorKind) (kinds : Kinds) → IsAmong k kinds → p k ≡ true → list_any p kinds ≡ true
 among p k [] h e = absurd h

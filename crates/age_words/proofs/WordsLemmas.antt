@@ -13,8 +13,8 @@ use Rattle.clap.specs.declared.parser.matches.ArgMatches.{ArgMatches}
 use Rattle.age_words.specs.CommandLine.{agep}
 use Rattle.age_words.specs.JobOf.{AsksForHelp, Becomes, IsJobOf, JobOf, Reads, name_of}
 use Rattle.age_job.specs.declared.job.Job.{Job}
-use Rattle.age_words.specs.declared.fault.WordsFault.{WordsFault}
-use Rattle.age_words.specs.declared.fault.WordsFault.TheVariants.{Memory, Refused}
+use Rattle.age_words.specs.declared.fault.ArgsFault.{ArgsFault}
+use Rattle.age_words.specs.declared.fault.ArgsFault.TheVariants.{Memory, Refused}
 use Rattle.age_words.proofs.SubcommandLemmas.{subcommand_is}
 use Rattle.age_words.proofs.TakenLemmas.{Taken, agep_is_free, agep_is_simple, taken}
 
@@ -59,7 +59,7 @@ help_is (program, option, is, inr short) =
     ap (fault_of agep) is
     ∙ (ap (λ (o : Text). fault_of agep (program ∷ codes "help" ∷ o ∷ [])) short ∙ short_fault program)
 
-pub help_read : {words : List Text} (result : Result Job WordsFault) → AsksForHelp words
+pub help_read : {words : List Text} (result : Result Job ArgsFault) → AsksForHelp words
     → Reads (codes "agep" ∷ codes "--help" ∷ []) result → Reads words result
 help_read (Ok job) asks h = let none = sym help_fault ∙ h.0 in cc
 help_read (Err Memory) asks h = tt
@@ -74,7 +74,7 @@ pub made : {words : List Text} {name : Text} {rows : List Row} {job : Job} → N
 made {job} n is of =
     (n.faultless, subst (λ (o : Option (Text × List Row)). IsJobOf o job) (sym n.is) (is, of))
 
-pub refusal : (words : List Text) (command : Command) (error : Error) (result : Result Job WordsFault)
+pub refusal : (words : List Text) (command : Command) (error : Error) (result : Result Job ArgsFault)
     → app_of command ≡ agep
     → IsErrAnd result (Becomes error)
     → (is_simple_and_free (app_of command) ≡ true → HasKind (fault_of (app_of command) words) error)

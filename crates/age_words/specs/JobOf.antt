@@ -15,8 +15,8 @@ use Rattle.age_job.specs.Job.{NamesInput}
 use Rattle.age_job.specs.declared.job.Command.{Command}
 use Rattle.age_job.specs.declared.job.Command.TheVariants.{Encrypt, Decrypt, Inspect, Range, Rewrap, Salvage}
 use Rattle.age_job.specs.declared.job.Job.{Job}
-use Rattle.age_words.specs.declared.fault.WordsFault.{WordsFault}
-use Rattle.age_words.specs.declared.fault.WordsFault.TheVariants.{Memory, Refused}
+use Rattle.age_words.specs.declared.fault.ArgsFault.{ArgsFault}
+use Rattle.age_words.specs.declared.fault.ArgsFault.TheVariants.{Memory, Refused}
 use Rattle.age_words.specs.declared.options.TheConstants.{DEFAULT_MAX_HEADER, DEFAULT_MAX_WORK, DEFAULT_WORK}
 use Rattle.age_job.specs.declared.ranges.TheConstants.{DEFAULT_SEED, MIN_HEADER_SIZE, MIN_WORK_FACTOR, MAX_HEADER_SIZE, MAX_OFFSET, MAX_WORK_FACTOR}
 
@@ -77,13 +77,13 @@ AsksForHelp words = (program option : Text) × (words ≡ program ∷ codes "hel
     × ((option ≡ codes "--help") ⊎ (option ≡ codes "-h"))
 
 -- memory was refused, or `clap` refused the words for one of these reasons
-abbrev pub IsRefusal : (reasons : Kinds) (fault : WordsFault) → Type 0
+abbrev pub IsRefusal : (reasons : Kinds) (fault : ArgsFault) → Type 0
 IsRefusal reasons Memory = ⊤
 IsRefusal reasons (Refused error) = IsAmong (kind_of error) reasons
 
 -- The result of parsing the words: a job if `clap` has no reason to refuse them, with the command
 -- and the options that the words name; else a refusal.
-abbrev pub Reads : (words : List Text) (result : Result Job WordsFault) → Type 0
+abbrev pub Reads : (words : List Text) (result : Result Job ArgsFault) → Type 0
 Reads words (Ok job) = (fault_of agep words ≡ []) × IsJobOf (subcommand_of agep words) job
 Reads words (Err fault) = IsRefusal (fault_of agep words) fault
 
@@ -122,7 +122,7 @@ abbrev pub AreWrong : (words : List Text) → Type 0
 AreWrong words = list_any (λ reason. not (is_display reason)) (fault_of agep words) ≡ true
 
 -- the fault for an error of `clap`
-abbrev pub Becomes : (error : Error) (fault : WordsFault) → Type 0
+abbrev pub Becomes : (error : Error) (fault : ArgsFault) → Type 0
 Becomes error Memory = kind_of error ≡ OutOfMemory
 Becomes error (Refused refused) = (refused ≡ error) × (kind_of error ≢ OutOfMemory)
 

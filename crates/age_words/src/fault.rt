@@ -9,30 +9,30 @@ use std::alloc::AllocError;
 
 /// Why the arguments are not a job.
 #[derive(Debug, Drop)]
-pub enum WordsFault {
+pub enum ArgsFault {
     /// `clap` refused the arguments, or has the help or the version to show.
     Refused(Error),
     /// An allocation was refused.
     Memory,
 }
 
-impl From<AllocError> for WordsFault {
-    ghost use Rattle.age_words.specs.declared.fault.WordsFault.TheVariants.{Memory};
+impl From<AllocError> for ArgsFault {
+    ghost use Rattle.age_words.specs.declared.fault.ArgsFault.TheVariants.{Memory};
 
     ghost from_gives = { λ _ fault. fault ≡ Memory };
 
-    fn from(_error: AllocError) -> WordsFault {
-        WordsFault::Memory
+    fn from(_error: AllocError) -> ArgsFault {
+        ArgsFault::Memory
     }
 }
 
-impl From<Error> for WordsFault {
+impl From<Error> for ArgsFault {
     ghost from_gives = { Becomes };
 
-    fn from(error: Error) -> WordsFault {
+    fn from(error: Error) -> ArgsFault {
         if error.kind() == ErrorKind::OutOfMemory {
-            return WordsFault::Memory;
+            return ArgsFault::Memory;
         }
-        WordsFault::Refused(error)
+        ArgsFault::Refused(error)
     }
 }
