@@ -103,7 +103,7 @@ library() {
 
 # Proves and builds the libraries up to age_file or up to age_cli, lowest first: libraries LAST. A
 # run of `rt` waits for another run that uses the same lower library. So only those that share none
-# are proved in parallel with the others: age_cipher, and age_job with age_words above it. These two
+# are proved in parallel with the others: age_cipher, and age_job with age_args above it. These two
 # must be done before age_commands, which depends on age_job. Skips what this script has proved
 # before.
 proved_to=
@@ -118,7 +118,7 @@ libraries() {
     library age_cipher --jobs 1 &
     cipher=$!
     if [ "$1" = age_cli ]; then
-        { library age_job --jobs 2 && library age_words --jobs 2; } &
+        { library age_job --jobs 2 && library age_args --jobs 2; } &
         words=$!
     fi
     # shellcheck disable=SC2086

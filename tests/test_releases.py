@@ -37,7 +37,7 @@ class PastReleases(unittest.TestCase):
         for version in versions:
             with self.subTest(version):
                 commit = rows.get(version) or run("git", *HERE, "log", "-1", "--format=%H", f"-S## {version} (").strip()
-                options = run("git", *HERE, "show", f"{commit}:crates/age_words/src/options.rt")
+                options = run("git", *HERE, "grep", "-hF", f'"{version}"', commit, "--", ":/crates/*/src/options.rt")
                 self.assertIn(f'"{version}"', options)
 
 

@@ -188,7 +188,7 @@ class Dialect(unittest.TestCase):
         "behind": "after", "the same of": "the same for",
     }
     PAGES = ("README.md", "SECURITY.md", "docs/USE.md", "docs/C.md", "share/man/agep.1", "bindings/c/agefile.h", "bindings/*/README.md",
-             "bindings/python/agefile/*.py", "bindings/rust/src/*.rs", "crates/age_words/src/texts.rt", "crates/age_words/src/options.rt")
+             "bindings/python/agefile/*.py", "bindings/rust/src/*.rs", "crates/age_args/src/texts.rt", "crates/age_args/src/options.rt")
 
     def test_words(self):
         found = [os.path.relpath(name, ROOT) for page in self.PAGES for name in sorted(glob.glob(f"{ROOT}/{page}"))]

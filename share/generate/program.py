@@ -1,4 +1,4 @@
-"""The commands of agep with their options and arguments, as crates/age_words/src/options.rt builds them."""
+"""The commands of agep with their options and arguments, as crates/age_args/src/options.rt builds them."""
 
 import re
 from typing import NamedTuple
@@ -59,7 +59,7 @@ def call(text):
 
 class Source:
     def __init__(self, root):
-        names = ("age_words/src/options.rt", "age_words/src/texts.rt", "age_job/src/ranges.rt")
+        names = ("age_args/src/options.rt", "age_args/src/texts.rt", "age_job/src/ranges.rt")
         whole = "\n".join((root / "crates" / name).read_text() for name in names)
         literal = re.findall(r'const (\w+): &str =\s+"((?:[^"\\]|\\.)*)";', re.sub(r"\\\n\s*", "", whole), re.S)
         self.constants = {name: text.replace("\\n", " ") for name, text in literal}

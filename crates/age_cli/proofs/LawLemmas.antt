@@ -28,8 +28,8 @@ use Rattle.age_stream.specs.Ranges.{range_len}
 use Rattle.age_commands.specs.declared.task.Task.TheVariants as task
 use Rattle.age_commands.specs.Inspect.{InspectsText, IsShown, check_of}
 use Rattle.age_commands.specs.Output.{Ends}
-use Rattle.age_words.specs.JobOf.{IsPiped, Makes}
-use Rattle.age_words.proofs.PipedLemmas.{piped}
+use Rattle.age_args.specs.JobOf.{IsPiped, Makes}
+use Rattle.age_args.proofs.PipedLemmas.{piped}
 use Rattle.age_cli.proofs.ProgramLemmas.{alone}
 use Rattle.age_cli.specs.Program.{Finishes, FinishesWords, word_limits}
 use Rattle.age_commands.specs.Secret.{answers_of, gathering_of, limits_of}

@@ -4,10 +4,10 @@ use Rattle.std.specs.Prelude.{◌≢◌, ⊤}
 use Rattle.age_header.specs.Device.{Bytes, Known, Moved, Stays, move_of}
 use Rattle.age_file.specs.declared.fault.Fault.{Fault as FileFault}
 use Rattle.age_job.specs.declared.job.Job.{Job}
-use Rattle.age_words.specs.declared.fault.ArgsFault.{ArgsFault}
-use Rattle.age_words.specs.declared.fault.ArgsFault.TheVariants.{Memory, Refused}
-use Rattle.age_words.specs.JobOf.{AreWrong, AskForText, Makes, Reads}
-use Rattle.age_words.proofs.RefusalLemmas.{shown, wrong}
+use Rattle.age_args.specs.declared.fault.ArgsFault.{ArgsFault}
+use Rattle.age_args.specs.declared.fault.ArgsFault.TheVariants.{Memory, Refused}
+use Rattle.age_args.specs.JobOf.{AreWrong, AskForText, Makes, Reads}
+use Rattle.age_args.proofs.RefusalLemmas.{shown, wrong}
 use Rattle.age_cli.specs.declared.failure.Failure.{Failure}
 use Rattle.age_commands.specs.declared.task.Task.{Task}
 use Rattle.age_cli.specs.Program.{AnswersRefusal, Begins, Completes, Finishes, FinishesOn, IsInput, IsOutput, IsTaskOf, PerformsOn, PerformsTo, UsesStreams, Works}

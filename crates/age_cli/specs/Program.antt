@@ -8,9 +8,9 @@ use Rattle.age_job.specs.declared.job.Command.TheVariants as command
 use Rattle.age_job.specs.declared.job.Job.{Job}
 use Rattle.age_job.specs.Secret.{IsFileKeyOf, IsNewSecret, IsSecretOf}
 use Rattle.age_job.specs.declared.secret.Secret.{Secret}
-use Rattle.age_words.specs.declared.fault.ArgsFault.{ArgsFault}
-use Rattle.age_words.specs.declared.fault.ArgsFault.TheVariants.{Memory, Refused}
-use Rattle.age_words.specs.JobOf.{AskForText, IsShown, Makes, header_limit}
+use Rattle.age_args.specs.declared.fault.ArgsFault.{ArgsFault}
+use Rattle.age_args.specs.declared.fault.ArgsFault.TheVariants.{Memory, Refused}
+use Rattle.age_args.specs.JobOf.{AskForText, IsShown, Makes, header_limit}
 use Rattle.age_cli.specs.declared.failure.Failure.{Failure}
 use Rattle.age_cli.specs.declared.failure.Fault.TheVariants.{AgeFile}
 use Rattle.age_commands.specs.declared.task.Task.{Task}

@@ -8,7 +8,7 @@ ghost use Rattle.age_header.specs.Verdict.{HeaderVerdict};
 ghost use Rattle.age_header.specs.declared.file_key.FileKey.{FileKey};
 ghost use Rattle.age_file.specs.AgeFile.{AgeFile};
 ghost use Rattle.age_job.specs.declared.job.Job.{Job};
-ghost use Rattle.age_words.specs.JobOf.{IsPiped, Makes};
+ghost use Rattle.age_args.specs.JobOf.{IsPiped, Makes};
 ghost use Rattle.age_file.specs.Rewrap.{Rewrapped};
 ghost use Rattle.age_file.specs.Verdict.{Answering, finding};
 ghost use Rattle.age_commands.specs.Inspect.{IsShown, check_of};

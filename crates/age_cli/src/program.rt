@@ -1,20 +1,20 @@
 //! The program, over a reader and two writers.
 ghost use Rattle.std.specs.Prelude.{◌≡◌, ◌≢◌, ◌≤◌, ◌⊎◌, None, IfOk, OnOk};
 ghost use Rattle.age_job.specs.Job.{IsInRange};
-ghost use Rattle.age_words.specs.JobOf.{AreWrong, AskForText};
-ghost use Rattle.age_words.specs.Words.{texts};
+ghost use Rattle.age_args.specs.JobOf.{AreWrong, AskForText};
+ghost use Rattle.age_args.specs.Words.{texts};
 ghost use Rattle.age_cli.specs.Program.{AnswersRefusal, Begins, BeginsWords, Completes, FinishesOn, FinishesWords, IsTaskOf, PerformsOn, UsesStreams};
 ghost use Rattle.age_header.specs.Device.{Stays, move_by};
 
 use crate::failure::{Failure, Fault};
 use crate::lines::LossLines;
 use crate::work::{input_name, kept_prefix, perform_to};
+use age_args::{ArgsFault, parse_args};
 use age_commands::{Report, Seed, Task, seed_of};
 use age_job::{
     Command, Job, Lines, Pipe, ReadFiles, SEED_LEN, Shown, Target, Watched, read_encrypt_secrets,
     read_file_key, read_rewrap_secrets, read_secret, refuse_output, shows_progress,
 };
-use age_words::{ArgsFault, parse_args};
 use std::alloc::Global;
 use std::fmt::Display;
 use std::io::{IsTerminal, Read, Seek, Write};

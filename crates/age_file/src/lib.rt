@@ -26,7 +26,7 @@
 //! The texts of the errors are in `fault`, the limits of a header and of the number of chunks in
 //! `limits`, the chunk size in `age_stream` (`src/sizes.rt`, `specs/Sizes.antt`), the range of work
 //! factors in `age_recipient` (`specs/PassphraseHolders.antt`), and the program's default work
-//! factors in `age_words` (`src/options.rt`). CONTRIBUTING.md, "Where a change goes", says what
+//! factors in `age_args` (`src/options.rt`). CONTRIBUTING.md, "Where a change goes", says what
 //! else changes with each.
 //!
 //! *What a contract sees.* `Limits` is the record `Bounds`, a header `HeaderParts`, and `Fresh` its

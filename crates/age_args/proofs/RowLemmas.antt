@@ -1,0 +1,71 @@
+-- What the values of options make of a job's fields.
+use Rattle.std.proofs.Common.{◌≡◌, ◌∙◌, ℕ, ◌+◌, ◌<◌, ◌≤◌, Bool, true, false, List, [], ◌∷◌, ◌++◌, length, map, take, get_or, Bor, Option, Some, None, Result, Ok, Err, IfSome, codes, option_map, unwrap_or, arith, ap, sym, refl, String, Global}
+use Rattle.std.specs.Option.{option_map_or}
+use Rattle.std.specs.Str.{bytes_eq}
+use Rattle.std.specs.Str.Parse.{ParsesBool, ParsesUnsigned}
+use Rattle.std.specs.String.{string_bytes}
+use Rattle.std.proofs.lemmas.List.{get_or-map, map_push, length-map, take_more}
+use Rattle.std.proofs.lemmas.Slice.Eq.{bytes_eq-Decides}
+use Rattle.clap.specs.Values.{IsUnsignedIn}
+use Rattle.clap.specs.Words.{ReadsOne, Text}
+use Rattle.std.specs.Option.{is_some}
+use Rattle.age_job.specs.Job.{IsBetween, NamesInput}
+use Rattle.age_job.specs.declared.job.Command.{Command}
+use Rattle.age_job.specs.declared.job.Command.TheVariants.{Range}
+use Rattle.age_args.specs.JobOf.{number_of}
+
+pub copies_take : (xs : List (Bor Text)) {i : ℕ} (d : Bor Text) (old : List (String Global))
+    {new : List (String Global)}
+    (text : String Global) → i < length xs
+    → map string_bytes old ≡ take i (map (λ a. a.now) xs) → new ≡ old ++ text ∷ []
+    → string_bytes text ≡ (get_or xs i d).now
+    → map string_bytes new ≡ take (i + 1) (map (λ a. a.now) xs)
+copies_take xs {i} d old text low h is same =
+    let low' : i < length (map (λ (a : Bor Text). a.now) xs) =
+    omega (arith, length-map xs (λ (a : Bor Text). a.now)) in
+    let at = get_or-map (λ (a : Bor Text). a.now) xs i d [] low in
+    ap (λ (z : List (String Global)). map string_bytes z) is ∙ map_push string_bytes old text
+    ∙ ap (λ (z : List Text). z ++ string_bytes text ∷ []) h
+    ∙ ap (λ (z : Text). take i (map (λ a. a.now) xs) ++ z ∷ []) (same ∙ sym at)
+    ∙ sym (take_more (map (λ a. a.now) xs) i [] low')
+
+pub number_read : {E : Type 0} (G : List ℕ → Result ℕ E → Type 0) {o : Option Text} {r : Option ℕ} (d : ℕ)
+    → (o ≡ None → r ≡ None) → ((t : List ℕ) → o ≡ Some t → ReadsOne G t r)
+    → ((u : List ℕ) (x : Result ℕ E) → G u x → ParsesUnsigned 64 10 u x)
+    → IfSome o (λ t. (least : ℕ) × (most : ℕ) × IsUnsignedIn least most t)
+    → unwrap_or r d ≡ option_map_or number_of o d
+number_read G {o = None} d none value only h = ap (λ x. unwrap_or x d) (none refl)
+number_read G {o = Some t} {r = Some n} d none value only h = (only t (Ok n) (value t refl)).1
+number_read G {o = Some t} {r = None} d none value only h =
+    let e = value t refl in absurd (only t (Err e.0) e.1 (h.2.0, h.2.1))
+
+pub flag_read : (E : Type 0) {o : Option Text} {r : Option Bool}
+    → (o ≡ None → r ≡ None) → ((t : List ℕ) → o ≡ Some t → ReadsOne (ParsesBool {E = E}) t r)
+    → unwrap_or r false ≡ option_map_or (λ t. bytes_eq t (codes "true")) o false
+flag_read E {o = None} none value = ap (λ x. unwrap_or x false) (none refl)
+flag_read E {o = Some t} {r = Some true} none value = sym ((bytes_eq-Decides t (codes "true")).1 (value t refl))
+flag_read E {o = Some t} {r = Some false} none value = sym (ap (λ x. bytes_eq x (codes "true")) (value t refl))
+flag_read E {o = Some t} {r = None} none value = go refl
+  where
+    go : {b : Bool} → bytes_eq t (codes "true") ≡ b → false ≡ b
+    go {b = false} e = refl
+    go {b = true} e = absurd ((value t refl).1.0 ((bytes_eq-Decides t (codes "true")).0 e))
+
+pub has_number : (least most : ℕ) (o : Option Text) → IfSome o (IsUnsignedIn least most)
+    → IfSome o (λ t. (least : ℕ) × (most : ℕ) × IsUnsignedIn least most t)
+has_number least most None h = h
+has_number least most (Some t) h = (least, most, h)
+
+pub in_range : {least most d : ℕ} (o : Option Text) → IfSome o (IsUnsignedIn least most)
+    → least ≤ d → d ≤ most → IsBetween least most (option_map_or number_of o d)
+in_range None h low high = (low, high)
+in_range (Some t) h low high = (h.2, h.3)
+
+abbrev pub nows : List (Bor Text) → List Text
+nows xs = map (λ t. t.now) xs
+
+pub names_input : {A : Type 0} (f : A → Text) (command : Command) (o : Option A) {v : Option Text} → option_map f o ≡ v
+    → NamesInput command v → NamesInput command o
+names_input f Range None e h = ap is_some e ∙ h
+names_input f Range (Some x) e h = refl
+names_input f command o e h = tt

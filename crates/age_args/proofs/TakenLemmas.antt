@@ -1,0 +1,456 @@
+-- Where `clap` finds no fault in the words, a subcommand of the program was named, and its values
+-- make a job.
+use Rattle.std.proofs.Common.{◌≡◌, ◌∙◌, ◌<◌, ◌⊎◌, inl, inr, ℕ, Bool, cond, true, false, true≢false, not, ◌&&◌, ◌||◌, ◌==◌, refl, sym, ap, subst, List, [], ◌∷◌, ◌++◌, length, Option, Some, None, IfSome, codes, arith, nat_lt, length-append, ltb-true}
+use Rattle.std.proofs.lemmas.Bool.{ne_eqb}
+use Rattle.std.proofs.lemmas.Slice.Eq.{bytes_eq-Decides}
+use Rattle.std.specs.Prelude.{if◌then◌else◌, is_some, slice_get, option_and_then, option_map, ⊤}
+use Rattle.std.specs.List.{find, list_all, list_any}
+use Rattle.std.specs.Option.{option_map_or}
+use Rattle.std.specs.Str.{bytes_eq}
+use Rattle.clap.specs.Facts.{explicit_source, parser_of_value, unwrap_or_range}
+use Rattle.clap.specs.Faults.{action_fault, entered_fault, fault_of, is_simple_and_free, given_default_fault, level_fault, values_fault}
+use Rattle.clap.specs.Kinds.{Kinds, or_else, range_kinds, value_kinds, values_kinds}
+use Rattle.clap.specs.Simple.{Shape, argument_words, built, entered, is_simple, label_of, names_of, rows_at, subcommand_of}
+use Rattle.clap.specs.Takes.{is_given}
+use Rattle.clap.specs.Values.{IsUnsignedIn, is_request, refused_kind}
+use Rattle.clap.specs.ValueTests.{accepts}
+use Rattle.clap.specs.Walk.{Row, Rule, Text, action_of, answers_to, at_row, default_rows, first_of, is_empty, most_values, nothing_held, reading_by, row_text, rows_after, stop_after, used_as, values_or_missing, with_values, without, has_row, more_values, used, with_default}
+use Rattle.clap.proofs.ValueTestLemmas.{accepts-Accepts}
+use Rattle.clap.specs.declared.builder.action.ArgAction.{ArgAction}
+use Rattle.clap.specs.declared.builder.action.ArgAction.TheVariants.{Set, Append, SetTrue, SetFalse, Count}
+use Rattle.clap.specs.declared.builder.value_parser.Reading.{Reading}
+use Rattle.clap.specs.declared.builder.value_parser.Reading.TheVariants.{AsWritten}
+use Rattle.clap.specs.declared.builder.value_parser.ValueParser.{ValueParser}
+use Rattle.clap.specs.declared.builder.value_parser.ValueParser.TheVariants as vp
+use Rattle.clap.specs.declared.error.kind.ErrorKind.{ErrorKind}
+use Rattle.clap.specs.declared.error.kind.ErrorKind.TheVariants.{InvalidValue}
+use Rattle.clap.specs.declared.parser.matches.ValueSource.{ValueSource}
+use Rattle.clap.specs.declared.parser.matches.ValueSource.TheVariants.{DefaultValue, CommandLine}
+use Rattle.age_args.specs.CommandLine.{agep}
+use Rattle.age_job.specs.Job.{NamesInput}
+use Rattle.age_args.specs.JobOf.{HasNumber, IsTaken, name_of}
+use Rattle.age_job.specs.declared.job.Command.{Command}
+use Rattle.age_job.specs.declared.job.Command.TheVariants.{Encrypt, Decrypt, Inspect, Range, Rewrap, Salvage}
+use Rattle.age_job.specs.declared.ranges.TheConstants.{MIN_HEADER_SIZE, MIN_WORK_FACTOR, MAX_HEADER_SIZE, MAX_OFFSET, MAX_WORK_FACTOR}
+use Rattle.age_args.proofs.Booleans.{both, neither, not_false, not_true, same_number}
+use Rattle.age_args.proofs.LevelLemmas.{DefaultsWell, Each, UsesWell, both_none, level_ok, test_fails}
+
+-- what the values of an option have to pass
+abbrev parser_for : Text → ValueParser
+parser_for id =
+    if bytes_eq id (codes "work") || bytes_eq id (codes "max-work") then vp.Unsigned MIN_WORK_FACTOR MAX_WORK_FACTOR
+    else if bytes_eq id (codes "max-header") then vp.Unsigned MIN_HEADER_SIZE MAX_HEADER_SIZE
+    else if bytes_eq id (codes "at") || bytes_eq id (codes "len") then vp.Unsigned 0 MAX_OFFSET
+    else vp.String
+
+abbrev Passes : Text → Text → Type 0
+Passes id v = accepts false (parser_for id) v ≡ true
+
+-- the values of a row pass, there is one, and it is read as it is written
+abbrev RowPasses : Row → Type 0
+RowPasses r = (r.reading ≡ AsWritten) × (0 < length r.values) × Each (Passes r.id) r.values
+
+-- ---- the rules of the command line, by a test
+
+abbrev covers : ValueParser → ValueParser → Bool
+covers vp.String q = true
+covers (vp.Unsigned a b) (vp.Unsigned x y) = a == x && b == y
+covers p q = false
+
+abbrev is_as_written : Reading → Bool
+is_as_written AsWritten = true
+is_as_written r = false
+
+abbrev is_count : ArgAction → Bool
+is_count Count = true
+is_count a = false
+
+abbrev has_value : Rule → Bool
+has_value a =
+    is_request (action_of a) || (nat_lt 0 (unwrap_or_range a.range).start_inclusive || nat_lt 0 (length a.missing))
+
+abbrev is_good : Rule → Bool
+is_good a = covers (parser_for a.id) (parser_of_value a.parser)
+    && (not a.ignore_case && (is_as_written (reading_by a) && (not (is_count (action_of a)) && has_value a)))
+
+-- ---- lists
+
+each_append : {X : Type 0} (P : X → Type 0) (xs ys : List X) → Each P xs → Each P ys → Each P (xs ++ ys)
+each_append P [] ys p q = q
+each_append P (x ∷ xs) ys p q = (p.0, each_append P xs ys p.1 q)
+
+-- ---- one row more or less
+
+at_row_passes : (id : Text) (change : Row → List Row) (missing rows : List Row)
+    → ((r : Row) → bytes_eq r.id id ≡ true → RowPasses r → Each RowPasses (change r)) → Each RowPasses missing
+    → Each RowPasses rows → Each RowPasses (at_row id change missing rows)
+at_row_passes id change missing [] c m q = m
+at_row_passes id change missing (r ∷ rs) c m q = go (at_row_passes id change missing rs c m q.1) refl
+  where
+    go : Each RowPasses (at_row id change missing rs) → {b : Bool} → bytes_eq r.id id ≡ b
+        → Each RowPasses (cond b (change r ++ rs) (r ∷ at_row id change missing rs))
+    go rest {b = true} e = each_append RowPasses (change r) rs (c r e q.0) q.1
+    go rest {b = false} e = (q.0, rest)
+
+without_passes : (id : Text) (rows : List Row) → Each RowPasses rows → Each RowPasses (without id rows)
+without_passes id rows q = at_row_passes id (λ _. []) [] rows (λ r e p. tt) tt q
+
+with_values_passes : (id : Text) {how : Reading} (s : ValueSource) (values : List Text) (rows : List Row)
+    → how ≡ AsWritten
+    → 0 < length values → Each (Passes id) values → Each RowPasses rows
+    → Each RowPasses (with_values id how s values rows)
+with_values_passes id s values rows written some pass q = search (at_row_passes, more)
+  where
+    more : (r : Row) → bytes_eq r.id id ≡ true → RowPasses r → Each RowPasses (more_values s values r)
+    more r e p =
+        let same : id ≡ r.id = sym ((bytes_eq-Decides r.id id).0 e) in (
+          (
+            p.0,
+            omega (arith, p.1, length-append r.values values),
+            each_append (Passes r.id) r.values values p.2 (rw same at pass),
+          ),
+          tt,
+        )
+
+-- ---- one use
+
+accepts_too : (p q : ValueParser) (v : Text) → covers p q ≡ true → accepts false q v ≡ true → accepts false p v ≡ true
+accepts_too vp.String q v f h = refl
+accepts_too (vp.Unsigned a b) (vp.Unsigned x y) v f h =
+    let same = both f in
+    let first : a ≡ x = same_number same.0 in
+    let second : b ≡ y = same_number same.1 in
+    rw (first, second) h
+accepts_too p q v f h = absurd (true≢false (sym f))
+
+test_passes : {b : Bool} (k : ErrorKind) → cond b [] (k ∷ []) ≡ [] → b ≡ true
+test_passes k f = grind arith
+
+values_pass : (id : Text) (parser : ValueParser) (values : List Text) → covers (parser_for id) parser ≡ true
+    → values_kinds false parser values ≡ [] → Each (Passes id) values
+values_pass id parser [] fits e = tt
+values_pass id parser (v ∷ vs) fits e = (
+  accepts_too (parser_for id) parser v fits (test_passes (refused_kind parser) (both_none e).0),
+  values_pass id parser vs fits (both_none e).1,
+)
+
+-- what the test says of a rule
+record IsGood (a : Rule) : Type 0 where
+  covered : covers (parser_for a.id) (parser_of_value a.parser) ≡ true
+  exact : a.ignore_case ≡ false
+  written : reading_by a ≡ AsWritten
+  no_count : is_count (action_of a) ≡ false
+  value : has_value a ≡ true
+
+reads : {r : Reading} → is_as_written r ≡ true → r ≡ AsWritten
+reads e = grind arith
+
+good_of : (a : Rule) → is_good a ≡ true → IsGood a
+good_of a e =
+    let (covers, (exact, (written, (no_count, value)))) = all_five e in
+    record { covered = covers; exact = exact; written = reads written; no_count = no_count; value = value }
+  where
+    all_five : {p q r s t : Bool} → (p && (not q && (r && (not s && t)))) ≡ true
+        → (p ≡ true) × ((q ≡ false) × ((r ≡ true) × ((s ≡ false) × (t ≡ true))))
+    all_five e = grind arith
+
+faults_pass : {a : Rule} → IsGood a → (values : List Text) → values_fault a values ≡ [] → Each (Passes a.id) values
+faults_pass {a} g values e = values_pass a.id (parser_of_value a.parser) values g.covered (rw g.exact at e)
+
+given_passes : {a : Rule} → IsGood a → (s : ValueSource) (values : List Text) (rows : List Row)
+    → nat_lt 0 (length values) ≡ true
+    → values_fault a values ≡ [] → Each RowPasses rows
+    → Each RowPasses (with_values a.id (reading_by a) s values rows)
+given_passes {a} g s values rows some e q =
+    with_values_passes a.id s values rows g.written (ltb-true 0 (length values) some) (faults_pass g values e) q
+
+stored : (again : Bool) {a : Rule} → IsGood a → (x : ArgAction) → is_count x ≡ false
+    → (values : List Text) (rows : List Row)
+    → (is_request x || nat_lt 0 (length values)) ≡ true
+    → action_fault x again a values rows ≡ [] → Each RowPasses rows
+    → Each RowPasses (used_as x a.id (reading_by a) values rows)
+stored again {a} g Set c values rows some e q =
+    given_passes g CommandLine values (without a.id rows) some (both_none e).1 (without_passes a.id rows q)
+stored again {a} g SetTrue c values rows some e q =
+    given_passes g CommandLine values (without a.id rows) some (both_none e).1 (without_passes a.id rows q)
+stored again {a} g SetFalse c values rows some e q =
+    given_passes g CommandLine values (without a.id rows) some (both_none e).1 (without_passes a.id rows q)
+stored again g Append c values rows some e q = given_passes g CommandLine values rows some e q
+stored again g Count c values rows some e q = absurd (true≢false c)
+stored again g x c values rows some e q = q
+
+or_other : {b c : Bool} → (b || c) ≡ true → (b && true) ≡ false → (b ≡ false) × (c ≡ true)
+or_other e f = grind arith
+
+one_value : (a : Rule) (values : List Text)
+    → (nat_lt 0 (unwrap_or_range a.range).start_inclusive || nat_lt 0 (length a.missing)) ≡ true
+    → range_kinds (unwrap_or_range a.range).start_inclusive (most_values a) (length values) ≡ []
+    → nat_lt 0 (length (values_or_missing a values)) ≡ true
+one_value a (v ∷ vs) some e = grind arith
+one_value a [] some e = (or_other some (test_fails InvalidValue [] e).0).1
+
+some_value : (a : Rule) (values : List Text) (b : Bool)
+    → (b || (nat_lt 0 (unwrap_or_range a.range).start_inclusive || nat_lt 0 (length a.missing))) ≡ true
+    → range_kinds (unwrap_or_range a.range).start_inclusive (most_values a) (length values) ≡ []
+    → (b || nat_lt 0 (length (values_or_missing a values))) ≡ true
+some_value a values true h e = refl
+some_value a values false h e = one_value a values h e
+
+used_well : (again : Bool) (a : Rule) → is_good a ≡ true → UsesWell again RowPasses a
+used_well again a good values rows e q =
+    let g = good_of a good in
+    let n = both_none e in
+    stored again g (action_of a) g.no_count (values_or_missing a values) rows
+    (some_value a values (is_request (action_of a)) g.value n.0) n.1 q
+
+defaults_well : (again : Bool) (a : Rule) → is_good a ≡ true → DefaultsWell again RowPasses a
+defaults_well again a good rows e q = go (has_row a.id rows) e
+  where
+    given : (values : List Text) → or_else (Rattle.clap.specs.Kinds.request_kinds (action_of a))
+        (values_fault a values) ≡ []
+        → Each RowPasses (default_rows a.id (reading_by a) values rows)
+    given [] f = q
+    given (v ∷ vs) f = given_passes (good_of a good) DefaultValue (v ∷ vs) rows (grind arith) (both_none f).1 q
+
+    tested : (values : List Text) → cond (is_empty values) [] (given_default_fault a values) ≡ []
+        → Each RowPasses (default_rows a.id (reading_by a) values rows)
+    tested [] f = q
+    tested (v ∷ vs) f = given (v ∷ vs) (rw (ne_eqb (length (v ∷ vs)) 0 (λ z. omega arith)) at f)
+
+    go : (b : Bool) → cond (b || is_empty a.defaults) [] (given_default_fault a a.defaults) ≡ []
+        → Each RowPasses (cond b rows (default_rows a.id (reading_by a) a.defaults rows))
+    go true f = q
+    go false f = tested a.defaults f
+
+-- ---- what the rows of a level give
+
+found_where : {X : Type 0} (U : X → Type 0) (p : X → Bool) (xs : List X) → Each U xs
+    → IfSome (find p xs) (λ x. (p x ≡ true) × U x)
+found_where U p [] h = tt
+found_where U p (x ∷ xs) h = go refl (found_where U p xs h.1)
+  where
+    go : {b : Bool} → p x ≡ b → IfSome (find p xs) (λ x. (p x ≡ true) × U x)
+        → IfSome (cond b (Some x) (find p xs)) (λ x. (p x ≡ true) × U x)
+    go {b = true} e i = (e, h.0)
+    go {b = false} e i = i
+
+has_number : {least most : ℕ} (id : Text) (rows : List Row) → parser_for id ≡ vp.Unsigned least most
+    → Each RowPasses rows → HasNumber least most id rows
+has_number {least} {most} id rows p q =
+    go (find (λ r. bytes_eq r.id id) rows) (found_where RowPasses (λ r. bytes_eq r.id id) rows q)
+  where
+    first : (r : Row) (values : List Text) → r.reading ≡ AsWritten → Each (Passes id) values
+        → IfSome (option_map (Rattle.clap.specs.Values.read_as r.reading) (slice_get values 0))
+        (IsUnsignedIn least most)
+    first r [] w e = tt
+    first r (v ∷ vs) w e =
+        rw w (accepts-Accepts false (vp.Unsigned least most) v (rw p at e.0))
+
+    go : (o : Option Row) → IfSome o (λ r. (bytes_eq r.id id ≡ true) × RowPasses r)
+        → IfSome (option_and_then row_text o) (IsUnsignedIn least most)
+    go None h = tt
+    go (Some r) (is, (written, some, passes)) =
+        first r r.values written (subst (λ (i : Text). Each (Passes i) r.values)
+        ((bytes_eq-Decides r.id id).0 is) passes)
+
+-- ---- what is required is there
+
+wanted_given : (id : Text) (rules : List Rule) (rows : List Row)
+    → list_any (λ a. a.required && not (is_given a.id rows)) rules ≡ false
+    → list_any (λ a. a.required && bytes_eq a.id id) rules ≡ true → is_given id rows ≡ true
+wanted_given id [] rows none some = absurd (true≢false (sym some))
+wanted_given id (a ∷ rest) rows none some = go (wanted_given id rest rows) a.required refl none some
+  where
+    go : (list_any (λ a. a.required && not (is_given a.id rows)) rest ≡ false
+        → list_any (λ a. a.required && bytes_eq a.id id) rest ≡ true → is_given id rows ≡ true)
+        → (r : Bool) {b : Bool} → bytes_eq a.id id ≡ b
+        → (r && not (is_given a.id rows) || list_any (λ a. a.required && not (is_given a.id rows)) rest) ≡ false
+        → (r && b || list_any (λ a. a.required && bytes_eq a.id id) rest) ≡ true → is_given id rows ≡ true
+    go ih true {b = true} e n f = ap (λ (i : Text). is_given i rows) (sym ((bytes_eq-Decides a.id id).0 e))
+        ∙ not_false (neither n).0
+    go ih true {b = false} e n f = ih (neither n).1 f
+    go ih false e n f = ih n f
+
+given_first : (id : Text) (rows : List Row) → Each RowPasses rows → is_given id rows ≡ true
+    → is_some (first_of id rows) ≡ true
+given_first id rows q g =
+    go (find (λ r. bytes_eq r.id id) rows) (found_where RowPasses (λ r. bytes_eq r.id id) rows q) g
+  where
+    first : (values : List Text) → 0 < length values → is_some (slice_get values 0) ≡ true
+    first [] h = absurd (omega arith)
+    first (v ∷ vs) h = refl
+
+    go : (o : Option Row) → IfSome o (λ r. (bytes_eq r.id id ≡ true) × RowPasses r)
+        → option_map_or (λ r. explicit_source r.source) o false ≡ true
+        → is_some (option_and_then (λ r. slice_get r.values 0) o) ≡ true
+    go None h e = cc
+    go (Some r) h e = first r.values h.1.1
+
+wanted_kind : {a b c : Bool} → Rattle.clap.specs.Kinds.check_kinds a b c ≡ [] → (a ≡ false) × (b ≡ false) × (c ≡ false)
+wanted_kind e = grind arith
+
+-- ---- a subcommand
+
+abbrev wants : Command → Shape → Bool
+wants Range s = list_any (λ a. a.required && bytes_eq a.id (codes "input")) s.rules
+wants command s = true
+
+abbrev is_good_for : Command → Shape → Bool
+is_good_for command s = not s.subcommand_negates_reqs && (list_all is_good s.rules && wants command s)
+
+-- the subcommand is `help`, or makes a job
+abbrev Makes : Shape → Type 0
+Makes s = (s.name ≡ codes "help") ⊎ ((command : Command) × (s.name ≡ name_of command) × (is_good_for command s ≡ true))
+
+all_make : Each (λ s. Makes s × (s.aliases ≡ [])) (built agep).subs
+all_make = (
+  (inr (Encrypt, refl, refl), refl),
+  (
+    (inr (Decrypt, refl, refl), refl),
+    (
+      (inr (Inspect, refl, refl), refl),
+      (
+        (inr (Range, refl, refl), refl),
+        (
+          (inr (Rewrap, refl, refl), refl),
+          (
+            (inr (Salvage, refl, refl), refl),
+            ((inl refl, refl), tt),
+          ),
+        ),
+      ),
+    ),
+  ),
+)
+
+each_of : {X : Type 0} {P : X → Type 0} (xs : List X) → ((x : X) → P x) → Each P xs
+each_of [] p = tt
+each_of (x ∷ xs) p = (p x, each_of xs p)
+
+each_good : {P : Rule → Type 0} (rules : List Rule) → ((a : Rule) → is_good a ≡ true → P a)
+    → list_all is_good rules ≡ true → Each P rules
+each_good [] p e = tt
+each_good (a ∷ rest) p e = let h = both e in (p a h.0, each_good rest p h.1)
+
+names_input : (command : Command) (s : Shape) (rows : List Row) → wants command s ≡ true → Each RowPasses rows
+    → list_any (λ a. a.required && not (is_given a.id rows)) s.rules ≡ false
+    → NamesInput command (first_of (codes "input") rows)
+names_input Range s rows w q n = given_first (codes "input") rows q (wanted_given (codes "input") s.rules rows n w)
+names_input command s rows w q n = tt
+
+level_taken : {command : Command} (s : Shape) (words : List Text) → is_good_for command s ≡ true
+    → level_fault s [] nothing_held words false [] ≡ []
+    → IsTaken command (rows_after s.rules [] words)
+level_taken {command} s words good e =
+    let g = both good in
+    let h = both g.1 in
+    let rows = rows_after s.rules [] words in
+    let level = level_ok s [] RowPasses (λ _. ⊤) (each_good s.rules (used_well s.args_override_self) h.0)
+    (each_good s.rules (defaults_well s.args_override_self) h.0) (λ _ _. tt) words false [] e in
+    let none = negated (not_true g.0) (wanted_kind level.2).2 in
+    record {
+      work = has_number (codes "work") rows refl level.0;
+      max_work = has_number (codes "max-work") rows refl level.0;
+      max_header = has_number (codes "max-header") rows refl level.0;
+      at = has_number (codes "at") rows refl level.0;
+      len = has_number (codes "len") rows refl level.0;
+      input = names_input command s rows h.1 level.0 none;
+    }
+  where
+    negated : {b c : Bool} → b ≡ false → (not (b && false) && c) ≡ false → c ≡ false
+    negated e f = grind arith
+
+abbrev pub Taken : Text → List Row → Type 0
+Taken name rows = (command : Command) × (name ≡ name_of command) × IsTaken command rows
+
+anything : (rows : List Row) → Each (λ (r : Row). ⊤) rows
+anything rows = each_of rows (λ _. tt)
+
+no_help : (words : List Text) (has : Bool) (below : Kinds)
+    → level_fault (built agep).top (names_of (built agep)) nothing_held words has below ≡ []
+    → IfSome (stop_after (built agep).top.rules (names_of (built agep)) words)
+    (λ p. bytes_eq p.0 (codes "help") ≡ false)
+no_help words has below none =
+    (level_ok (built agep).top (names_of (built agep)) (λ _. ⊤) (λ name. bytes_eq name (codes "help") ≡ false)
+    (each_of {P = UsesWell (built agep).top.args_override_self (λ _. ⊤)} (built agep).top.rules
+    (λ a values rows e q. anything (used a values rows)))
+    (each_of {P = DefaultsWell (built agep).top.args_override_self (λ _. ⊤)} (built agep).top.rules
+    (λ a rows e q. anything (with_default rows a)))
+    (λ name e. plain e) words has below none).1
+  where
+    plain : {b : Bool} → (b && true) ≡ false → b ≡ false
+    plain e = grind arith
+
+-- `help` is entered only by its name
+is_help : (s : Shape) (word : Text) → s.name ≡ codes "help" → s.aliases ≡ [] → answers_to word (label_of s) ≡ true
+    → bytes_eq word (codes "help") ≡ true
+is_help s word name none e =
+    (bytes_eq-Decides word (codes "help")).1
+    (sym ((bytes_eq-Decides (codes "help") word).0 (one (rw (name, none) at e))))
+  where
+    one : {b : Bool} → (b || false) ≡ true → b ≡ true
+    one e = grind arith
+
+pair_same : {a b : Text} {x y : List Row} → ◌≡◌ {A = Option (Text × List Row)} (Some (a, x)) (Some (b, y)) → (a ≡ b)
+    × (x ≡ y)
+pair_same {a} {b} {x} {y} e =
+    let same : ◌≡◌ {A = Text × List Row} (a, x) (b, y) = cc in
+    (ap (λ (p : Text × List Row). p.0) same, ap (λ (p : Text × List Row). p.1) same)
+
+at_shape : {name : Text} {rows : List Row} (p : Text × List Text) → bytes_eq p.0 (codes "help") ≡ false
+    → (o : Option Shape)
+    → IfSome o (λ s. (answers_to p.0 (label_of s) ≡ true) × (Makes s × (s.aliases ≡ [])))
+    → option_map_or (λ s. level_fault s [] nothing_held p.1 false []) o [] ≡ []
+    → option_map (λ s. rows_at s p.1) o ≡ Some (name, rows) → Taken name rows
+at_shape p not_help None h e f = cc
+at_shape p not_help (Some s) h e f =
+    let same = pair_same f in
+    elim h.1.0 [
+      | inl help ↦ absurd (true≢false (sym (is_help s p.0 help h.1.1 h.0) ∙ not_help))
+      | inr made ↦ (made.0, sym same.0 ∙ made.1, subst (IsTaken made.0) same.1 (level_taken s p.1 made.2 e))
+    ]
+
+at_stop : {name : Text} {rows : List Row} (o : Option (Text × List Text))
+    → IfSome o (λ p. bytes_eq p.0 (codes "help") ≡ false)
+    → entered_fault (built agep) o ≡ [] → entered (built agep) o ≡ Some (name, rows) → Taken name rows
+at_stop None h e f = cc
+at_stop (Some p) h e f =
+    at_shape p h (find (λ s. answers_to p.0 (label_of s)) (built agep).subs)
+    (found_where (λ s. Makes s × (s.aliases ≡ [])) (λ s. answers_to p.0 (label_of s)) (built agep).subs all_make) e
+    f
+
+-- where there is no fault, the subcommand that was named is a command of the program, and its values
+-- make a job
+pub taken : (words : List Text) {name : Text} {rows : List Row} → fault_of agep words ≡ []
+    → subcommand_of agep words ≡ Some (name, rows) → Taken name rows
+taken words none is =
+    let given = argument_words agep words in
+    let stop = stop_after (built agep).top.rules (names_of (built agep)) given in
+    at_stop stop (no_help given (is_some (entered (built agep) stop)) (entered_fault (built agep) stop) none)
+    (both_none (both_none none).1).0 is
+
+-- ---- the name of a command
+
+command_of : Text → Option Command
+command_of name =
+    if bytes_eq name (codes "encrypt") then Some Encrypt
+    else if bytes_eq name (codes "decrypt") then Some Decrypt
+    else if bytes_eq name (codes "inspect") then Some Inspect
+    else if bytes_eq name (codes "range") then Some Range
+    else if bytes_eq name (codes "rewrap") then Some Rewrap
+    else if bytes_eq name (codes "salvage") then Some Salvage
+    else None
+
+known : (command : Command) → command_of (name_of command) ≡ Some command
+unfolding command_of
+known Encrypt = refl
+known command = refl
+
+pub one_command : {a b : Command} → name_of a ≡ name_of b → a ≡ b
+one_command {a} {b} e = let same : Some a ≡ Some b = sym (known a) ∙ ap command_of e ∙ known b in cc
+
+pub agep_is_free : is_simple_and_free agep ≡ true
+agep_is_free = refl
+
+pub agep_is_simple : is_simple agep ≡ true
+agep_is_simple = refl

@@ -1,0 +1,104 @@
+-- What the words of a command line name.
+use Rattle.std.proofs.Common.{◌≡◌, ◌∙◌, ◌⊎◌, inl, inr, ap, refl, sym, subst, true, codes, arith, length, map, get_or, Bor, List, [], ◌∷◌, Option, Some, Result, Ok, Err}
+use Rattle.std.specs.Prelude.{option_map}
+use Rattle.std.specs.Result.{IsErrAnd}
+use Rattle.std.specs.Str.{bytes_eq}
+use Rattle.std.proofs.lemmas.Slice.Eq.{bytes_eq-Decides}
+use Rattle.clap.specs.Words.{App, HasKind, HasMatchesOf, IsAmong, kind_of, Row, Text, app_of, fault_of, is_simple, is_simple_and_free, subcommand_name_of, subcommand_of, subcommand_rows_of}
+use Rattle.clap.proofs.OnLiterals.{clap_on_literals}
+use Rattle.clap.specs.declared.builder.command.Command.{Command}
+use Rattle.clap.specs.declared.error.Error.{Error}
+use Rattle.clap.specs.declared.error.kind.ErrorKind.TheVariants.{DisplayHelp, InvalidSubcommand}
+use Rattle.clap.specs.declared.parser.matches.ArgMatches.{ArgMatches}
+use Rattle.age_args.specs.CommandLine.{agep}
+use Rattle.age_args.specs.JobOf.{AsksForHelp, Becomes, IsJobOf, JobOf, Reads, name_of}
+use Rattle.age_job.specs.declared.job.Job.{Job}
+use Rattle.age_args.specs.declared.fault.ArgsFault.{ArgsFault}
+use Rattle.age_args.specs.declared.fault.ArgsFault.TheVariants.{Memory, Refused}
+use Rattle.age_args.proofs.SubcommandLemmas.{subcommand_is}
+use Rattle.age_args.proofs.TakenLemmas.{Taken, agep_is_free, agep_is_simple, taken}
+
+-- the words name this subcommand with these values, and nothing is wrong with them
+pub record Named (words : List Text) (name : Text) (rows : List Row) : Type 0 where
+  pub is : subcommand_of agep words ≡ Some (name, rows)
+  pub faultless : fault_of agep words ≡ []
+  pub taken : Taken name rows
+
+pub named : (command : Command) {words : List Text} (m : ArgMatches) {name : Text} {rows : List Row}
+    → app_of command ≡ agep
+    → HasMatchesOf (app_of command) words m
+    → (is_simple_and_free (app_of command) ≡ true → fault_of (app_of command) words ≡ [])
+    → Some name ≡ subcommand_name_of m → Some rows ≡ option_map (λ p. p.1) (subcommand_rows_of m)
+    → Named words name rows
+named command {words} m {name} {rows} app matches kinds is_name are_rows =
+    let simple = ap is_simple app ∙ agep_is_simple in
+    let is : subcommand_of agep words ≡ Some (name, rows) =
+    sym ((matches simple).1 ∙ ap (λ (a : App). subcommand_of a words) app)
+    ∙ subcommand_is m is_name are_rows in
+    let faultless : fault_of agep words ≡ [] = sym (ap (λ (a : App). fault_of a words) app)
+    ∙ kinds (ap is_simple_and_free app ∙ agep_is_free) in
+    record { is = is; faultless = faultless; taken = taken words faultless is }
+
+help_fault : fault_of agep (codes "agep" ∷ codes "--help" ∷ []) ≡ DisplayHelp ∷ []
+unfolding clap_on_literals
+help_fault = refl
+
+long_fault : (program : Text) → fault_of agep (program ∷ codes "help" ∷ codes "--help" ∷ []) ≡ DisplayHelp ∷ InvalidSubcommand ∷ []
+unfolding clap_on_literals
+long_fault program = refl
+
+short_fault : (program : Text) → fault_of agep (program ∷ codes "help" ∷ codes "-h" ∷ []) ≡ DisplayHelp ∷ InvalidSubcommand ∷ []
+unfolding clap_on_literals
+short_fault program = refl
+
+help_is : {words : List Text} → AsksForHelp words → fault_of agep words ≡ DisplayHelp ∷ InvalidSubcommand ∷ []
+help_is (program, option, is, inl long) =
+    ap (fault_of agep) is
+    ∙ (ap (λ (o : Text). fault_of agep (program ∷ codes "help" ∷ o ∷ [])) long ∙ long_fault program)
+help_is (program, option, is, inr short) =
+    ap (fault_of agep) is
+    ∙ (ap (λ (o : Text). fault_of agep (program ∷ codes "help" ∷ o ∷ [])) short ∙ short_fault program)
+
+pub help_read : {words : List Text} (result : Result Job ArgsFault) → AsksForHelp words
+    → Reads (codes "agep" ∷ codes "--help" ∷ []) result → Reads words result
+help_read (Ok job) asks h = let none = sym help_fault ∙ h.0 in cc
+help_read (Err Memory) asks h = tt
+help_read (Err (Refused error)) asks h = elim (rw help_fault at h) [
+  | inl is ↦ rw (help_is asks) (inl is)
+  | inr bad ↦ absurd bad
+]
+
+pub made : {words : List Text} {name : Text} {rows : List Row} {job : Job} → Named words name rows
+    → name ≡ name_of job.command → JobOf rows job
+    → Reads words (Ok job)
+made {job} n is of =
+    (n.faultless, subst (λ (o : Option (Text × List Row)). IsJobOf o job) (sym n.is) (is, of))
+
+pub refusal : (words : List Text) (command : Command) (error : Error) (result : Result Job ArgsFault)
+    → app_of command ≡ agep
+    → IsErrAnd result (Becomes error)
+    → (is_simple_and_free (app_of command) ≡ true → HasKind (fault_of (app_of command) words) error)
+    → Reads words result
+refusal words command error (Ok job) app becomes kinds = absurd becomes
+refusal words command error (Err Memory) app becomes kinds = tt
+refusal words command error (Err (Refused refused)) app becomes kinds =
+    let free = ap is_simple_and_free app ∙ agep_is_free in
+    elim (subst (λ (a : App). HasKind (fault_of a words) error) app (kinds free)) [
+      | inl memory ↦ absurd (becomes.1 memory)
+      | inr among ↦ subst (λ (e : Error). IsAmong (kind_of e) (fault_of agep words)) (sym becomes.0) among
+    ]
+
+pub asks : (words : List (Bor Text)) (d e : Bor Text) {option : Text} → length words ≡ 3
+    → bytes_eq (get_or words 1 d).now (codes "help") ≡ true
+    → bytes_eq (get_or words 2 e).now option ≡ true → (option ≡ codes "--help") ⊎ (option ≡ codes "-h")
+    → AsksForHelp (map (λ w. w.now) words)
+asks [] d e n help same is = absurd (omega arith)
+asks (p ∷ []) d e n help same is = absurd (omega arith)
+asks (p ∷ h ∷ []) d e n help same is = absurd (omega arith)
+asks (p ∷ h ∷ o ∷ []) d e {option} n help same is = (
+  p.now,
+  o.now,
+  ap (λ (t : Text). p.now ∷ t ∷ o.now ∷ []) ((bytes_eq-Decides h.now (codes "help")).0 help),
+  subst (λ (t : Text). (t ≡ codes "--help") ⊎ (t ≡ codes "-h")) (sym ((bytes_eq-Decides o.now option).0 same)) is,
+)
+asks (p ∷ h ∷ o ∷ x ∷ xs) d e n help same is = absurd (omega arith)
