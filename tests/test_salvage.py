@@ -52,7 +52,7 @@ def saved(payload, is_changed=False):
     if is_last is False or (is_rest and not is_behind):
         lines.append(f"the file is cut short: the plaintext from byte {len(text)} on is missing")
     elif padding:
-        lines.append(f"{padding} bytes follow chunk {i}, which is the last")
+        lines.append(f"chunk {i} is the last; bytes after it: {padding}")
     elif is_last is None and plain and early is None:
         lines.append(f"the file ends after {len(piece)} bytes of chunk {i}: more may be missing")
     return text, lines

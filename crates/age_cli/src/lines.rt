@@ -122,9 +122,7 @@ impl<'a, 'b, E: Write> Report for LossLines<'a, 'b, E> {
         }
         let number = chunks.saturating_sub(1);
         if let Saved::Padded(padding) = last {
-            self.print(&format_args!(
-                "{padding} bytes follow chunk {number}, which is the last"
-            ));
+            self.print(&format_args!("chunk {number} is the last; bytes after it: {padding}"));
         } else if early.is_none() && last == Saved::Zeros {
             let len = bytes.saturating_sub(1) % CHUNK_SIZE as u128 + 1 + TAG_SIZE as u128;
             self.print(&format_args!(
