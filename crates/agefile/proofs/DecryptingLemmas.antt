@@ -1,25 +1,7 @@
 -- Opening the sealed chunks of a payload into a buffer.
-use Rattle.std.proofs.Common.{◌≡◌, ◌⊎◌, ℕ, ◌+◌, ◌-◌, ◌*◌, ◌<◌, ◌≤◌, [], ◌++◌, length, take, drop, min, nat_le, sym, ◌∙◌, ap, refl, arith, inl, inr, append_assoc, length-append, length-drop, Option, Some, None, Result, Ok, Err}
-use Rattle.std.specs.Prelude.{option_map}
-use Rattle.std.proofs.lemmas.Bool.{le-leb, lt-leb}
-use Rattle.std.proofs.lemmas.List.{append-nil, drop-drop, length-take-le, take-append-drop, take_all}
-use Rattle.std.proofs.Math.Seq.{drop-append_seam, take-append_seam}
-use Rattle.age_kdf.specs.Bytes.{Bytes}
-use Rattle.age_stream.specs.declared.fault.StreamFault.{StreamFault}
+use Rattle.agefile.proofs.Common.{◌≡◌, ◌⊎◌, ℕ, ◌+◌, ◌-◌, ◌*◌, ◌<◌, ◌≤◌, [], ◌++◌, length, take, drop, min, nat_le, sym, ◌∙◌, ap, refl, arith, inl, inr, append_assoc, length-append, length-drop, Option, Some, None, Result, Ok, Err, option_map, le-leb, lt-leb, append-nil, drop-drop, length-take-le, take-append-drop, take_all, drop-append_seam, take-append_seam, Bytes, StreamFault, Reading, first_outcome, outcome, reading_from, chunk_size, sealed_chunk_size, Fault, Answering, IsVerdict, reading_after, stream_fault, Report, Start, code_of, Decrypts, GivesFirst, GivesReading, Exceeds, Fits, limits, opened_len, report_of, FindsStart}
 use Rattle.age_stream.specs.Opening.{GivesText}
-use Rattle.age_stream.specs.Reading.{Reading, first_outcome, outcome, reading_from}
-use Rattle.age_stream.specs.Sizes.{chunk_size, sealed_chunk_size}
 use Rattle.age_stream.proofs.WritesAllLemmas.{before, first_err, first_ok}
-use Rattle.age_file.specs.declared.fault.Fault.{Fault}
-use Rattle.age_file.specs.Verdict.{Answering, IsVerdict, reading_after, stream_fault}
-use Rattle.agefile.specs.declared.report.Report.{Report}
-use Rattle.agefile.specs.declared.start.Start.{Start}
-use Rattle.agefile.specs.Codes.{code_of}
-use Rattle.agefile.specs.WholeFiles.{Decrypts, GivesFirst, GivesReading}
-use Rattle.agefile.specs.Giving.{Exceeds, Fits}
-use Rattle.agefile.specs.Sizes.{limits, opened_len}
-use Rattle.agefile.specs.Report.{report_of}
-use Rattle.agefile.specs.Unlock.{FindsStart}
 use Rattle.agefile.proofs.SizeLemmas.{first_cut}
 use Rattle.agefile.proofs.VerdictLemmas.{IsVerdictFrom, verdict_from}
 

@@ -1,27 +1,11 @@
 -- What is found in a beginning of a file: in one that holds its header and its nonce, as its first 65,552 bytes do, and
 -- in one that ends within them.
-use Rattle.std.proofs.Common.{◌≡◌, ◌≢◌, ◌⊎◌, ℕ, ◌+◌, ◌-◌, ◌<◌, ◌≤◌, List, ◌++◌, length, take, drop, min, sym, ◌∙◌, ap, refl, subst, arith, inl, inr, append_assoc, length-append, length-drop, length-take, take-append-drop, codes, Result, Ok, Err}
-use Rattle.std.proofs.lemmas.Bool.{cases_lt, le-ltb, lt-ltb}
-use Rattle.std.proofs.lemmas.List.{drop-take, take-append-le, take-take, take_all}
-use Rattle.age_kdf.specs.Bytes.{Bytes}
+use Rattle.agefile.proofs.Common.{◌≡◌, ◌≢◌, ◌⊎◌, ℕ, ◌+◌, ◌-◌, ◌<◌, ◌≤◌, List, ◌++◌, length, take, drop, min, sym, ◌∙◌, ap, refl, subst, arith, inl, inr, append_assoc, length-append, length-drop, length-take, take-append-drop, codes, Result, Ok, Err, cases_lt, le-ltb, lt-ltb, drop-take, take-append-le, take-take, take_all, Bytes, line, version_line, version_size, AreLines, BeginsAsAge, Found, Finds, HeaderVerdict, lines_text, length-version_line, FileKey, Fault, HeaderTruncated, NonceTruncated, Answering, parts_of, header_key, Payload, Report, Start, fault_code, limits, front_size, IsStart, Opens, StartsAt, start_under}
 use Rattle.age_header.specs.declared.fault.HeaderFault.TheVariants.{Truncated}
-use Rattle.age_header.specs.Header.{line, version_line, version_size}
-use Rattle.age_header.specs.Verdict.{AreLines, BeginsAsAge, Found, Finds, HeaderVerdict, lines_text}
-use Rattle.age_header.proofs.LengthLemmas.{length-version_line}
 use Rattle.age_header.proofs.LinesLemmas.{lines_prefix}
 use Rattle.age_header.proofs.VerdictFirstLineLemmas.{cap_prefix}
 use Rattle.age_header.proofs.VerdictPathLemmas.{both, take_past}
 use Rattle.age_header.proofs.VerdictUniqueLemmas as headers
-use Rattle.age_header.specs.declared.file_key.FileKey.{FileKey}
-use Rattle.age_file.specs.declared.fault.Fault.{Fault}
-use Rattle.age_file.specs.declared.fault.Fault.TheVariants.{HeaderTruncated, NonceTruncated}
-use Rattle.age_file.specs.Verdict.{Answering, parts_of, header_key}
-use Rattle.agefile.specs.declared.payload.Payload.{Payload}
-use Rattle.agefile.specs.declared.report.Report.{Report}
-use Rattle.agefile.specs.declared.start.Start.{Start}
-use Rattle.agefile.specs.Codes.{fault_code}
-use Rattle.agefile.specs.Sizes.{limits, front_size}
-use Rattle.agefile.specs.Unlock.{IsStart, Opens, StartsAt, start_under}
 use Rattle.agefile.proofs.HeaderLemmas.{whole_verdict}
 use Rattle.agefile.proofs.UnlockLemmas.{found_start, opened_start, under}
 

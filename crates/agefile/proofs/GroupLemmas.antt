@@ -1,21 +1,7 @@
 -- What calls on a payload and on its parts give, one chunk after another and in groups.
-use Rattle.std.proofs.Common.{◌≡◌, ◌∙◌, ℕ, ◌+◌, ◌++◌, List, [], ◌∷◌, length, take, Bool, true, false, sym, ap, ap₂, refl, arith, inl, inr, append_assoc, length-append, Result, Ok, Err}
-use Rattle.std.specs.List.{concat}
-use Rattle.std.proofs.lemmas.List.{append-nil}
-use Rattle.std.proofs.Math.Seq.{take-append_seam}
-use Rattle.age_kdf.specs.Bytes.{Bytes}
-use Rattle.age_cipher.specs.Sealing.{sealed_text}
-use Rattle.age_stream.specs.declared.fault.StreamFault.{StreamFault}
-use Rattle.age_stream.specs.Payload.{chunk_nonce, is_end, sealed_chunks_from}
-use Rattle.age_stream.specs.Reading.{first_fault, outcome, outcomes, plaintext_of}
-use Rattle.age_file.specs.Verdict.{stream_fault}
+use Rattle.agefile.proofs.Common.{◌≡◌, ◌∙◌, ℕ, ◌+◌, ◌++◌, List, [], ◌∷◌, length, take, Bool, true, false, sym, ap, ap₂, refl, arith, inl, inr, append_assoc, length-append, Result, Ok, Err, concat, append-nil, take-append_seam, Bytes, sealed_text, StreamFault, chunk_nonce, is_end, sealed_chunks_from, first_fault, outcome, outcomes, plaintext_of, stream_fault, Payload, Report, OpensPiece, PartOpens, PartSeals, Runs, Seals, TakesSome, all_of, unended_chunks, Opened, OpensNext, SealsNext, limits}
 use Rattle.agefile.specs.declared.part.Part.{Part}
-use Rattle.agefile.specs.declared.payload.Payload.{Payload}
-use Rattle.agefile.specs.declared.report.Report.{Report}
-use Rattle.agefile.specs.Groups.{OpensPiece, PartOpens, PartSeals, Runs, Seals, TakesSome, all_of, unended_chunks}
 use Rattle.agefile.specs.Part as part
-use Rattle.agefile.specs.Payload.{Opened, OpensNext, SealsNext}
-use Rattle.agefile.specs.Sizes.{limits}
 use Rattle.agefile.proofs.RunLemmas.{fitting, some_code, text_of}
 
 -- ---- any calls

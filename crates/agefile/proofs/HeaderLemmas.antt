@@ -1,32 +1,9 @@
 -- The header in front of bytes that lie in memory.
-use Rattle.std.proofs.Common.{◌≡◌, ◌⊎◌, ℕ, ◌<◌, ◌≤◌, ◌-◌, ◌^◌, List, [], ◌∷◌, ◌++◌, length, length-take, take, map, flat_map, min, ◌∙◌, ap, refl, inl, inr, arith, Some, None, Result, Ok, Err}
-use Rattle.std.specs.Prelude.{String, IfOk}
-use Rattle.std.proofs.lemmas.List.{take-take}
-use Rattle.std.specs.Global.{Global}
-use Rattle.std.specs.String.{string_bytes}
-use Rattle.std.specs.List.{join_by}
-use Rattle.age_kdf.specs.Bytes.{Bytes}
-use Rattle.age_header.specs.Device.{CountsIf, Flow}
-use Rattle.age_header.specs.declared.fault.HeaderFault.{HeaderFault}
+use Rattle.agefile.proofs.Common.{◌≡◌, ◌⊎◌, ℕ, ◌<◌, ◌≤◌, ◌-◌, ◌^◌, List, [], ◌∷◌, ◌++◌, length, length-take, take, map, flat_map, min, ◌∙◌, ap, refl, inl, inr, arith, Some, None, Result, Ok, Err, String, IfOk, take-take, Global, string_bytes, join_by, Bytes, CountsIf, Flow, HeaderFault, Head, HeaderParts, Found, HeaderVerdict, ReadsHeaderOf, one_text, begins_found, reads_known, Fault, OutOfMemory, Inspects, file_result, finding, header_fault, Report, fault_code, Refuses, Returns, report_of, GivesStanzas, HeaderOf, Inspected, InspectsStanzas, arguments_text, limits, front_size}
 use Rattle.age_header.specs.declared.fault.HeaderFault.TheVariants as header
-use Rattle.age_header.specs.Header.{Head, HeaderParts}
-use Rattle.age_header.specs.Verdict.{Found, HeaderVerdict}
-use Rattle.age_header.specs.Reader.{ReadsHeaderOf}
-use Rattle.age_header.proofs.HeaderLemmas.{one_text}
-use Rattle.age_header.proofs.VerdictUniqueLemmas.{begins_found}
-use Rattle.age_header.proofs.ReaderLemmas.{reads_known}
-use Rattle.age_file.specs.declared.fault.Fault.{Fault}
-use Rattle.age_file.specs.declared.fault.Fault.TheVariants.{OutOfMemory}
 use Rattle.age_file.specs.Device.{is_read}
-use Rattle.age_file.specs.Inspect.{Inspects, file_result}
-use Rattle.age_file.specs.Verdict.{finding, header_fault}
 use Rattle.agefile.specs.declared.inspecting.StanzaSummary.{StanzaSummary}
 use Rattle.agefile.specs.declared.inspecting.Summary.{Summary}
-use Rattle.agefile.specs.declared.report.Report.{Report}
-use Rattle.agefile.specs.Codes.{fault_code}
-use Rattle.agefile.specs.Report.{Refuses, Returns, report_of}
-use Rattle.agefile.specs.Inspect.{GivesStanzas, HeaderOf, Inspected, InspectsStanzas, arguments_text}
-use Rattle.agefile.specs.Sizes.{limits, front_size}
 
 -- what a reader returned
 pub header_found : {b : Bytes} {source : Flow} {r : Result HeaderParts Fault} → source.before.to_come ≡ Some b

@@ -1,34 +1,11 @@
 -- A header that is made of a text of stanzas, and a new file that begins with it.
-use Rattle.std.proofs.Common.{◌≡◌, ◌≢◌, ℕ, ◌+◌, ◌-◌, ◌<◌, ◌≤◌, Bool, true, false, List, [], ◌∷◌, ◌++◌, length, take, replicate, codes, cond, sym, ◌∙◌, ap, refl, arith, inl, inr, length-append, append_assoc, Vec, Result, Ok, Err}
-use Rattle.std.specs.Prelude.{String, IfOk, slice_index}
-use Rattle.std.specs.Global.{Global}
-use Rattle.std.specs.String.{string_bytes}
-use Rattle.std.proofs.lemmas.Bool.{cases_lt, le-ltb, lt-ltb}
-use Rattle.std.proofs.lemmas.List.{append-nil, append_cancel_left, nil_from_length, take_at}
-use Rattle.age_kdf.specs.Bytes.{Bytes}
+use Rattle.agefile.proofs.Common.{◌≡◌, ◌≢◌, ℕ, ◌+◌, ◌-◌, ◌<◌, ◌≤◌, Bool, true, false, List, [], ◌∷◌, ◌++◌, length, take, replicate, codes, cond, sym, ◌∙◌, ap, refl, arith, inl, inr, length-append, append_assoc, Vec, Result, Ok, Err, String, IfOk, slice_index, Global, string_bytes, cases_lt, le-ltb, lt-ltb, append-nil, append_cancel_left, nil_from_length, take_at, Bytes, AreStanzas, Head, HeaderParts, StanzaParts, line, IsStanza, header_mac, length-line, length-version_line, begins_found, characters_are, FileKey, Fault, BadLine, MixedPassphrase, OutOfMemory, is_mixed, AgeFile, finding, header_fault, err_err, FindsMac, HasStanzas, MakesHeader, ReadsAs, heading, gathering_of, in_text, lines_in, probe, unless_mixed, HeaderOf, file_len, limits, sealed_len, b64_size, key_header, pass_header, reading, payload, IsNewFile}
 use Rattle.age_header.specs.Base64.{IsBase64, base64_of}
-use Rattle.age_header.specs.Header.{AreStanzas, Head, HeaderParts, StanzaParts, line, version_line, IsStanza}
-use Rattle.age_header.specs.Mac.{header_mac}
-use Rattle.age_header.proofs.LengthLemmas.{length-line, length-version_line}
-use Rattle.age_header.proofs.VerdictUniqueLemmas.{begins_found}
-use Rattle.age_header.proofs.TextLemmas.{characters_are}
-use Rattle.age_header.specs.declared.file_key.FileKey.{FileKey}
-use Rattle.age_file.specs.declared.fault.Fault.{Fault}
-use Rattle.age_file.specs.declared.fault.Fault.TheVariants.{BadLine, MixedPassphrase, OutOfMemory}
-use Rattle.age_file.specs.AgeFile.{is_mixed, AgeFile}
-use Rattle.age_file.specs.Verdict.{finding, header_fault}
+use Rattle.age_header.specs.Header.{version_line}
 use Rattle.age_file.specs.NewFile.{IsHeading}
-use Rattle.age_file.proofs.DecryptLemmas.{err_err}
-use Rattle.agefile.specs.Heading.{FindsMac, HasStanzas, MakesHeader, ReadsAs, heading, gathering_of, in_text, lines_in, probe, unless_mixed}
-use Rattle.agefile.specs.Inspect.{HeaderOf}
-use Rattle.agefile.specs.Sizes.{file_len, limits, sealed_len}
-use Rattle.age_recipient.proofs.HeaderSizeLemmas.{b64_size, key_header, pass_header}
 use Rattle.agefile.proofs.UnlockLemmas.{Fronts, ok_ok}
-use Rattle.age_header.proofs.HeaderLemmas.{reading}
 use Rattle.age_recipient.specs.KeyedStanza.{keyed_stanza}
 use Rattle.age_recipient.specs.PassphraseStanza.{pass_stanza}
-use Rattle.age_stream.specs.Payload.{payload}
-use Rattle.agefile.specs.WholeFiles.{IsNewFile}
 use Rattle.agefile.proofs.SizeLemmas.{payload_size}
 
 -- ---- the MAC

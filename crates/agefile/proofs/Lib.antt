@@ -1,3 +1,4 @@
+mod Common
 mod DecryptingLemmas
 mod FrontLemmas
 mod GroupLemmas

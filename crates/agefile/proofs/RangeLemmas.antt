@@ -1,18 +1,8 @@
 -- The pieces of a payload by their places in the file.
-use Rattle.std.proofs.Common.{◌≡◌, refl, ℕ, [], ◌++◌, ◌+◌, ◌-◌, ◌*◌, ◌/◌, ◌%◌, ◌<◌, length, take, drop, nat_le, sym, ◌∙◌, ap, arith, true, Bool, Some, Ok}
-use Rattle.std.proofs.lemmas.List.{length-drop, length-take, drop-drop, take_all, take_min}
-use Rattle.age_kdf.specs.Bytes.{Bytes}
-use Rattle.age_cipher.proofs.OpeningLemmas.{length-sealed_text, opened_text-sealed_text}
-use Rattle.age_stream.specs.Payload.{pieces, chunk_nonce}
-use Rattle.age_stream.specs.Reading.{outcome}
+use Rattle.agefile.proofs.Common.{◌≡◌, refl, ℕ, [], ◌++◌, ◌+◌, ◌-◌, ◌*◌, ◌/◌, ◌%◌, ◌<◌, length, take, drop, nat_le, sym, ◌∙◌, ap, arith, true, Bool, Some, Ok, length-drop, length-take, drop-drop, take_all, take_min, Bytes, length-sealed_text, opened_text-sealed_text, pieces, chunk_nonce, outcome, chunk_size, sealed_chunk_size, outcome_opens, Ranges, limits, piece_outcome, last_index, piece_at, plain_of}
 use Rattle.age_stream.specs.Slice.{IsSlice, last_outcome, opening, plain_len}
-use Rattle.age_stream.specs.Sizes.{chunk_size, sealed_chunk_size}
 use Rattle.age_stream.proofs.JudgesLastLemmas.{last_is, piece_count, some_or_none}
-use Rattle.age_stream.proofs.PayloadLemmas.{outcome_opens}
 use Rattle.age_stream.proofs.SliceLemmas.{opening_at, plain_count, slice_on}
-use Rattle.agefile.specs.declared.ranges.Ranges.{Ranges}
-use Rattle.agefile.specs.Sizes.{limits}
-use Rattle.agefile.specs.Ranges.{piece_outcome, last_index, piece_at, plain_of}
 
 -- how many bytes are left from the first sealed chunk on
 left : (r : Ranges) (b : Bytes) → length b ≡ r.first + r.sealed_len → length (drop r.first b) ≡ r.sealed_len

@@ -1,29 +1,5 @@
 -- What runs of calls that open give; and that what a run of calls that seal gives is the file.
-use Rattle.std.proofs.Common.{◌≡◌, ◌≢◌, ◌⊎◌, ℕ, ◌+◌, ◌-◌, ◌<◌, ◌≤◌, List, [], ◌∷◌, ◌++◌, length, take, Bool, true, false, sym, ◌∙◌, refl, arith, inl, inr, append_assoc, length-append, Result, Ok, Err}
-use Rattle.std.specs.Prelude.{option_map}
-use Rattle.std.specs.List.{concat}
-use Rattle.std.proofs.lemmas.Bool.{le-leb, lt-ltb}
-use Rattle.std.proofs.lemmas.List.{take_at}
-use Rattle.std.proofs.Math.Seq.{take-append_seam}
-use Rattle.age_kdf.specs.Bytes.{Bytes}
-use Rattle.age_stream.specs.declared.fault.StreamFault.{StreamFault}
-use Rattle.age_stream.specs.Payload.{chunks, is_end, payload_key, pieces, sealed_chunks_from}
-use Rattle.age_stream.specs.Reading.{first_fault, outcome, outcomes, plaintext_of}
-use Rattle.age_stream.specs.Sizes.{sealed_chunk_size}
-use Rattle.age_stream.proofs.CuttingLemmas.{AtMost, cut_at_most}
-use Rattle.age_stream.proofs.PayloadLemmas.{Sized, at_most_chunks}
-use Rattle.age_file.specs.declared.fault.Fault.{Fault}
-use Rattle.age_file.specs.declared.fault.Fault.TheVariants.{NotAge}
-use Rattle.age_file.specs.Verdict.{stream_fault}
-use Rattle.agefile.specs.declared.payload.Payload.{Payload}
-use Rattle.agefile.specs.declared.report.Report.{Report}
-use Rattle.agefile.specs.Codes.{code_of, fault_code}
-use Rattle.agefile.specs.Groups.{OpensRun, SealsRun}
-use Rattle.agefile.specs.Heading.{BeginsFile}
-use Rattle.agefile.specs.Payload.{Opened, SealsAs, after_chunk, before_first, may_seal, phase_reading, phase_writing}
-use Rattle.agefile.specs.Report.{Steps, report_of}
-use Rattle.agefile.specs.Sizes.{limits}
-use Rattle.agefile.specs.WholeFiles.{IsNewFile}
+use Rattle.agefile.proofs.Common.{◌≡◌, ◌≢◌, ◌⊎◌, ℕ, ◌+◌, ◌-◌, ◌<◌, ◌≤◌, List, [], ◌∷◌, ◌++◌, length, take, Bool, true, false, sym, ◌∙◌, refl, arith, inl, inr, append_assoc, length-append, Result, Ok, Err, option_map, concat, le-leb, lt-ltb, take_at, take-append_seam, Bytes, StreamFault, chunks, is_end, payload_key, pieces, sealed_chunks_from, first_fault, outcome, outcomes, plaintext_of, sealed_chunk_size, AtMost, cut_at_most, Sized, at_most_chunks, Fault, NotAge, stream_fault, Payload, Report, code_of, fault_code, OpensRun, SealsRun, BeginsFile, Opened, SealsAs, after_chunk, before_first, may_seal, phase_reading, phase_writing, Steps, report_of, limits, IsNewFile}
 
 -- no fault has the code 0
 pub some_code : (f : Fault) → fault_code f ≡ 0 → ⊥

@@ -1,10 +1,6 @@
 -- What runs of calls that save chunks give.
-use Rattle.std.proofs.Common.{◌≡◌, ℕ, ◌+◌, List, [], ◌∷◌, take, map, Bool, true, false, refl, arith, inl, inr}
-use Rattle.std.proofs.Math.Seq.{take-append_seam}
-use Rattle.age_kdf.specs.Bytes.{Bytes}
+use Rattle.agefile.proofs.Common.{◌≡◌, ℕ, ◌+◌, List, [], ◌∷◌, take, map, Bool, true, false, refl, arith, inl, inr, take-append_seam, Bytes, Report, phase_reading}
 use Rattle.age_stream.specs.Salvage.{part, parts}
-use Rattle.agefile.specs.declared.report.Report.{Report}
-use Rattle.agefile.specs.Payload.{phase_reading}
 use Rattle.agefile.specs.Salvage.{Given, SavesAs, SavesRun, given_of}
 use Rattle.agefile.proofs.RunLemmas.{at_chunk, fitting}
 

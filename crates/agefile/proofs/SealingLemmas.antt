@@ -1,22 +1,5 @@
 -- Sealing the chunks of a plaintext into a buffer.
-use Rattle.std.proofs.Common.{◌≡◌, ◌⊎◌, ℕ, ◌+◌, ◌-◌, ◌*◌, ◌<◌, ◌≤◌, [], ◌++◌, length, take, drop, min, nat_le, true, false, sym, ◌∙◌, ap, ap₂, refl, arith, inl, inr, append_assoc, length-append, length-drop, ◌^◌, Vec, None, Ok}
-use Rattle.std.specs.Global.{Global}
-use Rattle.std.specs.List.{concat}
-use Rattle.std.proofs.lemmas.Bool.{le-leb, lt-leb}
-use Rattle.std.proofs.lemmas.List.{drop-drop, length-take-le, nil_from_length, take_all, take_at}
-use Rattle.age_kdf.specs.Bytes.{Bytes}
-use Rattle.age_cipher.specs.Sealing.{sealed_text}
-use Rattle.age_cipher.proofs.OpeningLemmas.{length-sealed_text}
-use Rattle.age_header.specs.declared.file_key.FileKey.{FileKey}
-use Rattle.age_stream.specs.Payload.{chunk_nonce, chunks, payload, sealed_chunks_from}
-use Rattle.age_stream.specs.Sizes.{chunk_size, sealed_chunk_size}
-use Rattle.age_stream.proofs.CuttingLemmas.{cut_last}
-use Rattle.age_stream.proofs.ReadingLemmas.{cut_step, is_end_cut}
-use Rattle.agefile.specs.declared.report.Report.{Report}
-use Rattle.agefile.specs.WholeFiles.{Encrypts}
-use Rattle.agefile.specs.Heading.{MakesHeader}
-use Rattle.agefile.specs.Report.{report_of}
-use Rattle.agefile.specs.Sizes.{chunk_count, file_len}
+use Rattle.agefile.proofs.Common.{◌≡◌, ◌⊎◌, ℕ, ◌+◌, ◌-◌, ◌*◌, ◌<◌, ◌≤◌, [], ◌++◌, length, take, drop, min, nat_le, true, false, sym, ◌∙◌, ap, ap₂, refl, arith, inl, inr, append_assoc, length-append, length-drop, ◌^◌, Vec, None, Ok, Global, concat, le-leb, lt-leb, drop-drop, length-take-le, nil_from_length, take_all, take_at, Bytes, sealed_text, length-sealed_text, FileKey, chunk_nonce, chunks, payload, sealed_chunks_from, chunk_size, sealed_chunk_size, cut_last, cut_step, is_end_cut, Report, Encrypts, MakesHeader, report_of, chunk_count, file_len}
 use Rattle.agefile.proofs.HeadingLemmas.{size_of}
 use Rattle.agefile.proofs.RunLemmas.{text_of}
 use Rattle.agefile.proofs.SizeLemmas.{chunks_size, first_cut}

@@ -1,25 +1,6 @@
 -- How long a payload is, and at most the plaintext of a verdict.
-use Rattle.std.proofs.Common.{◌≡◌, ℕ, ◌+◌, ◌-◌, ◌*◌, ◌/◌, List, [], ◌∷◌, length, length-append, take, min, ◌∙◌, refl, ap, inl, inr, arith, ◌≤◌, length-drop, drop, true, false, nat_lt, cond, Result, Ok, Err}
-use Rattle.std.specs.List.{concat, AllByRecursion}
-use Rattle.std.proofs.lemmas.Bool.{cases_lt}
-use Rattle.std.proofs.lemmas.List.{take_min}
-use Rattle.age_kdf.specs.Bytes.{Bytes}
-use Rattle.age_cipher.proofs.OpeningLemmas.{length-sealed_text}
-use Rattle.age_header.specs.declared.file_key.FileKey.{FileKey}
-use Rattle.age_stream.proofs.CuttingLemmas.{is_cut, AtMost, cut_at_most, concat-cut_after}
-use Rattle.age_stream.proofs.ReadingLemmas.{cut_count}
-use Rattle.age_cipher.specs.Sealing.{sealed_text}
-use Rattle.agefile.specs.Sizes.{chunk_count, limits, opened_len, plain_len_at_most}
-use Rattle.age_stream.specs.Payload.{chunks, is_end, payload, payload_key, chunk_nonce, sealed_chunks_from, pieces}
-use Rattle.age_stream.specs.Sizes.{chunk_size, sealed_chunk_size}
-use Rattle.age_header.specs.declared.fault.HeaderFault.{HeaderFault}
-use Rattle.age_header.specs.Verdict.{Found, HeaderVerdict}
+use Rattle.agefile.proofs.Common.{◌≡◌, ℕ, ◌+◌, ◌-◌, ◌*◌, ◌/◌, List, [], ◌∷◌, length, length-append, take, min, ◌∙◌, refl, ap, inl, inr, arith, ◌≤◌, length-drop, drop, true, false, nat_lt, cond, Result, Ok, Err, concat, AllByRecursion, cases_lt, take_min, Bytes, length-sealed_text, FileKey, is_cut, AtMost, cut_at_most, concat-cut_after, cut_count, sealed_text, chunk_count, limits, opened_len, plain_len_at_most, chunks, is_end, payload, payload_key, chunk_nonce, sealed_chunks_from, pieces, chunk_size, sealed_chunk_size, HeaderFault, Found, HeaderVerdict, Reading, plaintext_of, outcome, outcomes, payload_reading, reading_from, stop, outcome_opens, result_cases, Fault, Answering, IsVerdict, header_key, parts_of, reading_after, reading_under, least_header}
 use Rattle.age_stream.specs.declared.fault.StreamFault.TheVariants.{NonceTruncated}
-use Rattle.age_stream.specs.Reading.{Reading, plaintext_of, outcome, outcomes, payload_reading, reading_from, stop}
-use Rattle.age_stream.proofs.PayloadLemmas.{outcome_opens, result_cases}
-use Rattle.age_file.specs.declared.fault.Fault.{Fault}
-use Rattle.age_file.specs.Verdict.{Answering, IsVerdict, header_key, parts_of, reading_after, reading_under}
-use Rattle.age_recipient.proofs.HeaderSizeLemmas.{least_header}
 
 -- the first of the pieces of this size, by as many bytes as it has
 pub first_cut : (most size : ℕ) (left : Bytes) → size ≡ min (length left) most → take size left ≡ take most left

@@ -1,40 +1,11 @@
 -- Finding a file key, and where the chunks begin, from what the parts return; and the verdict, by the file key.
-use Rattle.std.proofs.Common.{◌≡◌, ◌≢◌, ◌⊎◌, ℕ, ◌+◌, ◌-◌, [], ◌++◌, length, take, drop, sym, ◌∙◌, ap, refl, arith, inl, inr, length-append, Some, Result, Ok, Err, Bool, true, false, cond, ◌<◌, ◌≤◌, length-drop}
-use Rattle.age_kdf.specs.Bytes.{Bytes}
-use Rattle.age_header.specs.Device.{Flow}
-use Rattle.age_header.specs.declared.fault.HeaderFault.{HeaderFault}
-use Rattle.age_header.specs.Header.{HeaderParts}
-use Rattle.age_header.specs.Reader.{ReadsHeaderOf}
-use Rattle.age_header.specs.Verdict.{Found, HeaderVerdict}
-use Rattle.age_header.proofs.ReaderLemmas.{reads_known}
-use Rattle.age_header.specs.declared.file_key.FileKey.{FileKey}
-use Rattle.age_stream.specs.Reading.{Reading, stop}
-use Rattle.age_file.specs.declared.fault.Fault.{Fault}
-use Rattle.age_file.specs.declared.fault.Fault.TheVariants.{OutOfMemory, BadMac, MixedPassphrase, NonceTruncated}
-use Rattle.age_file.specs.Inspect.{Inspects}
-use Rattle.age_file.specs.Verdict.{Answering, IsVerdict, header_fault, reading_after, parts_of, reading_under, header_key, if_right, finding}
-use Rattle.age_file.proofs.FileLemmas.{tested_key}
-use Rattle.age_file.proofs.DecryptLemmas.{err_err}
-use Rattle.age_file.proofs.FileLemmas.{one_verdict}
-use Rattle.agefile.specs.declared.report.Report.{Report}
+use Rattle.agefile.proofs.Common.{◌≡◌, ◌≢◌, ◌⊎◌, ℕ, ◌+◌, ◌-◌, [], ◌++◌, length, take, drop, sym, ◌∙◌, ap, refl, arith, inl, inr, length-append, Some, Result, Ok, Err, Bool, true, false, cond, ◌<◌, ◌≤◌, length-drop, Bytes, Flow, HeaderFault, HeaderParts, ReadsHeaderOf, Found, HeaderVerdict, reads_known, FileKey, Reading, stop, Fault, OutOfMemory, BadMac, MixedPassphrase, NonceTruncated, Inspects, Answering, IsVerdict, header_fault, reading_after, parts_of, reading_under, header_key, if_right, finding, err_err, Report, code_of, HeaderOf, limits, front_size, Refuses, report_of, FindsKey, FindsStart, GivesKey, IsKey, IsStart, Opens, StartsAt, Unlocks, by_file_key, start_under, with_len, bytes_eq, header_mac, is_mixed, cases_lt, le-ltb, lt-ltb, payload_key, begins_found, Payload, Start}
+use Rattle.age_file.proofs.FileLemmas.{tested_key, one_verdict}
 use Rattle.agefile.specs.declared.unlocking.Unlocked.{Unlocked}
-use Rattle.agefile.specs.Codes.{code_of}
-use Rattle.agefile.specs.Inspect.{HeaderOf}
-use Rattle.agefile.specs.Sizes.{limits, front_size}
-use Rattle.agefile.specs.Report.{Refuses, report_of}
-use Rattle.agefile.specs.Unlock.{FindsKey, FindsStart, GivesKey, IsKey, IsStart, Opens, StartsAt, Unlocks, by_file_key, start_under, with_len}
 use Rattle.agefile.proofs.HeaderLemmas.{whole_verdict}
-use Rattle.std.specs.Str.{bytes_eq}
-use Rattle.age_header.specs.Mac.{header_mac}
 use Rattle.age_recipient.specs.declared.choice.UnlockFault.{UnlockFault}
 use Rattle.age_recipient.specs.Choice.{choice}
-use Rattle.age_file.specs.AgeFile.{is_mixed}
 use Rattle.agefile.proofs.RunLemmas.{some_code}
-use Rattle.std.proofs.lemmas.Bool.{cases_lt, le-ltb, lt-ltb}
-use Rattle.age_stream.specs.Payload.{payload_key}
-use Rattle.age_header.proofs.VerdictUniqueLemmas.{begins_found}
-use Rattle.agefile.specs.declared.payload.Payload.{Payload}
-use Rattle.agefile.specs.declared.start.Start.{Start}
 
 pub ok_ok : {A : Type 0} {x y : A} → ◌≡◌ {A = Result A Fault} (Ok x) (Ok y) → x ≡ y
 ok_ok {x} {y} e = cc

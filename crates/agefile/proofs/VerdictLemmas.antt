@@ -1,27 +1,9 @@
 -- What the calls on a file give is its verdict: those of a payload, and those of ranges.
-use Rattle.std.proofs.Common.{◌≡◌, ◌≢◌, ℕ, ◌+◌, [], length, take, drop, nat_lt, Bool, true, false, cond, sym, Result, Ok, Err, arith, inl, inr, refl}
-use Rattle.std.proofs.lemmas.List.{drop-drop}
-use Rattle.age_kdf.specs.Bytes.{Bytes}
-use Rattle.age_header.specs.declared.file_key.FileKey.{FileKey}
+use Rattle.agefile.proofs.Common.{◌≡◌, ◌≢◌, ℕ, ◌+◌, [], length, take, drop, nat_lt, Bool, true, false, cond, sym, Result, Ok, Err, arith, inl, inr, refl, drop-drop, Bytes, FileKey, payload_key, Reading, reading_from, stop, Fault, NonceTruncated, OutOfMemory, Answering, IsVerdict, parts_of, reading_under, header_key, with_file_fault, Payload, Report, Start, code_of, limits, front_size, IsStart, Opens, StartsAt, start_under, before_first, phase_reading, report_of, Ranges, OpensRanges}
 use Rattle.age_stream.specs.declared.fault.StreamFault.TheVariants as stream
-use Rattle.age_stream.specs.Payload.{payload_key}
-use Rattle.age_stream.specs.Reading.{Reading, reading_from, stop}
-use Rattle.age_file.specs.declared.fault.Fault.{Fault}
-use Rattle.age_file.specs.declared.fault.Fault.TheVariants.{NonceTruncated, OutOfMemory}
-use Rattle.age_file.specs.Verdict.{Answering, IsVerdict, parts_of, reading_under, header_key, with_file_fault}
-use Rattle.agefile.specs.declared.payload.Payload.{Payload}
-use Rattle.agefile.specs.declared.report.Report.{Report}
-use Rattle.agefile.specs.declared.start.Start.{Start}
-use Rattle.agefile.specs.Codes.{code_of}
-use Rattle.agefile.specs.Sizes.{limits, front_size}
-use Rattle.agefile.specs.Unlock.{IsStart, Opens, StartsAt, start_under}
-use Rattle.agefile.specs.Payload.{before_first, phase_reading}
-use Rattle.agefile.specs.Report.{report_of}
 use Rattle.agefile.proofs.FrontLemmas.{whole_start}
 use Rattle.agefile.proofs.RunLemmas.{some_code}
 use Rattle.agefile.proofs.UnlockLemmas.{found_start, judged_is, opened_start, refusal, start_within}
-use Rattle.agefile.specs.declared.ranges.Ranges.{Ranges}
-use Rattle.agefile.specs.Ranges.{OpensRanges}
 
 -- ---- the verdict, by the start
 

@@ -1,20 +1,10 @@
 -- The text of a stanza that is written.
-use Rattle.std.proofs.Common.{◌≡◌, ℕ, zero, suc, ◌-◌, ◌<◌, ◌≤◌, List, [], ◌∷◌, ◌++◌, length, take, drop, codes, flat_map, get_or, sym, ◌∙◌, ap, refl, arith, inl, inr, append_assoc, length-append, None}
-use Rattle.std.specs.List.{AllByRecursion}
-use Rattle.std.specs.Str.{IsUtf8}
-use Rattle.std.proofs.lemmas.List.{append-nil, drop_at, take_at}
-use Rattle.age_kdf.specs.Bytes.{Bytes}
+use Rattle.agefile.proofs.Common.{◌≡◌, ℕ, zero, suc, ◌-◌, ◌<◌, ◌≤◌, List, [], ◌∷◌, ◌++◌, length, take, drop, codes, flat_map, get_or, sym, ◌∙◌, ap, refl, arith, inl, inr, append_assoc, length-append, None, AllByRecursion, IsUtf8, append-nil, drop_at, take_at, Bytes, IsArgument, StanzaParts, version_line, length-version_line, stanza_text_is, Report, Gives, Returns, GivesOwn, refusal_code, words}
 use Rattle.age_header.specs.declared.stanza.StanzaError.{StanzaError}
 use Rattle.age_header.specs.declared.stanza.StanzaError.TheVariants.{NoArgs, EmptyArg, BadByte, Memory}
-use Rattle.age_header.specs.Header.{IsArgument, StanzaParts, version_line}
 use Rattle.age_header.specs.Stanza.{IsStanzaError}
 use Rattle.age_header.specs.Text.{IsHeaderValue, IsWhole, signed_text, stanza_text}
-use Rattle.age_header.proofs.LengthLemmas.{length-version_line}
-use Rattle.age_header.proofs.TextLemmas.{stanza_text_is}
-use Rattle.agefile.specs.declared.report.Report.{Report}
-use Rattle.agefile.specs.Giving.{Gives}
-use Rattle.agefile.specs.Report.{Returns}
-use Rattle.agefile.specs.Wrapping.{GivesOwn, GivesText, refusal_code, words}
+use Rattle.agefile.specs.Wrapping.{GivesText}
 
 spelled : (ss : List StanzaParts) → signed_text ss ≡ version_line ++ (flat_map stanza_text ss ++ codes "---")
 unfolding signed_text

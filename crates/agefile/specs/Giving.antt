@@ -1,11 +1,5 @@
 -- The results of calls on whole buffers.
-use Rattle.std.specs.Prelude.{◌≡◌, ◌⊎◌, ◌<◌, ◌≤◌, ◌++◌, ℕ, List, [], ◌∷◌, length, drop, Option, None}
-use Rattle.age_kdf.specs.Bytes.{Bytes}
-use Rattle.age_header.specs.Header.{StanzaParts}
-use Rattle.age_recipient.specs.declared.unwrapped.Unwrapped.{Unwrapped}
-use Rattle.age_file.specs.declared.fault.Fault.{Fault}
-use Rattle.age_file.specs.Verdict.{Answering}
-use Rattle.agefile.specs.declared.report.Report.{Report}
+use Rattle.agefile.specs.Words.{◌≡◌, ◌⊎◌, ◌<◌, ◌≤◌, ◌++◌, ℕ, List, [], ◌∷◌, length, drop, Option, None, Bytes, StanzaParts, Unwrapped, Fault, Answering, Report}
 use Rattle.agefile.specs.Codes.{code_of, too_small}
 use Rattle.agefile.specs.Report.{report_of}
 

@@ -1,14 +1,7 @@
 -- The results of calls on a payload and on its parts, in the order of the chunks: single calls, or
 -- groups of them. The calls share no struct, so calls on different parts may come in any order, and
 -- at the same time.
-use Rattle.std.specs.Prelude.{◌≡◌, ◌⊎◌, ◌++◌, ◌+◌, ℕ, false, List, [], ◌∷◌, length, take, ◌≢◌}
-use Rattle.age_kdf.specs.Bytes.{Bytes}
-use Rattle.age_cipher.specs.Sealing.{sealed_text}
-use Rattle.age_stream.specs.Payload.{chunk_nonce, is_end}
-use Rattle.age_stream.specs.Sizes.{tag_size}
-use Rattle.agefile.specs.declared.part.Part.{Part}
-use Rattle.agefile.specs.declared.payload.Payload.{Payload}
-use Rattle.agefile.specs.declared.report.Report.{Report}
+use Rattle.agefile.specs.Words.{◌≡◌, ◌⊎◌, ◌++◌, ◌+◌, ℕ, false, List, [], ◌∷◌, length, take, ◌≢◌, Bytes, sealed_text, chunk_nonce, is_end, tag_size, Part, Payload, Report}
 use Rattle.agefile.specs.Codes.{ok}
 use Rattle.agefile.specs.Part as part
 use Rattle.agefile.specs.Payload.{OpensNext, SealsNext}

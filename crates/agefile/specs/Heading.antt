@@ -1,21 +1,7 @@
 -- The text of stanzas, and the results of calls that make a header of it.
-use Rattle.std.specs.Prelude.{◌≡◌, ◌≢◌, ◌⊎◌, ◌==◌, ℕ, ◌-◌, ◌++◌, List, [], length, replicate, codes, nat_lt, None, Result, Ok, Err, if◌then◌else◌, Vec}
-use Rattle.std.specs.Global.{Global}
-use Rattle.std.specs.List.{count_by}
-use Rattle.age_kdf.specs.Bytes.{Bytes}
-use Rattle.age_header.specs.declared.fault.HeaderFault.{HeaderFault}
-use Rattle.age_header.specs.Header.{StanzaParts, line, version_line}
+use Rattle.agefile.specs.Words.{◌≡◌, ◌≢◌, ◌⊎◌, ◌==◌, ℕ, ◌-◌, ◌++◌, List, [], length, replicate, codes, nat_lt, None, Result, Ok, Err, if◌then◌else◌, Vec, Global, count_by, Bytes, HeaderFault, StanzaParts, line, version_line, Found, HeaderVerdict, FileKey, Fault, BadLine, MixedPassphrase, NoRecipients, OutOfMemory, is_mixed, header_fault, payload_key, Payload, Report}
 use Rattle.age_header.specs.Mac.{header_mac}
-use Rattle.age_header.specs.Verdict.{Found, HeaderVerdict}
-use Rattle.age_header.specs.declared.file_key.FileKey.{FileKey}
-use Rattle.age_file.specs.declared.fault.Fault.{Fault}
-use Rattle.age_file.specs.declared.fault.Fault.TheVariants.{BadLine, MixedPassphrase, NoRecipients, OutOfMemory}
-use Rattle.age_file.specs.AgeFile.{is_mixed}
 use Rattle.age_file.specs.NewFile.{Gathering, IsHeading}
-use Rattle.age_file.specs.Verdict.{header_fault}
-use Rattle.age_stream.specs.Payload.{payload_key}
-use Rattle.agefile.specs.declared.payload.Payload.{Payload}
-use Rattle.agefile.specs.declared.report.Report.{Report}
 use Rattle.agefile.specs.Codes.{out_of_memory}
 use Rattle.agefile.specs.Giving.{Exceeds, Fits, Gives}
 use Rattle.agefile.specs.Sizes.{limits}

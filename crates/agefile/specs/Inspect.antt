@@ -1,16 +1,7 @@
 -- The results of calls on a header: its summary, and its stanzas.
-use Rattle.std.specs.Prelude.{◌≡◌, ◌⊎◌, ℕ, List, [], ◌∷◌, length, None, Result, Ok, Err, ◌<◌, ◌≤◌, ◌++◌, drop, map, flat_map}
-use Rattle.std.specs.List.{join_by}
-use Rattle.age_kdf.specs.Bytes.{Bytes}
-use Rattle.age_header.specs.declared.fault.HeaderFault.{HeaderFault}
-use Rattle.age_header.specs.Header.{HeaderParts, StanzaParts}
-use Rattle.age_header.specs.Verdict.{Found, HeaderVerdict}
-use Rattle.age_file.specs.declared.fault.Fault.{Fault}
-use Rattle.age_file.specs.declared.fault.Fault.TheVariants.{OutOfMemory}
-use Rattle.age_file.specs.Verdict.{header_fault}
+use Rattle.agefile.specs.Words.{◌≡◌, ◌⊎◌, ℕ, List, [], ◌∷◌, length, None, Result, Ok, Err, ◌<◌, ◌≤◌, ◌++◌, drop, map, flat_map, join_by, Bytes, HeaderFault, HeaderParts, StanzaParts, Found, HeaderVerdict, Fault, OutOfMemory, header_fault, Report}
 use Rattle.agefile.specs.declared.inspecting.StanzaSummary.{StanzaSummary}
 use Rattle.agefile.specs.declared.inspecting.Summary.{Summary}
-use Rattle.agefile.specs.declared.report.Report.{Report}
 use Rattle.agefile.specs.Codes.{ok, out_of_memory, too_small}
 use Rattle.agefile.specs.Sizes.{limits}
 use Rattle.agefile.specs.Report.{Refuses, Returns, report_of}

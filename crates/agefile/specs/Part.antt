@@ -1,10 +1,5 @@
 -- A part of a payload: some of its chunks, without the last.
-use Rattle.std.specs.Prelude.{◌≡◌, ◌⊎◌, ℕ, ◌+◌, ◌-◌, ◌<◌, ◌≤◌, ◌&&◌, ◌||◌, Bool, true, false, nat_eq, nat_lt, replicate, None, if◌then◌else◌}
-use Rattle.age_kdf.specs.Bytes.{Bytes}
-use Rattle.age_file.specs.declared.fault.Fault.TheVariants.{TooManyChunks}
-use Rattle.agefile.specs.declared.part.Part.{Part}
-use Rattle.agefile.specs.declared.payload.Payload.{Payload}
-use Rattle.agefile.specs.declared.report.Report.{Report}
+use Rattle.agefile.specs.Words.{◌≡◌, ◌⊎◌, ℕ, ◌+◌, ◌-◌, ◌<◌, ◌≤◌, ◌&&◌, ◌||◌, Bool, true, false, nat_eq, nat_lt, replicate, None, if◌then◌else◌, Bytes, TooManyChunks, Part, Payload, Report}
 use Rattle.agefile.specs.Codes.{ok, out_of_order}
 use Rattle.agefile.specs.Sizes.{limits}
 use Rattle.agefile.specs.Payload as payload

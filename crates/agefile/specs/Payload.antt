@@ -1,18 +1,8 @@
 -- A payload, which the caller holds between two calls: its phases and those of its parts, by the
 -- numbers of `agefile.h`; the result of opening or sealing one chunk at its number; and the calls.
-use Rattle.std.specs.Prelude.{◌≡◌, ℕ, ◌+◌, ◌&&◌, Bool, length, nat_eq, replicate, if◌then◌else◌, ◌⊎◌, ◌-◌, ◌<◌, ◌≤◌, ◌++◌, ◌||◌, [], take, drop, nat_le, nat_lt, None, Result, Ok, Err}
-use Rattle.age_kdf.specs.Bytes.{Bytes}
-use Rattle.agefile.specs.declared.payload.Payload.{Payload}
-use Rattle.agefile.specs.declared.report.Report.{Report}
+use Rattle.agefile.specs.Words.{◌≡◌, ℕ, ◌+◌, ◌&&◌, Bool, length, nat_eq, replicate, if◌then◌else◌, ◌⊎◌, ◌-◌, ◌<◌, ◌≤◌, ◌++◌, ◌||◌, [], take, drop, nat_le, nat_lt, None, Result, Ok, Err, Bytes, Payload, Report, sealed_text, StreamFault, chunk_nonce, outcome, tag_size, sealed_chunk_size, TooManyChunks, stream_fault}
 use Rattle.agefile.specs.Codes.{ok}
 use Rattle.agefile.specs.Report.{Steps, Refuses, report_of}
-use Rattle.age_cipher.specs.Sealing.{sealed_text}
-use Rattle.age_stream.specs.declared.fault.StreamFault.{StreamFault}
-use Rattle.age_stream.specs.Payload.{chunk_nonce}
-use Rattle.age_stream.specs.Reading.{outcome}
-use Rattle.age_stream.specs.Sizes.{tag_size, sealed_chunk_size}
-use Rattle.age_file.specs.declared.fault.Fault.TheVariants.{TooManyChunks}
-use Rattle.age_file.specs.Verdict.{stream_fault}
 use Rattle.agefile.specs.Sizes.{limits}
 
 -- not open

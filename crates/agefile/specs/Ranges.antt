@@ -1,19 +1,11 @@
 -- Reading parts of a plaintext in steps: the caller reads one sealed chunk of the file at a time
 -- (C2SP age.md, "Payload").
-use Rattle.std.specs.Prelude.{ℕ, ◌≡◌, ◌⊎◌, ◌<◌, ◌≤◌, ◌+◌, ◌-◌, ◌*◌, ◌/◌, ◌%◌, ◌^◌, ◌++◌, ◌&&◌, ◌||◌, Bool, length, take, drop, min, nat_eq, nat_le, nat_lt, replicate, None, Result, Ok, Err}
-use Rattle.age_kdf.specs.Bytes.{Bytes}
-use Rattle.age_stream.specs.declared.fault.StreamFault.{StreamFault}
-use Rattle.age_stream.specs.Reading.{outcome}
-use Rattle.age_file.specs.declared.fault.Fault.{Fault}
-use Rattle.age_file.specs.Verdict.{Answering, stream_fault}
+use Rattle.agefile.specs.Words.{ℕ, ◌≡◌, ◌⊎◌, ◌<◌, ◌≤◌, ◌+◌, ◌-◌, ◌*◌, ◌/◌, ◌%◌, ◌^◌, ◌++◌, ◌&&◌, ◌||◌, Bool, length, take, drop, min, nat_eq, nat_le, nat_lt, replicate, None, Result, Ok, Err, Bytes, StreamFault, outcome, Fault, Answering, stream_fault, Report, Start, tag_size, chunk_size, sealed_chunk_size}
 use Rattle.agefile.specs.declared.ranges.Ranges.{Ranges}
-use Rattle.agefile.specs.declared.report.Report.{Report}
-use Rattle.agefile.specs.declared.start.Start.{Start}
 use Rattle.agefile.specs.Codes.{ok, out_of_order}
 use Rattle.agefile.specs.Sizes.{limits}
 use Rattle.agefile.specs.Report.{Refuses, Returns, report_of}
 use Rattle.agefile.specs.Unlock.{FindsStart}
-use Rattle.age_stream.specs.Sizes.{tag_size, chunk_size, sealed_chunk_size}
 
 -- not open
 abbrev pub state_closed : ℕ

@@ -1,10 +1,7 @@
 -- The report of a call, and the parts common to calls on payloads and on parts.
-use Rattle.std.specs.Prelude.{ℕ, ◌≡◌, Option, Some, None, Bool}
-use Rattle.age_file.specs.declared.fault.Fault.{Fault}
-use Rattle.agefile.specs.declared.report.Report.{Report}
+use Rattle.agefile.specs.Words.{ℕ, ◌≡◌, Option, Some, None, Bool, Fault, Report, Bytes}
 use Rattle.agefile.specs.Codes.{fault_code, fault_detail, fault_place, out_of_order}
 use Rattle.std.specs.Bool.{OnFalse, OnTrue}
-use Rattle.age_kdf.specs.Bytes.{Bytes}
 
 -- a report of `len` bytes, and the place and the detail of a fault, both 0 if there is none
 abbrev pub report_of : (len : ℕ) (fault : Option Fault) → Report

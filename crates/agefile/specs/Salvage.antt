@@ -1,13 +1,8 @@
 -- Saving what is left of a payload, one sealed chunk after another.
-use Rattle.std.specs.Prelude.{◌≡◌, ℕ, ◌⊎◌, ◌<◌, ◌≤◌, List, [], ◌∷◌, ◌++◌, Bool, length, take, drop}
-use Rattle.age_kdf.specs.Bytes.{Bytes}
-use Rattle.age_file.specs.declared.fault.Fault.TheVariants.{TooManyChunks}
+use Rattle.agefile.specs.Words.{◌≡◌, ℕ, ◌⊎◌, ◌<◌, ◌≤◌, List, [], ◌∷◌, ◌++◌, Bool, length, take, drop, Bytes, TooManyChunks, is_end, Payload, Report}
 use Rattle.age_stream.specs.declared.salvaged.Saved.{Saved}
 use Rattle.age_stream.specs.declared.salvaged.Saved.TheVariants.{Chunk, LastChunk, Padded, Early, Zeros, Nothing}
-use Rattle.age_stream.specs.Payload.{is_end}
 use Rattle.age_stream.specs.Salvage.{Part, part}
-use Rattle.agefile.specs.declared.payload.Payload.{Payload}
-use Rattle.agefile.specs.declared.report.Report.{Report}
 use Rattle.agefile.specs.Codes.{ok}
 use Rattle.agefile.specs.Payload.{after_chunk, may_open}
 use Rattle.agefile.specs.Report.{Refuses, Steps}

@@ -1,7 +1,5 @@
 -- The limits of every call, and the lengths of files and plaintexts.
-use Rattle.std.specs.Prelude.{ℕ, ◌+◌, ◌-◌, ◌*◌, ◌/◌, ◌%◌, ◌^◌}
-use Rattle.age_stream.specs.Sizes.{nonce_size, tag_size, chunk_size, sealed_chunk_size}
-use Rattle.age_file.specs.AgeFile.{Bounds, default_max_header}
+use Rattle.agefile.specs.Words.{ℕ, ◌+◌, ◌-◌, ◌*◌, ◌/◌, ◌%◌, ◌^◌, nonce_size, tag_size, chunk_size, sealed_chunk_size, Bounds, default_max_header}
 
 -- a header of 65,536 bytes, and 2^64 - 1 chunks
 abbrev pub limits : Bounds

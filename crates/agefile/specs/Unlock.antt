@@ -1,25 +1,11 @@
 -- The results of unlocking: the file key and the length of the header; the offset of the sealed
 -- chunks and their key; and a payload opened under the file key.
-use Rattle.std.specs.Prelude.{◌≡◌, ◌⊎◌, ℕ, length, None, Result, Ok, Err, ◌+◌, take, drop, nat_lt, if◌then◌else◌, List}
-use Rattle.age_kdf.specs.Bytes.{Bytes}
-use Rattle.age_header.specs.declared.fault.HeaderFault.{HeaderFault}
-use Rattle.age_header.specs.Verdict.{Found, HeaderVerdict}
-use Rattle.age_header.specs.declared.file_key.FileKey.{FileKey}
-use Rattle.age_file.specs.declared.fault.Fault.{Fault}
-use Rattle.age_file.specs.declared.fault.Fault.TheVariants.{OutOfMemory, NonceTruncated}
-use Rattle.age_file.specs.Verdict.{Answering, header_fault, parts_of, header_key}
-use Rattle.agefile.specs.declared.report.Report.{Report}
+use Rattle.agefile.specs.Words.{◌≡◌, ◌⊎◌, ℕ, length, None, Result, Ok, Err, ◌+◌, take, drop, nat_lt, if◌then◌else◌, List, Bytes, HeaderFault, Found, HeaderVerdict, FileKey, Fault, OutOfMemory, NonceTruncated, Answering, header_fault, parts_of, header_key, Report, payload_key, Start, nonce_size, StanzaParts, Unwrapped, Payload}
 use Rattle.agefile.specs.declared.unlocking.Unlocked.{Unlocked}
 use Rattle.agefile.specs.Codes.{ok}
 use Rattle.agefile.specs.Sizes.{limits}
 use Rattle.agefile.specs.Report.{Refuses, report_of}
-use Rattle.age_stream.specs.Payload.{payload_key}
-use Rattle.agefile.specs.declared.start.Start.{Start}
-use Rattle.age_stream.specs.Sizes.{nonce_size}
-use Rattle.age_header.specs.Header.{StanzaParts}
-use Rattle.age_recipient.specs.declared.unwrapped.Unwrapped.{Unwrapped}
 use Rattle.age_recipient.specs.declared.unwrapped.Unwrapped.TheVariants.{Key}
-use Rattle.agefile.specs.declared.payload.Payload.{Payload}
 use Rattle.agefile.specs.Giving.{one_answer}
 use Rattle.agefile.specs.Payload.{before_first, closed_payload, phase_reading}
 

@@ -1,21 +1,11 @@
 -- The results of encrypting a plaintext for a text of stanzas, and of decrypting a file under its
 -- file key.
-use Rattle.std.specs.Prelude.{◌≡◌, ◌⊎◌, ◌≤◌, ◌++◌, ℕ, length, None, Vec, Result, Ok, Err, ◌-◌, drop, Option}
-use Rattle.std.specs.Global.{Global}
-use Rattle.age_kdf.specs.Bytes.{Bytes}
-use Rattle.age_header.specs.declared.file_key.FileKey.{FileKey}
-use Rattle.age_stream.specs.Payload.{chunks, payload}
-use Rattle.age_file.specs.declared.fault.Fault.{Fault}
-use Rattle.agefile.specs.declared.report.Report.{Report}
+use Rattle.agefile.specs.Words.{◌≡◌, ◌⊎◌, ◌≤◌, ◌++◌, ℕ, length, None, Vec, Result, Ok, Err, ◌-◌, drop, Option, Global, Bytes, FileKey, chunks, payload, Fault, Report, StreamFault, Reading, Answering, IsVerdict, Start}
 use Rattle.agefile.specs.Codes.{out_of_memory}
 use Rattle.agefile.specs.Giving.{Gives, Exceeds, Fits}
 use Rattle.agefile.specs.Heading.{MakesHeader}
 use Rattle.agefile.specs.Sizes.{limits, opened_len}
 use Rattle.agefile.specs.Report.{Refuses, Returns}
-use Rattle.age_stream.specs.declared.fault.StreamFault.{StreamFault}
-use Rattle.age_stream.specs.Reading.{Reading}
-use Rattle.age_file.specs.Verdict.{Answering, IsVerdict}
-use Rattle.agefile.specs.declared.start.Start.{Start}
 use Rattle.agefile.specs.Unlock.{IsStart}
 
 -- The file of a plaintext: the header of this text of stanzas, and the payload under this file key

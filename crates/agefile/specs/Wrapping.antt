@@ -1,12 +1,8 @@
 -- The results of calls that write a stanza.
-use Rattle.std.specs.Prelude.{◌⊎◌, ◌==◌, ℕ, List, None}
-use Rattle.std.specs.List.{slice_split}
+use Rattle.agefile.specs.Words.{◌⊎◌, ◌==◌, ℕ, List, None, slice_split, Bytes, AreArguments, IsStanza, StanzaParts, Report}
 use Rattle.std.specs.Str.{IsUtf8}
-use Rattle.age_kdf.specs.Bytes.{Bytes}
 use Rattle.age_header.specs.declared.stanza.StanzaError.{StanzaError}
 use Rattle.age_header.specs.declared.stanza.StanzaError.TheVariants.{Memory}
-use Rattle.age_header.specs.Header.{AreArguments, IsStanza, StanzaParts}
-use Rattle.agefile.specs.declared.report.Report.{Report}
 use Rattle.agefile.specs.Codes.{bad_arguments, out_of_memory}
 use Rattle.agefile.specs.Giving.{Gives}
 use Rattle.agefile.specs.Report.{Returns}

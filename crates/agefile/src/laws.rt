@@ -1,21 +1,13 @@
 //! Laws about the definitions alone. Each is the contract of a function that does nothing.
 
-ghost use Rattle.std.specs.Prelude.{Ok, List, [], ◌∷◌, drop, length, map, take, true, ℕ, ◌≤◌, ◌%◌, ◌++◌, ◌+◌, ◌/◌, ◌<◌, ◌≡◌, ◌≢◌, ◌⊎◌};
+ghost use Rattle.agefile.specs.Words.{Ok, List, [], ◌∷◌, drop, length, map, take, true, ℕ, ◌≤◌, ◌%◌, ◌++◌, ◌+◌, ◌/◌, ◌<◌, ◌≡◌, ◌≢◌, ◌⊎◌, Bytes, IsStanza, StanzaParts, chunk_size, nonce_size, tag_size, Fault, HeaderTruncated, NonceTruncated, Answering, IsVerdict, Payload, Report};
 ghost use Rattle.std.specs.List.{concat};
-ghost use Rattle.age_kdf.specs.Bytes.{Bytes};
-ghost use Rattle.age_header.specs.Header.{IsStanza, StanzaParts};
 ghost use Rattle.age_stream.specs.Payload.{chunks, pieces, sealed_chunks_from};
 ghost use Rattle.age_stream.specs.Reading.{Reading, outcome, whole};
 ghost use Rattle.age_stream.specs.Salvage.{parts};
-ghost use Rattle.age_stream.specs.Sizes.{chunk_size, nonce_size, tag_size};
 ghost use Rattle.age_stream.specs.Slice.{IsSlice, last_outcome, plain_len};
-ghost use Rattle.age_file.specs.declared.fault.Fault.{Fault};
-ghost use Rattle.age_file.specs.declared.fault.Fault.TheVariants.{HeaderTruncated, NonceTruncated};
 ghost use Rattle.age_file.specs.AgeFile.{AgeFile};
-ghost use Rattle.age_file.specs.Verdict.{Answering, IsVerdict};
-ghost use Rattle.agefile.specs.declared.payload.Payload.{Payload};
 ghost use Rattle.agefile.specs.declared.ranges.Ranges.{Ranges};
-ghost use Rattle.agefile.specs.declared.report.Report.{Report};
 ghost use Rattle.agefile.specs.Codes.{code_of, fault_code, ok, out_of_memory, too_many_chunks};
 ghost use Rattle.agefile.specs.WholeFiles.{IsNewFile};
 ghost use Rattle.agefile.specs.Groups.{OpensGroups, OpensRun, SealsGroups, SealsRun, all_of, unended_chunks};

@@ -1,13 +1,11 @@
 //! Reading parts of a plaintext in steps. The caller reads the file, one sealed chunk at a time.
 
-ghost use Rattle.std.specs.Prelude.{◌≡◌, ◌≤◌, ◌/◌, None, true};
+ghost use Rattle.agefile.specs.Words.{◌≡◌, ◌≤◌, ◌/◌, None, true, outcome, chunk_size};
 ghost use Rattle.std.specs.Bool.{OnFalse, OnTrue};
-ghost use Rattle.age_stream.specs.Reading.{outcome};
 ghost use Rattle.agefile.specs.Sizes.{limits};
 ghost use Rattle.agefile.specs.Unlock.{by_file_key};
 ghost use Rattle.agefile.specs.Ranges.{GivesFrom, OpensAt, OpensRanges, Verified, closed_ranges, piece_outcome, has_byte, last_index, may_open, may_verify, piece_len, piece_report, plain_of};
 ghost use Rattle.agefile.specs.Report.{Returns, report_of};
-ghost use Rattle.age_stream.specs.Sizes.{chunk_size};
 ghost use Rattle.agefile.specs.Codes.{ok, out_of_order};
 
 use crate::code::{OK, OUT_OF_ORDER, fault_code};

@@ -1,7 +1,6 @@
 //! Saving what is left of a damaged payload, one sealed chunk after another.
 
-ghost use Rattle.std.specs.Prelude.{◌≡◌, ◌<◌, ◌≤◌, length};
-ghost use Rattle.age_stream.specs.Sizes.{sealed_chunk_size};
+ghost use Rattle.agefile.specs.Words.{◌≡◌, ◌<◌, ◌≤◌, length, sealed_chunk_size};
 ghost use Rattle.agefile.specs.Codes.{ok};
 ghost use Rattle.agefile.specs.Salvage.{SavesAs, SavesNext, saved_number};
 ghost use Rattle.agefile.specs.Sizes.{limits};

@@ -1,19 +1,11 @@
 //! Sufficient sizes of buffers.
 
-ghost use Rattle.std.specs.Prelude.{◌≡◌, ◌-◌, ◌^◌, ◌<◌, ◌≤◌, ◌++◌, ℕ, length, min};
-ghost use Rattle.age_kdf.specs.Bytes.{Bytes};
-ghost use Rattle.age_header.specs.Header.{IsStanza};
-ghost use Rattle.age_header.specs.declared.file_key.FileKey.{FileKey};
+ghost use Rattle.agefile.specs.Words.{◌≡◌, ◌-◌, ◌^◌, ◌<◌, ◌≤◌, ◌++◌, ℕ, length, min, Bytes, IsStanza, FileKey, payload, Reading, nonce_size, Fault, Answering, IsVerdict};
 ghost use Rattle.age_recipient.specs.Key.{file_key_size};
 ghost use Rattle.age_recipient.specs.KeyedStanza.{keyed_stanza};
 ghost use Rattle.age_recipient.specs.PassphraseHolders.{WorkFits};
 ghost use Rattle.age_recipient.specs.PassphraseStanza.{pass_stanza};
 ghost use Rattle.age_recipient.specs.Salt.{salt_size};
-ghost use Rattle.age_stream.specs.Payload.{payload};
-ghost use Rattle.age_stream.specs.Reading.{Reading};
-ghost use Rattle.age_stream.specs.Sizes.{nonce_size};
-ghost use Rattle.age_file.specs.declared.fault.Fault.{Fault};
-ghost use Rattle.age_file.specs.Verdict.{Answering, IsVerdict};
 ghost use Rattle.agefile.specs.WholeFiles.{IsNewFile};
 ghost use Rattle.agefile.specs.Sizes.{file_len, limits, opened_len, plain_len_at_most, sealed_len};
 

@@ -1,6 +1,4 @@
-use Rattle.std.proofs.Common.{◌≤◌, length, arith, Some, None, refl}
-use Rattle.agefile.specs.Unlock.{by_file_key}
-use Rattle.agefile.specs.Sizes.{opened_len}
+use Rattle.agefile.proofs.Common.{◌≤◌, length, arith, Some, None, refl, by_file_key, opened_len}
 use Rattle.agefile.proofs.DecryptingLemmas.{decrypts_opened, no_room}
 use Rattle.agefile.proofs.UnlockLemmas.{start_within}
 use Rattle.agefile.proofs.decrypting.agefile_decrypt.Goals as goal

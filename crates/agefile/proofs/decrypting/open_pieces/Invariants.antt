@@ -1,5 +1,4 @@
-use Rattle.std.proofs.Common.{◌≡◌, ◌-◌, length}
-use Rattle.age_stream.specs.Sizes.{sealed_chunk_size}
+use Rattle.agefile.proofs.Common.{◌≡◌, ◌-◌, length, sealed_chunk_size}
 use Rattle.agefile.proofs.DecryptingLemmas.{IsReadTo}
 use Rattle.agefile.proofs.decrypting.open_pieces.Given as goal
 

@@ -1,5 +1,4 @@
-use Rattle.std.proofs.Common.{◌≡◌, take}
-use Rattle.agefile.specs.Heading.{lines_in}
+use Rattle.agefile.proofs.Common.{◌≡◌, take, lines_in}
 use Rattle.agefile.proofs.heading.lines_in.Given as goal
 
 abbrev pub invariant-loop-byte : goal.invariant-loop-byte

@@ -1,5 +1,4 @@
-use Rattle.std.proofs.Common.{◌≡◌, ◌-◌, length, take, ◌∙◌, ap, subst, sym, arith, Some}
-use Rattle.age_file.specs.declared.fault.Fault.TheVariants.{BadLine}
+use Rattle.agefile.proofs.Common.{◌≡◌, ◌-◌, length, take, ◌∙◌, ap, subst, sym, arith, Some, BadLine}
 use Rattle.agefile.proofs.HeaderLemmas.{header_found}
 use Rattle.agefile.proofs.HeadingLemmas.{mac_early, mac_made, mac_mixed, mac_none}
 use Rattle.agefile.proofs.UnlockLemmas.{fronts}

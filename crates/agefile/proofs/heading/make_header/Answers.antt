@@ -1,7 +1,4 @@
-use Rattle.std.proofs.Common.{◌≡◌, ◌∙◌, ap, arith, inl, inr, length, refl, Err}
-use Rattle.std.specs.String.{string_bytes}
-use Rattle.std.proofs.lemmas.List.{nil_from_length}
-use Rattle.age_file.specs.declared.fault.Fault.TheVariants.{NoRecipients}
+use Rattle.agefile.proofs.Common.{◌≡◌, ◌∙◌, ap, arith, inl, inr, length, refl, Err, string_bytes, nil_from_length, NoRecipients}
 use Rattle.agefile.proofs.HeadingLemmas.{header_made, header_none}
 use Rattle.agefile.proofs.heading.make_header.Goals as goal
 

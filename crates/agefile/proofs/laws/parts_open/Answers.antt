@@ -1,7 +1,4 @@
-use Rattle.std.proofs.Common.{[], refl, true}
-use Rattle.std.proofs.lemmas.List.{append-nil}
-use Rattle.std.proofs.Math.Seq.{take-append_seam}
-use Rattle.agefile.specs.Groups.{OpensPiece, PartOpens, all_of}
+use Rattle.agefile.proofs.Common.{[], refl, true, append-nil, take-append_seam, OpensPiece, PartOpens, all_of}
 use Rattle.agefile.proofs.GroupLemmas.{OpensOne, goes_on, groups_come, opens_next, opens_one, part_opens}
 use Rattle.agefile.proofs.VerdictLemmas.{by_payload}
 use Rattle.agefile.proofs.laws.parts_open.Goals as goal

@@ -1,5 +1,4 @@
-use Rattle.std.proofs.Common.{true}
-use Rattle.agefile.specs.Groups.{PartSeals, Seals, all_of}
+use Rattle.agefile.proofs.Common.{true, PartSeals, Seals, all_of}
 use Rattle.agefile.proofs.GroupLemmas.{SealsOne, groups_come, part_seals, sealed_are, sealed_to_end, seals_next, seals_one}
 use Rattle.agefile.proofs.laws.parts_seal.Goals as goal
 

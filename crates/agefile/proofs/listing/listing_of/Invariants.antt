@@ -1,5 +1,4 @@
-use Rattle.std.proofs.Common.{◌≡◌, map, take}
-use Rattle.agefile.specs.Inspect.{list_text, stanza_summary}
+use Rattle.agefile.proofs.Common.{◌≡◌, map, take, list_text, stanza_summary}
 use Rattle.agefile.proofs.listing.listing_of.Given as goal
 
 abbrev pub invariant-loop-stanza : goal.invariant-loop-stanza

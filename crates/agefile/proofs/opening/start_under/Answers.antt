@@ -1,6 +1,4 @@
-use Rattle.std.proofs.Common.{◌∙◌, ap}
-use Rattle.agefile.specs.Unlock.{gives_key}
-use denote.Param.Object.{read_made}
+use Rattle.agefile.proofs.Common.{◌∙◌, ap, gives_key, read_made}
 use Rattle.agefile.proofs.opening.start_under.Goals as goal
 use Rattle.agefile.proofs.opening.start_under.OwnLists.{own-1, entry-1-1, at-1-1, same-1-1}
 

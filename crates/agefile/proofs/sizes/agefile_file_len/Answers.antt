@@ -1,5 +1,4 @@
-use Rattle.std.proofs.Common.{◌∙◌, ap, length}
-use Rattle.agefile.specs.Sizes.{file_len}
+use Rattle.agefile.proofs.Common.{◌∙◌, ap, length, file_len}
 use Rattle.agefile.proofs.HeadingLemmas.{size_of}
 use Rattle.agefile.proofs.sizes.agefile_file_len.Goals as goal
 

@@ -1,5 +1,4 @@
-use Rattle.std.proofs.Common.{◌≤◌, ◌∙◌, ap, arith, length, subst}
-use Rattle.agefile.specs.Sizes.{opened_len, plain_len_at_most}
+use Rattle.agefile.proofs.Common.{◌≤◌, ◌∙◌, ap, arith, length, subst, opened_len, plain_len_at_most}
 use Rattle.agefile.proofs.SizeLemmas.{verdict_at_most}
 use Rattle.agefile.proofs.sizes.agefile_plain_len_at_most.Goals as goal
 

@@ -1,5 +1,4 @@
-use Rattle.std.proofs.Common.{◌∙◌, ◌<◌, ap, length, subst}
-use Rattle.agefile.specs.Sizes.{sealed_len}
+use Rattle.agefile.proofs.Common.{◌∙◌, ◌<◌, ap, length, subst, sealed_len}
 use Rattle.agefile.proofs.HeadingLemmas.{key_file, pass_file}
 use Rattle.agefile.proofs.sizes.agefile_sealed_len.Goals as goal
 

@@ -1,6 +1,5 @@
-use Rattle.std.proofs.Common.{◌∙◌, ap}
+use Rattle.agefile.proofs.Common.{◌∙◌, ap, read_made}
 use Rattle.age_recipient.specs.PassphraseHolders.{pass_unwraps}
-use denote.Param.Object.{read_made}
 use Rattle.agefile.proofs.unlocking.key_for_passphrase.Goals as goal
 use Rattle.agefile.proofs.unlocking.key_for_passphrase.OwnLists.{own-1, entry-1-1, at-1-1, same-1-1}
 

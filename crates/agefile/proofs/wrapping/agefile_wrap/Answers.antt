@@ -1,7 +1,6 @@
-use Rattle.std.proofs.Common.{◌≡◌, ◌∙◌, ap, arith, inl, inr, map}
+use Rattle.agefile.proofs.Common.{◌≡◌, ◌∙◌, ap, arith, inl, inr, map, words}
 use Rattle.std.proofs.lemmas.Iterator.Consumers.{map_from_collect}
 use Rattle.std.proofs.lemmas.Iterator.Splits.{YieldsList-from_str_split}
-use Rattle.agefile.specs.Wrapping.{words}
 use Rattle.agefile.proofs.WrapLemmas.{own_given, own_refused}
 use Rattle.agefile.proofs.wrapping.agefile_wrap.Goals as goal
 
