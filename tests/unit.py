@@ -11,6 +11,7 @@ tests run in parallel, each in its own process. The last line is 'N passed, M fa
 import concurrent.futures
 import os
 import re
+import signal
 import subprocess
 import sys
 import traceback
@@ -113,6 +114,8 @@ def run_all(names):
 
 
 def main():
+    # A shell starts jobs in the background with SIGINT ignored, and the programs would inherit that.
+    signal.signal(signal.SIGINT, signal.default_int_handler)
     os.chdir(program.TESTS)
     sys.path.insert(0, program.TESTS)
     names = [name for name in sys.argv[1:] if name != "--list"] or modules()
