@@ -266,7 +266,7 @@ def changes(lines):
         elif word == "new":
             found[-1][2] = rest
             part = 2
-        elif word in ("# clause", "script", "fast"):
+        elif word in ("# clause", "script"):
             part = None
         elif part:
             found[-1][part] += "\n" + line
