@@ -1,11 +1,7 @@
 -- Command lines that are written out.
-use Rattle.std.proofs.Common.{◌≡◌, ℕ, refl, codes, List, [], ◌∷◌, Option, Some}
-use Rattle.std.specs.Prelude.{option_map}
+use Rattle.age_args.proofs.Common.{◌≡◌, ℕ, refl, codes, List, [], ◌∷◌, Option, Some, option_map, Row, Text, fault_of, subcommand_of, ValueValidation, MissingRequiredArgument, agep, number_or, rest_of}
 use Rattle.clap.proofs.OnLiterals.{clap_on_literals}
-use Rattle.clap.specs.Words.{Row, Text, fault_of, first_of, subcommand_of}
-use Rattle.clap.specs.declared.error.kind.ErrorKind.TheVariants.{ValueValidation, MissingRequiredArgument}
-use Rattle.age_args.specs.CommandLine.{agep}
-use Rattle.age_args.specs.JobOf.{number_or, rest_of}
+use Rattle.clap.specs.Words.{first_of}
 
 abbrev words : List Text
 words = codes "agep" ∷ codes "encrypt" ∷ codes "-ka" ∷ codes "--key" ∷ codes "b" ∷ codes "-w=3" ∷ codes "in" ∷ []

@@ -1,12 +1,5 @@
 -- The job of words that name no file for input and output.
-use Rattle.std.proofs.Common.{◌≡◌, ◌∙◌, ap, refl, sym, subst, codes, List, Option, Some, None}
-use Rattle.std.specs.Prelude.{option_map}
-use Rattle.std.specs.Option.{option_map_or}
-use Rattle.std.specs.String.{string_bytes}
-use Rattle.clap.specs.Words.{Row, Text}
-use Rattle.age_args.specs.JobOf.{IsJobOf, IsPiped, Makes, header_limit, number_or}
-use Rattle.age_job.specs.declared.job.Command.{Command}
-use Rattle.age_job.specs.declared.job.Job.{Job}
+use Rattle.age_args.proofs.Common.{◌≡◌, ◌∙◌, ap, refl, sym, subst, codes, List, Option, Some, None, option_map, option_map_or, string_bytes, Row, Text, IsJobOf, IsPiped, Makes, header_limit, number_or, Command, Job}
 use Rattle.age_args.specs.declared.options.TheConstants.{DEFAULT_MAX_HEADER}
 use Rattle.age_args.proofs.TakenLemmas.{one_command}
 

@@ -1,12 +1,6 @@
 -- What an error of `clap` says of the words.
-use Rattle.std.proofs.Common.{◌≡◌, ◌∙◌, ◌||◌, inl, inr, ap, refl, sym, Bool, true, false, not, List, [], ◌∷◌, Err}
-use Rattle.std.specs.List.{list_any}
-use Rattle.clap.specs.Words.{IsAmong, Kinds, Text, fault_of, kind_of}
-use Rattle.clap.specs.declared.error.Error.{Error}
-use Rattle.clap.specs.declared.error.kind.ErrorKind.{ErrorKind}
-use Rattle.age_args.specs.CommandLine.{agep}
-use Rattle.age_args.specs.JobOf.{AreWrong, AskForText, IsShown, Reads, is_display}
-use Rattle.age_args.specs.declared.fault.ArgsFault.TheVariants.{Refused}
+use Rattle.age_args.proofs.Common.{◌≡◌, ◌∙◌, ◌||◌, inl, inr, ap, refl, sym, Bool, true, false, not, List, [], ◌∷◌, Err, list_any, IsAmong, Text, fault_of, kind_of, Error, ErrorKind, agep, AreWrong, AskForText, IsShown, Reads, is_display, Refused}
+use Rattle.clap.specs.Words.{Kinds}
 
 among : (p : ErrorKind → Bool) (k : ErrorKind) (kinds : Kinds) → IsAmong k kinds → p k ≡ true → list_any p kinds ≡ true
 among p k [] h e = absurd h

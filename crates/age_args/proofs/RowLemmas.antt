@@ -1,18 +1,5 @@
 -- What the values of options make of a job's fields.
-use Rattle.std.proofs.Common.{◌≡◌, ◌∙◌, ℕ, ◌+◌, ◌<◌, ◌≤◌, Bool, true, false, List, [], ◌∷◌, ◌++◌, length, map, take, get_or, Bor, Option, Some, None, Result, Ok, Err, IfSome, codes, option_map, unwrap_or, arith, ap, sym, refl, String, Global}
-use Rattle.std.specs.Option.{option_map_or}
-use Rattle.std.specs.Str.{bytes_eq}
-use Rattle.std.specs.Str.Parse.{ParsesBool, ParsesUnsigned}
-use Rattle.std.specs.String.{string_bytes}
-use Rattle.std.proofs.lemmas.List.{get_or-map, map_push, length-map, take_more}
-use Rattle.std.proofs.lemmas.Slice.Eq.{bytes_eq-Decides}
-use Rattle.clap.specs.Values.{IsUnsignedIn}
-use Rattle.clap.specs.Words.{ReadsOne, Text}
-use Rattle.std.specs.Option.{is_some}
-use Rattle.age_job.specs.Job.{IsBetween, NamesInput}
-use Rattle.age_job.specs.declared.job.Command.{Command}
-use Rattle.age_job.specs.declared.job.Command.TheVariants.{Range}
-use Rattle.age_args.specs.JobOf.{number_of}
+use Rattle.age_args.proofs.Common.{◌≡◌, ◌∙◌, ℕ, ◌+◌, ◌<◌, ◌≤◌, Bool, true, false, List, [], ◌∷◌, ◌++◌, length, map, take, get_or, Bor, Option, Some, None, Result, Ok, Err, IfSome, codes, option_map, unwrap_or, arith, ap, sym, refl, String, Global, option_map_or, bytes_eq, ParsesBool, ParsesUnsigned, string_bytes, get_or-map, map_push, length-map, take_more, bytes_eq-Decides, IsUnsignedIn, ReadsOne, Text, is_some, IsBetween, NamesInput, Command, Range, number_of}
 
 pub copies_take : (xs : List (Bor Text)) {i : ℕ} (d : Bor Text) (old : List (String Global))
     {new : List (String Global)}

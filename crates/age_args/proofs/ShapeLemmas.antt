@@ -1,9 +1,7 @@
 -- A command with one more option or word.
-use Rattle.std.proofs.Common.{◌≡◌, ◌∙◌, ap₂, Result}
-use Rattle.std.specs.Prelude.{IfOk}
-use Rattle.clap.specs.Words.{Rule, Shape, shape_of}
+use Rattle.age_args.proofs.Common.{◌≡◌, ◌∙◌, ap₂, Result, IfOk, Shape, shape_of, with_rule}
+use Rattle.clap.specs.Words.{Rule}
 use Rattle.clap.specs.declared.builder.command.Command.{Command}
-use Rattle.age_args.specs.CommandLine.{with_rule}
 use Rattle.age_args.proofs.ValueLemmas.{IfOk-equal_to}
 
 pub one_more : {x a b : Shape} {p q : Rule} → x ≡ with_rule a p → p ≡ q → a ≡ b → x ≡ with_rule b q

@@ -1,20 +1,12 @@
 -- Where `clap` finds no fault in the words, a subcommand of the program was named, and its values
 -- make a job.
-use Rattle.std.proofs.Common.{◌≡◌, ◌∙◌, ◌<◌, ◌⊎◌, inl, inr, ℕ, Bool, cond, true, false, true≢false, not, ◌&&◌, ◌||◌, ◌==◌, refl, sym, ap, subst, List, [], ◌∷◌, ◌++◌, length, Option, Some, None, IfSome, codes, arith, nat_lt, length-append, ltb-true}
-use Rattle.std.proofs.lemmas.Bool.{ne_eqb}
-use Rattle.std.proofs.lemmas.Slice.Eq.{bytes_eq-Decides}
-use Rattle.std.specs.Prelude.{if◌then◌else◌, is_some, slice_get, option_and_then, option_map, ⊤}
-use Rattle.std.specs.List.{find, list_all, list_any}
-use Rattle.std.specs.Option.{option_map_or}
-use Rattle.std.specs.Str.{bytes_eq}
+use Rattle.age_args.proofs.Common.{◌≡◌, ◌∙◌, ◌<◌, ◌⊎◌, inl, inr, ℕ, Bool, cond, true, false, true≢false, not, ◌&&◌, ◌||◌, ◌==◌, refl, sym, ap, subst, List, [], ◌∷◌, ◌++◌, length, Option, Some, None, IfSome, codes, arith, nat_lt, length-append, ltb-true, ne_eqb, bytes_eq-Decides, if◌then◌else◌, is_some, slice_get, option_and_then, option_map, ⊤, find, list_all, list_any, option_map_or, bytes_eq, action_fault, entered_fault, is_simple_and_free, given_default_fault, level_fault, values_fault, Kinds, or_else, range_kinds, value_kinds, values_kinds, argument_words, built, entered, is_simple, label_of, names_of, rows_at, IsUnsignedIn, is_request, refused_kind, Rule, action_of, answers_to, at_row, default_rows, first_of, is_empty, most_values, nothing_held, reading_by, row_text, rows_after, stop_after, used_as, values_or_missing, with_values, without, has_row, more_values, used, with_default, ErrorKind, InvalidValue, agep, NamesInput, HasNumber, IsTaken, name_of, Command, Encrypt, Decrypt, Inspect, Range, Rewrap, Salvage}
 use Rattle.clap.specs.Facts.{explicit_source, parser_of_value, unwrap_or_range}
-use Rattle.clap.specs.Faults.{action_fault, entered_fault, fault_of, is_simple_and_free, given_default_fault, level_fault, values_fault}
-use Rattle.clap.specs.Kinds.{Kinds, or_else, range_kinds, value_kinds, values_kinds}
-use Rattle.clap.specs.Simple.{Shape, argument_words, built, entered, is_simple, label_of, names_of, rows_at, subcommand_of}
+use Rattle.clap.specs.Faults.{fault_of}
+use Rattle.clap.specs.Simple.{Shape, subcommand_of}
 use Rattle.clap.specs.Takes.{is_given}
-use Rattle.clap.specs.Values.{IsUnsignedIn, is_request, refused_kind}
 use Rattle.clap.specs.ValueTests.{accepts}
-use Rattle.clap.specs.Walk.{Row, Rule, Text, action_of, answers_to, at_row, default_rows, first_of, is_empty, most_values, nothing_held, reading_by, row_text, rows_after, stop_after, used_as, values_or_missing, with_values, without, has_row, more_values, used, with_default}
+use Rattle.clap.specs.Walk.{Row, Text}
 use Rattle.clap.proofs.ValueTestLemmas.{accepts-Accepts}
 use Rattle.clap.specs.declared.builder.action.ArgAction.{ArgAction}
 use Rattle.clap.specs.declared.builder.action.ArgAction.TheVariants.{Set, Append, SetTrue, SetFalse, Count}
@@ -22,15 +14,8 @@ use Rattle.clap.specs.declared.builder.value_parser.Reading.{Reading}
 use Rattle.clap.specs.declared.builder.value_parser.Reading.TheVariants.{AsWritten}
 use Rattle.clap.specs.declared.builder.value_parser.ValueParser.{ValueParser}
 use Rattle.clap.specs.declared.builder.value_parser.ValueParser.TheVariants as vp
-use Rattle.clap.specs.declared.error.kind.ErrorKind.{ErrorKind}
-use Rattle.clap.specs.declared.error.kind.ErrorKind.TheVariants.{InvalidValue}
 use Rattle.clap.specs.declared.parser.matches.ValueSource.{ValueSource}
 use Rattle.clap.specs.declared.parser.matches.ValueSource.TheVariants.{DefaultValue, CommandLine}
-use Rattle.age_args.specs.CommandLine.{agep}
-use Rattle.age_job.specs.Job.{NamesInput}
-use Rattle.age_args.specs.JobOf.{HasNumber, IsTaken, name_of}
-use Rattle.age_job.specs.declared.job.Command.{Command}
-use Rattle.age_job.specs.declared.job.Command.TheVariants.{Encrypt, Decrypt, Inspect, Range, Rewrap, Salvage}
 use Rattle.age_job.specs.declared.ranges.TheConstants.{MIN_HEADER_SIZE, MIN_WORK_FACTOR, MAX_HEADER_SIZE, MAX_OFFSET, MAX_WORK_FACTOR}
 use Rattle.age_args.proofs.Booleans.{both, neither, not_false, not_true, same_number}
 use Rattle.age_args.proofs.LevelLemmas.{DefaultsWell, Each, UsesWell, both_none, level_ok, test_fails}

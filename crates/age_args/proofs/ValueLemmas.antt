@@ -1,6 +1,5 @@
 -- What the value of a result or of an option is equal to.
-use Rattle.std.proofs.Common.{◌≡◌, ◌∙◌, ap, Option, Some, None, Result, Ok, Err, option_map, unwrap_or}
-use Rattle.std.specs.Prelude.{IfOk}
+use Rattle.age_args.proofs.Common.{◌≡◌, ◌∙◌, ap, Option, Some, None, Result, Ok, Err, option_map, unwrap_or, IfOk}
 
 pub IfOk-equal_to : {X T E : Type 0} (r : Result T E) (f : T → X) {y z : X} → IfOk r (λ t. f t ≡ y) → y ≡ z
     → IfOk r (λ t. f t ≡ z)

@@ -1,20 +1,10 @@
 -- What the words of a command line name.
-use Rattle.std.proofs.Common.{◌≡◌, ◌∙◌, ◌⊎◌, inl, inr, ap, refl, sym, subst, true, codes, arith, length, map, get_or, Bor, List, [], ◌∷◌, Option, Some, Result, Ok, Err}
-use Rattle.std.specs.Prelude.{option_map}
+use Rattle.age_args.proofs.Common.{◌≡◌, ◌∙◌, ◌⊎◌, inl, inr, ap, refl, sym, subst, true, codes, arith, length, map, get_or, Bor, List, [], ◌∷◌, Option, Some, Result, Ok, Err, option_map, bytes_eq, bytes_eq-Decides, App, HasKind, HasMatchesOf, IsAmong, kind_of, Row, Text, app_of, fault_of, subcommand_name_of, subcommand_of, subcommand_rows_of, Error, DisplayHelp, InvalidSubcommand, ArgMatches, agep, AsksForHelp, Becomes, IsJobOf, JobOf, Reads, name_of, Job, Memory, Refused}
 use Rattle.std.specs.Result.{IsErrAnd}
-use Rattle.std.specs.Str.{bytes_eq}
-use Rattle.std.proofs.lemmas.Slice.Eq.{bytes_eq-Decides}
-use Rattle.clap.specs.Words.{App, HasKind, HasMatchesOf, IsAmong, kind_of, Row, Text, app_of, fault_of, is_simple, is_simple_and_free, subcommand_name_of, subcommand_of, subcommand_rows_of}
+use Rattle.clap.specs.Words.{is_simple, is_simple_and_free}
 use Rattle.clap.proofs.OnLiterals.{clap_on_literals}
 use Rattle.clap.specs.declared.builder.command.Command.{Command}
-use Rattle.clap.specs.declared.error.Error.{Error}
-use Rattle.clap.specs.declared.error.kind.ErrorKind.TheVariants.{DisplayHelp, InvalidSubcommand}
-use Rattle.clap.specs.declared.parser.matches.ArgMatches.{ArgMatches}
-use Rattle.age_args.specs.CommandLine.{agep}
-use Rattle.age_args.specs.JobOf.{AsksForHelp, Becomes, IsJobOf, JobOf, Reads, name_of}
-use Rattle.age_job.specs.declared.job.Job.{Job}
 use Rattle.age_args.specs.declared.fault.ArgsFault.{ArgsFault}
-use Rattle.age_args.specs.declared.fault.ArgsFault.TheVariants.{Memory, Refused}
 use Rattle.age_args.proofs.SubcommandLemmas.{subcommand_is}
 use Rattle.age_args.proofs.TakenLemmas.{Taken, agep_is_free, agep_is_simple, taken}
 

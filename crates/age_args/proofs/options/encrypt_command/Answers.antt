@@ -1,6 +1,4 @@
-use Rattle.std.proofs.Common.{ap, ◌∙◌}
-use Rattle.clap.specs.Words.{Shape}
-use Rattle.age_args.specs.CommandLine.{with_rules, writing}
+use Rattle.age_args.proofs.Common.{ap, ◌∙◌, Shape, with_rules, writing}
 use Rattle.age_args.proofs.ShapeLemmas.{IfOk-one_more, one_more}
 use Rattle.age_args.proofs.options.encrypt_command.Goals as goal
 

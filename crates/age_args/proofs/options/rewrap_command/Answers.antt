@@ -1,6 +1,4 @@
-use Rattle.std.proofs.Common.{rules, ap, ◌∙◌, ◌≡◌}
-use Rattle.clap.specs.Words.{Shape, rule_of}
-use Rattle.age_args.specs.CommandLine.{with_rules, new_key, opening}
+use Rattle.age_args.proofs.Common.{rules, ap, ◌∙◌, ◌≡◌, Shape, rule_of, with_rules, new_key, opening}
 use Rattle.age_args.proofs.ShapeLemmas.{IfOk-one_more, one_more}
 use Rattle.age_args.proofs.options.rewrap_command.Goals as goal
 

@@ -1,5 +1,4 @@
-use Rattle.std.proofs.Common.{rules, ap, ap₂, refl, true, false, ◌≡◌, ◌∙◌}
-use Rattle.clap.specs.Words.{App, Shape, app_of, shape_of, with_subcommand}
+use Rattle.age_args.proofs.Common.{rules, ap, ap₂, refl, true, false, ◌≡◌, ◌∙◌, App, Shape, app_of, shape_of, with_subcommand}
 use Rattle.clap.specs.declared.builder.command.Command.{Command}
 use Rattle.clap.specs.declared.builder.command.Command.TheViews.{out-Command}
 use Rattle.age_args.proofs.Booleans.{both, not_true}

@@ -1,6 +1,4 @@
-use Rattle.std.proofs.Common.{ap, ◌∙◌, refl}
-use Rattle.clap.specs.Words.{Shape}
-use Rattle.age_args.specs.CommandLine.{with_rules, writing}
+use Rattle.age_args.proofs.Common.{ap, ◌∙◌, refl, Shape, with_rules, writing}
 use Rattle.age_args.proofs.ShapeLemmas.{IfOk-one_more, one_more}
 use Rattle.age_args.proofs.options.with_opening_options.Goals as goal
 

@@ -1,5 +1,4 @@
-use Rattle.std.proofs.Common.{◌≡◌, map, take}
-use Rattle.std.specs.String.{string_bytes}
+use Rattle.age_args.proofs.Common.{◌≡◌, map, take, string_bytes}
 use Rattle.age_args.proofs.words.copied.Given as goal
 
 abbrev pub invariant-loop-text : goal.invariant-loop-text

@@ -1,6 +1,4 @@
-use Rattle.std.proofs.Common.{◌∙◌}
-use Rattle.clap.specs.Words.{found_of}
-use Rattle.clap.proofs.WalkLemmas.{one_text-rows}
+use Rattle.age_args.proofs.Common.{◌∙◌, found_of, one_text-rows}
 use Rattle.age_args.proofs.RowLemmas.{flag_read}
 use Rattle.age_args.proofs.words.is_set.Goals as goal
 

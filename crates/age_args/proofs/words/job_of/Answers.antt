@@ -1,5 +1,4 @@
-use Rattle.std.proofs.Common.{arith}
-use Rattle.std.specs.String.{string_bytes}
+use Rattle.age_args.proofs.Common.{arith, string_bytes}
 use Rattle.age_args.proofs.RowLemmas.{has_number, in_range, names_input}
 use Rattle.age_args.proofs.words.job_of.Goals as goal
 

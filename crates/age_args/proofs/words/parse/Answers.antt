@@ -1,8 +1,4 @@
-use Rattle.std.proofs.Common.{ap, sym, subst, ◌∙◌}
-use Rattle.clap.specs.Walk.{texts}
-use Rattle.clap.specs.Words.{found_of, rows_of}
-use Rattle.age_args.specs.JobOf.{IsTaken, name_of}
-use Rattle.age_job.specs.declared.job.Command.{Command}
+use Rattle.age_args.proofs.Common.{ap, sym, subst, ◌∙◌, texts, found_of, rows_of, IsTaken, name_of, Command}
 use Rattle.age_args.proofs.TakenLemmas.{one_command}
 use Rattle.age_args.proofs.WordsLemmas.{made, named, refusal}
 use Rattle.age_args.proofs.words.parse.Goals as goal

@@ -1,8 +1,4 @@
-use Rattle.std.proofs.Common.{ap, sym, ◌∙◌, List, Bor, map, drop}
-use Rattle.std.proofs.lemmas.List.{nil_from_length}
-use Rattle.std.specs.String.{string_bytes}
-use Rattle.clap.specs.Words.{Text, found_of}
-use Rattle.clap.proofs.WalkLemmas.{raw_values-rows}
+use Rattle.age_args.proofs.Common.{ap, sym, ◌∙◌, List, Bor, map, drop, nil_from_length, string_bytes, Text, found_of, raw_values-rows}
 use Rattle.age_args.proofs.RowLemmas.{nows}
 use Rattle.age_args.proofs.ValueLemmas.{IfOk-equal_to, mapped_or}
 use Rattle.age_args.proofs.words.rest_of.Goals as goal

@@ -1,7 +1,4 @@
-use Rattle.std.proofs.Common.{◌∙◌, codes}
-use Rattle.std.specs.String.{string_bytes}
-use Rattle.clap.specs.Words.{found_of}
-use Rattle.clap.proofs.WalkLemmas.{first_value-rows}
+use Rattle.age_args.proofs.Common.{◌∙◌, codes, string_bytes, found_of, first_value-rows}
 use Rattle.age_args.proofs.ValueLemmas.{IfOk-equal_to, mapped_or}
 use Rattle.age_args.proofs.words.seed_of.Goals as goal
 

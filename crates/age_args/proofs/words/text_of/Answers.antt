@@ -1,6 +1,4 @@
-use Rattle.std.proofs.Common.{ap, sym, ◌∙◌, Some, option_map, Bor, Option}
-use Rattle.clap.specs.Words.{Text, found_of}
-use Rattle.clap.proofs.WalkLemmas.{first_value-rows}
+use Rattle.age_args.proofs.Common.{ap, sym, ◌∙◌, Some, option_map, Bor, Option, Text, found_of, first_value-rows}
 use Rattle.age_args.proofs.words.text_of.Goals as goal
 
 abbrev texts : Option (Bor Text) → Option Text
