@@ -114,7 +114,7 @@ def run_all(names):
 
 
 def main():
-    # A shell starts jobs in the background with SIGINT ignored, and the programs would inherit that.
+    # A shell starts background jobs with SIGINT ignored, and the programs would inherit that.
     signal.signal(signal.SIGINT, signal.default_int_handler)
     os.chdir(program.TESTS)
     sys.path.insert(0, program.TESTS)

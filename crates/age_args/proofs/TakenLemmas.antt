@@ -1,6 +1,6 @@
 -- Where `clap` finds no fault in the words, a subcommand of the program was named, and its values
 -- make a job.
-use Rattle.age_args.proofs.Common.{◌≡◌, ◌∙◌, ◌<◌, ◌⊎◌, inl, inr, ℕ, Bool, cond, true, false, true≢false, not, ◌&&◌, ◌||◌, ◌==◌, refl, sym, ap, subst, List, [], ◌∷◌, ◌++◌, length, Option, Some, None, IfSome, codes, arith, nat_lt, length-append, ltb-true, ne_eqb, bytes_eq-Decides, if◌then◌else◌, is_some, slice_get, option_and_then, option_map, ⊤, find, list_all, list_any, option_map_or, bytes_eq, action_fault, entered_fault, is_simple_and_free, given_default_fault, level_fault, values_fault, Kinds, or_else, range_kinds, value_kinds, values_kinds, argument_words, built, entered, is_simple, label_of, names_of, rows_at, IsUnsignedIn, is_request, refused_kind, Rule, action_of, answers_to, at_row, default_rows, first_of, is_empty, most_values, nothing_held, reading_by, row_text, rows_after, stop_after, used_as, values_or_missing, with_values, without, has_row, more_values, used, with_default, ErrorKind, InvalidValue, agep, NamesInput, HasNumber, IsTaken, name_of, Command, Encrypt, Decrypt, Inspect, Range, Rewrap, Salvage}
+use Rattle.age_args.proofs.Common.{◌≡◌, ◌∙◌, ◌<◌, ◌⊎◌, inl, inr, ℕ, Bool, cond, true, false, true≢false, not, ◌&&◌, ◌||◌, ◌==◌, refl, sym, ap, subst, List, [], ◌∷◌, ◌++◌, length, Option, Some, None, IfSome, codes, arith, nat_lt, length-append, ltb-true, ne_eqb, bytes_eq-Decides, if◌then◌else◌, is_some, slice_get, option_and_then, option_map, ⊤, find, list_all, list_any, option_map_or, bytes_eq, action_fault, entered_fault, is_simple_and_free, given_default_fault, level_fault, values_fault, Kinds, or_else, range_kinds, values_kinds, argument_words, built, entered, is_simple, label_of, names_of, rows_at, IsUnsignedIn, is_request, refused_kind, Rule, action_of, answers_to, at_row, default_rows, first_of, is_empty, most_values, nothing_held, reading_by, row_text, rows_after, stop_after, used_as, values_or_missing, with_values, without, has_row, more_values, used, with_default, ErrorKind, InvalidValue, agep, NamesInput, HasNumber, IsTaken, name_of, Command, Encrypt, Decrypt, Inspect, Range, Rewrap, Salvage}
 use Rattle.clap.specs.Facts.{explicit_source, parser_of_value, unwrap_or_range}
 use Rattle.clap.specs.Faults.{fault_of}
 use Rattle.clap.specs.Simple.{Shape, subcommand_of}
