@@ -132,7 +132,6 @@ class AgeFileSystem(AbstractFileSystem):  # type: ignore[misc]
         for name in ("encoding", "errors", "newline", "recipients"):
             if name in options:
                 words[name] = options[name]
-        self._keys.pop(path, None)
         is_atomic = options.get("atomic", self._atomic)
         if is_atomic and isinstance(self.fs, LocalFileSystem):
             if self.fs.auto_mkdir:

@@ -457,6 +457,10 @@ class Reading(InFolder):
                     self.assertEqual(agefile.inspect(make()), agefile.inspect(self.got("a.age")))
         with FileWithPath("a.age") as below, agefile.open(below, identities=KEY) as file:
             self.assertEqual(file.read(), plain)
+        with open("both.age", "w+b") as below:
+            below.write(agefile.encrypt(b"not flushed", recipients=KEY))
+            with agefile.open(below, identities=KEY) as file:
+                self.assertEqual(file.read(), b"not flushed")
         with agefile.open(PathThatWrites(), "wb", recipients=KEY) as file:
             file.write(plain)
         self.assertEqual(agefile.decrypt(self.got("path.age"), identities=KEY), plain)

@@ -486,6 +486,10 @@ class Writes(InSystem):
                     self.assertEqual(system.cat_file(path), text(200000))
                     self.assertRaises(FileExistsError, used.open, path, "xb", **words)
                     self.assertEqual(system.ls(os.path.dirname(path), detail=False), [system._strip_protocol(path)])
+            with contextlib.suppress(KeyError), by_default.open(path, "wb", atomic=False) as file:
+                file.write(text(200000))
+                raise KeyError
+            self.assertRaises(AgeError, system.cat_file, path)
             system.rm(path)
 
     def test_atomic_that_fails(self):

@@ -171,11 +171,16 @@ class Wrong(unittest.TestCase):
                 self.assertNotIsInstance(error, (ValueError, OSError))
 
     def test_the_gravest_miss_of_several(self):
-        """A wrong key is reported, wherever it is among identities without a stanza."""
+        """A wrong key is reported, wherever it is among identities without a stanza. The right one opens the
+        file, wherever it is among wrong ones."""
         file, wrong, other = agefile.encrypt(b"", recipients=KEY), Key(bytes(32)), Passphrase("x")
         for identities in ([wrong, other], [other, wrong], [wrong], [other, wrong, other]):
             with self.assertRaisesRegex(AgeError, pattern("WrongKey")):
                 agefile.decrypt(file, identities=identities)
+        for right, wrong in ((KEY, wrong), (Passphrase("x", work=1), Passphrase("y"))):
+            file = agefile.encrypt(b"text", recipients=right)
+            for identities in ([right, wrong], [wrong, right]):
+                self.assertEqual(agefile.decrypt(file, identities=identities), b"text")
 
     def test_cut_files(self):
         """A file cut at each end of a piece: one thread and two report the same chunk."""
