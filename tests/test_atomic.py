@@ -70,10 +70,12 @@ class Calls(CallCase):
         for call in ("write", "fsync", "rename", "fchmod"):
             with self.subTest(call):
                 write("made", YESTERDAY)
+                os.chmod("made", 0o640)
                 env = {"LD_PRELOAD": preload("calls"), "KEPT": "1", "CALL": call, "NUMBER": "1", "DO": IO_ERROR}
                 words = "encrypt", "-v", "-k", "key", "-s", "seed", "--atomic", "-o", "made", "plain"
                 self.assertEqual(self.run_agep(*words, env=env).status, 1)
-                self.assertTrue(os.path.exists(NEW))
+                mode = os.stat(NEW).st_mode & 0o777
+                self.assertEqual(f"{mode:o}", "600" if call == "fchmod" else "640", "before it has the mode of OUT, only its owner may read it")
                 line, more = message("NewFileExists", NEW), f"{NEW}: if no agep is writing it, remove it"
                 self.says(line, *words, more=more)
                 self.assert_file("made", YESTERDAY)
