@@ -1,39 +1,30 @@
 -- What a finished job has written, if input and output are known.
-use Rattle.std.proofs.Common.{◌≡◌, ◌≤◌, ◌⊎◌, ◌∙◌, ◌++◌, ℕ, ap, arith, cond, false, inl, inr, length, refl, subst, sym, true, List, None, Some, Result, Ok, Err}
-use Rattle.std.specs.Prelude.{⊤, ◌↔◌, ◌&&◌, Bool, Option}
+use Rattle.age_cli.proofs.Common.{◌≡◌, ◌≤◌, ◌⊎◌, ◌∙◌, ◌++◌, ℕ, ap, arith, cond, false, inl, inr, length, refl, subst, sym, true, List, None, Some, Result, Ok, Err, ⊤, ◌↔◌, ◌&&◌, Bool, Option, Bytes, Known, move_of, LossesMoved, Fault, Job, Ends, IsPiped, Makes, Finishes, FinishesWords, word_limits, OfKnown, Performs, SalvagesAll, without_counts}
 use Rattle.std.specs.Io.KnownBytes.{Appends, Keeps}
-use Rattle.age_header.specs.Device.{Bytes, Known, move_of}
 use Rattle.age_header.specs.Header.{HeaderParts, StanzaParts}
 use Rattle.age_header.specs.Verdict.{HeaderVerdict}
 use Rattle.age_header.specs.declared.file_key.FileKey.{FileKey}
 use Rattle.age_recipient.specs.Choice.{choice}
 use Rattle.age_stream.specs.declared.done.Done.{Done}
 use Rattle.age_stream.specs.Reading.{Reading, whole}
-use Rattle.age_stream.specs.Salvage.{LossesMoved}
-use Rattle.age_file.specs.declared.fault.Fault.{Fault}
 use Rattle.age_file.specs.declared.fault.Fault.TheVariants.{BadChunk}
 use Rattle.age_file.specs.declared.limits.Fresh.{Fresh}
 use Rattle.age_file.specs.AgeFile.{AgeFile, Bounds}
 use Rattle.age_file.specs.Decrypt.{DecryptsText}
 use Rattle.age_file.specs.NewFile.{EncryptsText, Gathering}
 use Rattle.age_file.specs.Rewrap.{RewrapsText, Rewrapped}
-use Rattle.age_file.specs.Salvage.{SalvagesText, SavesFile, is_whole_file}
+use Rattle.age_file.specs.Salvage.{SavesFile, is_whole_file}
 use Rattle.age_file.specs.declared.salvaging.SalvagedFile.{SalvagedFile}
 use Rattle.age_file.specs.Verdict.{Answering, IsVerdict, finding}
 use Rattle.age_file.proofs.SalvageLaws.{saved_exactly, saved_whole}
 use Rattle.age_job.specs.declared.job.Command.TheVariants as command
-use Rattle.age_job.specs.declared.job.Job.{Job}
 use Rattle.age_job.specs.declared.secret.Secret.{Secret}
 use Rattle.age_stream.specs.Ranges.{range_len}
 use Rattle.age_commands.specs.declared.task.Task.TheVariants as task
 use Rattle.age_commands.specs.Inspect.{InspectsText, IsShown, check_of}
-use Rattle.age_commands.specs.Output.{Ends}
-use Rattle.age_args.specs.JobOf.{IsPiped, Makes}
 use Rattle.age_args.proofs.PipedLemmas.{piped}
 use Rattle.age_cli.proofs.ProgramLemmas.{alone}
-use Rattle.age_cli.specs.Program.{Finishes, FinishesWords, word_limits}
 use Rattle.age_commands.specs.Secret.{answers_of, gathering_of, limits_of}
-use Rattle.age_commands.specs.Task.{OfKnown, Performs, SalvagesAll, without_counts}
 
 -- the output ends with what was appended
 grown : (xs more : Bytes) (taken new : Known) → Appends (Some xs) taken more → Keeps taken new → new ≡ Some (xs ++ more)

@@ -1,16 +1,10 @@
 -- The result of a job, from the result of its task.
-use Rattle.std.proofs.Common.{◌≡◌, ◌⊎◌, ℕ, List, arith, inl, inr, refl, subst, sym, Option, None, Some, Result, Ok, Err}
-use Rattle.std.specs.Prelude.{◌≢◌, ⊤}
-use Rattle.age_header.specs.Device.{Bytes, Known, Moved, Stays, move_of}
-use Rattle.age_file.specs.declared.fault.Fault.{Fault as FileFault}
-use Rattle.age_job.specs.declared.job.Job.{Job}
+use Rattle.age_cli.proofs.Common.{◌≡◌, ◌⊎◌, ℕ, List, arith, inl, inr, refl, subst, sym, Option, None, Some, Result, Ok, Err, ⊤, Bytes, Known, Moved, Stays, move_of, Job, AreWrong, AskForText, Makes, Reads, Task, AnswersRefusal, Completes, Finishes, FinishesOn, IsInput, IsOutput, IsTaskOf, PerformsOn, PerformsTo, UsesStreams, Works}
 use Rattle.age_args.specs.declared.fault.ArgsFault.{ArgsFault}
 use Rattle.age_args.specs.declared.fault.ArgsFault.TheVariants.{Memory, Refused}
-use Rattle.age_args.specs.JobOf.{AreWrong, AskForText, Makes, Reads}
 use Rattle.age_args.proofs.RefusalLemmas.{shown, wrong}
 use Rattle.age_cli.specs.declared.failure.Failure.{Failure}
-use Rattle.age_commands.specs.declared.task.Task.{Task}
-use Rattle.age_cli.specs.Program.{AnswersRefusal, Begins, Completes, Finishes, FinishesOn, IsInput, IsOutput, IsTaskOf, PerformsOn, PerformsTo, UsesStreams, Works}
+use Rattle.age_cli.specs.declared.failure.Failure.TheVariants.{AgeFile, Job as OfJob}
 
 -- standard input, if no file is named
 input_is : {A : Type 0} (F : Type 0) (remaining : F → Known) (o : Option A) (standard from : Known) → o ≡ None
@@ -24,19 +18,17 @@ output_is : {A : Type 0} (F : Type 0) (contents : F → Known) (o : Option A) (s
 output_is F contents None standard sink e h = h
 output_is F contents (Some name) standard sink e h = absurd (cc)
 
-begins : (F : Type 0) (remaining : F → Known) (job : Job) (task : Task) (from source : Known) (sink : Moved)
-    → IsTaskOf job task → IsInput F remaining job.input from source
-    → Stays sink ⊎ ((fault : FileFault) × Works job task source sink (Err fault)) → Begins F remaining job from sink
-begins F remaining job task from source sink is i (inl keeps) = inl keeps
-begins F remaining job task from source sink is i (inr h) = inr (source, i, (task, is, h))
-
 pub completes : {F : Type 0} (remaining contents : F → Known) (job : Job) (task : Task) (from source : Known)
     (sink : Moved) (r : Result ⊤ Failure) → IsTaskOf job task → IsInput F remaining job.input from source
     → PerformsOn F contents job task source sink r → Completes F remaining contents job from sink r
 completes remaining contents job task from source sink (Ok u) is i (target, o, w) =
     (source, i, (target, o, (task, is, w)))
-completes {F} remaining contents job task from source sink (Err failure) is i h = λ silent.
-    begins F remaining job task from source sink is i (h.0 silent)
+completes {F} remaining contents job task from source sink (Err (AgeFile fault detail)) is i h = λ silent.
+    let w = h.1 fault detail refl in
+    let same = output_is F contents job.output sink w.0 silent w.1 in
+    inr (source, i, (task, is, (fault, subst (λ (s : Moved). Works job task source s (Err fault)) same w.2)))
+completes remaining contents job task from source sink (Err (OfJob failure)) is i h = λ silent.
+    inl (h.0 failure refl silent)
 
 pub stays_known : {old new : Known} → new ≡ old → Stays (move_of old new)
 stays_known {old} {new} e = subst (λ (k : Known). Stays (move_of old k)) (sym e) (same old)
@@ -45,32 +37,20 @@ stays_known {old} {new} e = subst (λ (k : Known). Stays (move_of old k)) (sym e
     same None = tt
     same (Some xs) = refl
 
-named_output : {A F : Type 0} (contents : F → Known) (o : Option A) (k : Known) (old new : F) → o ≢ None
-    → IsOutput F contents o (move_of k k) (move_of (contents old) (contents new))
-named_output contents None k old new named = absurd (named refl)
-named_output contents (Some name) k old new named = (old, new, refl)
-
--- the result of work that writes to standard output
-pub performs_alone : {F : Type 0} (contents : F → Known) (job : Job) (task : Task) (from : Known) (sink : Moved)
-    (r : Result ⊤ Failure) → job.output ≡ None → PerformsTo job task from sink r
-    → PerformsOn F contents job task from sink r
-performs_alone contents job task from sink (Ok u) none works = (sink, rw none refl, works)
-performs_alone contents job task from sink (Err failure) none (fault, is, works) = (
-  λ silent. inr (fault, works),
-  λ other e. let same : fault ≡ other = cc in (sink, rw none refl, rw same at works),
-)
-
--- the result of work that writes to a named file
-pub fails_in : {F : Type 0} (contents : F → Known) (job : Job) (task : Task) (from k : Known) (old new : F)
-    (failure : Failure) → job.output ≢ None
-    → PerformsTo job task from (move_of (contents old) (contents new)) (Err failure)
-    → PerformsOn F contents job task from (move_of k k) (Err failure)
-fails_in contents job task from k old new failure named (fault, is, works) = (
-  λ silent. absurd (named silent),
-  λ other e.
-      let same : fault ≡ other = cc in
-      (move_of (contents old) (contents new), named_output contents job.output k old new named, rw same at works),
-)
+-- the result of work that writes to this output
+pub performs : {F : Type 0} (contents : F → Known) (job : Job) (task : Task) (given : Known) {from : Known}
+    (sink target : Moved) (r : Result ⊤ Failure) → given ≡ from → IsOutput F contents job.output sink target
+    → PerformsTo job task given target r → PerformsOn F contents job task from sink r
+performs {F} contents job task given sink target r is o works =
+    subst (λ (k : Known). PerformsOn F contents job task k sink r) is (go r works)
+  where
+    go : (r : Result ⊤ Failure) → PerformsTo job task given target r → PerformsOn F contents job task given sink r
+    go (Ok u) works = (target, o, works)
+    go (Err (AgeFile fault detail)) works = (
+      λ other e. absurd (cc),
+      λ late known e. let same : fault ≡ late = cc in (target, o, rw same at works),
+    )
+    go (Err (OfJob failure)) works = absurd works
 
 -- what is done from standard input to standard output
 pub alone : (F : Type 0) (remaining contents : F → Known) (job : Job) {from : Known} {sink : Moved} → job.input ≡ None

@@ -5,14 +5,16 @@ use Rattle.age_stream.specs.Salvage.{LossesMoved}
 use Rattle.age_file.specs.AgeFile.{Bounds}
 use Rattle.age_file.specs.declared.fault.Fault.{Fault as FileFault}
 use Rattle.age_job.specs.declared.job.Command.TheVariants as command
+use Rattle.age_job.specs.declared.failure.Failure.{Failure as JobFailure}
 use Rattle.age_job.specs.declared.job.Job.{Job}
 use Rattle.age_job.specs.Secret.{IsFileKeyOf, IsNewSecret, IsSecretOf}
 use Rattle.age_job.specs.declared.secret.Secret.{Secret}
 use Rattle.age_args.specs.declared.fault.ArgsFault.{ArgsFault}
 use Rattle.age_args.specs.declared.fault.ArgsFault.TheVariants.{Memory, Refused}
 use Rattle.age_args.specs.JobOf.{AskForText, IsShown, Makes, header_limit}
+use Rattle.age_cli.specs.declared.failure.Detail.{Detail}
 use Rattle.age_cli.specs.declared.failure.Failure.{Failure}
-use Rattle.age_cli.specs.declared.failure.Fault.TheVariants.{AgeFile}
+use Rattle.age_cli.specs.declared.failure.Failure.TheVariants.{AgeFile, Job as OfJob}
 use Rattle.age_commands.specs.declared.task.Task.{Task}
 use Rattle.age_commands.specs.declared.task.Task.TheVariants.{Encrypt, Decrypt, Rewrap, Inspect, Range, Salvage}
 use Rattle.age_commands.specs.Output.{Ends}
@@ -51,8 +53,8 @@ Works job task from sink result =
 abbrev pub PerformsTo : (job : Job) (task : Task) (from : Known) (sink : Moved)
     (result : Result ⊤ Failure) → Type 0
 PerformsTo job task from sink (Ok _) = Works job task from sink (Ok tt)
-PerformsTo job task from sink (Err failure) =
-    (fault : FileFault) × (failure.fault ≡ AgeFile fault) × Works job task from sink (Err fault)
+PerformsTo job task from sink (Err (AgeFile fault detail)) = Works job task from sink (Err fault)
+PerformsTo job task from sink (Err (OfJob failure)) = ⊥
 
 -- the bytes to come from IN: those of standard input, or, if IN is named, those of some value of
 -- the file type
@@ -69,18 +71,23 @@ IsOutput F contents None standard sink = sink ≡ standard
 IsOutput F contents (Some name) standard sink =
     (old new : F) × (sink ≡ move_of (contents old) (contents new))
 
--- The result of work that writes to OUT. On Ok it was performed. On any fault, if OUT is not named,
--- standard output is unchanged or has what the work wrote. On a fault of the age file or of the
--- work, OUT has what the work wrote, also if it is named.
+-- OUT has what the work wrote
+abbrev pub WritesOn : (F : Type 0) (contents : F → Known) (job : Job) (task : Task)
+    (from : Known) (sink : Moved) (result : Result ⊤ FileFault) → Type 0
+WritesOn F contents job task from sink result =
+    (target : Moved) × IsOutput F contents job.output sink target
+    × Works job task from target result
+
+-- The result of work that writes to OUT. On Ok, and on a fault of the age file or of the work, OUT
+-- has what the work wrote. On a fault of a file of the job, standard output is unchanged if it is
+-- OUT.
 abbrev pub PerformsOn : (F : Type 0) (contents : F → Known) (job : Job) (task : Task)
     (from : Known) (sink : Moved) (result : Result ⊤ Failure) → Type 0
-PerformsOn F contents job task from sink (Ok _) =
-    (target : Moved) × IsOutput F contents job.output sink target
-    × Works job task from target (Ok tt)
+PerformsOn F contents job task from sink (Ok _) = WritesOn F contents job task from sink (Ok tt)
 PerformsOn F contents job task from sink (Err failure) =
-    (job.output ≡ None → Stays sink ⊎ ((fault : FileFault) × Works job task from sink (Err fault)))
-    × ((fault : FileFault) → failure.fault ≡ AgeFile fault → (target : Moved)
-    × IsOutput F contents job.output sink target × Works job task from target (Err fault))
+    ((other : JobFailure) → failure ≡ OfJob other → job.output ≡ None → Stays sink)
+    × ((fault : FileFault) (detail : Option Detail) → failure ≡ AgeFile fault detail
+    → WritesOn F contents job task from sink (Err fault))
 
 -- a task of the job was performed
 abbrev pub Finishes : (job : Job) (from : Known) (sink : Moved) → Type 0

@@ -6,16 +6,17 @@ ghost use Rattle.age_args.specs.Words.{texts};
 ghost use Rattle.age_cli.specs.Program.{AnswersRefusal, Begins, BeginsWords, Completes, FinishesOn, FinishesWords, IsTaskOf, PerformsOn, UsesStreams};
 ghost use Rattle.age_header.specs.Device.{Stays, move_by};
 
-use crate::failure::{Failure, Fault};
+use crate::failure::Failure;
 use crate::lines::LossLines;
 use crate::work::{input_name, kept_prefix, perform_to};
 use age_args::{ArgsFault, parse_args};
 use age_commands::{Report, Seed, Task, seed_of};
+use age_file::Fault;
 use age_job::{
     Command, Job, Lines, Pipe, ReadFiles, SEED_LEN, Shown, Target, Watched, read_encrypt_secrets,
     read_file_key, read_rewrap_secrets, read_secret, refuse_output, shows_progress,
 };
-use std::alloc::Global;
+use std::alloc::{AllocError, Global};
 use std::fmt::Display;
 use std::io::{IsTerminal, Read, Seek, Write};
 use std::rt::{Env, Files};
@@ -117,10 +118,13 @@ pub fn run_job<
         is_shown,
     };
     let target = Target::of(rt, job);
-    let mut read = ReadFiles::new(rt, job);
-    match perform(
-        rt, job, &target, &mut read, is_shown, input, out, &mut lines,
-    ) {
+    let mut work = Work {
+        job,
+        target: &target,
+        read: ReadFiles::new(rt, job),
+        is_shown,
+    };
+    match perform(rt, &mut work, input, out, &mut lines) {
         Ok(()) => DONE,
         Err(failure) => {
             lines.end();
@@ -128,7 +132,7 @@ pub fn run_job<
             if is_told(job, &failure) {
                 return FAILED;
             }
-            let more = if job.verbose { Some(&read) } else { None };
+            let more = if job.verbose { Some(&work.read) } else { None };
             report(alloc, &failure, more, err)
         }
     }
@@ -136,50 +140,60 @@ pub fn run_job<
 
 /// Whether lines on lost chunks were printed instead of the fault.
 fn is_told(job: &Job, failure: &Failure<'_>) -> bool {
-    match failure.fault {
-        Fault::AgeFile(age_file::Fault::BadChunk(_)) => job.command == Command::Salvage,
+    match failure {
+        Failure::AgeFile(Fault::BadChunk(_), _) => job.command == Command::Salvage,
         _ => false,
     }
+}
+
+/// A job with its files.
+#[derive(Drop)]
+struct Work<'a> {
+    job: &'a Job,
+    /// How OUT is written.
+    target: &'a Target,
+    /// The files opened for reading.
+    read: ReadFiles<'a>,
+    /// Whether to show how much of IN was read.
+    is_shown: bool,
 }
 
 /// Reads the small files, opens the input, creates the output, performs the task, in this order.
 #[tactic(auto, using(crate::proofs::ProgramLemmas::completes))]
 fn perform<'a, F: Files + Clock + AllocGlobal, R: Read, W: Write + IsTerminal, L: Report>(
     rt: &F,
-    job: &'a Job,
-    target: &'a Target,
-    read: &mut ReadFiles<'a>,
-    is_shown: bool,
+    work: &mut Work<'a>,
     input: &mut R,
     out: &mut W,
     lines: &mut L,
 ) -> Result<(), Failure<'a>>
-    requires { IsInRange job.now }
+    requires { IsInRange work.old.job.now }
     ensures silent { OnOk result (lines.new ≡ lines.old) }
     ensures completes { Completes F.File ⟦<F::File as Read>⟧.remaining
-        ⟦<F::File as Write>⟧.contents job.now (R.remaining input.old)
+        ⟦<F::File as Write>⟧.contents work.old.job.now (R.remaining input.old)
         (move_by W.contents out.old out.new) result }
-    ensures input { job.now.input ≢ None → input.new ≡ input.old }
-    ensures output { job.now.output ≢ None → out.new ≡ out.old }
+    ensures input { work.old.job.now.input ≢ None → input.new ≡ input.old }
+    ensures output { work.old.job.now.output ≢ None → out.new ≡ out.old }
 {
-    refuse_output(rt, job)?;
-    let task = task_of(rt, job, read, out)?;
+    let job = work.job;
+    let task = task_of(rt, job, &mut work.read, out)?;
     match &job.input {
         Some(name) => {
-            let file = read.open_input(rt, job.command, name.as_str())?;
-            let input = Shown::over(rt, file, read.input_size(job.command), is_shown);
-            perform_on(rt, job, target, read, task, input, out, lines)
+            let file = work.read.open_input(rt, job.command, name.as_str())?;
+            let size = work.read.input_size(job.command);
+            let input = Shown::over(rt, file, size, work.is_shown);
+            perform_on(rt, work, task, input, out, lines)
         }
         None => {
-            read.add_standard_input()?;
-            let size = read.input_size(job.command);
-            let input = Shown::over(rt, Pipe(input), size, is_shown);
-            perform_on(rt, job, target, read, task, input, out, lines)
+            work.read.add_standard_input()?;
+            let size = work.read.input_size(job.command);
+            let input = Shown::over(rt, Pipe(input), size, work.is_shown);
+            perform_on(rt, work, task, input, out, lines)
         }
     }
 }
 
-/// Makes the task of a job, with the secrets that its options name.
+/// Makes the task of a job, with the secrets that its options name, unless they forbid OUT.
 fn task_of<'a, F: Files + AllocGlobal, W: IsTerminal>(
     rt: &F,
     job: &'a Job,
@@ -188,6 +202,7 @@ fn task_of<'a, F: Files + AllocGlobal, W: IsTerminal>(
 ) -> Result<Task, age_job::Failure<'a>>
     ensures { IfOk result (IsTaskOf job.now) }
 {
+    refuse_output(rt, job)?;
     match job.command {
         Command::Encrypt => {
             let (secret, seed) = read_encrypt_secrets(rt, job, read, out)?;
@@ -215,24 +230,23 @@ fn seed_from(bytes: &[u8; SEED_LEN]) -> Seed {
 /// Creates the output, and performs the task on this input.
 fn perform_on<'a, F: Files + AllocGlobal, R: Read + Seek + Drop, W: Write, L: Report>(
     rt: &F,
-    job: &'a Job,
-    target: &'a Target,
-    read: &ReadFiles<'a>,
+    work: &Work<'a>,
     task: Task,
     input: R,
     out: &mut W,
     lines: &mut L,
 ) -> Result<(), Failure<'a>>
-    requires { IsInRange job.now }
+    requires { IsInRange work.now.job.now }
     ensures silent { OnOk result (lines.new ≡ lines.old) }
-    ensures performs { PerformsOn F.File ⟦<F::File as Write>⟧.contents job.now task
+    ensures performs { PerformsOn F.File ⟦<F::File as Write>⟧.contents work.now.job.now task
         (R.remaining input) (move_by W.contents out.old out.new) result }
-    ensures output { job.now.output ≢ None → out.new ≡ out.old }
+    ensures output { work.now.job.now.output ≢ None → out.new ≡ out.old }
 {
+    let (job, target) = (work.job, work.target);
     let mut input = Watched::new(rt.alloc(), input, kept_prefix(job));
     match &job.output {
         Some(name) => {
-            let mut output = target.create(rt, job, read, name.as_str())?;
+            let mut output = target.create(rt, job, &work.read, name.as_str())?;
             match perform_to(rt.alloc(), job, task, &mut input, &mut output, lines) {
                 Ok(()) => Ok(target.finish(rt, job, output, name.as_str())?),
                 Err(failure) => {
@@ -242,7 +256,7 @@ fn perform_on<'a, F: Files + AllocGlobal, R: Read + Seek + Drop, W: Write, L: Re
             }
         }
         None => {
-            read.refuse_standard_output()?;
+            work.read.refuse_standard_output()?;
             perform_to(rt.alloc(), job, task, &mut input, out, lines)
         }
     }
@@ -266,15 +280,21 @@ fn report<E: Write>(
 ) -> u8
     ensures { result ≡ 1 }
 {
-    let fault = failure.fault;
-    say(alloc, &format_args!("agep: {fault}\n"), err);
-    if let (Some(read), Some(detail)) = (more, &failure.detail) {
-        if fault == Fault::AgeFile(age_file::Fault::WrongKey) {
+    say(alloc, &format_args!("agep: {failure}\n"), err);
+    match (failure, more) {
+        (Failure::AgeFile(Fault::WrongKey, Some(detail)), Some(read)) => {
             let tried = read.tried();
             say(alloc, &format_args!("agep: {detail}{tried}\n"), err);
-        } else {
+        }
+        (Failure::AgeFile(_, Some(detail)), Some(_)) => {
             say(alloc, &format_args!("agep: {detail}\n"), err);
         }
+        (Failure::Job(failure), Some(_)) => {
+            if let Some(detail) = &failure.detail {
+                say(alloc, &format_args!("agep: {detail}\n"), err);
+            }
+        }
+        _ => {}
     }
     FAILED
 }
@@ -304,16 +324,9 @@ fn answer_refusal<W: Write, E: Write>(
             }
             match write!(out, "{error}").and_then(|()| out.flush()) {
                 Ok(()) => DONE,
-                Err(_) => report(alloc, &Failure::from(age_file::Fault::Write), None, err),
+                Err(_) => report(alloc, &Failure::AgeFile(Fault::Write, None), None, err),
             }
         }
-        ArgsFault::Memory => {
-            report(
-                alloc,
-                &Failure::from(age_file::Fault::OutOfMemory),
-                None,
-                err,
-            )
-        }
+        ArgsFault::Memory => report(alloc, &Failure::from(AllocError), None, err),
     }
 }

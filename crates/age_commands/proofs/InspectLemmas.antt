@@ -1,22 +1,11 @@
 -- What reading a header returns, as what `inspect` says of it.
-use Rattle.std.proofs.Common.{◌≡◌, ◌∙◌, ◌++◌, ◌∷◌, ◌+◌, ◌<◌, ℕ, List, ap, arith, get_or, length, take, Option, Bool, Ok, Err, refl, [], subst, sym}
-use Rattle.std.proofs.lemmas.List.{append_assoc, append-nil, length-take-le, take_more}
-use Rattle.std.specs.Prelude.{⊤, ◌^◌, ◌-◌, OnOk, Result, codes, min}
-use Rattle.std.specs.Io.KnownBytes.{Appends}
-use Rattle.std.proofs.KnownBytes.{Appends-trans, Keeps-refl}
-use Rattle.age_header.specs.Device.{Bytes, Flow, Known, OfGiven, Seen, flow, move_of}
+use Rattle.age_commands.proofs.Common.{◌≡◌, ◌∙◌, ◌++◌, ◌∷◌, ◌+◌, ◌<◌, ℕ, List, ap, arith, get_or, length, take, Option, Bool, Ok, Err, refl, [], subst, sym, append_assoc, append-nil, length-take-le, take_more, ⊤, ◌^◌, ◌-◌, OnOk, Result, codes, min, Appends, Appends-trans, Keeps-refl, Bytes, Flow, Known, OfGiven, Seen, flow, move_of, Head, HeaderParts, StanzaParts, of_map, Fault, Bounds, header_fault, Inspecting, InspectsText, IsShown, IsTable, OfShown, check_of, first_lines, last_lines, row, rows}
 use Rattle.age_header.specs.declared.fault.HeaderFault.{HeaderFault}
 use Rattle.age_header.specs.declared.fault.HeaderFault.TheVariants as header
 use Rattle.age_header.specs.Base64.{IsBase64}
-use Rattle.age_header.specs.Header.{Head, HeaderParts, StanzaParts}
 use Rattle.age_header.specs.Reader.{ReadsHeader, ReadsHeaderOf}
-use Rattle.age_header.proofs.DeviceLemmas.{of_map}
-use Rattle.age_file.specs.declared.fault.Fault.{Fault}
-use Rattle.age_file.specs.AgeFile.{Bounds}
 use Rattle.age_file.specs.Inspect.{Inspects}
-use Rattle.age_file.specs.Verdict.{header_fault}
 use Rattle.age_commands.specs.declared.inspect.Check.{Check}
-use Rattle.age_commands.specs.Inspect.{Inspecting, InspectsText, IsShown, IsTable, OfShown, check_of, first_lines, last_lines, row, rows}
 
 missed_of : (limits : Bounds) (raw : Bool) (key : Option Bytes) (b : Bytes) (source : Flow) (old : Known)
     (e : HeaderFault)

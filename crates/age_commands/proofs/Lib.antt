@@ -1,3 +1,4 @@
+mod Common
 mod InspectLemmas
 mod RangeLemmas
 mod SalvageLemmas

@@ -1,61 +1,36 @@
 -- What is written of a range, piece by piece.
-use Rattle.std.proofs.Common.{◌≡◌, ◌∙◌, ◌⊎◌, ◌++◌, Result, ◌+◌, ◌-◌, ◌*◌, ◌/◌, ◌%◌, ◌<◌, ◌≤◌, ℕ, [], ap, arith, inl, inr, length, min, refl, slice_get, slice_index, subst, sym, take, None, Some, Err}
-use Rattle.std.specs.Prelude.{⊤, IfSome}
-use Rattle.std.proofs.KnownBytes.{Appends-nil, Appends-trans, Keeps-refl}
-use Rattle.std.proofs.lemmas.List.{length-append, length-take, length-take-le, take-append-le, get_or-take, get_or_append_left, get_or-append-add}
+use Rattle.age_commands.proofs.Common.{◌≡◌, ◌∙◌, ◌⊎◌, ◌++◌, Result, ◌+◌, ◌-◌, ◌*◌, ◌%◌, ◌<◌, ◌≤◌, ℕ, [], ap, arith, inl, inr, length, min, refl, slice_index, subst, sym, take, None, Some, Err, ⊤, IfSome, Appends-nil, Appends-trans, Keeps-refl, length-append, length-take, length-take-le, take-append-le, get_or-take, get_or_append_left, get_or-append-add, Appends, Bytes, Known, Moved, WritesPart, move_of, StreamFault, Layout, IsSound, RangeState, Stops, source_opening, range_len, chunk_size, Fault, Bounds, IsRangesOf, MissesRanges, Answering, stream_fault, IsPlainByte, OfBytes, Ranging, WritesBytes, WritesPlain, WritesRange}
 use Rattle.std.proofs.lemmas.Bool.{cases_lt}
-use Rattle.std.specs.Io.KnownBytes.{Appends}
-use Rattle.age_header.specs.Device.{Bytes, Known, Moved, WritesPart, move_of}
-use Rattle.age_stream.specs.declared.fault.StreamFault.{StreamFault}
-use Rattle.age_stream.specs.declared.layout.Layout.{Layout}
-use Rattle.age_stream.specs.Ranges.{HasPlain, IsSound, RangeState, Stops, bytes_from, source_opening, range_len}
-use Rattle.age_stream.specs.Slice.{opening}
-use Rattle.age_stream.specs.Sizes.{chunk_size}
-use Rattle.age_file.specs.declared.fault.Fault.{Fault}
-use Rattle.age_file.specs.AgeFile.{Bounds}
-use Rattle.age_file.specs.Ranges.{IsRangesOf, MissesRanges}
-use Rattle.age_file.specs.Verdict.{stream_fault}
-use Rattle.age_file.specs.Verdict.{Answering}
-use Rattle.age_commands.specs.Range.{Ranging, WritesPlain, WritesRange}
 
 -- nothing is written
-nothing : (told : Known) (layout : Layout) (at n : ℕ) (old : Known) → n ≡ 0
-    → WritesPlain told layout at n (move_of old old)
-nothing told layout at n old none = record {
+pub nothing : (P : ℕ → ℕ → Type 0) (at : ℕ) {n : ℕ} (old : Known) → n ≡ 0 → WritesBytes P at n (move_of old old)
+nothing P at old none = record {
   part = [];
   size = sym none;
-  plain = λ k lt. absurd (omega arith);
+  holds = λ k lt. absurd (omega arith);
   appends = Appends-nil old;
 }
 
--- a prefix of a slice is one
-slice_prefix : (told : Known) (layout : Layout) (at n : ℕ) (xs : Bytes) → HasPlain told layout at xs
-    → HasPlain told layout at (take n xs)
-slice_prefix told layout at n xs plain k lt =
+-- what holds of each byte holds of those of a prefix
+prefix : (P : ℕ → ℕ → Type 0) (at n : ℕ) (xs : Bytes) → OfBytes P at xs → OfBytes P at (take n xs)
+prefix P at n xs holds k lt =
     let l : length (take n xs) ≡ min n (length xs) = length-take n xs in
-    let byte = plain k (omega arith) in
-    (byte.0, byte.1, byte.2 ∙ ap Some (sym (get_or-take n xs k 0 (omega arith))))
+    subst (P (at + k)) (sym (get_or-take n xs k 0 (omega arith))) (holds k (omega arith))
 
--- two slices that follow one another are one
-slices : (told : Known) (layout : Layout) (at : ℕ) (xs ys : Bytes) → HasPlain told layout at xs
-    → HasPlain told layout (at + length xs) ys → HasPlain told layout at (xs ++ ys)
-slices told layout at xs ys one more k lt =
+-- and of two parts that follow one another
+both : (P : ℕ → ℕ → Type 0) (at : ℕ) (xs ys : Bytes) → OfBytes P at xs → OfBytes P (at + length xs) ys
+    → OfBytes P at (xs ++ ys)
+both P at xs ys one more k lt =
     let all : length (xs ++ ys) ≡ length xs + length ys = length-append xs ys in
     elim (cases_lt k (length xs)) [
-      | inl before ↦
-          let byte = one k before in
-          (byte.0, byte.1, byte.2 ∙ ap Some (sym (get_or_append_left xs ys 0 k before)))
+      | inl before ↦ subst (P (at + k)) (sym (get_or_append_left xs ys 0 k before)) (one k before)
       | inr ge ↦
           let j : ℕ = k - length xs in
           let sum : k ≡ length xs + j = omega arith in
-          let same : at + k ≡ at + length xs + j = omega arith in
-          let byte = more j (omega arith) in
+          let place : at + length xs + j ≡ at + k = omega arith in
           let value : slice_index (xs ++ ys) k ≡ slice_index ys j = ap (slice_index (xs ++ ys)) sum
-          ∙ get_or-append-add xs ys j 0 in (
-            byte.0,
-            ap (λ x. opening layout.key (bytes_from told layout.first) (x / chunk_size)) same ∙ byte.1,
-            ap (λ x. slice_get byte.0 (x % chunk_size)) same ∙ byte.2 ∙ ap Some (sym value),
-          )
+          ∙ get_or-append-add xs ys j 0 in
+          subst (P (at + k)) (sym value) (subst (λ x. P x (slice_index ys j)) place (more j (omega arith)))
     ]
 
 -- a chunk of a range ends in the first piece
@@ -73,36 +48,35 @@ stopped {told} {s} at left {most} {old} le within is sound stops =
     let some : 0 < range_len s at most = stops.some in
     let to : chunk_size * stops.chunk < at + range_len s at most = stops.to in
     elim stops.lost [
-      | inl failed ↦ inr (inl (is ∙ ap stream_fault failed), (0, omega arith, nothing told s.layout at 0 old refl))
+      | inl failed ↦
+          inr (inl (is ∙ ap stream_fault failed), (0, omega arith, nothing (IsPlainByte told s.layout) at old refl))
       | inr lost ↦ inl (
         stops.chunk,
         is ∙ ap stream_fault lost.0,
         record {
           has = record { some = omega arith; from = stops.from; to = omega arith };
           lost = lost.1 sound;
-          writes = nothing told s.layout at (chunk_size * stops.chunk - at) old
+          writes = nothing (IsPlainByte told s.layout) at old
               (within_one at (range_len s at most) most stops.chunk to (omega arith) within);
         },
       )
     ]
 
 -- a piece was written
-pub written : {told : Known} {layout : Layout} {at n : ℕ} (buf rest : Bytes) {old new : Known} → n ≤ length buf
-    → HasPlain told layout at (take n buf)
-    → Appends old new (take n (buf ++ rest)) → WritesPlain told layout at n (move_of old new)
-written {n} buf rest {old} {new} le plain a = record {
+pub written : {P : ℕ → ℕ → Type 0} {at n : ℕ} (buf rest : Bytes) {old new : Known} → n ≤ length buf
+    → OfBytes P at (take n buf) → Appends old new (take n (buf ++ rest)) → WritesBytes P at n (move_of old new)
+written {n} buf rest {old} {new} le holds a = record {
   part = take n buf;
   size = length-take-le n buf le;
-  plain = plain;
+  holds = holds;
   appends = subst (Appends old new) (take-append-le n buf rest le) a;
 }
 
 -- a prefix of a piece was written
-pub written_part : {told : Known} {layout : Layout} {at n most : ℕ} (buf rest : Bytes) {old new : Known}
-    → n ≤ length buf → HasPlain told layout at (take n buf) → n ≤ most
-    → WritesPart (move_of old new) (take n (buf ++ rest))
-    → (x : ℕ) × (x ≤ most) × WritesPlain told layout at x (move_of old new)
-written_part {told} {layout} {at} {n} buf rest {old} {new} le plain low (k, a) =
+pub written_part : {P : ℕ → ℕ → Type 0} {at n most : ℕ} (buf rest : Bytes) {old new : Known} → n ≤ length buf
+    → OfBytes P at (take n buf) → n ≤ most → WritesPart (move_of old new) (take n (buf ++ rest))
+    → (x : ℕ) × (x ≤ most) × WritesBytes P at x (move_of old new)
+written_part {P} {at} {n} buf rest {old} {new} le holds low (k, a) =
     let l : length (take k (take n buf)) ≡ min k (length (take n buf)) = length-take k (take n buf) in
     let m : length (take n buf) ≡ n = length-take-le n buf le in (
       length (take k (take n buf)),
@@ -110,17 +84,17 @@ written_part {told} {layout} {at} {n} buf rest {old} {new} le plain low (k, a) =
       record {
         part = take k (take n buf);
         size = refl;
-        plain = slice_prefix told layout at k (take n buf) plain;
+        holds = prefix P at k (take n buf) holds;
         appends = subst (λ xs. Appends old new (take k xs)) (take-append-le n buf rest le) a;
       },
     )
 
 -- two parts that follow one another are one
-pub joined : {told again : Known} {layout same : Layout} (at k from n m : ℕ) {old mid new : Known} → again ≡ told
-    → same ≡ layout → from ≡ at + k → m ≡ k + n
-    → WritesPlain told layout at k (move_of old mid) → WritesPlain again same from n (move_of mid new)
-    → WritesPlain told layout at m (move_of old new)
-joined {told} {layout} {same} at k from n m {old} {mid} {new} et el ef em one more =
+pub follows : {P Q : ℕ → ℕ → Type 0} (R : ℕ → ℕ → Type 0) (at k from n m : ℕ) {old mid new : Known}
+    → ((x byte : ℕ) → P x byte → R x byte) → ((x byte : ℕ) → Q x byte → R x byte) → from ≡ at + k → m ≡ k + n
+    → WritesBytes P at k (move_of old mid) → WritesBytes Q from n (move_of mid new)
+    → WritesBytes R at m (move_of old new)
+follows R at k from n m {old} {mid} {new} first second ef em one more =
     let all : length (one.part ++ more.part) ≡ length one.part + length more.part = length-append one.part more.part in
     let a : length one.part ≡ k = one.size in
     let b : length more.part ≡ n = more.size in
@@ -128,12 +102,19 @@ joined {told} {layout} {same} at k from n m {old} {mid} {new} et el ef em one mo
     record {
       part = one.part ++ more.part;
       size = omega arith;
-      plain = slices told layout at one.part more.part one.plain
-          (subst (λ x. HasPlain told layout x more.part) here
-          (subst (λ l. HasPlain told l from more.part) el
-          (subst (λ t. HasPlain t same from more.part) et more.plain)));
+      holds = both R at one.part more.part (λ i lt. first (at + i) (slice_index one.part i) (one.holds i lt))
+          (subst (λ x. OfBytes R x more.part) here
+          (λ i lt. second (from + i) (slice_index more.part i) (more.holds i lt)));
       appends = Appends-trans old mid new one.part more.part one.appends more.appends;
     }
+
+pub joined : {told again : Known} {layout same : Layout} (at k from n m : ℕ) {old mid new : Known} → again ≡ told
+    → same ≡ layout → from ≡ at + k → m ≡ k + n
+    → WritesPlain told layout at k (move_of old mid) → WritesPlain again same from n (move_of mid new)
+    → WritesPlain told layout at m (move_of old new)
+joined {told} {layout} {same} at k from n m et el ef em one more =
+    follows (IsPlainByte told layout) at k from n m (λ x byte h. h)
+    (λ x byte h. subst (λ l. IsPlainByte told l x byte) el (subst (λ t. IsPlainByte t same x byte) et h)) ef em one more
 
 -- a range so far begins a chunk, unless it has just begun or is at its end
 abbrev pub IsWhole : (plain begin at left : ℕ) → Type 0

@@ -1,23 +1,11 @@
 -- What salvaging comes to from a source that may skip what cannot be read.
-use Rattle.std.proofs.Common.{arith, Some, ◌≡◌, ◌⊎◌, ◌∙◌, [], ap, subst, cond, false, true, Bool, ℕ, Option, None, Result, Ok, Err, OnOk, IfOk, inl, inr, sym, refl}
-use Rattle.std.specs.Prelude.{◌&&◌, ⊤, IfSome, is_some}
+use Rattle.age_commands.proofs.Common.{arith, Some, ◌≡◌, ◌⊎◌, ◌∙◌, [], ap, subst, cond, false, true, Bool, ℕ, Option, None, Result, Ok, Err, OnOk, IfOk, inl, inr, sym, refl, ◌&&◌, ⊤, IfSome, is_some, Consumes-whole, Bytes, CountsIf, Known, Moved, OfGiven, Seen, flow, KnownLosses, is_whole_to, losses_of, Fault, BadChunk, SalvagedFile, Bounds, IsQuiet, is_write, SalvagesFile, is_whole_file, Answering, SalvagesAll, if_whole}
 use Rattle.std.proofs.lemmas.Bool.Decides.{nat_tests}
-use Rattle.std.proofs.KnownBytes.{Consumes-whole}
-use Rattle.age_header.specs.Device.{Bytes, CountsIf, Known, Moved, OfGiven, Seen, flow}
 use Rattle.age_stream.specs.declared.salvaged.Saved.{Saved}
 use Rattle.age_stream.specs.declared.salvaged.Saved.TheVariants.{Chunk, LastChunk, Padded, Early, Zeros, Nothing}
-use Rattle.age_stream.specs.Salvage.{KnownLosses, LossesMoved, is_whole_to, losses_of}
-use Rattle.age_file.specs.declared.fault.Fault.{Fault}
-use Rattle.age_file.specs.declared.fault.Fault.TheVariants.{BadChunk}
-use Rattle.age_file.specs.declared.salvaging.SalvagedFile.{SalvagedFile}
-use Rattle.age_file.specs.AgeFile.{Bounds}
-use Rattle.age_file.specs.Device.{IsQuiet, is_write}
-use Rattle.age_file.specs.Salvage.{SalvagesFile, is_whole_file}
-use Rattle.age_file.specs.Verdict.{Answering}
 use Rattle.age_commands.specs.declared.skipping.Reached.{Reached}
 use Rattle.age_commands.specs.declared.skipping.Reached.TheVariants.{Place, End, Failure}
 use Rattle.age_commands.specs.Skipping.{HasRead, OfRead, come_by, is_end}
-use Rattle.age_commands.specs.Task.{SalvagesAll, if_whole}
 
 -- what holds of the bytes that a source returned holds of those that its reader had, if it skips none or has read all
 pub read_of : {A : Type 0} (input : Option A) (reached : Reached) (start now : Known) {old new : Seen}

@@ -1,31 +1,17 @@
 -- A list of one recipient or identity, and one that is known by its meaning.
-use Rattle.std.proofs.Common.{◌≡◌, ◌∙◌, ◌+◌, ◌<◌, ◌++◌, [], ◌∷◌, List, ap, get_or, drop, length, map, subst, sym, take, Result}
+use Rattle.age_commands.proofs.Common.{◌≡◌, ◌∙◌, ◌+◌, ◌<◌, ◌++◌, [], ◌∷◌, List, ap, get_or, drop, length, map, subst, sym, take, Result, get_or_default, map_push, take_more, ⊤, ℕ, Bytes, Flow, Known, Moved, move_of, StanzaParts, decision_from, SalvagedFile, LossesMoved, Fault, Bounds, SalvagesFile, Answering, Secret, gathering_of, labels_of, recipient_of, wraps_of, Encrypting}
 use denote.Param.Object.{Made, read_made}
 use denote.Param.Table.{Entry, Table}
-use Rattle.std.proofs.lemmas.List.{get_or_default, map_push, take_more}
-use Rattle.std.specs.Prelude.{⊤, ℕ}
-use Rattle.age_header.specs.Device.{Bytes, Flow, Known, Moved, move_of}
-use Rattle.age_header.specs.Header.{StanzaParts}
 use Rattle.age_header.specs.declared.file_key.FileKey.{FileKey}
 use Rattle.age_recipient.proofs.AnswerLemmas.{decided_step}
-use Rattle.age_recipient.specs.Answer.{decision_from}
 use Rattle.age_recipient.specs.declared.labels.Labels.{Labels}
 use Rattle.age_recipient.specs.declared.unwrapped.Unwrapped.{Unwrapped}
 use Rattle.age_stream.specs.declared.done.Done.{Done}
-use Rattle.age_file.specs.declared.salvaging.SalvagedFile.{SalvagedFile}
-use Rattle.age_stream.specs.Salvage.{LossesMoved}
-use Rattle.age_file.specs.declared.fault.Fault.{Fault}
 use Rattle.age_file.specs.declared.limits.Fresh.{Fresh}
-use Rattle.age_file.specs.AgeFile.{Bounds}
 use Rattle.age_file.specs.Decrypt.{Decrypts}
 use Rattle.age_file.specs.NewFile.{Gathered, Gathering}
-use Rattle.age_file.specs.Salvage.{SalvagesFile}
-use Rattle.age_file.specs.Verdict.{Answering}
 use Rattle.age_file.specs.Rewrap.{Rewraps}
-use Rattle.age_job.specs.declared.secret.Secret.{Secret}
 use Rattle.age_job.specs.declared.secret.Secret.TheVariants.{Passphrase, Keys}
-use Rattle.age_commands.specs.Secret.{gathering_of, labels_of, recipient_of, wraps_of}
-use Rattle.age_commands.specs.Task.{Encrypting}
 
 -- a trait object that was just made reads as what it holds
 pub made_reads : {G : Type 0 → Type 1} {C Z : Type 0} (T : Table G C) (e : Entry G C) (at : T.I) → e ≡ T.entry at

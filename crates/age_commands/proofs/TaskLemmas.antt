@@ -1,19 +1,6 @@
 -- What a task does, if proofs know only the bytes to come.
-use Rattle.std.proofs.Common.{◌≡◌, [], ap, false, Option, Some, None, Err, inl, refl}
-use Rattle.std.proofs.KnownBytes.{Appends-nil, Keeps-refl}
-use Rattle.age_stream.specs.Salvage.{KnownLosses, losses_of}
-use Rattle.age_stream.proofs.SalvageLemmas.{reports_none}
-use Rattle.age_header.specs.Device.{Bytes, Known, move_of}
-use Rattle.age_file.specs.Salvage.{SalvagesText}
-use Rattle.age_file.specs.declared.fault.Fault.{Fault}
-use Rattle.age_file.specs.declared.fault.Fault.TheVariants.{OutOfMemory}
-use Rattle.age_file.specs.AgeFile.{Bounds}
-use Rattle.age_file.specs.Verdict.{Answering}
-use Rattle.age_job.specs.declared.job.Job.{Job}
+use Rattle.age_commands.proofs.Common.{◌≡◌, [], ap, false, Option, Some, None, Err, inl, refl, Appends-nil, Keeps-refl, KnownLosses, losses_of, reports_none, Bytes, Known, move_of, SalvagesText, Fault, OutOfMemory, Bounds, Answering, Job, Encrypt, Decrypt, Rewrap, Inspect, Range, Salvage, answers_of, limits_of, OfKnown, Performs, SalvagesAll}
 use Rattle.age_commands.specs.declared.task.Task.{Task}
-use Rattle.age_commands.specs.declared.task.Task.TheVariants.{Encrypt, Decrypt, Rewrap, Inspect, Range, Salvage}
-use Rattle.age_commands.specs.Secret.{answers_of, limits_of}
-use Rattle.age_commands.specs.Task.{OfKnown, Performs, SalvagesAll}
 
 -- what holds of any bytes
 pub known_any : (from : Known) {P : Bytes → Type 0} → ((b : Bytes) → P b) → OfKnown from P

@@ -1,86 +1,16 @@
 -- What is written of a range of any source, piece by piece.
-use Rattle.std.proofs.Common.{◌≡◌, ◌∙◌, ◌++◌, Result, ◌+◌, ◌-◌, ◌*◌, ◌<◌, ◌≤◌, ℕ, [], ap, arith, inl, inr, length, min, refl, slice_index, subst, sym, take, Option, None, Ok, Err}
-use Rattle.std.specs.Prelude.{⊤}
-use Rattle.std.proofs.KnownBytes.{Appends-nil, Appends-trans, Keeps-refl}
-use Rattle.std.proofs.lemmas.List.{length-append, length-take, length-take-le, take-append-le, get_or-take, get_or_append_left, get_or-append-add}
-use Rattle.std.proofs.lemmas.Bool.{cases_lt}
-use Rattle.std.specs.Io.KnownBytes.{Appends}
-use Rattle.age_header.specs.Device.{Bytes, CountsFaultIf, Known, Moved, WritesPart, move_of}
+use Rattle.age_commands.proofs.Common.{◌≡◌, ◌∙◌, Result, ◌+◌, ◌-◌, ◌*◌, ◌<◌, ◌≤◌, ℕ, ap, arith, inl, inr, length, refl, slice_index, subst, sym, take, Option, None, Ok, Err, ⊤, Keeps-refl, length-take-le, get_or-take, Bytes, CountsFaultIf, Known, Moved, move_of, StreamFault, Layout, StaysGiven, IsVerifiedByte, RangeState, Stops, range_len, chunk_size, Fault, Write, Bounds, BeginsFile, IsOpenFault, Answering, stream_fault, IsPartFault, OfBytes, RangingAny, WritesAny, WritesVerified, answers_of, limits_of, Range, LossesMoved, Performs, IsLate, IsQuiet, is_write, Job, Secret}
 use Rattle.age_stream.proofs.VerifiedLemmas.{byte_stays}
-use Rattle.age_stream.specs.declared.fault.StreamFault.{StreamFault}
-use Rattle.age_stream.specs.declared.layout.Layout.{Layout}
-use Rattle.age_stream.specs.Offsets.{StaysGiven}
-use Rattle.age_stream.specs.Ranges.{IsVerifiedByte, RangeState, Stops, range_len}
-use Rattle.age_stream.specs.Sizes.{chunk_size}
-use Rattle.age_file.specs.declared.fault.Fault.{Fault}
-use Rattle.age_file.specs.declared.fault.Fault.TheVariants.{Write}
-use Rattle.age_file.specs.AgeFile.{Bounds}
-use Rattle.age_file.specs.Ranges.{BeginsFile, IsOpenFault}
-use Rattle.age_file.specs.Verdict.{Answering, stream_fault}
-use Rattle.age_commands.specs.Range.{IsPartFault, RangingAny, WritesAny, WritesVerified}
-use Rattle.age_commands.specs.Secret.{answers_of, limits_of}
-use Rattle.age_commands.specs.declared.task.Task.TheVariants.{Range}
-use Rattle.age_stream.specs.Salvage.{LossesMoved}
-use Rattle.age_commands.specs.Task.{Performs}
-use Rattle.age_file.specs.Device.{IsLate, IsQuiet, is_write}
-use Rattle.age_job.specs.declared.job.Job.{Job}
-use Rattle.age_job.specs.declared.secret.Secret.{Secret}
+use Rattle.age_commands.proofs.RangeLemmas.{follows, nothing}
 
--- nothing is written
-pub nothing : (gave : ℕ → ℕ → Type 0) (layout : Layout) (at n : ℕ) (old : Known) → n ≡ 0
-    → WritesVerified gave layout at n (move_of old old)
-nothing gave layout at n old none = record {
-  part = [];
-  size = sym none;
-  verified = λ k lt. absurd (omega arith);
-  appends = Appends-nil old;
-}
-
--- verified bytes have a verified prefix
-prefix : (gave : ℕ → ℕ → Type 0) (layout : Layout) (at n : ℕ) (xs : Bytes)
-    → ((k : ℕ) → k < length xs → IsVerifiedByte gave layout (at + k) (slice_index xs k))
-    → (k : ℕ) → k < length (take n xs) → IsVerifiedByte gave layout (at + k) (slice_index (take n xs) k)
-prefix gave layout at n xs verified k lt =
-    let l : length (take n xs) ≡ min n (length xs) = length-take n xs in
-    subst (IsVerifiedByte gave layout (at + k)) (sym (get_or-take n xs k 0 (omega (arith, l, lt))))
-    (verified k (omega (arith, l, lt)))
-
-filled : (gave : ℕ → ℕ → Type 0) (layout : Layout) (at n : ℕ) (buf : Bytes) → n ≤ length buf
+-- what was verified in a buffer is verified in its prefix
+pub filled : {gave : ℕ → ℕ → Type 0} {layout : Layout} (at : ℕ) {n : ℕ} (buf : Bytes) → n ≤ length buf
     → ((k : ℕ) → k < n → IsVerifiedByte gave layout (at + k) (slice_index buf k))
-    → (k : ℕ) → k < length (take n buf) → IsVerifiedByte gave layout (at + k) (slice_index (take n buf) k)
-filled gave layout at n buf le verified k lt =
+    → OfBytes (IsVerifiedByte gave layout) at (take n buf)
+filled {gave} {layout} at {n} buf le verified k lt =
     let l : length (take n buf) ≡ n = length-take-le n buf le in
     subst (IsVerifiedByte gave layout (at + k)) (sym (get_or-take n buf k 0 (omega (arith, l, lt))))
     (verified k (omega (arith, l, lt)))
-
--- a piece was written
-pub written : {gave : ℕ → ℕ → Type 0} {layout : Layout} {at n : ℕ} (buf rest : Bytes) {old new : Known}
-    → n ≤ length buf → ((k : ℕ) → k < n → IsVerifiedByte gave layout (at + k) (slice_index buf k))
-    → Appends old new (take n (buf ++ rest)) → WritesVerified gave layout at n (move_of old new)
-written {gave} {layout} {at} {n} buf rest {old} {new} le verified a = record {
-  part = take n buf;
-  size = length-take-le n buf le;
-  verified = filled gave layout at n buf le verified;
-  appends = subst (Appends old new) (take-append-le n buf rest le) a;
-}
-
--- a prefix of a piece was written
-pub written_part : {gave : ℕ → ℕ → Type 0} {layout : Layout} {at n most : ℕ} (buf rest : Bytes) {old new : Known}
-    → n ≤ length buf → ((k : ℕ) → k < n → IsVerifiedByte gave layout (at + k) (slice_index buf k)) → n ≤ most
-    → WritesPart (move_of old new) (take n (buf ++ rest))
-    → (x : ℕ) × (x ≤ most) × WritesVerified gave layout at x (move_of old new)
-written_part {gave} {layout} {at} {n} buf rest {old} {new} le verified low (k, a) =
-    let l : length (take k (take n buf)) ≡ min k (length (take n buf)) = length-take k (take n buf) in
-    let m : length (take n buf) ≡ n = length-take-le n buf le in (
-      length (take k (take n buf)),
-      omega (arith, l, m, low),
-      record {
-        part = take k (take n buf);
-        size = refl;
-        verified = prefix gave layout at k (take n buf) (filled gave layout at n buf le verified);
-        appends = subst (λ xs. Appends old new (take k xs)) (take-append-le n buf rest le) a;
-      },
-    )
 
 -- a range that stops within its first piece has written nothing
 pub stopped : {gave : ℕ → ℕ → Type 0} {told : Known} {s : RangeState} (at left : ℕ) {most : ℕ} {was buf : Bytes}
@@ -98,7 +28,7 @@ stopped {gave} {s} at left {most} {old} le is stops =
           record { some = omega (arith, some, le); from = stops.from; to = omega (arith, to, le) },
         )
       ],
-      (0, omega arith, nothing gave s.layout at 0 old refl),
+      (0, omega arith, nothing (IsVerifiedByte gave s.layout) at old refl),
     )
 
 -- a fault of a later part is one of the whole
@@ -117,30 +47,10 @@ pub joined : {early late : ℕ → ℕ → Type 0} {layout same : Layout} (at k 
     → StaysGiven early late → same ≡ layout → from ≡ at + k → m ≡ k + n
     → WritesVerified early layout at k (move_of old mid) → WritesVerified late same from n (move_of mid new)
     → WritesVerified late layout at m (move_of old new)
-joined {early} {late} {layout} at k from n m {old} {mid} {new} stays el ef em one more =
-    let all : length (one.part ++ more.part) ≡ length one.part + length more.part = length-append one.part more.part in
-    let a : length one.part ≡ k = one.size in
-    let b : length more.part ≡ n = more.size in
-    record {
-      part = one.part ++ more.part;
-      size = omega (arith, all, a, b, em);
-      verified = λ j lt. elim (cases_lt j (length one.part)) [
-        | inl before ↦
-            subst (IsVerifiedByte late layout (at + j)) (sym (get_or_append_left one.part more.part 0 j before))
-            (byte_stays early late layout (at + j) (slice_index one.part j) stays (one.verified j before))
-        | inr ge ↦
-            let i : ℕ = j - length one.part in
-            let sum : j ≡ length one.part + i = omega (arith, ge) in
-            let place : from + i ≡ at + j = omega (arith, ef, a, ge) in
-            let value : slice_index (one.part ++ more.part) j ≡ slice_index more.part i =
-            ap (slice_index (one.part ++ more.part)) sum ∙ get_or-append-add one.part more.part i 0 in
-            subst (IsVerifiedByte late layout (at + j)) (sym value)
-            (subst (λ x. IsVerifiedByte late layout x (slice_index more.part i)) place
-            (subst (λ l. IsVerifiedByte late l (from + i) (slice_index more.part i)) el
-            (more.verified i (omega (arith, lt, all, ge)))))
-      ];
-      appends = Appends-trans old mid new one.part more.part one.appends more.appends;
-    }
+joined {early} {late} {layout} {same} at k from n m stays el ef em one more =
+    follows (IsVerifiedByte late layout) at k from n m
+    (λ x byte h. byte_stays early late layout x byte stays h)
+    (λ x byte h. subst (λ l. IsVerifiedByte late l x byte) el h) ef em one more
 
 -- a range that fails after a part
 pub failed_on : {early late : ℕ → ℕ → Type 0} (s t : RangeState) (begin len at left : ℕ) {old mid new : Known}

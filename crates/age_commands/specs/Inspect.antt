@@ -1,19 +1,11 @@
 -- What the command `inspect` writes and returns.
-use Rattle.std.specs.Prelude.{◌≡◌, ◌≢◌, ◌^◌, ◌-◌, ◌+◌, ◌∷◌, ◌++◌, ℕ, List, [], ⊤, Bool, true, false, Result, Ok, Err, if◌then◌else◌, codes, decimal, flat_map, length, min}
+use Rattle.age_commands.specs.Words.{◌≡◌, ◌≢◌, ◌^◌, ◌-◌, ◌+◌, ◌∷◌, ◌++◌, ℕ, List, [], ⊤, Bool, true, false, Result, Ok, Err, if◌then◌else◌, codes, decimal, flat_map, length, min, Option, None, Some, Bytes, Flow, OfGiven, WritesPart, Moved, Took, Stays, Head, HeaderParts, StanzaParts, line, Fault, BadMac, OutOfMemory, Read, Write, Bounds, finding, header_fault}
 use Rattle.std.specs.Fmt.{format_spec, styled_decimal}
 use Rattle.std.specs.Str.{bytes_eq}
-use Rattle.std.specs.declared.option.Option.{Option}
-use Rattle.std.specs.declared.option.Option.TheVariants.{None, Some}
-use Rattle.age_header.specs.Device.{Bytes, Flow, OfGiven, WritesPart, Moved, Took, Stays}
 use Rattle.age_header.specs.declared.fault.HeaderFault.{HeaderFault}
 use Rattle.age_header.specs.Base64.{IsBase64}
-use Rattle.age_header.specs.Header.{Head, HeaderParts, StanzaParts, line}
 use Rattle.age_header.specs.Mac.{header_mac}
 use Rattle.age_header.specs.Verdict.{HeaderVerdict}
-use Rattle.age_file.specs.declared.fault.Fault.{Fault}
-use Rattle.age_file.specs.declared.fault.Fault.TheVariants.{BadMac, OutOfMemory, Read, Write}
-use Rattle.age_file.specs.AgeFile.{Bounds}
-use Rattle.age_file.specs.Verdict.{finding, header_fault}
 use Rattle.age_commands.specs.declared.inspect.Check.{Check}
 use Rattle.age_commands.specs.declared.inspect.Check.TheVariants as check
 

@@ -1,4 +1,4 @@
-pub mod Hint
+pub mod Words
 pub mod Inspect
 pub mod Output
 pub mod Range

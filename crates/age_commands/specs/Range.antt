@@ -1,21 +1,32 @@
 -- The output and the results of the command `range`.
-use Rattle.std.specs.Prelude.{◌≡◌, ◌⊎◌, ◌<◌, ◌≤◌, ◌+◌, ◌*◌, ◌-◌, ℕ, ⊤, length, slice_index, Option, None, Some, Result, Ok, Err}
-use Rattle.age_header.specs.Device.{Bytes, Known, Moved, Took, Stays}
+use Rattle.age_commands.specs.Words.{◌≡◌, ◌⊎◌, ◌<◌, ◌≤◌, ◌+◌, ◌*◌, ◌-◌, ◌/◌, ◌%◌, ℕ, ⊤, length, slice_get, slice_index, Option, None, Some, Result, Ok, Err, Bytes, Known, Moved, Took, Stays, Fault, BadChunk, Read, Write, Bounds, Answering}
 use Rattle.age_stream.specs.declared.layout.Layout.{Layout}
-use Rattle.age_stream.specs.Ranges.{HasPlain, IsVerifiedByte, RangeState, source_opening, range_len}
+use Rattle.age_stream.specs.Ranges.{IsVerifiedByte, RangeState, bytes_from, source_opening, range_len}
 use Rattle.age_stream.specs.Sizes.{chunk_size}
-use Rattle.age_file.specs.declared.fault.Fault.{Fault}
-use Rattle.age_file.specs.declared.fault.Fault.TheVariants.{BadChunk, Read, Write}
-use Rattle.age_file.specs.AgeFile.{Bounds}
+use Rattle.age_stream.specs.Slice.{opening}
 use Rattle.age_file.specs.Ranges.{BeginsFile, IsOpenFault, IsRangesOf, MissesRanges}
-use Rattle.age_file.specs.Verdict.{Answering}
 
--- n bytes of the plaintext from offset `at` on were written
-pub record WritesPlain (told : Known) (layout : Layout) (at n : ℕ) (sink : Moved) : Type 0 where
+-- P holds of each of these bytes, the first of which is at offset `at`
+abbrev pub OfBytes : (P : (at byte : ℕ) → Type 0) (at : ℕ) (xs : Bytes) → Type 0
+OfBytes P at xs = (k : ℕ) → k < length xs → P (at + k) (slice_index xs k)
+
+-- n bytes from offset `at` on were written, of each of which P holds
+pub record WritesBytes (P : (at byte : ℕ) → Type 0) (at n : ℕ) (sink : Moved) : Type 0 where
   pub part : Bytes
   pub size : length part ≡ n
-  pub plain : HasPlain told layout at part
+  pub holds : OfBytes P at part
   pub appends : Took sink part
+
+-- the plaintext has this byte at this offset
+abbrev pub IsPlainByte : (told : Known) (layout : Layout) (at byte : ℕ) → Type 0
+IsPlainByte told layout at byte =
+    (text : Bytes)
+    × (opening layout.key (bytes_from told layout.first) (at / chunk_size) ≡ Some text)
+    × (slice_get text (at % chunk_size) ≡ Some byte)
+
+-- n bytes of the plaintext from offset `at` on were written
+abbrev pub WritesPlain : (told : Known) (layout : Layout) (at n : ℕ) (sink : Moved) → Type 0
+WritesPlain told layout at n sink = WritesBytes (IsPlainByte told layout) at n sink
 
 -- a range of at most `len` bytes from `at` on includes bytes of chunk i
 pub record HasBytesOf (s : RangeState) (at len i : ℕ) : Type 0 where
@@ -70,13 +81,9 @@ Ranging limits answers at len (Some b) sink result =
 -- ---- any source, whether or not its contents are known
 
 -- n bytes from offset `at` on were written, each of which was verified
-pub record WritesVerified (gave : (at byte : ℕ) → Type 0) (layout : Layout) (at n : ℕ)
-    (sink : Moved) : Type 0 where
-  pub part : Bytes
-  pub size : length part ≡ n
-  pub verified : (k : ℕ) → k < length part
-      → IsVerifiedByte gave layout (at + k) (slice_index part k)
-  pub appends : Took sink part
+abbrev pub WritesVerified : (gave : (at byte : ℕ) → Type 0) (layout : Layout) (at n : ℕ)
+    (sink : Moved) → Type 0
+WritesVerified gave layout at n sink = WritesBytes (IsVerifiedByte gave layout) at n sink
 
 -- a fault with which work on an opened file may end: a damaged chunk of the range, or a failed read
 -- or write

@@ -1,7 +1,5 @@
 -- The meaning of a job's secrets and limits.
-use Rattle.std.specs.Prelude.{◌^◌, ℕ, List, [], ◌∷◌, map, Result, Ok}
-use Rattle.age_header.specs.Device.{Bytes}
-use Rattle.age_header.specs.Header.{StanzaParts}
+use Rattle.age_commands.specs.Words.{◌^◌, ℕ, List, [], ◌∷◌, map, Result, Ok, Bytes, StanzaParts, Bounds, Gathered, Gathering, Answering, Job}
 use Rattle.age_header.specs.declared.file_key.FileKey.{FileKey}
 use Rattle.age_recipient.specs.declared.labels.Labels.{Labels}
 use Rattle.age_recipient.specs.declared.labels.Labels.TheVariants.{Alone, Names}
@@ -11,10 +9,6 @@ use Rattle.age_recipient.specs.KeyedHolders.{key_unwraps}
 use Rattle.age_recipient.specs.KeyedStanza.{keyed_answer, keyed_stanza}
 use Rattle.age_recipient.specs.PassphraseHolders.{pass_unwraps, pass_wraps}
 use Rattle.age_recipient.specs.PassphraseStanza.{pass_answer, pass_stanza}
-use Rattle.age_file.specs.AgeFile.{Bounds}
-use Rattle.age_file.specs.NewFile.{Gathered, Gathering}
-use Rattle.age_file.specs.Verdict.{Answering}
-use Rattle.age_job.specs.declared.job.Job.{Job}
 use Rattle.age_commands.specs.declared.identity.SecretIdentity.{SecretIdentity}
 use Rattle.age_commands.specs.declared.identity.SecretIdentity.TheVariants as identity
 use Rattle.age_commands.specs.declared.recipient.SecretRecipient.{SecretRecipient}

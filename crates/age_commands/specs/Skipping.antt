@@ -1,7 +1,5 @@
 -- Reading a file of which some bytes cannot be read.
-use Rattle.std.specs.Prelude.{◌≡◌, ◌⊎◌, ℕ, ⊤, Bool, true, false, IfSome, Option, None, Some, if◌then◌else◌}
-use Rattle.std.specs.Io.KnownBytes.{Consumes, IsAtEnd}
-use Rattle.age_header.specs.Device.{Bytes, Known}
+use Rattle.age_commands.specs.Words.{◌≡◌, ◌⊎◌, ℕ, ⊤, Bool, true, false, IfSome, Option, None, Some, if◌then◌else◌, Consumes, IsAtEnd, Bytes, Known}
 use Rattle.age_commands.specs.declared.skipping.Reached.{Reached}
 use Rattle.age_commands.specs.declared.skipping.Reached.TheVariants.{Place, End, Failure}
 use Rattle.age_commands.specs.declared.skipping.Unread.{Unread}

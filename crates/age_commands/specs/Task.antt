@@ -1,20 +1,13 @@
 -- The results of a job with its secrets, from the bytes of its input to those of its output.
-use Rattle.std.specs.Prelude.{◌≡◌, ◌⊎◌, ◌&&◌, ℕ, ⊤, Bool, IfErr, IfSome, Option, Result, Ok, Err, if◌then◌else◌}
-use Rattle.age_header.specs.Device.{Bytes, Flow, Known, Moved}
+use Rattle.age_commands.specs.Words.{◌≡◌, ◌⊎◌, ◌&&◌, ℕ, ⊤, Bool, IfErr, IfSome, Option, Result, Ok, Err, if◌then◌else◌, Bytes, Flow, Known, Moved, Fault, BadChunk, BadMac, Bounds, EncryptsGiven, EncryptsText, Gathering, RefusesFirst, TookWhileEncrypting, Answering, Job}
 use Rattle.age_stream.specs.declared.done.Done.{Done}
-use Rattle.age_file.specs.declared.fault.Fault.{Fault}
-use Rattle.age_file.specs.declared.fault.Fault.TheVariants.{BadChunk, BadMac}
 use Rattle.age_file.specs.declared.limits.Fresh.{Fresh}
-use Rattle.age_file.specs.AgeFile.{Bounds}
 use Rattle.age_file.specs.Decrypt.{DecryptsText}
 use Rattle.age_file.specs.Device.{IsQuiet}
-use Rattle.age_file.specs.NewFile.{EncryptsGiven, EncryptsText, Gathering, RefusesFirst, TookWhileEncrypting}
 use Rattle.age_file.specs.Rewrap.{RewrapsText}
 use Rattle.age_file.specs.Salvage.{SalvagesText, is_whole_file}
 use Rattle.age_file.specs.declared.salvaging.SalvagedFile.{SalvagedFile}
-use Rattle.age_file.specs.Verdict.{Answering}
 use Rattle.age_stream.specs.Salvage.{LossesMoved}
-use Rattle.age_job.specs.declared.job.Job.{Job}
 use Rattle.age_commands.specs.declared.task.Task.{Task}
 use Rattle.age_commands.specs.declared.task.Task.TheVariants.{Encrypt, Decrypt, Rewrap, Inspect, Range, Salvage}
 use Rattle.age_commands.specs.Inspect.{InspectsText}

@@ -1,5 +1,4 @@
-//! The commands of `agep`, from any source to any sink, with the sink that keeps the reason of a
-//! failed write, and hints about a file that a command could not read.
+//! The commands of `agep`, from any source to any sink, and the sink that keeps why a write failed.
 //!
 //! ```
 //! let task = Task::Decrypt(Secret::Passphrase(passphrase));
@@ -9,8 +8,7 @@
 //! A command with its secrets is a `task`, and each command has a module of its own. `seed` has the
 //! random bytes of a new file, `recipient` and `identity` say what a secret means to a command, and
 //! `buffering` has a job's limits and the sources over its input. `skipping` is the source of
-//! `salvage`, and `watched_sink` a sink over any writer. `hint` has what the input shows about
-//! a fault.
+//! `salvage`, and `watched_sink` a sink over any writer.
 //!
 //! Nothing here opens a file or prints: the crate `age_cli` does both.
 //!
@@ -22,7 +20,6 @@
 mod buffering;
 mod decrypt;
 mod encrypt;
-mod hint;
 mod identity;
 mod inspect;
 mod range;
@@ -35,7 +32,6 @@ mod task;
 mod watched_sink;
 
 pub use buffering::limits_of;
-pub use hint::{Hint, header_of, hint_at, scrypt_hint};
 pub use salvage::Report;
 pub use seed::{Seed, seed_of};
 pub use skipping::Unread;

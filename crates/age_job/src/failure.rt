@@ -33,7 +33,7 @@ pub enum Detail<'a> {
 }
 
 /// An operation of the system on a file.
-#[derive(Clone, Copy, Debug, PartialEq, Eq)]
+#[derive(Clone, Copy)]
 pub enum Operation {
     Opening,
     Identifying,

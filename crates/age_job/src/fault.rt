@@ -5,7 +5,7 @@ use std::alloc::{AllocError, AllocFailed};
 use std::fmt;
 
 /// Why a file of a job was refused or not usable. Its text follows `agep: ` on standard error.
-#[derive(Clone, Copy, Debug, Drop, PartialEq, Eq)]
+#[derive(Clone, Copy, Drop)]
 pub enum Fault<'a> {
     /// A read failed.
     Read,

@@ -8,7 +8,7 @@ use std::fmt;
 use std::fmt::Write;
 
 /// The role of a file in a job.
-#[derive(Clone, Copy, Debug, PartialEq, Eq)]
+#[derive(Clone, Copy, PartialEq, Eq)]
 pub enum Role {
     Input,
     Passphrase,
@@ -47,7 +47,7 @@ impl fmt::Display for Role {
 /// message stays on one line and no escape sequence reaches the terminal. So are characters that
 /// set the direction of writing, so that a name is shown in its own order. Backslashes are not
 /// escaped.
-#[derive(Clone, Copy, Debug, PartialEq, Eq)]
+#[derive(Clone, Copy)]
 pub struct Name<'a>(pub &'a str);
 
 impl fmt::Display for Name<'_> {
@@ -61,7 +61,7 @@ impl fmt::Display for Name<'_> {
 /// A file's name, printed so that no other name has the same text. Also puts a backslash before a
 /// backslash or a quotation mark. A name that is empty, or begins or ends with a blank, is printed
 /// in quotation marks.
-#[derive(Clone, Copy, Debug, PartialEq, Eq)]
+#[derive(Clone, Copy)]
 pub struct Quoted<'a>(pub Name<'a>);
 
 impl fmt::Display for Quoted<'_> {

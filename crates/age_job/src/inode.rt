@@ -14,7 +14,7 @@ pub(crate) const STANDARD_INPUT: &str = "/proc/self/fd/0";
 pub(crate) const STANDARD_OUTPUT: &str = "/proc/self/fd/1";
 
 /// What a file is, as far as those who read or write it must know.
-#[derive(Clone, Copy, Debug, PartialEq, Eq)]
+#[derive(Clone, Copy, PartialEq, Eq)]
 pub(crate) enum Kind {
     Regular,
     /// A device that keeps what is written to it, such as a disk.

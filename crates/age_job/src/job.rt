@@ -1,7 +1,7 @@
 //! A command with its options.
 
 /// The commands of the program.
-#[derive(Clone, Copy, Debug, PartialEq, Eq)]
+#[derive(Clone, Copy, PartialEq, Eq)]
 pub enum Command {
     /// Encrypts a plaintext to a file.
     Encrypt,
@@ -19,7 +19,7 @@ pub enum Command {
 
 /// A command with its options. If the command lacks an option, its field has the default of that
 /// option, or none.
-#[derive(Debug, Drop)]
+#[derive(Drop)]
 pub struct Job {
     pub command: Command,
     /// The file that holds the passphrase.

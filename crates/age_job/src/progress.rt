@@ -175,15 +175,11 @@ impl<R: Read, C: Clock, T: Write + Drop> Read for Shown<'_, R, C, T> {
     ghost remaining = { λ shown. R.remaining shown.reader };
 
     fn read(&mut self, buf: &mut [u8]) -> io::Result<usize> {
-        match self.reader.read(buf) {
-            Ok(n) => {
-                if let Some(line) = &mut self.line {
-                    line.add(n);
-                }
-                Ok(n)
-            }
-            Err(reason) => Err(reason),
+        let n = self.reader.read(buf)?;
+        if let Some(line) = &mut self.line {
+            line.add(n);
         }
+        Ok(n)
     }
 }
 

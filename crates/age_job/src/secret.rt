@@ -20,9 +20,10 @@ pub(crate) fn without_line_end(bytes: Vec<u8>) -> Vec<u8>
     ensures { result.items ≡ passphrase_of bytes.items }
 {
     let mut passphrase = bytes;
-    if passphrase.last() == Some(&b'\n') {
-        let _ = passphrase.pop();
+    if passphrase.last() != Some(&b'\n') {
+        return passphrase;
     }
+    let _ = passphrase.pop();
     passphrase
 }
 

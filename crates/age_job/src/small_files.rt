@@ -113,24 +113,12 @@ enum SecretFiles<'a> {
     Keys(NamedFile<'a>, &'a [String]),
 }
 
-/// The files of the job's passphrase or keys. The job must name exactly one of the two, because the
-/// format forbids another stanza beside that of a passphrase.
+/// The files of the job's passphrase or keys.
 fn secret_files<'a>(job: &'a Job) -> Result<SecretFiles<'a>, Fault<'a>>
     ensures { IfOk result (IsChoice job.now.pass job.now.key job.now.more_keys.items) }
 {
-    match (&job.pass, &job.key) {
-        (Some(name), None) => {
-            let name = name.as_str();
-            let role = Role::Passphrase;
-            Ok(SecretFiles::Passphrase(NamedFile { role, name }))
-        }
-        (None, Some(name)) => {
-            let name = name.as_str();
-            let role = Role::Key;
-            Ok(SecretFiles::Keys(NamedFile { role, name }, job.more_keys.as_slice()))
-        }
-        _ => Err(Fault::KeyChoice),
-    }
+    let roles = (Role::Passphrase, Role::Key);
+    choice_of(roles, &job.pass, &job.key, &job.more_keys, Fault::KeyChoice)
 }
 
 /// The same for the job's new passphrase or keys.
@@ -138,18 +126,37 @@ fn new_secret_files<'a>(job: &'a Job) -> Result<SecretFiles<'a>, Fault<'a>>
     ensures { IfOk result
         (IsChoice job.now.new_pass job.now.new_key job.now.more_new_keys.items) }
 {
-    match (&job.new_pass, &job.new_key) {
+    let roles = (Role::NewPassphrase, Role::NewKey);
+    choice_of(
+        roles,
+        &job.new_pass,
+        &job.new_key,
+        &job.more_new_keys,
+        Fault::NewKeyChoice,
+    )
+}
+
+/// The files that options name for a passphrase or for keys, in these roles. They must name exactly
+/// one of the two, because the format forbids another stanza beside that of a passphrase.
+fn choice_of<'a>(
+    roles: (Role, Role),
+    pass: &'a Option<String>,
+    key: &'a Option<String>,
+    more: &'a Vec<String>,
+    fault: Fault<'a>,
+) -> Result<SecretFiles<'a>, Fault<'a>>
+    ensures { IfOk result (IsChoice pass.now key.now more.now.items) }
+{
+    match (pass, key) {
         (Some(name), None) => {
-            let name = name.as_str();
-            let role = Role::NewPassphrase;
+            let (role, name) = (roles.0, name.as_str());
             Ok(SecretFiles::Passphrase(NamedFile { role, name }))
         }
         (None, Some(name)) => {
-            let name = name.as_str();
-            let role = Role::NewKey;
-            Ok(SecretFiles::Keys(NamedFile { role, name }, job.more_new_keys.as_slice()))
+            let (role, name) = (roles.1, name.as_str());
+            Ok(SecretFiles::Keys(NamedFile { role, name }, more.as_slice()))
         }
-        _ => Err(Fault::NewKeyChoice),
+        _ => Err(fault),
     }
 }
 

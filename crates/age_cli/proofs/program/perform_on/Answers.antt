@@ -1,6 +1,5 @@
-use Rattle.std.proofs.Common.{refl}
-use Rattle.age_header.specs.Device.{move_by, move_of}
-use Rattle.age_cli.proofs.ProgramLemmas.{fails_in, performs_alone}
+use Rattle.age_cli.proofs.Common.{ap, refl, Err, move_by, move_of}
+use Rattle.age_cli.proofs.ProgramLemmas.{performs}
 use Rattle.age_cli.proofs.program.perform_on.Goals as goal
 
 pub returns-in-Ok-clause-performs : goal.returns-in-Ok-clause-performs
@@ -13,12 +12,16 @@ returns-in-Ok-clause-performs g c =
 
 pub returns-in-Some-clause-performs : goal.returns-in-Some-clause-performs
 returns-in-Some-clause-performs g c =
-    fails_in g.F.File.Write.contents c.args.job.now c.args.task (g.R.Read.remaining c.args.input)
-    (g.W.Write.contents c.args.out.now) c.in_ok-output-in-Some.output.file c.perform_to.new.out.file c.in-Err.failure
-    (λ silent. absurd (cc (c.in-Some.is, silent))) (rw c.new-input.ensures at c.in-Err.ensures.performs)
+    let old = c.in_ok-output-in-Some.output.file in
+    let new = c.perform_to.new.out.file in
+    let has = g.F.File.Write.contents in
+    performs has c.args.work.now.job.now c.args.task (g.R.Read.remaining c.new-input.result.reader)
+    (move_by g.W.Write.contents c.args.out.now c.args.out.now) (move_of (has old) (has new)) (Err c.in-Err.failure)
+    (ap g.R.Read.remaining c.new-input.ensures) (rw c.in-Some.is (old, new, refl)) c.in-Err.ensures.performs
 
 pub returns-clause-performs : goal.returns-clause-performs
 returns-clause-performs g c =
-    performs_alone g.F.File.Write.contents c.args.job.now c.args.task (g.R.Read.remaining c.args.input)
-    (move_by g.W.Write.contents c.args.out.now c.perform_to-in-None.new.out)
-    c.perform_to-in-None.result c.in-None.is (rw c.new-input.ensures at c.perform_to-in-None.ensures.performs)
+    let sink = move_by g.W.Write.contents c.args.out.now c.perform_to-in-None.new.out in
+    performs g.F.File.Write.contents c.args.work.now.job.now c.args.task
+    (g.R.Read.remaining c.new-input.result.reader) sink sink c.perform_to-in-None.result
+    (ap g.R.Read.remaining c.new-input.ensures) (rw c.in-None.is refl) c.perform_to-in-None.ensures.performs

@@ -1,5 +1,4 @@
-use Rattle.std.proofs.Common.{◌≡◌, ◌∷◌, [], rules}
-use Rattle.age_commands.specs.Secret.{limits_of}
+use Rattle.age_commands.proofs.Common.{◌≡◌, ◌∷◌, [], rules, limits_of}
 use Rattle.age_commands.proofs.SecretLemmas.{decrypting_meant, made_reads, answers_meant}
 use Rattle.age_commands.proofs.decrypt.decrypt.Goals as goal
 use Rattle.age_commands.proofs.decrypt.decrypt.OwnLists.{own-1, entry-1-1, at-1-1, same-1-1}

@@ -1,5 +1,4 @@
-use Rattle.std.proofs.Common.{◌∙◌, ◌≡◌, ◌∷◌, [], ap, rules}
-use Rattle.age_commands.specs.Secret.{labels_of, wraps_of}
+use Rattle.age_commands.proofs.Common.{◌∙◌, ◌≡◌, ◌∷◌, [], ap, rules, labels_of, wraps_of}
 use Rattle.age_commands.proofs.SecretLemmas.{encrypting_meant, gathering_meant, made_reads}
 use Rattle.age_commands.proofs.encrypt.encrypt.Goals as goal
 use Rattle.age_commands.proofs.encrypt.encrypt.OwnLists.{own-1, entry-1-1, at-1-1, same-1-1}

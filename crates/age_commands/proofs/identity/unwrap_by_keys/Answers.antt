@@ -1,5 +1,4 @@
-use Rattle.age_recipient.specs.Answer.{decision_from}
-use Rattle.age_recipient.specs.KeyedHolders.{key_unwraps}
+use Rattle.age_commands.proofs.Common.{decision_from, key_unwraps}
 use Rattle.age_commands.proofs.SecretLemmas.{keys_step}
 use Rattle.age_commands.proofs.identity.unwrap_by_keys.Goals as goal
 

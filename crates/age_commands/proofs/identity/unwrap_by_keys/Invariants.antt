@@ -1,8 +1,5 @@
 -- What is decided so far, and by the remaining keys.
-use Rattle.std.proofs.Common.{◌≡◌, map, drop}
-use Rattle.age_recipient.specs.Answer.{decision_from}
-use Rattle.age_recipient.specs.KeyedHolders.{key_unwraps}
-use Rattle.age_commands.specs.Secret.{keys_unwrap}
+use Rattle.age_commands.proofs.Common.{◌≡◌, map, drop, decision_from, key_unwraps, keys_unwrap}
 use Rattle.age_commands.proofs.identity.unwrap_by_keys.Given as goal
 
 abbrev pub invariant-loop-key : goal.invariant-loop-key

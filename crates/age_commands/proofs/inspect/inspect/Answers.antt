@@ -1,6 +1,4 @@
-use Rattle.std.proofs.Common.{◌≡◌, rules}
-use Rattle.std.specs.Prelude.{◌≢◌}
-use Rattle.age_header.specs.Device.{Took, WritesPart, move_by}
+use Rattle.age_commands.proofs.Common.{◌≡◌, rules, ◌≢◌, Took, WritesPart, move_by}
 use Rattle.age_commands.proofs.InspectLemmas.{missed, shown_of}
 use Rattle.age_commands.specs.declared.inspect.Check.TheVariants.{Bad}
 use Rattle.age_commands.proofs.inspect.inspect.Goals as goal

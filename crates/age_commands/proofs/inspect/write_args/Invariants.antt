@@ -1,7 +1,5 @@
-use Rattle.std.proofs.Common.{map, take}
+use Rattle.age_commands.proofs.Common.{map, take, Appends, spaced_arguments}
 use Rattle.std.specs.String.{string_bytes}
-use Rattle.std.specs.Io.KnownBytes.{Appends}
-use Rattle.age_commands.specs.Inspect.{spaced_arguments}
 use Rattle.age_commands.proofs.inspect.write_args.Given as goal
 
 abbrev pub invariant-loop-arg : goal.invariant-loop-arg

@@ -1,6 +1,4 @@
-use Rattle.std.proofs.Common.{take}
-use Rattle.std.specs.Io.KnownBytes.{Appends}
-use Rattle.age_commands.specs.Inspect.{rows}
+use Rattle.age_commands.proofs.Common.{take, Appends, rows}
 use Rattle.age_commands.proofs.inspect.write_rows.Given as goal
 
 abbrev pub invariant-loop-index : goal.invariant-loop-index

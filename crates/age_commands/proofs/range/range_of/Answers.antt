@@ -1,8 +1,4 @@
-use Rattle.std.proofs.Common.{◌≡◌, ◌∙◌, ◌∷◌, [], rules, subst, sym}
-use Rattle.age_header.specs.Device.{CountsIf, move_by}
-use Rattle.age_file.specs.Device.{is_read}
-use Rattle.age_commands.specs.Range.{WritesAny}
-use Rattle.age_commands.specs.Secret.{limits_of}
+use Rattle.age_commands.proofs.Common.{◌≡◌, ◌∙◌, ◌∷◌, [], rules, subst, sym, CountsIf, move_by, is_read, WritesAny, limits_of}
 use Rattle.age_commands.proofs.RangeLemmas.{ranged, unopened}
 use Rattle.age_commands.proofs.SecretLemmas.{answers_meant, made_reads}
 use Rattle.age_commands.proofs.VerifiedLemmas as verified

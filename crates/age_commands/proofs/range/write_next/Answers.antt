@@ -9,7 +9,8 @@ returns-in-Err-clause-known g c = λ sound.
 
 pub returns-in-Ok-write_all-clause-known : goal.returns-in-Ok-write_all-clause-known
 returns-in-Ok-write_all-clause-known g c = λ sound.
-    search (rules, written, c.in-Ok.ensures.reads.filled.1 sound, c.in-Ok-write_all.ensures.text)
+    written c.read_range.new.buf (drop c.min-most.result c.args.piece.now) (search rules)
+    (c.in-Ok.ensures.reads.filled.1 sound) c.in-Ok-write_all.ensures.text
 
 pub returns-in-Err-write_all-clause-known : goal.returns-in-Err-write_all-clause-known
 returns-in-Err-write_all-clause-known g c = λ sound.
@@ -26,12 +27,16 @@ returns-in-Err-clause-any g c = λ keeps.
 
 pub returns-in-Ok-write_all-clause-any : goal.returns-in-Ok-write_all-clause-any
 returns-in-Ok-write_all-clause-any g c = λ keeps.
-    search (rules, verified.written, c.in-Ok.ensures.reads.verified keeps, c.in-Ok-write_all.ensures.text)
+    let rest = drop c.min-most.result c.args.piece.now in
+    written c.read_range.new.buf rest (search rules)
+    (verified.filled c.args.at c.read_range.new.buf (search rules) (c.in-Ok.ensures.reads.verified keeps))
+    c.in-Ok-write_all.ensures.text
 
 pub returns-in-Err-write_all-clause-any : goal.returns-in-Err-write_all-clause-any
 returns-in-Err-write_all-clause-any g c = λ keeps.
     let rest = drop c.min-most.result c.args.piece.now in (
       inr (inr refl),
-      verified.written_part c.read_range.new.buf rest (search rules)
-          (c.in-Ok.ensures.reads.verified keeps) (search rules) c.in-Err-write_all.ensures.text,
+      written_part c.read_range.new.buf rest (search rules)
+          (verified.filled c.args.at c.read_range.new.buf (search rules) (c.in-Ok.ensures.reads.verified keeps))
+          (search rules) c.in-Err-write_all.ensures.text,
     )

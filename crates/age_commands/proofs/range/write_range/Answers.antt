@@ -1,6 +1,4 @@
-use Rattle.std.proofs.Common.{◌≤◌, ◌<◌, ◌≡◌, ◌∙◌, ◌+◌, ◌-◌, ◌%◌, ℕ, ap, arith, min}
-use Rattle.age_stream.specs.declared.layout.Layout.{Layout}
-use Rattle.age_stream.specs.Sizes.{chunk_size}
+use Rattle.age_commands.proofs.Common.{◌≤◌, ◌<◌, ◌≡◌, ◌∙◌, ◌+◌, ◌-◌, ◌%◌, ℕ, ap, arith, min, Layout, chunk_size}
 use Rattle.age_commands.proofs.RangeLemmas.{failed_on, joined, some_on, whole_on}
 use Rattle.age_commands.proofs.VerifiedLemmas as verified
 use Rattle.age_commands.proofs.range.write_range.Goals as goal

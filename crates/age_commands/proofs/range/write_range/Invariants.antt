@@ -1,11 +1,6 @@
-use Rattle.std.proofs.Common.{◌≤◌, ◌<◌, ◌≡◌, ◌+◌, ◌-◌, ◌^◌, length}
-use Rattle.age_stream.specs.Offsets.{StaysGiven}
-use Rattle.age_stream.specs.Ranges.{IsSound, KeepsVerified, range_len}
-use Rattle.age_stream.specs.Sizes.{chunk_size}
-use Rattle.age_commands.specs.Range.{WritesPlain, WritesVerified}
+use Rattle.age_commands.proofs.Common.{◌≤◌, ◌<◌, ◌≡◌, ◌+◌, ◌-◌, ◌^◌, length, StaysGiven, IsSound, KeepsVerified, range_len, chunk_size, WritesPlain, WritesVerified, move_by}
 use Rattle.age_commands.proofs.RangeLemmas.{IsWhole}
 use Rattle.age_commands.proofs.range.write_range.Given as goal
-use Rattle.age_header.specs.Device.{move_by}
 
 abbrev pub invariant-loop-left : goal.invariant-loop-left
 invariant-loop-left g l =

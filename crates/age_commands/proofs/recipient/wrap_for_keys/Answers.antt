@@ -1,5 +1,4 @@
-use Rattle.std.proofs.Common.{◌≡◌, ◌∷◌, ◌++◌, [], Ok, rules, ap, sym, ◌∙◌, map, slice_index_or, take_all}
-use Rattle.age_recipient.specs.KeyedStanza.{keyed_stanza}
+use Rattle.age_commands.proofs.Common.{◌≡◌, ◌∷◌, ◌++◌, [], Ok, rules, ap, sym, ◌∙◌, map, slice_index_or, take_all, keyed_stanza}
 use Rattle.age_commands.proofs.SecretLemmas.{wrapped_more}
 use Rattle.age_commands.proofs.recipient.wrap_for_keys.Goals as goal
 

@@ -1,6 +1,5 @@
 -- The stanzas of the keys up to this one.
-use Rattle.std.proofs.Common.{◌≡◌, map, take}
-use Rattle.age_recipient.specs.KeyedStanza.{keyed_stanza}
+use Rattle.age_commands.proofs.Common.{◌≡◌, map, take, keyed_stanza}
 use Rattle.age_commands.proofs.recipient.wrap_for_keys.Given as goal
 
 abbrev pub invariant-loop-key : goal.invariant-loop-key

@@ -1,6 +1,4 @@
-use Rattle.std.proofs.Common.{◌≡◌, ◌∷◌, [], ◌∙◌, ap, rules}
-use Rattle.age_header.proofs.DeviceLemmas.{of_any, some_none}
-use Rattle.age_commands.specs.Secret.{labels_of, limits_of, wraps_of}
+use Rattle.age_commands.proofs.Common.{◌≡◌, ◌∷◌, [], ◌∙◌, ap, rules, of_any, some_none, labels_of, limits_of, wraps_of}
 use Rattle.age_commands.proofs.SecretLemmas.{answers_meant, gathering_meant, made_reads, rewrapping_meant}
 use Rattle.age_commands.proofs.rewrap.rewrap.Goals as goal
 use Rattle.age_commands.proofs.rewrap.rewrap.OwnLists.{own-1, entry-1-1, at-1-1, same-1-1, own-2, entry-2-1, at-2-1, same-2-1}

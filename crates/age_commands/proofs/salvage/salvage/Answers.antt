@@ -1,10 +1,4 @@
-use Rattle.std.proofs.Common.{◌≡◌, ◌∷◌, [], rules}
-use Rattle.std.proofs.KnownBytes.{Appends-nil}
-use Rattle.age_header.specs.Device.{move_by}
-use Rattle.age_stream.specs.Salvage.{losses_by}
-use Rattle.age_commands.specs.Secret.{limits_of}
-use Rattle.age_header.proofs.DeviceLemmas.{of_any, some_none}
-use Rattle.age_stream.proofs.SalvageLemmas.{reports_none}
+use Rattle.age_commands.proofs.Common.{◌≡◌, ◌∷◌, [], rules, Appends-nil, move_by, losses_by, limits_of, of_any, some_none, reports_none}
 use Rattle.age_commands.proofs.SecretLemmas.{answers_meant, made_reads, salvaging_meant}
 use Rattle.age_commands.proofs.salvage.salvage.Goals as goal
 use Rattle.age_commands.proofs.salvage.salvage.OwnLists.{own-1, entry-1-1, at-1-1, same-1-1}

@@ -1,4 +1,3 @@
-use Rattle.std.proofs.Common.{refl}
 use Rattle.age_commands.proofs.SalvageLemmas.{quiet_whole, salvages_from, silent_whole, writes_whole}
 use Rattle.age_commands.proofs.TaskLemmas.{no_source}
 use Rattle.age_commands.proofs.salvage.salvage_all.Goals as goal

@@ -1,9 +1,15 @@
-use Rattle.std.proofs.Common.{flat_map, sym, ap, ◌∙◌, map-id}
-use Rattle.std.proofs.Output.{has_written_of_eq}
+use Rattle.std.proofs.Common.{[], flat_map, rules, sym, ap, ◌∙◌, map-id}
+use Rattle.std.proofs.Output.{has_written_append, has_written_of_eq}
+use Rattle.std.proofs.lemmas.List.{flat_map_more}
 use Rattle.std.proofs.lemmas.Iterator.{YieldsList-from_chars}
 use Rattle.std.proofs.lemmas.Iterator.Consumers.{YieldsList-end}
 use Rattle.age_job.specs.Names.{escaped_char}
 use Rattle.age_job.proofs.file_names.write_escaped.Goals as goal
+
+pub loop-c-preserved : goal.loop-c-preserved
+loop-c-preserved g c = λ plain.
+    has_written_of_eq _ _ _ _ _ (flat_map_more (escaped_char c.args.exact) [] c.loop-c.yielded c.in-Some.c)
+    (has_written_append _ _ _ _ _ _ (c.loop-c.invariant plain) (search rules))
 
 pub returns : goal.returns
 returns g c = λ plain _.

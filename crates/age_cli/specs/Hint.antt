@@ -1,7 +1,7 @@
 -- The meaning of a hint's numbers.
 use Rattle.std.specs.Prelude.{ℕ}
-use Rattle.age_commands.specs.declared.hint.Unit.{Unit}
-use Rattle.age_commands.specs.declared.hint.Unit.TheVariants.{KiB, MiB, GiB}
+use Rattle.age_cli.specs.declared.hint.Unit.{Unit}
+use Rattle.age_cli.specs.declared.hint.Unit.TheVariants.{KiB, MiB, GiB}
 
 -- the number of bytes in a unit
 abbrev pub unit_size : Unit → ℕ

@@ -1,6 +1,6 @@
 use Rattle.std.proofs.Common.{◌≡◌, ◌+◌, ◌-◌, ◌%◌, arith}
 use Rattle.std.proofs.lemmas.Nat.{pow-add, pow_below}
-use Rattle.age_commands.proofs.hint.memory_of.Goals as goal
+use Rattle.age_cli.proofs.hint.memory_of.Goals as goal
 
 pub returns-in-0-to-9 : goal.returns-in-0-to-9
 returns-in-0-to-9 c = λ le.

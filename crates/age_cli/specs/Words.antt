@@ -1,0 +1,1 @@
+-- The names that most files of this crate cite, passed on from one place.
