@@ -1,10 +1,6 @@
 -- A list that is cut in pieces of one size, the last one open.
-use Rattle.std.proofs.Common.{◌≡◌, ◌↔◌, ℕ, List, [], ◌∷◌, ◌++◌, ◌+◌, ◌<◌, ◌≤◌, length, sym, ◌∙◌, ap, arith, nat_lt, cond, true, false, refl, append_assoc, length-append, subst, inl, inr}
-use Rattle.std.specs.List.{concat}
-use Rattle.std.proofs.lemmas.Bool.{le-ltb, lt-ltb, cases_lt}
-use Rattle.std.proofs.lemmas.List.{append-nil}
-use Rattle.age_kdf.specs.Bytes.{Bytes}
-use Rattle.age_stream.specs.Cutting.{cut_after, cut, IsCut, IsFilled}
+use Rattle.age_stream.proofs.Common.{◌≡◌, ◌↔◌, ℕ, List, [], ◌∷◌, ◌++◌, ◌+◌, ◌<◌, ◌≤◌, length, sym, ◌∙◌, ap, arith, nat_lt, cond, true, false, refl, append_assoc, length-append, subst, inl, inr, concat, le-ltb, lt-ltb, cases_lt, Bytes, cut_after, cut, IsCut, append-nil}
+use Rattle.age_stream.specs.Cutting.{IsFilled}
 
 -- bytes that fit go into the open list
 pub cut_fits : (size : ℕ) (held x r : Bytes) → length held + length x ≤ size
@@ -105,7 +101,3 @@ cut_at_most size p pos = elim (is_cut size p pos).sizes [
   | inl e ↦ subst (AtMost size) (sym e) (omega arith)
   | inr filled ↦ filled_at_most size (cut size p) filled
 ]
-
-pub concat-append : (xs ys : List Bytes) → concat (xs ++ ys) ≡ concat xs ++ concat ys
-concat-append [] ys = refl
-concat-append (x ∷ xs) ys = ap (λ t. x ++ t) (concat-append xs ys) ∙ sym (append_assoc x (concat xs) (concat ys))

@@ -1,16 +1,5 @@
 -- What the last piece gives, and what opening a payload for ranges finds.
-use Rattle.std.proofs.Common.{◌≡◌, ◌⊎◌, ℕ, [], ◌+◌, ◌-◌, ◌*◌, ◌/◌, ◌<◌, ◌≤◌, length, take, drop, get_or, nat_eq, sym, ◌∙◌, ap, arith, true, refl, inl, inr, subst, Some, None, Result, Ok, Err}
-use Rattle.std.specs.Prelude.{IfSome}
-use Rattle.std.proofs.lemmas.Bool.{eq-eqb, le-leb, le-ltb}
-use Rattle.std.proofs.lemmas.List.{length-drop, length-take-le, drop-drop, take_all}
-use Rattle.age_stream.specs.Words.{Bytes, Known, FileKey, StreamFault, TooManyChunks, Write, Layout, sealed_chunk_size, chunk_buf_size}
-use Rattle.age_cipher.proofs.OpeningLemmas.{length-sealed_text, opened_text-sealed_text}
-use Rattle.age_stream.specs.Opening.{IsAtPiece}
-use Rattle.age_stream.specs.Payload.{pieces, chunk_nonce, payload_key}
-use Rattle.age_stream.specs.Offsets.{EndsBefore, HasAt, GaveAt}
-use Rattle.age_stream.specs.Reading.{piece_opening, outcome}
-use Rattle.age_stream.specs.Ranges.{last_len, source_opening, IsOpenFault, IsVerified, JudgesLast, OpensRanges}
-use Rattle.age_stream.specs.Slice.{opening, plain_len, chunk_len, last_piece, last_outcome, range_outcome}
+use Rattle.age_stream.proofs.Common.{◌≡◌, ◌⊎◌, ℕ, [], ◌+◌, ◌-◌, ◌*◌, ◌/◌, ◌<◌, ◌≤◌, length, take, drop, get_or, nat_eq, sym, ◌∙◌, ap, arith, true, refl, inl, inr, subst, Some, None, Result, Ok, Err, IfSome, eq-eqb, le-leb, le-ltb, length-drop, length-take-le, drop-drop, take_all, Bytes, Known, FileKey, StreamFault, TooManyChunks, Write, Layout, sealed_chunk_size, chunk_buf_size, length-sealed_text, opened_text-sealed_text, IsAtPiece, pieces, chunk_nonce, payload_key, EndsBefore, HasAt, GaveAt, piece_opening, outcome, last_len, source_opening, IsOpenFault, IsVerified, JudgesLast, OpensRanges, opening, plain_len, chunk_len, last_piece, last_outcome, range_outcome}
 use Rattle.age_stream.proofs.ReadingLemmas.{cut_count}
 use Rattle.age_stream.proofs.OutcomeLemmas.{outcome_many}
 use Rattle.age_stream.proofs.PayloadLemmas.{outcome_opens}

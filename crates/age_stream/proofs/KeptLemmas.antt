@@ -1,6 +1,9 @@
--- A clause on what is so where no fault is kept.
-use Rattle.std.proofs.Common.{◌≡◌, Option, Some, None, refl}
-use Rattle.std.specs.Prelude.{IfNone}
+-- What may be kept, and a clause on what is so where no fault is.
+use Rattle.age_stream.proofs.Common.{◌≡◌, Option, Some, None, refl, IfNone, ◌⊎◌, inl, inr}
+
+pub cases_Option : {A : Type 0} (o : Option A) → ((x : A) × (o ≡ Some x)) ⊎ (o ≡ None)
+cases_Option None = inr refl
+cases_Option (Some x) = inl (x, refl)
 
 pub when_none : {F P : Type 0} (fault : Option F) → (fault ≡ None → P) → IfNone fault P
 when_none None p = p refl

@@ -1,3 +1,4 @@
+pub mod Common
 pub mod CuttingLemmas
 pub mod JudgesLastLemmas
 pub mod KeptLemmas

@@ -1,15 +1,6 @@
 -- A piece that was read at its offset.
-use Rattle.std.proofs.Common.{◌≡◌, ◌⊎◌, ℕ, [], ◌+◌, ◌-◌, ◌*◌, ◌<◌, ◌≤◌, length, take, drop, nat_le, nat_eq, ◌∙◌, sym, ap, arith, inl, inr, Some, None}
-use Rattle.std.proofs.lemmas.Bool.{cases_lt, false≢true}
-use Rattle.std.proofs.lemmas.Bool.Decides.{nat_tests}
-use Rattle.std.proofs.lemmas.List.{take_all, length-drop, length-take-le, drop-drop}
-use Rattle.age_stream.specs.Words.{Bytes, opened_text, Known, Layout, chunk_size, sealed_chunk_size, chunk_buf_size}
-use Rattle.age_stream.specs.Payload.{chunk_nonce, pieces}
-use Rattle.age_stream.specs.Reading.{piece_opening}
+use Rattle.age_stream.proofs.Common.{◌≡◌, ◌⊎◌, ℕ, [], ◌+◌, ◌-◌, ◌*◌, ◌<◌, ◌≤◌, length, take, drop, nat_le, nat_eq, ◌∙◌, sym, ap, arith, inl, inr, Some, None, cases_lt, false≢true, nat_tests, take_all, length-drop, length-take-le, drop-drop, Bytes, opened_text, Known, Layout, chunk_size, sealed_chunk_size, chunk_buf_size, chunk_nonce, pieces, piece_opening, HasAt, bytes_from, source_opening, IsThere, chunk_len}
 use Rattle.age_stream.proofs.ReadingLemmas.{cut_count}
-use Rattle.age_stream.specs.Offsets.{HasAt}
-use Rattle.age_stream.specs.Ranges.{bytes_from, source_opening, IsThere}
-use Rattle.age_stream.specs.Slice.{chunk_len}
 use Rattle.age_stream.proofs.SliceLemmas.{opening_at}
 
 -- there are as many pieces as are counted

@@ -1,14 +1,5 @@
 -- The next piece, by what was read ahead, what was given, and what may still come.
-use Rattle.std.proofs.Common.{◌≡◌, ◌⊎◌, ◌∙◌, ◌+◌, ◌-◌, ◌^◌, ◌<◌, ◌≤◌, ℕ, [], length, take, drop, min, ap, sym, arith, refl, inl, inr, not, subst, Option, Some, None, true, false, Bool, nat_le, cond, Result, Ok, Err}
-use Rattle.std.specs.Prelude.{IfNone, IfSome, IsErrOf}
-use Rattle.std.specs.Io.KnownBytes.{IsAtEnd}
-use Rattle.std.proofs.lemmas.Bool.{cases_lt, le-leb, lt-leb}
-use Rattle.std.proofs.lemmas.List.{drop-drop, take_all, take-take, length-drop, length-take, length-take-le}
-use Rattle.age_stream.specs.Words.{Bytes, Flow, GaveSome, Known, Seen, flow, StreamFault, Read, chunk_size, sealed_chunk_size, chunk_buf_size}
-use Rattle.age_header.proofs.DeviceLemmas.{gave_none}
-use Rattle.age_stream.specs.declared.opening.Piece.{Piece}
-use Rattle.age_stream.specs.Opening.{Advances, IsAtPiece, IsFilled, Loses, OpenerState, ReadsPiece, held_of}
-use Rattle.age_stream.specs.Reading.{outcome, first_outcome, after_first}
+use Rattle.age_stream.proofs.Common.{◌≡◌, ◌⊎◌, ◌∙◌, ◌+◌, ◌-◌, ◌^◌, ◌<◌, ◌≤◌, ℕ, [], length, take, drop, min, ap, sym, arith, refl, inl, inr, not, subst, Option, Some, None, true, false, Bool, nat_le, cond, Result, Ok, Err, IfNone, IfSome, IsErrOf, IsAtEnd, cases_lt, le-leb, lt-leb, drop-drop, take_all, take-take, length-drop, length-take, length-take-le, Bytes, Flow, GaveSome, Known, Seen, flow, StreamFault, Read, chunk_size, sealed_chunk_size, chunk_buf_size, gave_none, Piece, Advances, IsAtPiece, IsFilled, Loses, OpenerState, ReadsPiece, held_of, outcome, first_outcome, after_first}
 use Rattle.age_stream.proofs.KeptLemmas.{when_none}
 
 -- ---- n bytes of a buffer, of which the first piece was opened

@@ -1,10 +1,5 @@
 -- Each case of a piece's outcome.
-use Rattle.std.proofs.Common.{refl, [], ◌≡◌, ℕ, ◌<◌, ◌≤◌, ◌&&◌, length, nat_lt, nat_eq, true, false, Bool, Err}
-use Rattle.std.specs.Prelude.{ok_or}
-use Rattle.std.proofs.lemmas.Bool.{le-ltb, lt-ltb, le-leb, lt-leb}
-use Rattle.age_stream.specs.Words.{Bytes, opened_text, Known, ChunkShort, EmptyFinal, BadChunk, TooManyChunks}
-use Rattle.age_stream.specs.Payload.{chunk_nonce}
-use Rattle.age_stream.specs.Reading.{outcome}
+use Rattle.age_stream.proofs.Common.{refl, [], ◌≡◌, ℕ, ◌<◌, ◌≤◌, ◌&&◌, length, nat_lt, nat_eq, true, false, Bool, Err, ok_or, le-ltb, lt-ltb, le-leb, lt-leb, Bytes, opened_text, Known, ChunkShort, EmptyFinal, BadChunk, TooManyChunks, chunk_nonce, outcome}
 
 pub outcome_many : (key : Bytes) (max i : ℕ) (last : Bool) (c : Bytes) → max ≤ i
     → outcome key max i last c ≡ Err TooManyChunks

@@ -1,16 +1,7 @@
 -- What reads to its end is a payload, and the other way round.
-use Rattle.std.proofs.Common.{◌≡◌, ◌↔◌, ◌⊎◌, ℕ, List, [], ◌∷◌, ◌++◌, ◌+◌, ◌<◌, ◌≤◌, ◌&&◌, length, take, drop, map, sym, ◌∙◌, ap, arith, nat_lt, nat_le, nat_eq, cond, true, false, Bool, refl, suc, length-append, subst, inl, inr, Option, Some, None, Result, Ok, Err}
-use Rattle.std.specs.Prelude.{ok_or}
-use Rattle.std.specs.List.{concat}
-use Rattle.std.proofs.lemmas.Bool.{le-ltb, lt-ltb, cases_lt, leb-false, lt-leb}
-use Rattle.std.proofs.lemmas.Bool.Decides.{nat_tests}
-use Rattle.std.proofs.lemmas.List.{take-append-drop, take_at, drop_at, length-take-le}
-use Rattle.age_stream.specs.Words.{Bytes, sealed_text, opened_text, FileKey, StreamFault, ChunkShort, EmptyFinal, BadChunk, TooManyChunks, chunk_size, sealed_chunk_size}
-use Rattle.age_stream.specs.Cutting.{IsCut, IsFilled}
-use Rattle.age_stream.specs.Payload.{chunks, pieces, chunk_nonce, is_end, sealed_chunks_from, payload_key, payload}
-use Rattle.age_stream.specs.Reading.{Reading, outcome, outcomes, first_fault, plaintext_of, reading_from, payload_reading, whole}
+use Rattle.age_stream.proofs.Common.{◌≡◌, ◌↔◌, ◌⊎◌, ℕ, List, [], ◌∷◌, ◌++◌, ◌+◌, ◌<◌, ◌≤◌, ◌&&◌, length, take, drop, map, sym, ◌∙◌, ap, arith, nat_lt, nat_le, nat_eq, cond, true, false, Bool, refl, suc, length-append, subst, inl, inr, Option, Some, None, Result, Ok, Err, ok_or, concat, le-ltb, lt-ltb, cases_lt, leb-false, lt-leb, nat_tests, take-append-drop, take_at, drop_at, length-take-le, Bytes, sealed_text, opened_text, FileKey, StreamFault, ChunkShort, EmptyFinal, BadChunk, TooManyChunks, chunk_size, sealed_chunk_size, IsCut, chunks, pieces, chunk_nonce, is_end, sealed_chunks_from, payload_key, payload, Reading, outcome, outcomes, first_fault, plaintext_of, reading_from, payload_reading, whole, length-sealed_text, opened_is}
+use Rattle.age_stream.specs.Cutting.{IsFilled}
 use Rattle.age_stream.proofs.CuttingLemmas.{is_cut, cut_is_unique, filled_cut, AtMost, cut_at_most}
-use Rattle.age_cipher.proofs.OpeningLemmas.{length-sealed_text, opened_is}
 
 -- a result is one or the other
 pub result_cases : {A F : Type 0} (r : Result A F) → ((t : A) × (r ≡ Ok t)) ⊎ ((f : F) × (r ≡ Err f))
@@ -21,11 +12,8 @@ result_cases (Err f) = inr (f, refl)
 picked : {A F : Type 0} (b d e : Bool) (f g h k : F) (o : Option A) {t : A}
     → cond b (Err f) (cond d (Err g) (cond e (Err h) (ok_or o k))) ≡ Ok t
     → (b ≡ false) × (d ≡ false) × (e ≡ false) × (o ≡ Some t)
-picked true d e f g h k o is = absurd (cc)
-picked false true e f g h k o is = absurd (cc)
-picked false false true f g h k o is = absurd (cc)
-picked false false false f g h k None is = absurd (cc)
 picked false false false f g h k (Some x) is = (refl, refl, refl, cc)
+picked b d e f g h k o is = absurd (cc)
 
 -- piece i opens to t
 pub record Opens (key : Bytes) (max i : ℕ) (last : Bool) (c t : Bytes) : Type 0 where

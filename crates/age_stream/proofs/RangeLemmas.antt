@@ -1,9 +1,5 @@
 -- The steps of a range's loop.
-use Rattle.std.proofs.Common.{◌≡◌, ℕ, ◌++◌, ◌+◌, ◌-◌, ◌*◌, ◌≤◌, length, take, drop, ◌∙◌, sym, ap, arith, Some}
-use Rattle.std.proofs.lemmas.List.{length-take-le, length-drop, drop-drop, take_at, drop_at, length-append}
-use Rattle.age_stream.specs.Words.{Bytes, Known, Layout, chunk_size}
-use Rattle.age_stream.specs.Ranges.{source_opening}
-use Rattle.age_stream.specs.Slice.{opening, IsSlice}
+use Rattle.age_stream.proofs.Common.{◌≡◌, ℕ, ◌++◌, ◌+◌, ◌-◌, ◌*◌, ◌≤◌, length, take, drop, ◌∙◌, sym, ap, arith, Some, length-take-le, length-drop, drop-drop, take_at, drop_at, Bytes, Known, Layout, chunk_size, source_opening, opening, IsSlice, length-append}
 use Rattle.age_stream.proofs.SliceLemmas.{slice_on}
 
 -- the text that is put after the first `done` bytes

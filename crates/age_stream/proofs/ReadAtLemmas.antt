@@ -1,10 +1,5 @@
 -- Bytes that a source has at an offset.
-use Rattle.std.proofs.Common.{◌≡◌, ℕ, ◌++◌, ◌+◌, ◌-◌, ◌<◌, ◌≤◌, length, take, drop, slice_index, ◌∙◌, sym, ap, subst, arith, inl, inr, Some, None}
-use Rattle.std.proofs.lemmas.Bool.{cases_lt}
-use Rattle.std.proofs.lemmas.List.{length-take-le, length-drop, drop-drop, get_or-take, get_or-drop}
-use Rattle.std.proofs.Math.Seq.{take-add}
-use Rattle.age_stream.specs.Words.{Bytes, Known}
-use Rattle.age_stream.specs.Offsets.{HasAt, StaysGiven, GaveAt}
+use Rattle.age_stream.proofs.Common.{◌≡◌, ℕ, ◌++◌, ◌+◌, ◌-◌, ◌<◌, ◌≤◌, length, take, drop, slice_index, ◌∙◌, sym, ap, subst, arith, inl, inr, Some, None, cases_lt, length-take-le, length-drop, drop-drop, get_or-take, get_or-drop, take-add, Bytes, Known, HasAt, StaysGiven, GaveAt}
 
 -- further bytes after those that were read
 pub has_on : (told : Known) (at got n : ℕ) (old new : Bytes) → got + n ≤ length new → length new ≡ length old

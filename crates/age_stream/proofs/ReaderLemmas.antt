@@ -1,9 +1,5 @@
 -- What an opener that was given says of reads.
-use Rattle.std.proofs.Common.{◌≡◌, ◌⊎◌, inl, inr, ℕ, Ok}
-use Rattle.std.specs.Prelude.{IsErrOf}
-use Rattle.age_stream.specs.Words.{Bytes, Known, GaveAtMost, flow_by, FileKey, Read, nonce_size}
-use Rattle.age_stream.specs.Opening.{OpenerState, Starts}
-use Rattle.age_stream.specs.Reader.{StartsReader}
+use Rattle.age_stream.proofs.Common.{◌≡◌, ◌⊎◌, inl, inr, ℕ, Ok, IsErrOf, Bytes, Known, GaveAtMost, flow_by, FileKey, Read, nonce_size, OpenerState, Starts, StartsReader}
 
 -- no read failed where an opener was given
 pub not_read : {X : Type 0} (s : OpenerState) → IsErrOf {T = OpenerState} (Ok s) Read ⊎ X → X

@@ -1,12 +1,5 @@
 -- One piece after another.
-use Rattle.std.proofs.Common.{◌≡◌, ◌⊎◌, ℕ, List, [], ◌∷◌, ◌++◌, ◌+◌, ◌-◌, ◌*◌, ◌<◌, ◌≤◌, length, take, drop, sym, ◌∙◌, ap, arith, nat_lt, cond, true, false, refl, inl, inr, Result, Ok, Err, suc, zero}
-use Rattle.std.proofs.lemmas.Bool.{cases_lt, le-leb, lt-leb, true≢false}
-use Rattle.std.proofs.lemmas.List.{take-append-drop, take_all, length-take-le, length-drop}
-use Rattle.age_stream.specs.Words.{Bytes, StreamFault, sealed_chunk_size}
-use Rattle.age_stream.specs.Cutting.{cut, cut_after}
-use Rattle.age_stream.specs.Opening.{pieces_left, reading_left}
-use Rattle.age_stream.specs.Payload.{pieces, is_end}
-use Rattle.age_stream.specs.Reading.{Reading, after_first, first_outcome, outcome, outcomes, first_fault, plaintext_of, reading_from, stop}
+use Rattle.age_stream.proofs.Common.{◌≡◌, ◌⊎◌, ℕ, List, [], ◌∷◌, ◌++◌, ◌+◌, ◌-◌, ◌*◌, ◌<◌, ◌≤◌, length, take, drop, sym, ◌∙◌, ap, arith, nat_lt, cond, true, false, refl, inl, inr, Result, Ok, Err, suc, zero, cases_lt, le-leb, lt-leb, true≢false, take-append-drop, take_all, length-take-le, length-drop, Bytes, StreamFault, sealed_chunk_size, cut, cut_after, pieces_left, reading_left, pieces, is_end, Reading, after_first, first_outcome, outcome, outcomes, first_fault, plaintext_of, reading_from, stop}
 use Rattle.age_stream.proofs.CuttingLemmas.{cut_first, cut_last}
 
 -- what one piece gives, then what the rest gives

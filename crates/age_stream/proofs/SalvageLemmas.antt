@@ -1,51 +1,34 @@
 -- The parts of pieces that are saved one after another.
-use Rattle.std.proofs.Common.{◌≡◌, ◌⊎◌, ◌∙◌, ◌++◌, ◌∷◌, ◌+◌, ◌-◌, ◌*◌, ◌<◌, ◌≤◌, ℕ, List, [], length, take, drop, ap, sym, subst, arith, append_assoc, append-nil, length-append, refl, Bool, not, inl, inr, None, Some, Result, Ok, Err, nat_le, min, suc, zero, true, false}
-use Rattle.std.specs.Prelude.{IfErr, IfOk, Option}
-use Rattle.std.specs.Io.KnownBytes.{Appends, IsAtEnd}
-use Rattle.std.proofs.KnownBytes.{Appends-trans, Appends-nil}
-use Rattle.std.proofs.lemmas.Bool.{le-leb, lt-leb, cases_lt}
-use Rattle.std.proofs.lemmas.List.{drop-append-le, take_all, take_at, drop_at, take-append-le, length-take-le, length-drop, take-take}
-use Rattle.age_stream.specs.Words.{Bytes, opened_text, Gave, GaveSome, Known, OfGiven, Seen, WritesPart, flow, move_of, FileKey, StreamFault, NonceTruncated, TooManyChunks, Read, Write, Memory, chunk_size, sealed_chunk_size, chunk_buf_size}
-use Rattle.age_header.specs.Filling.{Filled}
-use Rattle.age_header.proofs.DeviceLemmas.{gave_more, gave_none, gave_then, of_any, of_ended, of_map, of_more, of_then}
-use Rattle.age_stream.specs.declared.salvaged.LostChunk.{LostChunk}
-use Rattle.age_stream.specs.declared.salvaged.Salvaged.{Salvaged}
-use Rattle.age_stream.specs.declared.salvaged.Saved.{Saved}
-use Rattle.age_stream.specs.declared.salvaged.Saved.TheVariants.{Nothing, Zeros, Chunk, Early, LastChunk, Padded}
-use Rattle.age_cipher.proofs.OpeningLemmas.{length-sealed_text, opened_is}
-use Rattle.age_stream.specs.Opening.{EndsAt, GivesNonce}
-use Rattle.age_stream.specs.Payload.{chunk_nonce, payload_key, pieces}
-use Rattle.age_stream.specs.Reading.{piece_opening}
-use Rattle.age_stream.specs.Salvage.{EndsSaving, KnownLosses, Part, ReadsAhead, Reports, Salvages, SavesParts, SavesPayload, early_after, first_part, in_place, last_saved, latest_early, loss, losses, lost_part, opening_or, out_of_place, closed_part, padded_part, padding, part, parts, payload_parts, salvaged_text, summary, losses_of, with_part}
+use Rattle.age_stream.proofs.Common.{◌≡◌, ◌⊎◌, ◌∙◌, ◌++◌, ◌∷◌, ◌+◌, ◌-◌, ◌*◌, ◌<◌, ◌≤◌, ℕ, List, [], length, take, drop, ap, sym, subst, arith, append_assoc, append-nil, length-append, refl, Bool, not, inl, inr, None, Some, Result, Ok, Err, nat_le, min, suc, IfErr, IfOk, Appends, IsAtEnd, Appends-trans, Appends-nil, le-leb, lt-leb, cases_lt, drop-append-le, take_all, take_at, drop_at, take-append-le, length-take-le, length-drop, Bytes, opened_text, Gave, GaveSome, Known, OfGiven, Seen, WritesPart, flow, move_of, FileKey, StreamFault, NonceTruncated, TooManyChunks, Read, Write, Memory, chunk_size, sealed_chunk_size, chunk_buf_size, Filled, gave_more, gave_none, gave_then, of_any, of_ended, of_map, of_more, of_then, LostChunk, Salvaged, Saved, Nothing, Zeros, length-sealed_text, opened_is, EndsAt, GivesNonce, chunk_nonce, payload_key, pieces, piece_opening, EndsSaving, KnownLosses, Part, ReadsAhead, Reports, Salvages, SavesParts, SavesPayload, early_after, first_part, in_place, last_saved, latest_early, loss, losses, lost_part, part, parts, payload_parts, salvaged_text, summary, losses_of, with_part, Option, concat-append, map-append, map}
+use Rattle.std.proofs.Common.{zero, true, false}
+use Rattle.std.proofs.lemmas.List.{take-take}
+use Rattle.age_stream.specs.declared.salvaged.Saved.TheVariants.{Padded}
+use Rattle.age_stream.specs.Salvage.{closed_part, opening_or, padded_part, padding}
 use Rattle.age_stream.specs.Sizes.{max_padding}
 use Rattle.age_stream.proofs.CuttingLemmas.{cut_last}
 use Rattle.age_stream.proofs.OpeningLemmas.{take_most}
 use Rattle.age_stream.proofs.ReadingLemmas.{cut_some, cut_step, is_end_cut}
+use Rattle.age_stream.proofs.KeptLemmas.{cases_Option}
 
 -- ---- one part
 
 opened_short : (key nonce c : Bytes) → length c < 16 → opened_text key nonce [] c ≡ None
-opened_short key nonce c short = go (opened_text key nonce [] c) refl
-  where
-    go : (o : Known) → opened_text key nonce [] c ≡ o → opened_text key nonce [] c ≡ None
-    go None e = e
-    go (Some t) e =
-        let l : length c ≡ length t + 16 = ap length (sym ((opened_is key nonce [] c t).0 e))
-        ∙ length-sealed_text key nonce [] t in
-        absurd (omega arith)
+opened_short key nonce c short = elim (cases_Option (opened_text key nonce [] c)) [
+  | inl (t, is) ↦
+      let sealed_so = ap length ((opened_is key nonce [] c t).0 is) in
+      absurd (omega (arith, sealed_so, length-sealed_text key nonce [] t))
+  | inr none ↦ none
+]
 
 pub part-opened : (key : Bytes) (i : ℕ) (last : Bool) (c t : Bytes) → piece_opening key i last c ≡ Some t
     → part key i last c ≡ record { text = t; saved = in_place i last (length c) }
 part-opened key i last c t is =
-    ap (λ x. opening_or (in_place i last (length c)) x (opening_or (out_of_place last)
-    (piece_opening key i (not last) c) (closed_part key i last c))) is
+    rw is refl
 
 pub part_closed : (key : Bytes) (i : ℕ) (last : Bool) (c : Bytes) → piece_opening key i last c ≡ None
     → piece_opening key i (not last) c ≡ None → part key i last c ≡ closed_part key i last c
 part_closed key i last c none other =
-    ap (λ x. opening_or (in_place i last (length c)) x (opening_or (out_of_place last)
-    (piece_opening key i (not last) c) (closed_part key i last c))) none
-    ∙ ap (λ x. opening_or (out_of_place last) x (closed_part key i last c)) other
+    rw (none, other) refl
 
 -- a piece that has no chunk without its last k bytes does not open with more of them taken off
 pub padded_short : (key : Bytes) (i k n : ℕ) (c : Bytes) → length c < k + 16 → padded_part key i k n c ≡ lost_part c
@@ -141,18 +124,14 @@ parts_some key i c = omega (arith, length-parts key i (pieces c), cut_some seale
 
 -- ---- one part more
 
-pub salvaged_append : (xs ys : List Part) → salvaged_text (xs ++ ys) ≡ salvaged_text xs ++ salvaged_text ys
-salvaged_append [] ys = refl
-salvaged_append (x ∷ xs) ys =
-    ap (λ t. x.text ++ t) (salvaged_append xs ys) ∙ sym (append_assoc x.text (salvaged_text xs) (salvaged_text ys))
-
 pub salvaged_snoc : (xs : List Part) (y : Part) → salvaged_text (xs ++ y ∷ []) ≡ salvaged_text xs ++ y.text
-salvaged_snoc xs y = salvaged_append xs (y ∷ []) ∙ ap (λ t. salvaged_text xs ++ t) (append-nil y.text)
+salvaged_snoc xs y =
+    let texts : List Bytes = map (λ p. p.text) xs in
+    rw (map-append (λ (p : Part). p.text) xs (y ∷ []), concat-append texts (y.text ∷ []), append-nil y.text)
 
 lost_at : (s : Saved) (i j a b len : ℕ) → i ≡ j → a ≡ b
     → loss s (record { chunk = i; start = a; len = len }) ≡ loss s (record { chunk = j; start = b; len = len })
-lost_at s i j a b len e f = ap (λ k. loss s (record { chunk = k; start = a; len = len })) e
-    ∙ ap (λ k. loss s (record { chunk = j; start = k; len = len })) f
+lost_at s i j a b len e f = rw (e, f) refl
 
 pub losses_snoc : (i at : ℕ) (xs : List Part) (y : Part)
     → losses i at (xs ++ y ∷ []) ≡ losses i at xs
@@ -175,11 +154,10 @@ last_snoc (x ∷ z ∷ xs) y = last_snoc (z ∷ xs) y
 pub early_snoc : (i : ℕ) (before : Option ℕ) (xs : List Part) (y : Part)
     → latest_early i before (xs ++ y ∷ []) ≡ early_after y.saved (i + length xs) (latest_early i before xs)
 early_snoc i before [] y =
-    let none : i ≡ i + 0 = omega arith in ap (λ k. early_after y.saved k before) none
+    let none : i + 0 ≡ i = omega arith in rw none refl
 early_snoc i before (x ∷ xs) y =
     let count : i + 1 + length xs ≡ i + length (x ∷ xs) = omega arith in
-    let mid : Option ℕ = early_after x.saved i before in
-    early_snoc (i + 1) mid xs y ∙ ap (λ k. early_after y.saved k (latest_early (i + 1) mid xs)) count
+    rw count at (early_snoc (i + 1) (early_after x.saved i before) xs y)
 
 -- ---- what was reported
 
@@ -282,11 +260,7 @@ salvaging_none {key} {ahead} {from} {old} {before} bytes chunks lost early none 
 
 loss_len : (s : Saved) (lost : LostChunk) → length (loss s lost) ≤ 1
 loss_len Zeros lost = omega arith
-loss_len Chunk lost = omega arith
-loss_len Early lost = omega arith
-loss_len LastChunk lost = omega arith
-loss_len (Padded k) lost = omega arith
-loss_len Nothing lost = omega arith
+loss_len s lost = omega arith
 
 losses_next : (done : List Part) (s : Salvaged) (y : Part) → s.bytes ≡ length (salvaged_text done)
     → s.chunks ≡ length done → losses 0 0 (done ++ y ∷ [])
@@ -499,14 +473,8 @@ with_nonce : (max : ℕ) (nonce : Bytes) (from mid to : Seen) (old new : Known) 
     → Gave (flow from mid) nonce → length nonce ≡ 16 → EndsAt max 0 (flow mid to) (move_of old new) fault
     → EndsAt max 16 (flow from to) (move_of old new) fault
 with_nonce max nonce from mid to old new fault gave size e =
-    let all = gave_more from mid to 16 (0 + (sealed_chunk_size * (e.piece + 1) + 1)) (
-      nonce,
-      gave,
-      omega (
-        arith,
-        size,
-      ),
-    ) e.gave in
+    let few : length nonce ≤ 16 = omega (arith, size) in
+    let all = gave_more from mid to 16 (0 + (sealed_chunk_size * (e.piece + 1) + 1)) (nonce, gave, few) e.gave in
     record {
       piece = e.piece;
       text = e.text;

@@ -1,20 +1,14 @@
 -- What a reading gives is saved.
-use Rattle.std.proofs.Common.{nat_le, ◌≡◌, ◌↔◌, ◌⊎◌, ◌∙◌, ◌++◌, ◌∷◌, ◌+◌, ◌-◌, ◌<◌, ◌≤◌, ◌&&◌, ℕ, List, [], length, take, drop, ap, sym, arith, append_assoc, refl, subst, inl, inr, Bool, true, false, not, Option, None, Some, Ok, cond, zero, suc, nat_lt, nat_eq}
-use Rattle.std.proofs.lemmas.Bool.{cases_lt, le-ltb, lt-ltb, lt-leb}
-use Rattle.std.proofs.lemmas.Bool.Decides.{nat_tests}
-use Rattle.std.proofs.lemmas.List.{take_all}
-use Rattle.age_stream.specs.Words.{Bytes, FileKey, Known, StreamFault, sealed_chunk_size}
-use Rattle.age_cipher.proofs.OpeningLemmas.{length-sealed_text, opened_is}
-use Rattle.age_stream.specs.declared.salvaged.Saved.{Saved}
-use Rattle.age_stream.specs.declared.salvaged.Saved.TheVariants.{Chunk, Early, LastChunk, Nothing, Padded, Zeros}
-use Rattle.age_stream.specs.Payload.{chunk_nonce, is_end, payload_key, pieces}
-use Rattle.age_stream.specs.Reading.{Reading, first_fault, plaintext_of, outcome, outcomes, payload_reading, piece_opening, reading_from, whole}
-use Rattle.age_stream.specs.Salvage.{Part, closed_part, early_after, in_place, is_whole, is_whole_to, last_saved, latest_early, losses, lost_part, out_of_place, padded_part, part, parts, payload_parts, salvaged_text, summary}
-use Rattle.age_stream.specs.Sizes.{max_padding}
+use Rattle.age_stream.proofs.Common.{nat_le, ◌≡◌, ◌↔◌, ◌⊎◌, ◌∙◌, ◌++◌, ◌∷◌, ◌+◌, ◌-◌, ◌<◌, ◌≤◌, ◌&&◌, ℕ, List, [], length, take, drop, ap, sym, arith, append_assoc, refl, subst, inl, inr, Bool, true, false, not, Option, None, Some, Ok, cond, suc, nat_lt, nat_eq, cases_lt, le-ltb, lt-ltb, lt-leb, nat_tests, take_all, Bytes, FileKey, StreamFault, sealed_chunk_size, length-sealed_text, opened_is, Saved, Chunk, Early, LastChunk, chunk_nonce, is_end, payload_key, pieces, Reading, first_fault, plaintext_of, outcome, outcomes, payload_reading, piece_opening, reading_from, whole, Part, early_after, in_place, is_whole, is_whole_to, last_saved, latest_early, losses, lost_part, out_of_place, part, parts, payload_parts, salvaged_text, summary, cases_Bool, nil_from_length}
 use Rattle.age_stream.proofs.CuttingLemmas.{AtMost, cut_at_most}
 use Rattle.age_stream.proofs.PayloadLemmas.{opens_outcome, outcome_opens, result_cases}
 use Rattle.age_stream.proofs.ReadingLemmas.{cut_some}
 use Rattle.age_stream.proofs.SalvageLemmas.{length-parts, part-opened, part_closed}
+use Rattle.age_stream.proofs.KeptLemmas.{cases_Option}
+use Rattle.std.proofs.Common.{zero}
+use Rattle.age_stream.specs.declared.salvaged.Saved.TheVariants.{Padded}
+use Rattle.age_stream.specs.Salvage.{closed_part, padded_part}
+use Rattle.age_stream.specs.Sizes.{max_padding}
 
 abbrev text_part : Bool → Bytes → Part
 text_part last text = record { text = text; saved = cond last LastChunk Chunk }
@@ -89,11 +83,7 @@ all_saved key max i c (d ∷ ds) e = elim (result_cases (outcome key max i false
 -- once there is an early chunk, there is a latest one
 after_some : (s : Saved) (i j : ℕ) → (k : ℕ) × (early_after s i (Some j) ≡ Some k)
 after_some Early i j = (i, refl)
-after_some Chunk i j = (j, refl)
-after_some LastChunk i j = (j, refl)
-after_some (Padded k) i j = (j, refl)
-after_some Zeros i j = (j, refl)
-after_some Nothing i j = (j, refl)
+after_some s i j = (j, refl)
 
 early_stays : (i j : ℕ) (ps : List Part) → latest_early i (Some j) ps ≡ None → ⊥
 early_stays i j [] e = cc
@@ -106,24 +96,19 @@ zeros_lost i at c ps lt e = let some = rw (lt-leb (length c) 16 lt) at e in cc
 part_cases : (key : Bytes) (i : ℕ) (last : Bool) (c : Bytes)
     → ((t : Bytes) × (piece_opening key i last c ≡ Some t))
     ⊎ ((part key i last c).saved ≡ out_of_place last) ⊎ (part key i last c ≡ closed_part key i last c)
-part_cases key i last c = go (piece_opening key i last c) refl
-  where
-    other : (o : Known) → piece_opening key i (not last) c ≡ o → piece_opening key i last c ≡ None
-        → ((part key i last c).saved ≡ out_of_place last) ⊎ (part key i last c ≡ closed_part key i last c)
-    other None e none = inr (part_closed key i last c none e)
-    other (Some t) e none = inl (rw (none, e) refl)
-
-    go : (o : Known) → piece_opening key i last c ≡ o → ((t : Bytes) × (piece_opening key i last c ≡ Some t))
-        ⊎ ((part key i last c).saved ≡ out_of_place last) ⊎ (part key i last c ≡ closed_part key i last c)
-    go None e = inr (other (piece_opening key i (not last) c) refl e)
-    go (Some t) e = inl (t, e)
+part_cases key i last c = elim (cases_Option (piece_opening key i last c)) [
+  | inl some ↦ inl some
+  | inr none ↦ elim (cases_Option (piece_opening key i (not last) c)) [
+    | inl (t, is) ↦ inr (inl (rw (none, is) refl))
+    | inr other ↦ inr (inr (part_closed key i last c none other))
+  ]
+]
 
 some_text : (i len : ℕ) → in_place i true len ≡ LastChunk → 0 < i → 16 ≤ len → 16 < len
-some_text i len is pos ge = go (nat_lt 0 i && nat_eq len 16) refl
-  where
-    go : (b : Bool) → (nat_lt 0 i && nat_eq len 16) ≡ b → 16 < len
-    go true e = let early = rw e at is in absurd (cc)
-    go false e = grind (arith, nat_tests, e, pos, ge)
+some_text i len is pos ge = elim (cases_Bool (nat_lt 0 i && nat_eq len 16)) [
+  | inl e ↦ let early = rw e at is in absurd (cc)
+  | inr e ↦ grind (arith, nat_tests, e, pos, ge)
+]
 
 -- a piece in its place has no fault
 place_reads : (key : Bytes) (max i : ℕ) (last : Bool) (c t : Bytes) → i < max → piece_opening key i last c ≡ Some t
@@ -139,22 +124,18 @@ place_reads key max i last c t within is place =
     })
 
 lost_last : (piece : Bytes) → (lost_part piece).saved ≡ LastChunk → ⊥
-lost_last piece e = go (nat_le (length piece) 16) refl
-  where
-    go : (b : Bool) → nat_le (length piece) 16 ≡ b → ⊥
-    go true is = let no = rw is at e in cc
-    go false is = let no = rw is at e in cc
+lost_last piece e = elim (cases_Bool (nat_le (length piece) 16)) [
+  | inl is ↦ let no = rw is at e in cc
+  | inr is ↦ let no = rw is at e in cc
+]
 
 padded_last : (key : Bytes) (i k n : ℕ) (c : Bytes) → (padded_part key i k n c).saved ≡ LastChunk → ⊥
 unfolding padded_part
 padded_last key i k zero c e = lost_last c e
-padded_last key i k (suc n) c e =
-    go (piece_opening key i true (take (length c - k) c)) refl (padded_last key i (k + 1) n c)
-  where
-    go : (o : Known) → piece_opening key i true (take (length c - k) c) ≡ o
-        → ((padded_part key i (k + 1) n c).saved ≡ LastChunk → ⊥) → ⊥
-    go None is more = more (rw is at e)
-    go (Some t) is more = let no : Padded k ≡ LastChunk = rw is at e in cc
+padded_last key i k (suc n) c e = elim (cases_Option (piece_opening key i true (take (length c - k) c))) [
+  | inl (t, is) ↦ let no : Padded k ≡ LastChunk = rw is at e in cc
+  | inr none ↦ padded_last key i (k + 1) n c (rw none at e)
+]
 
 pub all_read : (key : Bytes) (max i at : ℕ) (c : Bytes) (cs : List Bytes) → AtMost sealed_chunk_size (c ∷ cs)
     → i + length (c ∷ cs) ≤ max → losses i at (parts key i (c ∷ cs)) ≡ []
@@ -220,16 +201,7 @@ payload_whole k text plain max is = elim (cases_lt (length text) 16) [
 whole_to : (last : Saved) (lost : ℕ) (early : Option ℕ) → is_whole_to last lost early ≡ true
     → (last ≡ LastChunk) × (lost ≡ 0) × (early ≡ None)
 whole_to LastChunk lost None e = (refl, grind (arith, nat_tests, e), refl)
-whole_to LastChunk lost (Some i) e = absurd (cc)
-whole_to Chunk lost early e = absurd (cc)
-whole_to (Padded k) lost early e = absurd (cc)
-whole_to Early lost early e = absurd (cc)
-whole_to Zeros lost early e = absurd (cc)
-whole_to Nothing lost early e = absurd (cc)
-
-no_losses : {A : Type 0} (xs : List A) → length xs ≡ 0 → xs ≡ []
-no_losses [] e = refl
-no_losses (x ∷ xs) e = absurd (omega (arith, e))
+whole_to last lost early e = absurd (cc)
 
 pub payload_exactly : (k : FileKey) (text : Bytes) (max : ℕ) → ((payload_reading k max text).fault ≡ None)
     ↔ ((16 ≤ length text) × (length (payload_parts k text) ≤ max)
@@ -252,9 +224,7 @@ payload_exactly k text max = (reads, saves)
           let a = payload_whole k text r.plaintext max (ap (λ f. record { plaintext = r.plaintext; fault = f }) e) in (
             ge,
             omega (arith, a.within),
-            ap (λ l. is_whole_to l (length (losses 0 0 ps)) (latest_early 0 None ps)) a.ends
-                ∙ ap (λ xs. is_whole_to LastChunk (length xs) (latest_early 0 None ps)) (a.none 0)
-                ∙ ap (λ x. is_whole_to LastChunk 0 x) a.early,
+            rw (a.ends, a.none 0, a.early) refl,
           )
     ]
 
@@ -264,7 +234,7 @@ payload_exactly k text max = (reads, saves)
     some [] pos full within w = absurd (omega arith)
     some (c ∷ cs) pos full within w =
         all_read key max 0 0 c cs full (omega (arith, within, length-parts key 0 (c ∷ cs)))
-        (no_losses (losses 0 0 (parts key 0 (c ∷ cs))) w.1) w.2 w.0
+        (nil_from_length (losses 0 0 (parts key 0 (c ∷ cs))) w.1) w.2 w.0
 
     saves : (16 ≤ length text) × (length ps ≤ max) × (is_whole (summary ps) ≡ true) → r.fault ≡ None
     saves (ge, within, is) = rw (le-ltb (length text) 16 ge) (some (pieces (drop 16 text))

@@ -1,21 +1,15 @@
 -- What is saved stands at its offset.
-use Rattle.std.proofs.Common.{◌≡◌, ◌∙◌, ◌++◌, ◌∷◌, ◌+◌, ◌-◌, ◌*◌, ◌/◌, ◌%◌, ◌<◌, ℕ, List, [], length, take, drop, get_or, slice_get, slice_index, ap, sym, arith, refl, replicate, if◌then◌else◌, subst, Bool, true, false, not, None, Some, nat_eq, nat_le, nat_lt, ◌&&◌, zero, suc}
-use Rattle.std.specs.List.{sum_by}
-use Rattle.std.proofs.lemmas.Option.{none-some, get_or_from_slice_get, slice_get_within}
-use Rattle.std.proofs.lemmas.List.{length-append, length-replicate, length-take-le, get_or_append_left, get_or-append-add}
-use Rattle.std.proofs.lemmas.List.Sums.{sum_by-cons}
-use Rattle.age_stream.specs.Words.{Bytes, Known, FileKey, chunk_size, sealed_chunk_size}
-use Rattle.age_cipher.proofs.OpeningLemmas.{length-sealed_text, opened_is}
-use Rattle.age_stream.specs.declared.salvaged.Saved.{Saved}
-use Rattle.age_stream.specs.declared.salvaged.Saved.TheVariants.{Chunk, Early, LastChunk, Nothing, Padded, Zeros}
-use Rattle.age_stream.specs.Payload.{chunk_nonce, is_end, payload_key, pieces}
-use Rattle.age_stream.specs.Reading.{piece_opening}
-use Rattle.age_stream.specs.Salvage.{Part, closed_part, in_place, last_saved, lost_part, opening_or, out_of_place, padded_part, padding, part, parts, payload_parts, salvaged_text}
+use Rattle.age_stream.proofs.Common.{◌≡◌, ◌∙◌, ◌++◌, ◌∷◌, ◌+◌, ◌-◌, ◌*◌, ◌/◌, ◌%◌, ◌<◌, ℕ, List, [], length, take, drop, get_or, slice_get, slice_index, ap, sym, arith, refl, subst, Bool, false, not, None, Some, zero, suc, sum_by, none-some, get_or_from_slice_get, slice_get_within, length-replicate, get_or_append_left, get_or-append-add, sum_by-cons, Bytes, FileKey, chunk_size, sealed_chunk_size, length-sealed_text, opened_is, Saved, chunk_nonce, is_end, payload_key, pieces, piece_opening, Part, in_place, lost_part, opening_or, out_of_place, part, parts, payload_parts, salvaged_text, IsSlice, opening, openings, length-append, inl, inr}
+use Rattle.std.proofs.Common.{replicate, if◌then◌else◌, true, nat_eq, nat_le, nat_lt, ◌&&◌}
+use Rattle.std.proofs.lemmas.List.{length-take-le}
+use Rattle.age_stream.specs.Words.{Known}
+use Rattle.age_stream.specs.declared.salvaged.Saved.TheVariants.{Chunk, Early, LastChunk, Nothing, Zeros}
+use Rattle.age_stream.specs.Salvage.{closed_part, last_saved, padded_part, padding}
 use Rattle.age_stream.specs.Sizes.{max_padding}
-use Rattle.age_stream.specs.Slice.{IsSlice, opening, openings}
 use Rattle.age_stream.proofs.CuttingLemmas.{AtMost, cut_at_most}
 use Rattle.age_stream.proofs.SalvageLemmas.{part-opened}
 use Rattle.age_stream.proofs.SliceLemmas.{slice_of}
+use Rattle.age_stream.proofs.KeptLemmas.{cases_Option}
 
 opened_len : (key : Bytes) (i : ℕ) (last : Bool) (c t : Bytes) → piece_opening key i last c ≡ Some t
     → length c ≡ length t + 16
@@ -29,11 +23,10 @@ Fills c p = length p.text + padding p.saved ≡ length c - 16
 
 or_fills : (key : Bytes) (i : ℕ) (last : Bool) (c : Bytes) (saved : Saved) (other : Part)
     → padding saved ≡ 0 → Fills c other → Fills c (opening_or saved (piece_opening key i last c) other)
-or_fills key i last c saved other none same = go (piece_opening key i last c) refl
-  where
-    go : (o : Known) → piece_opening key i last c ≡ o → Fills c (opening_or saved o other)
-    go None e = same
-    go (Some t) e = omega (arith, opened_len key i last c t e, none)
+or_fills key i last c saved other none same = elim (cases_Option (piece_opening key i last c)) [
+  | inl (t, is) ↦ rw is (omega (arith, opened_len key i last c t is, none))
+  | inr closed ↦ rw closed same
+]
 
 lost_fills : (c : Bytes) → Fills c (lost_part c)
 lost_fills c = go (nat_le (length c) 16)
@@ -51,16 +44,12 @@ lost_fills c = go (nat_le (length c) 16)
 padded_fills : (key : Bytes) (i k n : ℕ) (c : Bytes) → Fills c (padded_part key i k n c)
 unfolding padded_part
 padded_fills key i k zero c = lost_fills c
-padded_fills key i k (suc n) c =
-    go (piece_opening key i true (take (length c - k) c)) refl (padded_fills key i (k + 1) n c)
-  where
-    go : (o : Known) → piece_opening key i true (take (length c - k) c) ≡ o
-        → Fills c (padded_part key i (k + 1) n c)
-        → Fills c (opening_or (Padded k) o (padded_part key i (k + 1) n c))
-    go None e more = more
-    go (Some t) e more =
-        let l = opened_len key i true (take (length c - k) c) t e in
-        omega (arith, l, length-take-le (length c - k) c (omega arith))
+padded_fills key i k (suc n) c = elim (cases_Option (piece_opening key i true (take (length c - k) c))) [
+  | inl (t, is) ↦
+      let l = opened_len key i true (take (length c - k) c) t is in
+      rw is (omega (arith, l, length-take-le (length c - k) c (omega arith)))
+  | inr none ↦ rw none (padded_fills key i (k + 1) n c)
+]
 
 closed_fills : (key : Bytes) (i : ℕ) (last : Bool) (c : Bytes) → Fills c (closed_part key i last c)
 closed_fills key i false c = lost_fills c

@@ -1,19 +1,7 @@
 -- Full chunks that go out, one after another.
-use Rattle.std.proofs.Common.{◌≡◌, ◌⊎◌, ◌∙◌, ◌++◌, ◌+◌, ◌-◌, ◌*◌, ◌<◌, ◌≤◌, ℕ, List, [], ◌∷◌, length, take, drop, ap, sym, arith, append-nil, append_assoc, length-append, refl, Bool, Option, Some, None, Result, Ok, Err, false, inl, inr, zero, suc, slice_set, slice_index_or}
-use Rattle.std.specs.List.{concat}
-use Rattle.std.specs.Io.KnownBytes.{Appends, IsAtEnd}
-use Rattle.std.proofs.KnownBytes.{Appends-trans, Appends-nil}
-use Rattle.std.proofs.Math.Seq.{take-add}
-use Rattle.std.proofs.lemmas.List.{length-take-le, take_at, length-drop}
-use Rattle.age_stream.specs.Words.{Bytes, sealed_text, Flow, Gave, GaveAtMost, GaveSome, Known, Seen, WritesPart, flow, move_of, Done as StreamDone, StreamFault, Read, Write, TooManyChunks, chunk_size, sealed_chunk_size, chunk_buf_size}
-use Rattle.age_cipher.proofs.OpeningLemmas.{length-sealed_text}
-use Rattle.age_header.specs.Filling.{Filled}
-use Rattle.age_header.proofs.DeviceLemmas.{gave_all, gave_then, of_any, of_ended, of_more, of_still, of_then, Done, done_part}
-use Rattle.age_stream.specs.Cutting.{cut_after}
-use Rattle.age_stream.specs.Payload.{chunk_nonce}
-use Rattle.std.specs.Prelude.{IfNone}
-use Rattle.age_stream.specs.Sealing.{FinishesBy, Fills, SealerState, SealsAll, StopsIn, TakesAll, Fed, IsFed, Stopped, WroteAtLeast, at_start, sealed_chunks_after}
-use Rattle.age_stream.proofs.CuttingLemmas.{concat-append, cut_first, cut_fits}
+use Rattle.age_stream.proofs.Common.{◌≡◌, ◌⊎◌, ◌∙◌, ◌++◌, ◌+◌, ◌-◌, ◌*◌, ◌<◌, ◌≤◌, ℕ, List, [], ◌∷◌, length, take, drop, ap, sym, arith, append-nil, append_assoc, length-append, refl, Bool, Option, Some, None, Result, Ok, Err, false, inl, inr, zero, suc, slice_set, slice_index_or, concat, Appends, IsAtEnd, Appends-trans, Appends-nil, take-add, length-take-le, take_at, length-drop, Bytes, sealed_text, Flow, Gave, GaveAtMost, GaveSome, Known, Seen, WritesPart, flow, move_of, Done as StreamDone, StreamFault, Read, Write, TooManyChunks, chunk_size, sealed_chunk_size, chunk_buf_size, length-sealed_text, Filled, gave_all, gave_then, of_any, of_ended, of_more, of_still, of_then, done_part, cut_after, chunk_nonce, IfNone, FinishesBy, Fills, SealerState, SealsAll, StopsIn, TakesAll, Fed, IsFed, Stopped, WroteAtLeast, at_start, sealed_chunks_after, concat-append}
+use Rattle.age_header.proofs.DeviceLemmas.{Done}
+use Rattle.age_stream.proofs.CuttingLemmas.{cut_first, cut_fits}
 use Rattle.age_stream.proofs.KeptLemmas.{at_none, when_none}
 use Rattle.age_stream.proofs.PayloadLemmas.{length_each}
 use Rattle.age_stream.proofs.ReadingLemmas.{is_end_cut, cut_some}

@@ -1,12 +1,6 @@
 -- Texts that were verified, whatever is known of their source.
-use Rattle.std.proofs.Common.{◌≡◌, ◌⊎◌, ℕ, ◌++◌, ◌+◌, ◌-◌, ◌*◌, ◌/◌, ◌%◌, ◌<◌, ◌≤◌, length, take, drop, slice_get, slice_index, ◌∙◌, sym, ap, subst, arith, inl, inr, Some}
-use Rattle.std.proofs.lemmas.Bool.{cases_lt}
-use Rattle.std.proofs.lemmas.List.{length-drop, length-take-le, get_or_append_left, get_or-append-add, get_or-take, get_or-drop}
-use Rattle.std.proofs.lemmas.Option.{slice_get-get_or}
-use Rattle.age_stream.specs.Words.{Bytes, Layout, chunk_size, sealed_chunk_size}
-use Rattle.age_stream.specs.Offsets.{StaysGiven}
-use Rattle.age_stream.specs.Ranges.{IsVerified, IsVerifiedByte, KeepsVerified, RangeState, kept_text}
-use Rattle.age_stream.specs.Slice.{chunk_len}
+use Rattle.age_stream.proofs.Common.{◌≡◌, ◌⊎◌, ℕ, ◌++◌, ◌+◌, ◌-◌, ◌*◌, ◌/◌, ◌<◌, ◌≤◌, length, take, drop, slice_index, ◌∙◌, sym, ap, subst, arith, inl, inr, Some, cases_lt, length-drop, length-take-le, get_or-take, get_or-drop, Bytes, Layout, chunk_size, sealed_chunk_size, StaysGiven, IsVerified, IsVerifiedByte, KeepsVerified, RangeState, kept_text, chunk_len, length-append}
+use Rattle.age_stream.proofs.SliceLemmas.{goes_on}
 
 -- what was verified stays so
 pub verified_stays : (old new : ℕ → ℕ → Type 0) (layout : Layout) (i : ℕ) (text : Bytes) → StaysGiven old new
@@ -48,32 +42,18 @@ pub verified_on : (old_read new_read : ℕ → ℕ → Type 0) (layout : Layout)
 verified_on old_read new_read layout text old new at done i skip n stays pos le room within size verified so_far is k
     lt =
     let xs : Bytes = take done old in
-    let ys : Bytes = take n (drop skip text) in
     let a : length xs ≡ done = length-take-le done old le in
     let d : length (drop skip text) ≡ length text - skip = length-drop skip text in
-    let l : length ys ≡ n = length-take-le n (drop skip text) (omega arith) in
-    let whole : slice_index new k ≡ slice_index (xs ++ ys) k = sym (get_or-take (done + n) new k 0 lt)
-    ∙ ap (λ z. slice_index z k) is in
-    elim (cases_lt k done) [
-      | inl before ↦
-          let value : slice_index new k ≡ slice_index old k =
-          whole ∙ get_or_append_left xs ys 0 k (omega (arith, a, before)) ∙ get_or-take done old k 0 before in
-          subst (IsVerifiedByte new_read layout (at + k)) (sym value)
-          (byte_stays old_read new_read layout (at + k) (slice_index old k) stays (so_far k before))
-      | inr ge ↦
-          let j : ℕ = k - done in
-          let sum : k ≡ length xs + j = omega arith in
-          let here : i ≡ (at + k) / chunk_size = omega arith in
-          let there : (at + k) % chunk_size ≡ skip + j = omega arith in
-          let inside : j < n = omega arith in
-          let value : slice_index new k ≡ slice_index text (skip + j) =
-          whole ∙ ap (slice_index (xs ++ ys)) sum ∙ get_or-append-add xs ys j 0
-          ∙ get_or-take n (drop skip text) j 0 inside ∙ get_or-drop skip text j 0 in (
-            text,
-            subst (λ c. IsVerified new_read layout c text) here verified,
-            ap (slice_get text) there ∙ slice_get-get_or text (skip + j) 0 (omega arith) ∙ ap Some (sym value),
-          )
-    ]
+    let more = length-take-le n (drop skip text) (omega arith) in
+    let l : length (xs ++ take n (drop skip text)) ≡ done + n =
+    omega (arith, length-append xs (take n (drop skip text))) in
+    let whole : slice_index new k ≡ slice_index (xs ++ take n (drop skip text)) k =
+    sym (get_or-take (done + n) new k 0 lt) ∙ ap (λ z. slice_index z k) is in
+    subst (IsVerifiedByte new_read layout (at + k)) (sym whole)
+    (goes_on (IsVerified new_read layout) xs text at i skip n (omega arith) verified within size (λ j before.
+    let old_byte : slice_index xs j ≡ slice_index old j = get_or-take done old j 0 (omega arith) in
+    subst (IsVerifiedByte new_read layout (at + j)) (sym old_byte)
+    (byte_stays old_read new_read layout (at + j) (slice_index old j) stays (so_far j (omega arith)))) k (omega arith))
 
 -- each byte is as it was, or was verified
 pub changed_verified : (old_read new_read : ℕ → ℕ → Type 0) (layout : Layout) (old new : Bytes) (at done : ℕ)

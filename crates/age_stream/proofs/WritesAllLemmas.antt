@@ -1,17 +1,6 @@
 -- The openings of pieces, written one after another.
-use Rattle.std.proofs.Common.{◌≡◌, ◌⊎◌, ◌∙◌, ◌++◌, ◌+◌, ◌-◌, ◌*◌, ◌<◌, ◌≤◌, ℕ, [], length, take, ap, arith, append-nil, append_assoc, length-append, refl, Some, None, Bool, true, false, inl, inr, Result, Ok, Err, Fits}
-use Rattle.std.specs.Prelude.{IfNone, IfSome, IsErrOf}
-use Rattle.std.specs.Int.{w128}
-use Rattle.std.specs.Io.KnownBytes.{Appends, IsAtEnd}
-use Rattle.std.proofs.KnownBytes.{Appends-trans, Appends-nil}
-use Rattle.std.proofs.lemmas.Bool.{le-leb, lt-leb, cases_lt}
-use Rattle.std.proofs.lemmas.List.{drop-append-le, take-append-le}
-use Rattle.age_stream.specs.Words.{Bytes, Gave, Known, Seen, WritesPart, flow, move_of, Done, StreamFault, Read, Write, chunk_size, sealed_chunk_size}
-use Rattle.age_header.proofs.DeviceLemmas.{gave_none, gave_then, of_any, of_more, of_still, of_then, done_part}
-use Rattle.age_stream.specs.Opening.{Advances, EndsAt, IsAtPiece, IsFilled, Loses, OpenerState, OpensNext, WritesAll, WritesReading, left_of, pieces_left, reading_left}
-use Rattle.age_stream.specs.Payload.{pieces}
-use Rattle.age_stream.specs.Reading.{Reading, after_first, first_outcome, reading_from, stop}
-use Rattle.age_stream.proofs.KeptLemmas.{at_none}
+use Rattle.age_stream.proofs.Common.{◌≡◌, ◌⊎◌, ◌∙◌, ◌++◌, ◌+◌, ◌-◌, ◌*◌, ◌<◌, ◌≤◌, ℕ, [], length, take, ap, arith, append-nil, append_assoc, length-append, refl, Some, None, Bool, true, false, inl, inr, Result, Ok, Err, Fits, IfNone, IfSome, IsErrOf, w128, Appends, IsAtEnd, Appends-trans, Appends-nil, le-leb, lt-leb, cases_lt, drop-append-le, take-append-le, Bytes, Gave, Known, Seen, WritesPart, flow, move_of, Done, StreamFault, Read, Write, chunk_size, sealed_chunk_size, gave_none, gave_then, of_any, of_more, of_still, of_then, done_part, Advances, EndsAt, IsAtPiece, IsFilled, Loses, OpenerState, OpensNext, WritesAll, WritesReading, left_of, pieces_left, reading_left, pieces, Reading, after_first, first_outcome, reading_from, stop}
+use Rattle.age_stream.proofs.KeptLemmas.{at_none, cases_Option}
 use Rattle.age_stream.proofs.ReadingLemmas.{count_first, reading_first}
 
 -- a text, and then what a reading gives
@@ -107,16 +96,15 @@ module _ {s t u : OpenerState} {n : ℕ} {from now next : Seen} {a b : Known} {r
     opens : OpensNext s.key s.max_chunks t.index (Some (held ++ adv.given)) u.held u.text r
 
   has_piece : (r ≡ Ok false → ⊥) → HasPiece
-  has_piece not = go t.held refl
-    where
-      go : (held : Known) → t.held ≡ held → HasPiece
-      go None is = let none = rw is at adv.opens in absurd (not none.0)
-      go (Some h) is = record {
-        held = h;
-        is = is;
-        filled = rw is at adv.filled;
-        opens = rw (o.key, o.max_chunks, is) at adv.opens;
-      }
+  has_piece not = elim (cases_Option t.held) [
+    | inl (h, is) ↦ record {
+      held = h;
+      is = is;
+      filled = rw is at adv.filled;
+      opens = rw (o.key, o.max_chunks, is) at adv.opens;
+    }
+    | inr is ↦ let none = rw is at adv.opens in absurd (not none.0)
+  ]
 
   gave_len : HasPiece → length (o.given ++ adv.given) ≤ sealed_chunk_size * (t.index - s.index + 1) + 1
   gave_len p = let size = rw p.is at o.size in omega (arith, p.filled.0, length-append o.given adv.given)
@@ -217,38 +205,35 @@ module _ {s t u : OpenerState} {n : ℕ} {from now next : Seen} {a b : Known}
     (o : Opened s t n from now a b) (adv : Advances t u (flow now next) (Ok false)) where
   -- what comes where the source is not at its end
   reads_on : t.held ≡ None → (d : Bytes) → (IsAtEnd now.to_come → d ≡ []) → IsOpenedIn s t o.done o.given d
-  reads_on is d end = go s.held refl
-    where
-      go : (first : Known) → s.held ≡ first → IsOpenedIn s t o.done o.given d
-      go (Some h) first = o.reads d (rw is (end (rw (is, first) at o.ended)))
-      go None first = let old = o.reads [] (rw is refl) in rw (is, first) (rw (is, first) at old)
+  reads_on is d end = elim (cases_Option s.held) [
+    | inl (h, first) ↦ o.reads d (rw is (end (rw (is, first) at o.ended)))
+    | inr first ↦ let old = o.reads [] (rw is refl) in rw (is, first) (rw (is, first) at old)
+  ]
 
   pub writes_done : (done : Done) → done.bytes ≡ n → done.chunks ≡ t.index - s.index
       → WritesAll s (flow from next) (move_of a b) (Ok done)
-  writes_done done bytes chunks = go t.held refl
-    where
-      go : (held : Known) → t.held ≡ held → WritesAll s (flow from next) (move_of a b) (Ok done)
-      go (Some h) is = let some = rw is at adv.opens in absurd (cc)
-      go None is =
-          let none = rw is at adv.filled in
-          of_still from now next (of_more o.gave (λ d end.
-          let past = rw is at (reads_on is d end) in
-          rw (past.0, append-nil o.done) (refl, o.written, bytes ∙ o.len, chunks ∙ omega (arith, past.1))))
-          (rw none at adv.gave.grew)
+  writes_done done bytes chunks = elim (cases_Option t.held) [
+    | inl (h, is) ↦ let some = rw is at adv.opens in absurd (cc)
+    | inr is ↦
+        let none = rw is at adv.filled in
+        of_still from now next (of_more o.gave (λ d end.
+        let past = rw is at (reads_on is d end) in
+        rw (past.0, append-nil o.done) (refl, o.written, bytes ∙ o.len, chunks ∙ omega (arith, past.1))))
+        (rw none at adv.gave.grew)
+  ]
 
 -- a read failed
 pub writes_read : {s t : OpenerState} {n : ℕ} {from now next : Seen} {a b : Known} → Opened s t n from now a b
     → Loses t.held (flow now next) → WritesAll s (flow from next) (move_of a b) (Err Read)
-writes_read {s} {t} {from} {now} {next} {a} {b} o lost = go t.held refl
-  where
-    go : (held : Known) → t.held ≡ held → WritesAll s (flow from next) (move_of a b) (Err Read)
-    go None is = absurd (rw is at lost)
-    go (Some h) is =
-        of_then o.gave (of_any (rw is at lost) (λ d.
-        let past = o.reads d (rw is tt) in
-        let left = reading_left s.key s.max_chunks t.index (left_of t.held d) in
-        rw past.0 (done_part b [] left.plaintext (record { prefix = o.done; took = o.written; is = refl }) refl
-        (0, Appends-nil b)))) (λ d part. part)
+writes_read {s} {t} {from} {now} {next} {a} {b} o lost = elim (cases_Option t.held) [
+  | inl (h, is) ↦
+      of_then o.gave (of_any (rw is at lost) (λ d.
+      let past = o.reads d (rw is tt) in
+      let left = reading_left s.key s.max_chunks t.index (left_of t.held d) in
+      rw past.0 (done_part b [] left.plaintext (record { prefix = o.done; took = o.written; is = refl }) refl
+      (0, Appends-nil b)))) (λ d part. part)
+  | inr is ↦ absurd (rw is at lost)
+]
 
 -- a piece's fault
 stops_writes : (reading : Reading StreamFault) (n max i : ℕ) (a b : Known) (fault : StreamFault) → IsAtPiece max i fault

@@ -1,4 +1,4 @@
-use Rattle.age_stream.specs.Payload.{chunk_nonce}
+use Rattle.age_stream.proofs.Common.{chunk_nonce}
 use Rattle.age_stream.proofs.chunk_keys.chunk_nonce.Goals as goal
 
 pub returns-then-last : goal.returns-then-last

@@ -1,5 +1,4 @@
-use Rattle.std.proofs.Common.{drop, take}
-use Rattle.age_stream.specs.Payload.{payload_key, pieces}
+use Rattle.age_stream.proofs.Common.{drop, take, payload_key, pieces}
 use Rattle.age_stream.proofs.SalvageSlices.{salvaged_len, slice_saved}
 use Rattle.age_stream.proofs.laws.salvage_is_sliced.Goals as goal
 

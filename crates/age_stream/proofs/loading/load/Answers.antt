@@ -1,6 +1,4 @@
-use Rattle.std.proofs.Common.{arith, ◌≡◌, ◌+◌, ◌-◌, ◌∙◌, ap, refl, inr, take, Some, None}
-use Rattle.std.proofs.lemmas.Bool.{OnTrue_at, OnFalse_at}
-use Rattle.age_stream.specs.Slice.{chunk_len}
+use Rattle.age_stream.proofs.Common.{arith, ◌≡◌, ◌+◌, ◌-◌, ◌∙◌, ap, refl, inr, take, Some, None, OnTrue_at, OnFalse_at, chunk_len}
 use Rattle.age_stream.proofs.LoadLemmas.{open_there}
 use Rattle.age_stream.proofs.loading.load.Goals as goal
 

@@ -1,7 +1,4 @@
-use Rattle.std.proofs.Common.{arith, ◌≡◌, ◌+◌, ◌-◌, ◌*◌, ◌/◌, ◌≤◌, ◌∙◌, ap, refl, inr, take, Ok, Err}
-use Rattle.std.proofs.lemmas.Bool.{OnTrue_at, OnFalse_at}
-use Rattle.age_stream.specs.Slice.{chunk_len}
-use Rattle.age_stream.specs.Words.{BadChunk, chunk_size, sealed_chunk_size}
+use Rattle.age_stream.proofs.Common.{arith, ◌≡◌, ◌+◌, ◌-◌, ◌*◌, ◌/◌, ◌≤◌, ◌∙◌, ap, refl, inr, take, Ok, Err, OnTrue_at, OnFalse_at, chunk_len, BadChunk, chunk_size, sealed_chunk_size}
 use Rattle.age_stream.proofs.JudgesLastLemmas.{last_many, last_gone, last_read, last_verified, open_len, piece_named}
 use Rattle.age_stream.proofs.loading.load_last.Goals as goal
 

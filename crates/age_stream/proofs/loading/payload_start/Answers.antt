@@ -1,8 +1,4 @@
-use Rattle.std.proofs.Common.{rules, arith, length, ◌≡◌, subst}
-use Rattle.std.proofs.lemmas.Bool.{OnTrue_at}
-use Rattle.std.proofs.lemmas.List.{take_all}
-use Rattle.age_kdf.specs.Bytes.{Bytes}
-use Rattle.age_stream.specs.Offsets.{GaveAt}
+use Rattle.age_stream.proofs.Common.{rules, arith, length, ◌≡◌, subst, OnTrue_at, take_all, Bytes, GaveAt}
 use Rattle.age_stream.proofs.loading.payload_start.Goals as goal
 
 pub returns-in-Ok-true-clause-read : goal.returns-in-Ok-true-clause-read

@@ -1,5 +1,4 @@
-use Rattle.std.proofs.Common.{arith}
-use Rattle.std.proofs.lemmas.Grind.{common_steps}
+use Rattle.age_stream.proofs.Common.{arith, common_steps}
 use Rattle.age_stream.proofs.loading.read_after.Goals as goal
 
 pub returns-clause-read : goal.returns-clause-read

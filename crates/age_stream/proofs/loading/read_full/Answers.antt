@@ -1,5 +1,4 @@
-use Rattle.std.proofs.Common.{arith, length, ◌≡◌, ◌+◌, ◌≤◌, ◌∙◌, take, drop, subst}
-use Rattle.age_stream.specs.Offsets.{HasAt}
+use Rattle.age_stream.proofs.Common.{arith, length, ◌≡◌, ◌+◌, ◌≤◌, ◌∙◌, take, drop, subst, HasAt}
 use Rattle.age_stream.proofs.ReadAtLemmas.{has_on, read_on}
 use Rattle.age_stream.proofs.loading.read_full.Goals as goal
 

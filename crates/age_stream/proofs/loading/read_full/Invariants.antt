@@ -1,5 +1,4 @@
-use Rattle.std.proofs.Common.{length, ◌-◌, ◌≡◌, ◌+◌, ◌≤◌, take}
-use Rattle.age_stream.specs.Offsets.{HasAt, StaysGiven, GaveAt}
+use Rattle.age_stream.proofs.Common.{length, ◌-◌, ◌≡◌, ◌+◌, ◌≤◌, take, HasAt, StaysGiven, GaveAt}
 use Rattle.age_stream.proofs.loading.read_full.Given as goal
 
 abbrev pub invariant-loop-got : goal.invariant-loop-got

@@ -1,6 +1,5 @@
-use Rattle.std.proofs.Common.{arith, rules, ◌≡◌, ◌≤◌, ◌∙◌, Err, inr, length}
+use Rattle.age_stream.proofs.Common.{arith, rules, ◌≡◌, ◌≤◌, ◌∙◌, Err, inr, length, chunk_buf_size}
 use Rattle.age_stream.proofs.OpeningLemmas.{after_of, first_of, is_filled}
-use Rattle.age_stream.specs.Sizes.{chunk_buf_size}
 use Rattle.age_stream.proofs.opening.next_piece.Goals as goal
 
 pub returns-in_err-len-clause-opens : goal.returns-in_err-len-clause-opens

@@ -1,7 +1,4 @@
-use Rattle.std.proofs.Common.{rules, arith, ◌≡◌, ◌&&◌, ◌-◌, ◌∙◌, [], length, take, nat_eq, nat_lt, ap, sym, Some, None}
-use Rattle.std.proofs.lemmas.Bool.{OnTrue_at, OnFalse_at}
-use Rattle.std.proofs.lemmas.List.{length-take-le}
-use Rattle.age_cipher.specs.Sealing.{opened_text}
+use Rattle.age_stream.proofs.Common.{rules, arith, ◌≡◌, ◌&&◌, ◌-◌, ◌∙◌, [], length, take, nat_eq, nat_lt, ap, sym, Some, None, OnTrue_at, OnFalse_at, length-take-le, opened_text}
 use Rattle.age_stream.proofs.OutcomeLemmas.{outcome_many, outcome_short, outcome_empty, outcome_open}
 use Rattle.age_stream.proofs.opening.open_chunk.Goals as goal
 

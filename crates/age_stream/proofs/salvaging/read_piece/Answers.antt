@@ -1,4 +1,4 @@
-use Rattle.age_header.specs.Device.{seen_by}
+use Rattle.age_stream.proofs.Common.{seen_by}
 use Rattle.age_stream.proofs.SalvageLemmas.{reads_ahead}
 use Rattle.age_stream.proofs.salvaging.read_piece.Goals as goal
 

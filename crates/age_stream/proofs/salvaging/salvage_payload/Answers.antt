@@ -1,4 +1,4 @@
-use Rattle.std.proofs.Common.{rules, ◌≡◌, length, Err}
+use Rattle.age_stream.proofs.Common.{rules, ◌≡◌, length, Err}
 use Rattle.age_stream.proofs.SalvageLemmas.{nonce_ends, nonce_salvages, payload_ends, payload_salvages}
 use Rattle.age_stream.proofs.salvaging.salvage_payload.Goals as goal
 

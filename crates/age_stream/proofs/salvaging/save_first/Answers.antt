@@ -1,4 +1,4 @@
-use Rattle.std.proofs.Common.{arith}
+use Rattle.age_stream.proofs.Common.{arith}
 use Rattle.age_stream.proofs.SalvageLemmas.{first_saved, first_rest}
 use Rattle.age_stream.proofs.salvaging.save_first.Goals as goal
 

@@ -1,5 +1,4 @@
-use Rattle.std.proofs.Common.{rules, arith, take}
-use Rattle.std.proofs.lemmas.List.{length-take-le}
+use Rattle.age_stream.proofs.Common.{rules, arith, take, length-take-le}
 use Rattle.age_stream.proofs.SalvageLemmas.{part_short}
 use Rattle.age_stream.proofs.salvaging.save_piece.Goals as goal
 

@@ -1,5 +1,4 @@
-use Rattle.std.proofs.Common.{rules, arith, ◌∙◌, refl, inr, take}
-use Rattle.std.proofs.lemmas.List.{length-take-le}
+use Rattle.age_stream.proofs.Common.{rules, arith, ◌∙◌, refl, inr, take, length-take-le}
 use Rattle.age_stream.proofs.OpeningLemmas.{ahead_one}
 use Rattle.age_stream.proofs.SalvageLemmas.{counted, ends_many, ends_write, salvaging_more, salvaging_none, saves_last, saves_many, saves_read, saves_write}
 use Rattle.age_stream.proofs.salvaging.save_pieces.Goals as goal

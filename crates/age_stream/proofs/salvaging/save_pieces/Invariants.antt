@@ -1,5 +1,4 @@
-use Rattle.std.proofs.Common.{◌≡◌, ◌≤◌, ◌-◌, length, take, drop}
-use Rattle.age_stream.specs.Words.{seen_by, chunk_buf_size, sealed_chunk_size}
+use Rattle.age_stream.proofs.Common.{◌≡◌, ◌≤◌, ◌-◌, length, take, drop, seen_by, chunk_buf_size, sealed_chunk_size}
 use Rattle.age_stream.proofs.SalvageLemmas.{Salvaging}
 use Rattle.age_stream.proofs.salvaging.save_pieces.Given as goal
 

@@ -1,7 +1,4 @@
-use Rattle.std.proofs.Common.{rules, arith, ◌≡◌, ◌++◌, ◌∙◌, refl, [], length, take, Err}
-use Rattle.std.proofs.lemmas.List.{length-take-le}
-use Rattle.age_header.proofs.DeviceLemmas.{gave_none, gave_then}
-use Rattle.age_kdf.specs.Bytes.{Bytes}
+use Rattle.age_stream.proofs.Common.{rules, arith, ◌≡◌, ◌++◌, ◌∙◌, refl, [], length, take, Err, length-take-le, gave_none, gave_then, Bytes}
 use Rattle.age_stream.proofs.SealingLemmas.{fed_end, fed_next, fed_none, full_is, stopped_full, stopped_read}
 use Rattle.age_stream.proofs.sealing.feed.Goals as goal
 

@@ -1,6 +1,4 @@
-use Rattle.std.proofs.Common.{◌≡◌, ◌≤◌, ◌<◌, ◌-◌, length, take}
-use Rattle.age_stream.specs.Words.{Bytes, Gave, flow_by, move_by, chunk_size, chunk_buf_size}
-use Rattle.age_stream.specs.Sealing.{Fed}
+use Rattle.age_stream.proofs.Common.{◌≡◌, ◌≤◌, ◌<◌, ◌-◌, length, take, Bytes, Gave, flow_by, move_by, chunk_size, chunk_buf_size, Fed}
 use Rattle.age_stream.proofs.sealing.feed.Given as goal
 
 abbrev pub invariant-loop-n : goal.invariant-loop-n

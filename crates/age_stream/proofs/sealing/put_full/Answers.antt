@@ -1,7 +1,6 @@
-use Rattle.std.proofs.Common.{arith, ◌∙◌, sym, refl}
+use Rattle.age_stream.proofs.Common.{arith, ◌∙◌, sym, refl, chunk_size}
 use Rattle.age_stream.proofs.SealingLemmas.{one_taken, first_set}
 use Rattle.age_stream.proofs.sealing.put_full.Goals as goal
-use Rattle.age_stream.specs.Sizes.{chunk_size}
 
 pub returns-in-Ok-clause-puts : goal.returns-in-Ok-clause-puts
 returns-in-Ok-clause-puts g c = (

@@ -1,4 +1,4 @@
-use Rattle.std.proofs.Common.{arith, rules, ◌∙◌, ◌+◌, ap, slice_index, Some}
+use Rattle.age_stream.proofs.Common.{arith, rules, ◌∙◌, ◌+◌, ap, slice_index, Some}
 use Rattle.age_stream.proofs.TailLemmas.{written_all}
 use Rattle.age_stream.proofs.JudgesLastLemmas.{given_last, judged_err, judged_ok}
 use Rattle.age_stream.proofs.VerifiedLemmas.{keeps_last}

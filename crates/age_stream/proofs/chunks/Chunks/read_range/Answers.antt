@@ -1,6 +1,4 @@
-use Rattle.std.proofs.Common.{arith, ◌≡◌, ◌+◌, ◌-◌, ◌*◌, ◌/◌, ◌<◌, ◌≤◌, ◌∙◌, ap, sym, refl, inl, inr, length, take, drop, Some, None, subst}
-use Rattle.age_stream.specs.Words.{chunk_size}
-use Rattle.age_stream.specs.Ranges.{HasPlain, IsSound, bytes_from, first_to_open, source_opening, sealed_span}
+use Rattle.age_stream.proofs.Common.{arith, ◌≡◌, ◌+◌, ◌-◌, ◌*◌, ◌/◌, ◌<◌, ◌≤◌, ◌∙◌, ap, sym, refl, inl, inr, length, take, drop, Some, None, subst, chunk_size, HasPlain, IsSound, bytes_from, first_to_open, source_opening, sealed_span}
 use Rattle.age_stream.proofs.RangeLemmas.{prefix_put, put_rest, length-part, rest_on, prefix_on, opens_moved}
 use Rattle.age_stream.proofs.VerifiedLemmas.{changed_verified, verified_on, verified_text}
 use Rattle.age_stream.proofs.chunks.Chunks.read_range.Goals as goal

@@ -1,7 +1,4 @@
-use Rattle.std.proofs.Common.{length, ◌-◌, ◌≡◌, ◌+◌, ◌*◌, ◌/◌, ◌%◌, ◌≤◌, ◌<◌, ◌⊎◌, take, drop, slice_index, ℕ, Some}
-use Rattle.age_stream.specs.Offsets.{StaysGiven}
-use Rattle.age_stream.specs.Ranges.{HasPlain, IsSound, IsVerifiedByte, KeepsVerified, OpenedAtLeast, first_to_open, sealed_span}
-use Rattle.age_stream.specs.Sizes.{chunk_size}
+use Rattle.age_stream.proofs.Common.{length, ◌-◌, ◌≡◌, ◌+◌, ◌*◌, ◌/◌, ◌%◌, ◌≤◌, ◌<◌, ◌⊎◌, take, drop, slice_index, ℕ, Some, StaysGiven, HasPlain, IsSound, IsVerifiedByte, KeepsVerified, OpenedAtLeast, first_to_open, sealed_span, chunk_size}
 use Rattle.age_stream.proofs.chunks.Chunks.read_range.Given as goal
 
 abbrev pub invariant-loop-done : goal.invariant-loop-done

@@ -1,6 +1,4 @@
-use Rattle.std.proofs.Common.{rules, ◌∙◌, sym}
-use Rattle.std.specs.Vec.{with_items}
-use Rattle.age_header.specs.Device.{seen_by}
+use Rattle.age_stream.proofs.Common.{rules, ◌∙◌, sym, with_items, seen_by}
 use Rattle.age_stream.proofs.OpeningLemmas.{advances_none, advances_ok, advances_err, loses_held}
 use Rattle.age_stream.proofs.TailLemmas.{written_all}
 use Rattle.age_stream.proofs.opening.ChunkOpener.advance.Goals as goal

@@ -1,4 +1,4 @@
-use Rattle.std.proofs.Common.{rules, arith, ◌<◌, refl, inr, length, true, false}
+use Rattle.age_stream.proofs.Common.{rules, arith, ◌<◌, refl, inr, length, true, false}
 use Rattle.age_stream.proofs.WritesAllLemmas.{advanced_ok, failed_ends, failed_writes, opened_none, opened_more, opened_room, writes_done, writes_write, ends_write}
 use Rattle.age_stream.proofs.opening.ChunkOpener.write_pieces.Goals as goal
 

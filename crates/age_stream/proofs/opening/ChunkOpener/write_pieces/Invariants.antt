@@ -1,5 +1,4 @@
-use Rattle.std.proofs.Common.{◌≡◌, ◌-◌}
-use Rattle.age_header.specs.Device.{seen_by}
+use Rattle.age_stream.proofs.Common.{◌≡◌, ◌-◌, seen_by}
 use Rattle.age_stream.proofs.WritesAllLemmas.{Opened}
 use Rattle.age_stream.proofs.opening.ChunkOpener.write_pieces.Given as goal
 

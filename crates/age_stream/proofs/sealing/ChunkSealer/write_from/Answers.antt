@@ -1,5 +1,4 @@
-use Rattle.std.proofs.Common.{rules, ◌∙◌, sym}
-use Rattle.std.specs.Vec.{with_items}
+use Rattle.age_stream.proofs.Common.{rules, ◌∙◌, sym, with_items}
 use Rattle.age_stream.proofs.SealingLemmas.{takes_ok, takes_err}
 use Rattle.age_stream.proofs.TailLemmas.{written_all}
 use Rattle.age_stream.proofs.sealing.ChunkSealer.write_from.Goals as goal
