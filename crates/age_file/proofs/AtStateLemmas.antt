@@ -1,10 +1,5 @@
 -- A source read from its first byte on.
-use Rattle.std.proofs.Common.{◌≡◌, ℕ, [], refl, slice_index, inl, inr, ◌++◌, ◌+◌, ◌-◌, ◌^◌, ◌<◌, ◌≤◌, length, take, drop, min, option_map, sym, ◌∙◌, ap, arith, subst, IfOk, Option, Some, None, Result, Ok}
-use Rattle.std.proofs.lemmas.Bool.{cases_lt}
-use Rattle.std.proofs.lemmas.List.{length-append, length-drop, length-take, length-take-le, drop-drop, drop_all, get_or-append_right, get_or-take, get_or_append_left, take-append-drop}
-use Rattle.age_header.specs.Device.{Bytes, Gives, Grows, Known, flow_by, move_of}
-use Rattle.age_file.specs.Ranges.{AtState, GaveFirst, IsWithin}
-use Rattle.age_stream.specs.Offsets.{GaveAt, GivesAt, HasOffsets, StaysGiven}
+use Rattle.age_file.proofs.Common.{◌≡◌, ℕ, [], refl, slice_index, inl, inr, ◌++◌, ◌+◌, ◌-◌, ◌^◌, ◌<◌, ◌≤◌, length, take, drop, min, sym, ◌∙◌, ap, arith, subst, IfOk, Option, Some, None, Result, Ok, cases_lt, length-append, length-drop, length-take, length-take-le, drop-drop, drop_all, get_or-append_right, get_or-take, get_or_append_left, take-append-drop, Bytes, Gives, Grows, Known, flow_by, move_of, AtState, GaveFirst, IsWithin, GaveAt, GivesAt, HasOffsets, StaysGiven, option_map}
 
 -- a read at the current offset returns the next bytes
 pub gives_on : {E : Type 0} (told : Known) (size : Option ℕ) (at at2 n : ℕ) (buf : Bytes) (r : Result ℕ E) → r ≡ Ok n

@@ -1,13 +1,5 @@
 -- A source that is copied piece by piece.
-use Rattle.std.proofs.Common.{◌≡◌, inl, inr, take, ℕ, ◌+◌, ◌*◌, ◌^◌, ◌≤◌, Bool, true, false, [], ◌++◌, length, refl, sym, subst, arith, append-nil, append_assoc, Result, Ok, Err, length-append, true≢false}
-use Rattle.std.proofs.KnownBytes.{Appends-nil, Appends-trans}
-use Rattle.std.specs.Io.KnownBytes.{Appends}
-use Rattle.std.specs.Prelude.{IfErr}
-use Rattle.age_header.specs.Device.{Bytes, Gave, GaveSome, WritesPart, Known, Seen, flow, move_of}
-use Rattle.age_header.proofs.DeviceLemmas.{gave_none, gave_then, of_any, of_ended, of_more, of_then, done_part}
-use Rattle.age_file.specs.declared.fault.Fault.{Fault}
-use Rattle.age_file.specs.declared.fault.Fault.TheVariants.{TooManyChunks, Read, Write}
-use Rattle.age_file.specs.Copying.{Copies, CopiesAhead, CopiesPiece, GaveAhead, buffer_size}
+use Rattle.age_file.proofs.Common.{◌≡◌, inl, inr, take, ℕ, ◌+◌, ◌*◌, ◌^◌, ◌≤◌, Bool, true, false, [], ◌++◌, length, refl, sym, subst, arith, append_assoc, Result, Ok, Err, true≢false, Appends-nil, Appends-trans, Appends, IfErr, Bytes, Gave, GaveSome, WritesPart, Known, Seen, flow, move_of, gave_none, gave_then, of_any, of_ended, of_more, of_then, done_part, Fault, TooManyChunks, Read, Write, Copies, CopiesAhead, CopiesPiece, GaveAhead, buffer_size, append-nil, length-append}
 
 -- k full pieces were copied
 pub record Copied (from now : Seen) (old new : Known) (k : ℕ) : Type 0 where

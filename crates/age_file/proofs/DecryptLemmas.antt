@@ -1,36 +1,9 @@
 -- What decrypting returns, from what its parts return.
-use Rattle.std.proofs.Common.{◌≡◌, ◌⊎◌, ◌+◌, ◌*◌, ◌/◌, ◌≤◌, ℕ, ◌++◌, length, drop, sym, ◌∙◌, ap, refl, subst, arith, append_assoc, inl, inr, Some, Result, Ok, Err}
-use Rattle.std.specs.Prelude.{IfNone, option_map}
-use Rattle.std.specs.Io.KnownBytes.{Appends}
-use Rattle.std.proofs.KnownBytes.{Appends-nil}
-use Rattle.std.proofs.lemmas.List.{drop_at, take_all}
-use Rattle.age_header.specs.declared.fault.HeaderFault.{HeaderFault}
+use Rattle.age_file.proofs.Common.{◌≡◌, ◌⊎◌, ◌+◌, ◌*◌, ◌/◌, ◌≤◌, ℕ, ◌++◌, length, drop, sym, ◌∙◌, ap, refl, subst, arith, append_assoc, inl, inr, Some, Result, Ok, Err, IfNone, option_map, Appends, Appends-nil, drop_at, take_all, HeaderFault, Bytes, CountsFaultIf, Gave, GaveSome, Known, Seen, flow, flow_by, move_of, seen_by, HeaderParts, ReadsHeader, Refuses, HeaderVerdict, gave_more, gave_some, gave_then, of_any, of_map, of_more, of_then, found_again, some_verdict, FileKey, Done, StreamFault, EndsAt, OpenerState, Starts, WritesAll, WritesReading, pieces, MissesNonce, Reading, payload_reading, stop, chunk_size, sealed_chunk_size, Fault, Read, Write, OutOfMemory, Bounds, BeginsVerdict, Decrypts, DecryptsText, GivesVerdict, TookUpTo, TookThrough, payload_pieces, is_read, Inspects, Answering, IsVerdict, finding, header_fault, reading_after, reading_under, stream_fault, header_key}
 use Rattle.age_header.specs.declared.fault.HeaderFault.TheVariants as header
-use Rattle.age_header.specs.Device.{Bytes, CountsFaultIf, Gave, GaveSome, Known, Seen, flow, flow_by, move_of, seen_by}
-use Rattle.age_header.specs.Header.{HeaderParts}
-use Rattle.age_header.specs.Reader.{ReadsHeader, Refuses}
-use Rattle.age_header.specs.Verdict.{HeaderVerdict}
-use Rattle.age_header.proofs.DeviceLemmas.{gave_more, gave_some, gave_then, of_any, of_map, of_more, of_then}
-use Rattle.age_header.proofs.VerdictUniqueLemmas.{found_again}
-use Rattle.age_header.proofs.VerdictTotalLemmas.{some_verdict}
-use Rattle.age_header.specs.declared.file_key.FileKey.{FileKey}
-use Rattle.age_stream.specs.declared.done.Done.{Done}
-use Rattle.age_stream.specs.declared.fault.StreamFault.{StreamFault}
 use Rattle.age_stream.specs.declared.fault.StreamFault.TheVariants as stream
 use Rattle.age_stream.specs.Counts as counts
-use Rattle.age_stream.specs.Opening.{EndsAt, OpenerState, Starts, WritesAll, WritesReading}
-use Rattle.age_stream.specs.Payload.{pieces}
-use Rattle.age_stream.specs.Reader.{MissesNonce}
-use Rattle.age_stream.specs.Reading.{Reading, payload_reading, stop}
-use Rattle.age_stream.specs.Sizes.{chunk_size, sealed_chunk_size}
-use Rattle.age_file.specs.declared.fault.Fault.{Fault}
-use Rattle.age_file.specs.declared.fault.Fault.TheVariants.{Read, Write, OutOfMemory}
-use Rattle.age_file.specs.AgeFile.{Bounds}
-use Rattle.age_file.specs.Decrypt.{BeginsVerdict, Decrypts, DecryptsText, GivesVerdict, TookUpTo, TookThrough, payload_pieces}
-use Rattle.age_file.specs.Device.{is_read}
-use Rattle.age_file.specs.Inspect.{Inspects}
 use Rattle.age_file.proofs.PayloadLemmas.{WritesPayload, nonce_writes, payload_writes}
-use Rattle.age_file.specs.Verdict.{Answering, IsVerdict, finding, header_fault, reading_after, reading_under, stream_fault, header_key}
 
 pub err_err : {A : Type 0} (f g : Fault) → ◌≡◌ {A = Result A Fault} (Err f) (Err g) → f ≡ g
 err_err f g e = cc

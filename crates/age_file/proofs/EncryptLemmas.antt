@@ -1,28 +1,6 @@
 -- What a call of `encrypt` has written.
-use Rattle.std.proofs.Common.{Bool, true, false, ◌≡◌, ℕ, ◌+◌, ◌-◌, ◌*◌, ◌<◌, ◌≤◌, List, [], ◌++◌, length, take, refl, sym, subst, inl, inr, arith, IfNone, Result, Ok, Err, append_assoc}
-use Rattle.std.proofs.lemmas.List.{append-nil, length-append}
-use Rattle.std.specs.List.{concat}
-use Rattle.std.specs.Io.KnownBytes.{Appends}
-use Rattle.std.proofs.KnownBytes.{Appends-nil, Appends-trans}
-use Rattle.age_header.specs.Device.{Bytes, Flow, GaveAtMost, GaveSome, Moved, OfGiven, WritesPart, Known, Seen, flow, move_of}
-use Rattle.age_header.specs.Header.{StanzaParts, Head}
-use Rattle.age_header.specs.Mac.{header_mac}
-use Rattle.age_header.proofs.DeviceLemmas.{gave_none, of_any, of_map, of_then, done_part}
-use Rattle.age_header.proofs.HeaderLemmas.{one_text}
-use Rattle.age_header.specs.declared.file_key.FileKey.{FileKey}
-use Rattle.age_stream.specs.declared.done.Done.{Done}
-use Rattle.age_stream.specs.declared.fault.StreamFault.{StreamFault}
+use Rattle.age_file.proofs.Common.{Bool, true, false, ◌≡◌, ℕ, ◌+◌, ◌-◌, ◌*◌, ◌<◌, ◌≤◌, List, [], ◌++◌, length, take, refl, sym, subst, inl, inr, arith, Result, Ok, Err, append_assoc, append-nil, length-append, concat, Appends, Appends-nil, Appends-trans, Bytes, Flow, GaveAtMost, GaveSome, Moved, OfGiven, WritesPart, Known, Seen, flow, move_of, StanzaParts, Head, header_mac, gave_none, of_any, of_map, of_then, done_part, one_text, FileKey, Done, StreamFault, chunks, payload, payload_key, sealed_chunks, Fills, SealerState, SealsAll, Stopped, StopsIn, at_start, chunk_size, filled_finishes, filled_seals, Fault, TooManyChunks, Read, Write, OutOfMemory, Fresh, Bounds, BegunFile, EncryptsGiven, EncryptsText, FailsHeading, Gathering, IsHeading, FillsChunk, IsRefusal, SealsRest, TookWhileEncrypting, TookChunks, stream_fault, IfNone}
 use Rattle.age_stream.specs.declared.fault.StreamFault.TheVariants as stream
-use Rattle.age_stream.specs.Payload.{chunks, payload, payload_key, sealed_chunks}
-use Rattle.age_stream.specs.Sealing.{Fills, SealerState, SealsAll, Stopped, StopsIn, at_start}
-use Rattle.age_stream.specs.Sizes.{chunk_size}
-use Rattle.age_stream.proofs.SealingLemmas.{filled_finishes, filled_seals}
-use Rattle.age_file.specs.declared.fault.Fault.{Fault}
-use Rattle.age_file.specs.declared.fault.Fault.TheVariants.{TooManyChunks, Read, Write, OutOfMemory}
-use Rattle.age_file.specs.declared.limits.Fresh.{Fresh}
-use Rattle.age_file.specs.AgeFile.{Bounds}
-use Rattle.age_file.specs.NewFile.{BegunFile, EncryptsGiven, EncryptsText, FailsHeading, Gathering, IsHeading, FillsChunk, IsRefusal, SealsRest, TookWhileEncrypting, TookChunks}
-use Rattle.age_file.specs.Verdict.{stream_fault}
 use Rattle.age_file.proofs.DecryptLemmas.{file_result}
 
 -- the header that was made is the header that was written

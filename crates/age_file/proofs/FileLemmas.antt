@@ -1,31 +1,6 @@
 -- The verdict is a plaintext only on age files.
-use Rattle.std.proofs.Common.{◌≡◌, ◌↔◌, ◌⊎◌, inl, inr, ℕ, List, [], ◌∷◌, ◌++◌, length, drop, cond, true, false, Bool, sym, ◌∙◌, ap, refl, subst, Option, Some, None, Result, Ok, Err}
-use Rattle.std.specs.Prelude.{option_map}
-use Rattle.std.specs.Result.{result_map_both}
-use Rattle.std.specs.Str.{bytes_eq}
-use Rattle.std.proofs.lemmas.List.{drop_at}
-use Rattle.std.proofs.lemmas.Option.{none-some}
-use Rattle.std.proofs.lemmas.Slice.Eq.{bytes_eq-Decides}
-use Rattle.age_header.specs.Device.{Bytes}
-use Rattle.age_header.specs.declared.fault.HeaderFault.{HeaderFault}
-use Rattle.age_header.specs.Header.{StanzaParts, HeaderParts, Head}
-use Rattle.age_header.specs.Mac.{header_mac}
-use Rattle.age_header.specs.Verdict.{Found, BeginsWith, HeaderVerdict}
+use Rattle.age_file.proofs.Common.{◌≡◌, ◌↔◌, ◌⊎◌, inl, inr, ℕ, List, [], ◌∷◌, ◌++◌, length, drop, cond, true, false, Bool, sym, ◌∙◌, ap, refl, subst, Option, Some, None, Result, Ok, Err, option_map, result_map_both, bytes_eq, drop_at, none-some, bytes_eq-Decides, Bytes, HeaderFault, StanzaParts, HeaderParts, Head, header_mac, Found, BeginsWith, HeaderVerdict, UnlockFault, Memory, FileKey, Unwrapped, Key, choice, StreamFault, payload, Reading, stop, whole, payload_reading, ok_payload, payload_ok, Fault, MixedPassphrase, BadMac, OutOfMemory, Bounds, AgeFile, is_mixed, Answering, IsVerdict, found_key, header_fault, if_right, unlock_fault, reading_after, parts_of, reading_under, stream_fault, header_key, with_file_fault, IfErr}
 use Rattle.age_header.proofs.VerdictUniqueLemmas as headers
-use Rattle.age_recipient.specs.declared.choice.UnlockFault.{UnlockFault}
-use Rattle.age_recipient.specs.declared.choice.UnlockFault.TheVariants.{Memory}
-use Rattle.age_header.specs.declared.file_key.FileKey.{FileKey}
-use Rattle.age_recipient.specs.declared.unwrapped.Unwrapped.{Unwrapped}
-use Rattle.age_recipient.specs.declared.unwrapped.Unwrapped.TheVariants.{Key}
-use Rattle.age_recipient.specs.Choice.{choice}
-use Rattle.age_stream.specs.declared.fault.StreamFault.{StreamFault}
-use Rattle.age_stream.specs.Payload.{payload}
-use Rattle.age_stream.specs.Reading.{Reading, stop, whole, payload_reading}
-use Rattle.age_stream.proofs.PayloadLemmas.{ok_payload, payload_ok}
-use Rattle.age_file.specs.declared.fault.Fault.{Fault}
-use Rattle.age_file.specs.declared.fault.Fault.TheVariants.{MixedPassphrase, BadMac, OutOfMemory}
-use Rattle.age_file.specs.AgeFile.{Bounds, AgeFile, is_mixed}
-use Rattle.age_file.specs.Verdict.{Answering, IsVerdict, found_key, header_fault, if_right, unlock_fault, reading_after, parts_of, reading_under, stream_fault, header_key, with_file_fault}
 
 -- what is read whole does not stop
 pub never_stops : (p : Bytes) (f : Fault) → whole p ≡ stop f → ⊥
@@ -88,6 +63,21 @@ pub key_unlocked : (answers : Answering) (h : HeaderParts) (k : FileKey) → Has
     → header_key answers h ≡ Ok k
 key_unlocked answers h k has =
     rw (has.unmixed, has.chosen, (bytes_eq-Decides h.mac (header_mac k.0 h.stanzas)).1 has.mac) refl
+
+-- what is so of each fault of finding a key is so of a header's
+pub key_faults : (P : Fault → Type 0) → ((e : UnlockFault) → P (unlock_fault e)) → P BadMac → P MixedPassphrase
+    → (answers : Answering) (h : HeaderParts) → IfErr (header_key answers h) P
+key_faults P unlocking mac mixed answers h = go (is_mixed h.stanzas) (choice (answers h.stanzas))
+  where
+    tested : (right : Bool) (k : FileKey) → IfErr (if_right (Ok (k, right))) P
+    tested true k = tt
+    tested false k = mac
+
+    go : (mixes : Bool) (r : Result FileKey UnlockFault)
+        → IfErr (if_right (cond mixes (Err MixedPassphrase) (tested_key h r))) P
+    go true r = mixed
+    go false (Err e) = unlocking e
+    go false (Ok k) = tested (bytes_eq h.mac (header_mac k.0 h.stanzas)) k
 
 -- the outcome of a header whose key was chosen and whose MAC was compared, unless an allocation was refused
 pub tested_found : (answers : Answering) (h : HeaderParts) (chosen : Result FileKey UnlockFault)

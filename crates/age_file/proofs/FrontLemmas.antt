@@ -1,43 +1,8 @@
 -- How much is read of a file of which no key is found.
-use Rattle.std.proofs.Common.{◌≡◌, ◌⊎◌, ◌+◌, [], arith, inl, inr, refl, Result, Err, Ok}
-use Rattle.std.proofs.KnownBytes.{Appends-nil}
-use Rattle.std.specs.Io.KnownBytes.{Appends}
-use Rattle.std.specs.Prelude.{ℕ, ⊤, IfErr}
-use Rattle.age_header.specs.Device.{Bytes, Flow, GaveAtMost, Known, Moved, Seen, Took, flow, flow_by, move_of}
-use Rattle.age_header.specs.declared.fault.HeaderFault.{HeaderFault}
-use Rattle.age_header.specs.declared.fault.HeaderFault.TheVariants as header
-use Rattle.age_header.specs.Header.{HeaderParts}
-use Rattle.age_header.specs.Reader.{ReadAtMost}
-use Rattle.age_header.specs.declared.file_key.FileKey.{FileKey}
-use Rattle.age_stream.specs.declared.fault.StreamFault.{StreamFault}
+use Rattle.age_file.proofs.Common.{◌≡◌, ◌⊎◌, ◌+◌, [], arith, inl, inr, refl, Result, Err, Ok, Appends-nil, Appends, ⊤, IfErr, Bytes, Flow, GaveAtMost, Known, Moved, Seen, Took, flow, flow_by, move_of, HeaderParts, FileKey, StreamFault, EndsAt, StartsReader, Bounds, Fault, OutOfMemory, Read, TooManyChunks, Write, Copies, CopiesAhead, GaveAhead, buffer_size, IsLate, Inspects, ReadsFront, TookWhileRewrapping, stream_fault, begins_found, ℕ}
 use Rattle.age_stream.specs.declared.fault.StreamFault.TheVariants as stream
-use Rattle.age_stream.specs.Opening.{EndsAt}
-use Rattle.age_stream.specs.Reader.{StartsReader}
-use Rattle.age_file.specs.AgeFile.{Bounds}
-use Rattle.age_file.specs.declared.fault.Fault.{Fault}
-use Rattle.age_file.specs.declared.fault.Fault.TheVariants.{NonceTruncated, OutOfMemory, Read, TooManyChunks, Write}
-use Rattle.age_file.specs.Copying.{Copies, CopiesAhead, GaveAhead, buffer_size}
-use Rattle.age_file.specs.Device.{IsLate}
-use Rattle.age_file.specs.Inspect.{Inspects, ReadsFront}
-use Rattle.age_file.specs.Rewrap.{TookWhileRewrapping}
-use Rattle.age_file.specs.Verdict.{header_fault, stream_fault}
+use Rattle.age_file.specs.declared.fault.Fault.TheVariants.{NonceTruncated}
 use Rattle.age_file.proofs.CopiesLemmas.{ahead_then}
-use Rattle.age_header.proofs.VerdictUniqueLemmas.{begins_found}
-
-pub front_of : (limits : Bounds) (source : Flow) (e : HeaderFault) → ReadAtMost limits.max_header source e
-    → ReadsFront limits source (header_fault e)
-front_of limits source header.NotAge h = inr h
-front_of limits source (header.BadLine n) h = inr h
-front_of limits source header.Truncated h = inr h
-front_of limits source header.TooLarge h = inr h
-front_of limits source header.Read h = inl refl
-front_of limits source header.Memory h = inr h
-
--- the fault of reading a header
-pub front_late : (limits : Bounds) (source : Flow) (fault : Fault) → ReadsFront limits source fault
-    → IsLate fault ⊎ ((fault ≡ NonceTruncated) ⊎ GaveAtMost limits.max_header source)
-front_late limits source fault (inl e) = inl (rw e tt)
-front_late limits source fault (inr g) = inr (inr g)
 
 pub front_gave : (limits : Bounds) (source : Flow) (h : HeaderParts) → Inspects limits source (Ok h)
     → GaveAtMost limits.max_header source

@@ -1,13 +1,6 @@
 -- The stanzas of recipients, one recipient after the other.
-use Rattle.std.proofs.Common.{◌≡◌, ℕ, ◌+◌, ◌<◌, List, ◌∷◌, ◌++◌, map, drop, length, get_or, sym, ◌∙◌, ap, refl, Result, Ok, Err, append_assoc, subst}
-use Rattle.std.proofs.lemmas.List.{drop_more, drop-map}
-use Rattle.age_header.specs.Header.{StanzaParts}
-use Rattle.age_recipient.specs.declared.recipient.WrapFault.{WrapFault}
+use Rattle.age_file.proofs.Common.{◌≡◌, ℕ, ◌+◌, ◌<◌, List, ◌∷◌, ◌++◌, map, drop, length, get_or, sym, ◌∙◌, ap, refl, Result, Ok, Err, append_assoc, subst, drop_more, drop-map, StanzaParts, WrapFault, WrapsAs, Fault, Refused, with_stanzas, gathering_from}
 use Rattle.age_recipient.specs.declared.recipient.WrapFault.TheVariants.{Refused as RefusedBy}
-use Rattle.age_recipient.specs.Wrap.{WrapsAs}
-use Rattle.age_file.specs.declared.fault.Fault.{Fault}
-use Rattle.age_file.specs.declared.fault.Fault.TheVariants.{Refused}
-use Rattle.age_file.specs.NewFile.{with_stanzas, gathering_from}
 
 -- what the remaining recipients return, if the answer of the first is known
 gathered_step : {A : Type 0} (f : A → Result (List StanzaParts) ℕ) (xs : List A) {i : ℕ} (n : ℕ) {x : A}

@@ -1,13 +1,5 @@
 -- The labels that recipients may return, in order.
-use Rattle.std.proofs.Common.{◌≡◌, ℕ, ◌+◌, ◌<◌, ◌≤◌, List, [], ◌∷◌, ◌++◌, map, take, drop, length, get_or, sym, ◌∙◌, ap, refl, inl, inr, subst, zero, suc, Result, Err, add-one}
-use Rattle.std.proofs.lemmas.List.{drop_more, drop-map, length-map, take_all}
-use Rattle.std.proofs.Math.Seq.{drop-nil}
-use Rattle.std.specs.List.{AllZip}
-use Rattle.age_header.specs.Header.{StanzaParts}
-use Rattle.age_recipient.specs.declared.labels.Labels.{Labels}
-use Rattle.age_recipient.specs.Labels.{MayLabel, first_incompatible}
-use Rattle.age_file.specs.declared.fault.Fault.{Fault}
-use Rattle.age_file.specs.NewFile.{Gathered, Gathers, WrapsAll, gathering_from}
+use Rattle.age_file.proofs.Common.{◌≡◌, ℕ, ◌+◌, ◌<◌, ◌≤◌, List, [], ◌∷◌, ◌++◌, map, take, drop, length, get_or, sym, ◌∙◌, ap, refl, inl, inr, subst, zero, suc, Result, Err, add-one, drop_more, drop-map, length-map, take_all, drop-nil, AllZip, StanzaParts, Labels, MayLabel, first_incompatible, Fault, Gathered, Gathers, WrapsAll, gathering_from}
 
 both : {A B : Type 0} (R : A → B → Type 0) (xs xs2 : List A) (ys ys2 : List B) → AllZip R xs ys → AllZip R xs2 ys2
     → AllZip R (xs ++ xs2) (ys ++ ys2)

@@ -1,3 +1,4 @@
+pub mod Common
 mod IncompatibleLemmas
 mod AtStateLemmas
 mod CopiesLemmas

@@ -1,10 +1,5 @@
 -- The labels of the recipients of this crate's own kinds.
-use Rattle.std.proofs.Common.{◌≡◌, ℕ, ◌+◌, zero, suc, not, List, [], ◌∷◌, ◌++◌, replicate, ◌∙◌, ap, refl, inl, inr, arith, Option, Some, None, add-one}
-use Rattle.std.specs.List.{AllZip, position_from}
-use Rattle.age_recipient.specs.declared.labels.Labels.{Labels}
-use Rattle.age_recipient.specs.declared.labels.Labels.TheVariants.{Alone, Names}
-use Rattle.age_recipient.specs.Labels.{MayLabel, go_together, first_incompatible}
-use Rattle.age_file.specs.NewFile.{IsIncompatible}
+use Rattle.age_file.proofs.Common.{◌≡◌, ℕ, ◌+◌, zero, suc, not, List, [], ◌∷◌, ◌++◌, replicate, ◌∙◌, ap, refl, inl, inr, arith, Option, Some, None, add-one, AllZip, position_from, Labels, Alone, Names, MayLabel, go_together, first_incompatible, IsIncompatible}
 
 pub one_index : (meant : Labels) (index : Option ℕ) → IsIncompatible (meant ∷ []) index → index ≡ None
 one_index meant index ([], may, is) = absurd may

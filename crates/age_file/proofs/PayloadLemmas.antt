@@ -1,19 +1,7 @@
 -- A whole payload: its nonce, then its pieces.
-use Rattle.std.proofs.Common.{◌≡◌, ◌⊎◌, ◌++◌, ◌+◌, ◌*◌, ℕ, length, take, drop, sym, subst, arith, length-append, refl, true, false, inl, inr, Result, Ok, Err, nat_lt}
-use Rattle.std.specs.Prelude.{IfErr, IfNone}
-use Rattle.std.proofs.KnownBytes.{Appends-nil}
-use Rattle.std.proofs.lemmas.Bool.{le-ltb, lt-ltb}
-use Rattle.std.proofs.lemmas.List.{take_at, drop_at}
-use Rattle.age_header.specs.Device.{Bytes, Flow, GaveAtMost, Known, OfGiven, Seen, flow, move_of}
-use Rattle.age_header.proofs.DeviceLemmas.{gave_more, of_any, of_map, of_then}
-use Rattle.age_header.specs.declared.file_key.FileKey.{FileKey}
-use Rattle.age_stream.specs.declared.done.Done.{Done}
-use Rattle.age_stream.specs.declared.fault.StreamFault.{StreamFault}
-use Rattle.age_stream.specs.declared.fault.StreamFault.TheVariants.{NonceTruncated, Read}
-use Rattle.age_stream.specs.Opening.{EndsAt, OpenerState, Starts, WritesAll, WritesReading, at_start}
-use Rattle.age_stream.specs.Payload.{payload_key, pieces}
-use Rattle.age_stream.specs.Reading.{payload_reading, reading_from, stop}
-use Rattle.age_stream.specs.Sizes.{sealed_chunk_size}
+use Rattle.age_file.proofs.Common.{◌≡◌, ◌⊎◌, ◌++◌, ◌+◌, ◌*◌, ℕ, length, drop, subst, arith, refl, inl, inr, Result, Ok, Err, IfErr, IfNone, Appends-nil, le-ltb, lt-ltb, take_at, drop_at, Flow, GaveAtMost, Known, OfGiven, Seen, flow, move_of, gave_more, of_any, of_map, of_then, FileKey, Done, StreamFault, NonceTruncated, EndsAt, OpenerState, Starts, WritesAll, WritesReading, payload_key, pieces, payload_reading, sealed_chunk_size, length-append, ◌≤◌}
+use Rattle.age_stream.specs.declared.fault.StreamFault.TheVariants.{Read}
+use Rattle.age_stream.specs.Opening.{at_start}
 
 -- the plaintext of the payload that the source returned was written
 abbrev pub WritesPayload : FileKey → ℕ → Flow → Known → Known → Result Done StreamFault → Type 0
@@ -29,25 +17,15 @@ payload_writes k {max} {from} {mid} {to} a b r (nonce, len, is, gave) h =
     let all : WritesAll (at_start (payload_key k nonce) max) (flow mid to) (move_of a b) r =
     subst (λ (x : OpenerState). IfNone x.fault (WritesAll x (flow mid to) (move_of a b) r)) is h in
     of_then gave all (λ c w.
-    let l : length (nonce ++ c) ≡ length nonce + length c = length-append nonce c in
-    let long : nat_lt (length (nonce ++ c)) 16 ≡ false = le-ltb (length (nonce ++ c)) 16 (omega arith) in
-    let front : take 16 (nonce ++ c) ≡ nonce = take_at nonce c 16 len in
-    let back : drop 16 (nonce ++ c) ≡ c = drop_at nonce c 16 len in
-    let key : Bytes = payload_key k nonce in
-    let reads : payload_reading k max (nonce ++ c) ≡ reading_from key max 0 c =
-    rw (long, front, back) refl in
-    subst (λ x. WritesReading x (length (pieces (drop 16 (nonce ++ c)))) (move_of a b) r) (sym reads)
-    (subst (λ x. WritesReading (reading_from key max 0 c) (length (pieces x)) (move_of a b) r) (sym back) w))
+    let long : 16 ≤ length (nonce ++ c) = omega (arith, length-append nonce c) in
+    rw (le-ltb (length (nonce ++ c)) 16 long, take_at nonce c 16 len, drop_at nonce c 16 len) w)
 
 -- the nonce is cut short, or was not read
 pub nonce_writes : (k : FileKey) (max : ℕ) (from mid : Seen) (a : Known) (fault : StreamFault)
     → Starts k max (flow from mid) (Err fault) → WritesPayload k max (flow from mid) a a (Err fault)
 nonce_writes k max from mid a Read h = of_any h (λ c. (0, Appends-nil a))
-nonce_writes k max from mid a NonceTruncated h = of_map h.1 (λ c less.
-    let short : nat_lt (length c) 16 ≡ true = lt-ltb (length c) 16 less in
-    let all : payload_reading k max c ≡ stop NonceTruncated = rw short refl in
-    subst (λ x. WritesReading x (length (pieces (drop 16 c))) (move_of a a) (Err NonceTruncated)) (sym all)
-    (refl, Appends-nil a))
+nonce_writes k max from mid a NonceTruncated h =
+    of_map h.1 (λ c less. rw (lt-ltb (length c) 16 less) (refl, Appends-nil a))
 nonce_writes k max from mid a fault h = absurd (cc)
 
 -- what was taken, with the nonce

@@ -1,38 +1,11 @@
 -- What opening a file for ranges does, from what its parts do.
-use Rattle.std.proofs.Common.{◌≡◌, ◌⊎◌, ℕ, [], ◌++◌, ◌+◌, ◌-◌, ◌≤◌, length, drop, sym, cond, ◌∙◌, ap, refl, subst, arith, inl, inr, option_map, Option, Some, None, Result, Ok, Err}
-use Rattle.std.specs.Prelude.{◌^◌, min, Bool, true, false, IfErr, IfSome, if◌then◌else◌}
-use Rattle.std.specs.Result.{result_map_both}
-use Rattle.std.specs.Str.{bytes_eq}
-use Rattle.std.specs.Io.KnownBytes.{Consumes}
-use Rattle.std.proofs.lemmas.List.{append-nil, length-append, length-drop}
-use Rattle.age_header.specs.Device.{Bytes, CountsFaultIf, Known, Seen, flow, flow_by, move_of}
-use Rattle.age_header.specs.declared.fault.HeaderFault.{HeaderFault}
+use Rattle.age_file.proofs.Common.{◌≡◌, ◌⊎◌, ℕ, [], ◌++◌, ◌+◌, ◌-◌, ◌≤◌, length, drop, sym, ◌∙◌, ap, refl, subst, arith, inl, inr, Option, Some, None, Result, Ok, Err, IfErr, IfSome, if◌then◌else◌, result_map_both, Consumes, append-nil, length-append, length-drop, Bytes, CountsFaultIf, Known, Seen, flow, flow_by, move_of, HeaderFault, HeaderParts, of_known, begins_found, Refuses, HeaderVerdict, FileKey, UnlockFault, StreamFault, StaysGiven, OpensRanges, last_piece, range_outcome, Fault, OutOfMemory, Read, Bounds, Inspects, ReadsFront, IsNoDeviceFault, is_read, AtState, BeginsFile, GaveFirst, GaveHeader, HasHeader, IsOpenFault, IsRangesOf, IsWithin, MissesHeader, MissesRanges, RefusesRanges, ranges_under, Answering, finding, header_fault, stream_fault, unlock_fault, header_key, option_map, ◌^◌, min}
 use Rattle.age_header.specs.declared.fault.HeaderFault.TheVariants as header
-use Rattle.age_header.specs.Header.{HeaderParts}
-use Rattle.age_header.specs.Mac.{header_mac}
-use Rattle.age_header.proofs.DeviceLemmas.{of_known}
-use Rattle.age_header.proofs.VerdictUniqueLemmas.{begins_found}
-use Rattle.age_header.specs.Reader.{Refuses}
-use Rattle.age_header.specs.Verdict.{HeaderVerdict}
-use Rattle.age_header.specs.declared.file_key.FileKey.{FileKey}
-use Rattle.age_recipient.specs.declared.choice.UnlockFault.{UnlockFault}
 use Rattle.age_recipient.specs.declared.choice.UnlockFault.TheVariants as unlock
-use Rattle.age_recipient.specs.Choice.{choice}
-use Rattle.age_stream.specs.declared.fault.StreamFault.{StreamFault}
 use Rattle.age_stream.specs.declared.fault.StreamFault.TheVariants as fault
 use Rattle.age_stream.specs.Counts as counts
-use Rattle.age_stream.specs.Offsets.{StaysGiven}
 use Rattle.age_stream.specs.Ranges as stream
-use Rattle.age_stream.specs.Ranges.{OpensRanges}
-use Rattle.age_stream.specs.Slice.{last_piece, range_outcome}
-use Rattle.age_file.specs.declared.fault.Fault.{Fault}
-use Rattle.age_file.specs.declared.fault.Fault.TheVariants.{BadMac, MixedPassphrase, OutOfMemory, Read}
-use Rattle.age_file.specs.AgeFile.{Bounds, is_mixed}
-use Rattle.age_file.specs.Inspect.{Inspects, ReadsFront}
-use Rattle.age_file.specs.Device.{IsNoDeviceFault, is_read}
-use Rattle.age_file.specs.Ranges.{AtState, BeginsFile, GaveFirst, GaveHeader, HasHeader, IsOpenFault, IsRangesOf, IsWithin, MissesHeader, MissesRanges, RefusesRanges, ranges_under}
-use Rattle.age_file.specs.Verdict.{Answering, finding, header_fault, if_right, stream_fault, unlock_fault, header_key}
-use Rattle.age_file.proofs.FileLemmas.{tested_key}
+use Rattle.age_file.proofs.FileLemmas.{key_faults}
 use Rattle.age_file.proofs.AtStateLemmas.{first_none, first_stays}
 use Rattle.age_file.proofs.FrontLemmas.{saving_front}
 use Rattle.age_file.proofs.DecryptLemmas.{err_err, found_key, headed, reads_file}
@@ -83,10 +56,7 @@ refused : (limits : Bounds) (b : Bytes) (g : HeaderFault) → Refuses b limits.m
     → MissesHeader limits (Some b) (header_fault g)
 refused limits b header.Read h = inl refl
 refused limits b header.Memory h = inr (inl refl)
-refused limits b header.NotAge h = inr (inr (header.NotAge, h, refl))
-refused limits b (header.BadLine n) h = inr (inr (header.BadLine n, h, refl))
-refused limits b header.Truncated h = inr (inr (header.Truncated, h, refl))
-refused limits b header.TooLarge h = inr (inr (header.TooLarge, h, refl))
+refused limits b g h = inr (inr (g, h, refl))
 
 -- no header
 pub header_missed : (limits : Bounds) (told : Known) {a mid : Seen} (fault : Fault)
@@ -146,23 +116,9 @@ header_named limits fault (Ok parts, is, h) = absurd (cc)
 header_named limits fault (Err g, is, h) =
     subst IsOpenFault (sym (err_err {A = HeaderParts} fault (header_fault g) is)) (inspect_open g)
 
-either_open : (b : Bool) (x y : Result FileKey Fault) → IfErr x IsOpenFault → IfErr y IsOpenFault
-    → IfErr (if b then x else y) IsOpenFault
-either_open true x y p q = p
-either_open false x y p q = q
-
 unlock_open : (e : UnlockFault) → IsOpenFault (unlock_fault e)
 unlock_open unlock.NoMatch = tt
 unlock_open e = tt
-
-tested_open : (h : HeaderParts) (r : Result FileKey UnlockFault) → IfErr (if_right (tested_key h r)) IsOpenFault
-tested_open h (Err e) = unlock_open e
-tested_open h (Ok k) = either_open (bytes_eq h.mac (header_mac k.0 h.stanzas)) (Ok k) (Err BadMac) tt tt
-
-found_open : (h : HeaderParts) (r : Result FileKey UnlockFault) (mixed : Bool)
-    → IfErr (if_right (cond mixed (Err MixedPassphrase) (tested_key h r))) IsOpenFault
-found_open h r true = tt
-found_open h r false = tested_open h r
 
 pub locked_named : (answers : Answering) (h : HeaderParts) (fault : Fault)
     → (◌≡◌ {A = Result FileKey Fault} (Err fault) (Err OutOfMemory)) ⊎ (Err fault ≡ header_key answers h)
@@ -170,7 +126,7 @@ pub locked_named : (answers : Answering) (h : HeaderParts) (fault : Fault)
 locked_named answers h fault (inl memory) = subst IsOpenFault (sym (err_err {A = FileKey} fault OutOfMemory memory)) tt
 locked_named answers h fault (inr key) =
     subst (λ (r : Result FileKey Fault). IfErr r IsOpenFault) (sym key)
-    (found_open h (choice (answers h.stanzas)) (is_mixed h.stanzas))
+    (key_faults IsOpenFault unlock_open tt tt answers h)
 
 pub payload_named : (e : StreamFault) → stream.IsOpenFault e → IsOpenFault (stream_fault e)
 payload_named fault.Write h = absurd h

@@ -1,36 +1,11 @@
 -- What rewrapping a file returns and writes, and what it keeps.
-use Rattle.std.proofs.Common.{◌≡◌, ◌⊎◌, ◌↔◌, Bool, true, false, cond, [], ◌++◌, length, drop, sym, ◌∙◌, ap, refl, subst, arith, inl, inr, length-append, IfErr, Some, None, Result, Ok, Err}
-use Rattle.std.specs.Io.KnownBytes.{Appends, Keeps}
-use Rattle.std.proofs.KnownBytes.{Appends-nil, Appends-trans}
-use Rattle.std.proofs.lemmas.List.{append-nil, drop_at}
-use Rattle.std.specs.Str.{bytes_eq}
-use Rattle.age_header.specs.declared.fault.HeaderFault.{HeaderFault}
+use Rattle.age_file.proofs.Common.{◌≡◌, ◌⊎◌, ◌↔◌, [], ◌++◌, length, drop, sym, ◌∙◌, ap, refl, subst, arith, inl, inr, Some, None, Result, Ok, Err, Appends, Keeps, Appends-nil, Appends-trans, append-nil, drop_at, HeaderFault, Bytes, Flow, WritesPart, Known, Seen, flow, move_of, HeaderParts, header_mac, ReadsHeader, Refuses, BeginsWith, Found, of_map, of_more, of_then, done_part, UnlockFault, FileKey, choice, Reading, Fault, TooManyChunks, Read, Write, OutOfMemory, Bounds, Copies, IsLate, Inspects, FailsHeading, Gathering, IsRefusal, BeginsRewrapped, IsRewrapped, RefusesRewrap, Rewrapped, Rewraps, RewrapsText, Answering, IsVerdict, finding, header_fault, reading_after, parts_of, reading_under, header_key, unlock_fault, length-append, IfErr}
 use Rattle.age_header.specs.declared.fault.HeaderFault.TheVariants as header
-use Rattle.age_header.specs.Device.{Bytes, Flow, WritesPart, Known, Seen, flow, move_of}
-use Rattle.age_header.specs.Header.{HeaderParts}
-use Rattle.age_header.specs.Mac.{header_mac}
-use Rattle.age_header.specs.Reader.{ReadsHeader, Refuses}
-use Rattle.age_header.specs.Verdict.{BeginsWith, Found}
-use Rattle.age_header.proofs.DeviceLemmas.{of_map, of_more, of_then, done_part}
 use Rattle.age_header.proofs.VerdictUniqueLemmas as headers
-use Rattle.age_recipient.specs.declared.choice.UnlockFault.{UnlockFault}
 use Rattle.age_recipient.specs.declared.choice.UnlockFault.TheVariants as unlock
-use Rattle.age_header.specs.declared.file_key.FileKey.{FileKey}
-use Rattle.age_recipient.specs.Choice.{choice}
-use Rattle.age_stream.specs.Reading.{Reading}
-use Rattle.age_file.specs.declared.fault.Fault.{Fault}
-use Rattle.age_file.specs.declared.fault.Fault.TheVariants.{MixedPassphrase, NoMatch, BadMac, TooManyChunks, Read, Write, OutOfMemory}
-use Rattle.age_file.specs.AgeFile.{Bounds, is_mixed}
-use Rattle.age_file.specs.Copying.{Copies}
-use Rattle.age_file.specs.Device.{IsLate}
-use Rattle.age_file.specs.Inspect.{Inspects}
-use Rattle.age_file.specs.NewFile.{FailsHeading, Gathering, IsRefusal}
-use Rattle.age_file.specs.Rewrap.{BeginsRewrapped, IsRewrapped, RefusesRewrap, Rewrapped, Rewraps, RewrapsText}
-use Rattle.age_file.specs.Verdict.{Answering, IsVerdict, finding, header_fault, if_right, reading_after, parts_of, reading_under, header_key, unlock_fault}
-use Rattle.age_file.proofs.FileLemmas.{tested_key}
 use Rattle.age_file.proofs.DecryptLemmas.{IsHeaded, err_err}
 use Rattle.age_file.proofs.EncryptLemmas.{Made}
-use Rattle.age_file.proofs.FileLemmas.{behind, key_unlocked}
+use Rattle.age_file.proofs.FileLemmas.{behind, key_faults, key_unlocked}
 
 keeps_same : (old : Known) → Keeps old old
 keeps_same None = tt
@@ -39,7 +14,7 @@ keeps_same (Some xs) = refl
 -- ---- before the first byte
 
 -- a fault that says something of the headers
-IsEarly : Fault → Type 0
+abbrev IsEarly : Fault → Type 0
 IsEarly Read = ⊥
 IsEarly Write = ⊥
 IsEarly TooManyChunks = ⊥
@@ -49,7 +24,6 @@ refused : (limits : Bounds) (answers : Answering) (gathered : FileKey → Gather
     (fault : Fault)
     → IsEarly fault → RefusesRewrap limits answers gathered b fault
     → RewrapsText limits answers gathered b (move_of old old) (Err fault)
-unfolding IsEarly
 refused limits answers gathered b old OutOfMemory early h = tt
 refused limits answers gathered b old Read early h = absurd early
 refused limits answers gathered b old Write early h = absurd early
@@ -79,26 +53,14 @@ inspect_rewraps limits answers gathered {come} {mid} old fault (Err g, is, h) =
     (sym (err_err {A = HeaderParts} fault (header_fault g) is)) (none_read limits answers gathered come mid old g h)
 
 -- a fault of unlocking is early
-early_tested : (h : HeaderParts) (c : Result FileKey UnlockFault) (fault : Fault)
-    → if_right (tested_key h c) ≡ Err fault → IsEarly fault
-unfolding IsEarly
-early_tested h (Err unlock.NoMatch) fault e = subst IsEarly (err_err {A = FileKey} NoMatch fault e) tt
-early_tested h (Err f) fault e = subst IsEarly (err_err {A = FileKey} (unlock_fault f) fault e) tt
-early_tested h (Ok k) fault e = go (bytes_eq h.mac (header_mac k.0 h.stanzas)) e
-  where
-    go : (t : Bool) → ◌≡◌ {A = Result FileKey Fault} (cond t (Ok k) (Err BadMac)) (Err fault) → IsEarly fault
-    go true e = absurd (cc)
-    go false e = subst IsEarly (err_err {A = FileKey} BadMac fault e) tt
-
 early_unlocked : (answers : Answering) (h : HeaderParts) (fault : Fault) → header_key answers h ≡ Err fault
     → IsEarly fault
-unfolding IsEarly
-early_unlocked answers h fault e = go (is_mixed h.stanzas) e
+early_unlocked answers h fault e =
+    subst (λ (r : Result FileKey Fault). IfErr r IsEarly) e (key_faults IsEarly unlocking tt tt answers h)
   where
-    go : (t : Bool) → if_right (cond t (Err MixedPassphrase) (tested_key h (choice (answers h.stanzas)))) ≡ Err fault
-        → IsEarly fault
-    go true e = subst IsEarly (err_err {A = FileKey} MixedPassphrase fault e) tt
-    go false e = early_tested h (choice (answers h.stanzas)) fault e
+    unlocking : (f : UnlockFault) → IsEarly (unlock_fault f)
+    unlocking unlock.NoMatch = tt
+    unlocking f = tt
 
 -- memory was refused
 pub memory_rewraps : (limits : Bounds) (answers : Answering) (gathered : FileKey → Gathering) (come mid : Seen)
@@ -121,7 +83,6 @@ locked_rewraps limits answers gathered {come} {mid} old {h} fault i (inr is) =
 -- a reason why there is no new header is early
 early_refusal : (limits : Bounds) (k : FileKey) (gathered : Gathering) (fault : Fault)
     → IsRefusal limits k gathered fault → IsEarly fault
-unfolding IsEarly
 early_refusal limits k gathered Read h = absurd h
 early_refusal limits k gathered Write h = absurd h
 early_refusal limits k gathered TooManyChunks h = absurd h

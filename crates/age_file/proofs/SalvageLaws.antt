@@ -1,25 +1,7 @@
 -- What is saved of a file, and the verdict on it.
-use Rattle.std.proofs.Common.{refl, false, true, ◌≡◌, ◌↔◌, ◌⊎◌, ◌∙◌, ◌++◌, ◌≤◌, [], length, take, drop, sym, ap, subst, List, inl, inr, arith, None, Result, Ok, Err}
-use Rattle.std.specs.Prelude.{Bool, ◌&&◌, ◌<◌, if◌then◌else◌, option_map}
-use Rattle.std.proofs.lemmas.Bool.{lt-ltb}
-use Rattle.std.proofs.lemmas.List.{take_all}
-use Rattle.age_header.specs.declared.fault.HeaderFault.{HeaderFault}
-use Rattle.age_header.specs.declared.file_key.FileKey.{FileKey}
-use Rattle.age_header.specs.Device.{Bytes, Moved, Took}
-use Rattle.age_header.specs.Verdict.{Found}
+use Rattle.age_file.proofs.Common.{refl, false, true, ◌≡◌, ◌↔◌, ◌⊎◌, ◌∙◌, ◌++◌, ◌≤◌, [], length, take, drop, sym, ap, subst, List, inl, inr, arith, None, Result, Ok, Err, ◌&&◌, if◌then◌else◌, option_map, lt-ltb, take_all, HeaderFault, FileKey, Bytes, Moved, Took, Found, StreamFault, Reading, payload_reading, stop, whole, IsOfPieces, Part, Reports, Saves, SavesParts, SavesPayload, LossesMoved, losses, is_whole, payload_parts, salvaged_text, payload_exactly, payload_plaintext, payload_whole, Fault, BadMac, OutOfMemory, Bounds, IsLate, SavesAfter, SavesFile, SavesUnder, is_whole_file, salvaged_file, SalvagedFile, Answering, IsVerdict, header_fault, reading_after, parts_of, reading_under, stream_fault, found_key, if_right, with_file_fault, Bool, ◌<◌}
 use Rattle.age_header.proofs.VerdictUniqueLemmas as headers
-use Rattle.age_stream.specs.declared.fault.StreamFault.{StreamFault}
 use Rattle.age_stream.specs.declared.fault.StreamFault.TheVariants as stream
-use Rattle.age_stream.specs.Reading.{Reading, payload_reading, stop, whole}
-use Rattle.age_stream.specs.Salvage.{IsOfPieces, Part, Reports, Saves, SavesParts, SavesPayload, LossesMoved, losses, is_whole, payload_parts, salvaged_text}
-use Rattle.age_stream.proofs.SalvageReading.{payload_exactly, payload_plaintext, payload_whole}
-use Rattle.age_file.specs.declared.fault.Fault.{Fault}
-use Rattle.age_file.specs.declared.fault.Fault.TheVariants.{BadMac, OutOfMemory}
-use Rattle.age_file.specs.AgeFile.{Bounds}
-use Rattle.age_file.specs.Device.{IsLate}
-use Rattle.age_file.specs.Salvage.{SavesAfter, SavesFile, SavesUnder, is_whole_file, salvaged_file}
-use Rattle.age_file.specs.declared.salvaging.SalvagedFile.{SalvagedFile}
-use Rattle.age_file.specs.Verdict.{Answering, IsVerdict, header_fault, reading_after, parts_of, reading_under, stream_fault, found_key, if_right, with_file_fault}
 use Rattle.age_file.proofs.DecryptLemmas.{err_err}
 use Rattle.age_file.proofs.FileLemmas.{never_stops, no_stream_fault, with_file_fault_whole}
 
@@ -191,9 +173,7 @@ saved_fault limits answers b v sink lost fault i f =
     piece right k rest stream.TooManyChunks is e h = late stream.TooManyChunks e tt
     piece right k rest stream.Memory is e h = inr (inl (err_err {A = SalvagedFile} fault OutOfMemory e))
     piece right k rest stream.NonceTruncated is e h = short right k rest is e h.0
-    piece right k rest (stream.ChunkShort j) is e h = absurd h.1
-    piece right k rest (stream.EmptyFinal j) is e h = absurd h.1
-    piece right k rest (stream.BadChunk j) is e h = absurd h.1
+    piece right k rest g is e h = absurd h.1
 
     under : (rest : Bytes) (key : Result (FileKey × Bool) Fault) → v ≡ reading_under limits rest (if_right key)
         → SavesUnder limits rest key sink lost (Err fault) → Explained

@@ -1,30 +1,7 @@
 -- What salvaging returns, from what its parts return.
-use Rattle.std.specs.Prelude.{Bool}
-use Rattle.std.proofs.Common.{◌≡◌, ◌⊎◌, ◌++◌, length, sym, refl, subst, inl, inr, Result, Ok, Err, ℕ}
-use Rattle.std.specs.Result.{result_map_both}
-use Rattle.std.proofs.KnownBytes.{Appends-nil}
-use Rattle.std.proofs.lemmas.List.{drop_at}
-use Rattle.age_header.specs.declared.fault.HeaderFault.{HeaderFault}
+use Rattle.age_file.proofs.Common.{◌≡◌, ◌⊎◌, ◌++◌, length, sym, refl, subst, inl, inr, Result, Ok, Err, ℕ, result_map_both, Appends-nil, drop_at, HeaderFault, FileKey, Bytes, Known, Moved, Seen, flow, move_of, HeaderParts, Refuses, gave_some, of_any, of_map, of_more, of_then, StreamFault, Salvaged, EndsAt, EndsSaving, KnownLosses, Salvages, SavesPayload, LossesMoved, losses_of, reports_none, Fault, Read, OutOfMemory, Bounds, TookUpTo, Inspects, SalvagedFile, SalvagesFile, SalvagesText, SavesFile, SavesNone, SavesUnder, salvaged_file, Answering, finding, header_fault, stream_fault, found_key, Bool}
 use Rattle.age_header.specs.declared.fault.HeaderFault.TheVariants as header
-use Rattle.age_header.specs.declared.file_key.FileKey.{FileKey}
-use Rattle.age_header.specs.Device.{Bytes, Known, Moved, Seen, flow, move_of}
-use Rattle.age_header.specs.Header.{HeaderParts}
-use Rattle.age_header.specs.Reader.{Refuses}
-use Rattle.age_header.proofs.DeviceLemmas.{gave_some, of_any, of_map, of_more, of_then}
-use Rattle.age_stream.specs.declared.fault.StreamFault.{StreamFault}
 use Rattle.age_stream.specs.declared.fault.StreamFault.TheVariants as stream
-use Rattle.age_stream.specs.declared.salvaged.Salvaged.{Salvaged}
-use Rattle.age_stream.specs.Opening.{EndsAt}
-use Rattle.age_stream.specs.Salvage.{EndsSaving, KnownLosses, Salvages, SavesPayload, LossesMoved, losses_of}
-use Rattle.age_stream.proofs.SalvageLemmas.{reports_none}
-use Rattle.age_file.specs.declared.fault.Fault.{Fault}
-use Rattle.age_file.specs.declared.fault.Fault.TheVariants.{Read, OutOfMemory}
-use Rattle.age_file.specs.AgeFile.{Bounds}
-use Rattle.age_file.specs.Decrypt.{TookUpTo}
-use Rattle.age_file.specs.Inspect.{Inspects}
-use Rattle.age_file.specs.declared.salvaging.SalvagedFile.{SalvagedFile}
-use Rattle.age_file.specs.Salvage.{SalvagesFile, SalvagesText, SavesFile, SavesNone, SavesUnder, salvaged_file}
-use Rattle.age_file.specs.Verdict.{Answering, finding, header_fault, stream_fault, found_key}
 use Rattle.age_file.proofs.DecryptLemmas.{IsHeaded, err_err, headed, payload_takes}
 
 saves_none : (old : Known) (lost : KnownLosses) → SavesNone (move_of old old) (losses_of lost lost)
@@ -45,26 +22,8 @@ header_text : (limits : Bounds) (answers : Answering) (b : Bytes) (old : Known) 
     → SalvagesText limits answers b (move_of old old) (losses_of lost lost) (Err (header_fault g))
 header_text limits answers b old lost header.Read h = inl (saves_none old lost)
 header_text limits answers b old lost header.Memory h = saves_none old lost
-header_text limits answers b old lost header.NotAge h = record {
-  header = Err header.NotAge;
-  header_verdict = h;
-  saves = (refl, saves_none old lost);
-}
-header_text limits answers b old lost (header.BadLine n) h = record {
-  header = Err (header.BadLine n);
-  header_verdict = h;
-  saves = (refl, saves_none old lost);
-}
-header_text limits answers b old lost header.Truncated h = record {
-  header = Err header.Truncated;
-  header_verdict = h;
-  saves = (refl, saves_none old lost);
-}
-header_text limits answers b old lost header.TooLarge h = record {
-  header = Err header.TooLarge;
-  header_verdict = h;
-  saves = (refl, saves_none old lost);
-}
+header_text limits answers b old lost g h =
+    record { header = Err g; header_verdict = h; saves = (refl, saves_none old lost) }
 
 pub inspect_salvages : (limits : Bounds) (answers : Answering) {come mid : Seen} (old : Known) (lost : KnownLosses)
     {fault : Fault} → Inspects limits (flow come mid) (Err fault)
@@ -130,12 +89,7 @@ payload_text limits answers come mid h i k c old new before after r key s = go r
     go (Ok t) x = file (Ok t) x
     go (Err stream.Read) x = inr (file (Err stream.Read) x)
     go (Err stream.Memory) x = x
-    go (Err stream.Write) x = file (Err stream.Write) x
-    go (Err stream.NonceTruncated) x = file (Err stream.NonceTruncated) x
-    go (Err (stream.ChunkShort n)) x = file (Err (stream.ChunkShort n)) x
-    go (Err (stream.EmptyFinal n)) x = file (Err (stream.EmptyFinal n)) x
-    go (Err (stream.BadChunk n)) x = file (Err (stream.BadChunk n)) x
-    go (Err stream.TooManyChunks) x = file (Err stream.TooManyChunks) x
+    go (Err fault) x = file (Err fault) x
 
 pub payload_salvages : (r : Result Salvaged StreamFault) {limits : Bounds} (answers : Answering) {come mid to : Seen}
     (sink : Moved) (losses : LossesMoved) {h : HeaderParts} {k : FileKey × Bool} {max : ℕ}

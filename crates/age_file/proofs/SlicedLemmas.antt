@@ -1,24 +1,13 @@
 -- Ranges of a file whose verdict has no fault.
-use Rattle.std.proofs.Common.{◌≡◌, ◌⊎◌, ◌+◌, ◌*◌, ◌<◌, ℕ, length, take, drop, sym, ◌∙◌, ap, subst, inl, inr, Some, Result, Ok, Err}
-use Rattle.std.specs.Result.{result_map_both}
-use Rattle.std.proofs.lemmas.List.{drop-drop}
-use Rattle.age_header.specs.Device.{Bytes}
-use Rattle.age_header.specs.declared.fault.HeaderFault.{HeaderFault}
-use Rattle.age_header.specs.Verdict.{Found}
+use Rattle.age_file.proofs.Common.{◌≡◌, ◌⊎◌, ℕ, length, take, drop, sym, ◌∙◌, ap, subst, inl, inr, Some, Result, Ok, Err, result_map_both, drop-drop, Bytes, HeaderFault, Found, FileKey, HasPlain, RangeState, payload_reading, whole, IsSlice, plain_len, whole_len, whole_opens, whole_slice, Fault, OutOfMemory, Read, Bounds, IsRangeFault, IsRangesOf, MissesRanges, ranges_under, Answering, IsVerdict, header_fault, reading_after, parts_of, reading_under, stream_fault, header_key}
 use Rattle.age_header.proofs.VerdictUniqueLemmas as headers
-use Rattle.age_header.specs.declared.file_key.FileKey.{FileKey}
+use Rattle.std.proofs.Common.{◌*◌, ◌<◌}
 use Rattle.age_stream.specs.declared.layout.Layout.{Layout}
 use Rattle.age_stream.specs.Payload.{payload_key}
-use Rattle.age_stream.specs.Ranges.{HasPlain, RangeState, source_opening}
-use Rattle.age_stream.specs.Reading.{payload_reading, whole}
+use Rattle.age_stream.specs.Ranges.{source_opening}
 use Rattle.age_stream.specs.Sizes.{chunk_size}
-use Rattle.age_stream.specs.Slice.{IsSlice, opening, plain_len}
-use Rattle.age_stream.proofs.WholeSlices.{whole_chunk, whole_len, whole_opens, whole_slice}
-use Rattle.age_file.specs.declared.fault.Fault.{Fault}
-use Rattle.age_file.specs.declared.fault.Fault.TheVariants.{OutOfMemory, Read}
-use Rattle.age_file.specs.AgeFile.{Bounds}
-use Rattle.age_file.specs.Ranges.{IsRangeFault, IsRangesOf, MissesRanges, ranges_under}
-use Rattle.age_file.specs.Verdict.{Answering, IsVerdict, header_fault, reading_after, parts_of, reading_under, stream_fault, header_key}
+use Rattle.age_stream.specs.Slice.{opening}
+use Rattle.age_stream.proofs.WholeSlices.{whole_chunk}
 use Rattle.age_file.proofs.FileLemmas.{never_stops, with_file_fault_whole}
 
 -- under the key that was chosen

@@ -1,5 +1,12 @@
 -- A payload that reads whole, by ranges: what is saved of it is its plaintext.
 use Rattle.age_stream.proofs.Common.{◌≡◌, inl, inr, ℕ, List, [], ◌∷◌, ◌+◌, ◌-◌, ◌<◌, ◌≤◌, length, take, drop, get_or, ◌∙◌, ap, arith, true, false, None, Ok, concat, cases_lt, le-ltb, lt-ltb, take_at, drop_at, Bytes, FileKey, StreamFault, Reading, chunk_size, sealed_chunk_size, chunks, pieces, sealed_chunks_from, payload_key, outcome, outcomes, first_fault, payload_reading, whole, plain_len, IsSlice, range_outcome}
+use Rattle.std.proofs.Common.{◌*◌, ◌<◌, ap, map, refl, sym, Some}
+use Rattle.std.proofs.lemmas.List.{get_or-map, get_or_past, length-drop, length-take}
+use Rattle.age_cipher.proofs.OpeningLemmas.{opened_text-sealed_text}
+use Rattle.age_stream.specs.Payload.{chunk_nonce, is_end}
+use Rattle.age_stream.specs.Slice.{opening, openings}
+use Rattle.age_stream.proofs.PayloadLemmas.{is_end_each}
+use Rattle.age_stream.proofs.SliceLemmas.{cut_at}
 use Rattle.age_stream.specs.Salvage.{last_saved, padding, payload_parts, salvaged_text}
 use Rattle.age_stream.proofs.CuttingLemmas.{cut_at_most}
 use Rattle.age_stream.proofs.PayloadLemmas.{ok_payload, pieces_each, result_cases}
@@ -71,3 +78,26 @@ pub whole_slice : (k : FileKey) (b p xs : Bytes) (max at : ℕ) → payload_read
     → xs ≡ take (length xs) (drop at p)
 whole_slice k b p xs max at h s =
     slice_saved k b xs at s ∙ ap (λ t. take (length xs) (drop at t)) (payload_whole k b p max h).is
+
+openings_each : (key : Bytes) (i : ℕ) (ts : List Bytes) → openings key i (sealed_chunks_from key i ts) ≡ map Some ts
+openings_each key i [] = refl
+openings_each key i (t ∷ ts) =
+    rw (is_end_each key (i + 1) ts, opened_text-sealed_text key (chunk_nonce i (is_end ts)) [] t)
+    (ap (λ x. Some t ∷ x) (openings_each key (i + 1) ts))
+
+-- each chunk opens to its part of the plaintext
+pub whole_chunk : (k : FileKey) (b p : Bytes) (max i : ℕ) → payload_reading k max b ≡ whole p
+    → chunk_size * i < length p
+    → opening (payload_key k (take 16 b)) (drop 16 b) i ≡ Some (take chunk_size (drop (chunk_size * i) p))
+whole_chunk k b p max i h less =
+    let key : Bytes = payload_key k (take 16 b) in
+    let is = cut_at chunk_size i p (omega arith) in
+    let within : i < length (chunks p) = elim (cases_lt i (length (chunks p))) [
+      | inl lt ↦ lt
+      | inr past ↦
+          let none : length (take chunk_size (drop (chunk_size * i) p)) ≡ 0 =
+          ap length (sym is ∙ get_or_past (chunks p) i [] past) in
+          absurd (omega (arith, length-take {A = ℕ}, length-drop {A = ℕ}))
+    ] in
+    ap (λ os. get_or os i None) (ap (openings key 0) (whole_is k b p max h).sealed_so ∙ openings_each key 0 (chunks p))
+    ∙ get_or-map Some (chunks p) i [] None within ∙ ap Some is

@@ -1,5 +1,4 @@
-use Rattle.std.proofs.Common.{length, rules}
-use Rattle.age_header.specs.Device.{seen_by}
+use Rattle.age_file.proofs.Common.{length, rules, seen_by}
 use Rattle.age_file.proofs.CopiesLemmas.{after_ahead, copied_after, copied_failed, copied_none, failed_ahead}
 use Rattle.age_file.proofs.copying.copy_all.Goals as goal
 

@@ -1,5 +1,4 @@
-use Rattle.std.proofs.Common.{◌∙◌, arith, length}
-use Rattle.age_header.specs.Device.{seen_by}
+use Rattle.age_file.proofs.Common.{◌∙◌, arith, length, seen_by}
 use Rattle.age_file.proofs.CopiesLemmas.{beyond_ahead, copied_all, copied_beyond, copied_failed, copied_more, failed_ahead}
 use Rattle.age_file.proofs.copying.copy_pieces.Goals as goal
 

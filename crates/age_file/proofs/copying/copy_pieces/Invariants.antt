@@ -1,8 +1,6 @@
-use Rattle.std.proofs.Common.{◌≡◌, ◌-◌, ◌^◌, length}
-use Rattle.age_header.specs.Device.{seen_by}
+use Rattle.age_file.proofs.Common.{◌≡◌, ◌-◌, ◌^◌, length, seen_by, buffer_size}
 use Rattle.age_file.proofs.CopiesLemmas.{Copied}
 use Rattle.age_file.proofs.copying.copy_pieces.Given as goal
-use Rattle.age_file.specs.Copying.{buffer_size}
 
 abbrev pub invariant-loop-copied : goal.invariant-loop-copied
 invariant-loop-copied g l = record {

@@ -1,6 +1,4 @@
-use Rattle.std.proofs.Common.{◌≡◌, inl, inr, rules, Ok, Err}
-use Rattle.age_header.specs.Device.{flow, seen_by}
-use Rattle.age_file.specs.Verdict.{answers_by}
+use Rattle.age_file.proofs.Common.{◌≡◌, inl, inr, rules, Ok, Err, flow, seen_by, answers_by}
 use Rattle.age_file.proofs.DecryptLemmas.{inspect_decrypts, locked_decrypts, missed_decrypts, payload_takes, written_decrypts}
 use Rattle.age_file.proofs.PayloadLemmas.{payload_ends}
 use Rattle.age_file.proofs.FrontLemmas.{ended_late, front_gave, started_front}

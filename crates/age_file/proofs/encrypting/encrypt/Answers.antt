@@ -1,8 +1,4 @@
-use Rattle.std.proofs.Common.{◌≡◌, ◌++◌, rules, Ok, Err, inr}
-use Rattle.age_header.specs.Device.{seen_by}
-use Rattle.age_header.proofs.DeviceLemmas.{gave_none, gave_some, of_any, some_none}
-use Rattle.age_file.specs.declared.fault.Fault.TheVariants.{OutOfMemory, Read}
-use Rattle.age_file.specs.Verdict.{stream_fault}
+use Rattle.age_file.proofs.Common.{◌≡◌, ◌++◌, rules, Ok, Err, inr, seen_by, gave_none, gave_some, of_any, some_none, OutOfMemory, Read, stream_fault}
 use Rattle.age_file.proofs.EncryptLemmas.{encrypts_begun, encrypts_payload, encrypts_unmade, encrypts_unread, filled, made, read_late, sealed_filled, takes_begun, takes_none, takes_payload, unfilled}
 use Rattle.age_file.proofs.encrypting.encrypt.Goals as goal
 

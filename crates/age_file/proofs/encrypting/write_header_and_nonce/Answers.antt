@@ -1,7 +1,4 @@
-use Rattle.std.proofs.Common.{◌++◌, refl}
-use Rattle.age_header.specs.Device.{Bytes}
-use Rattle.std.proofs.lemmas.Result.{err_from_is_err_and}
-use Rattle.age_header.proofs.DeviceLemmas.{done_start, done_more, done_part, writes_last}
+use Rattle.age_file.proofs.Common.{◌++◌, refl, Bytes, err_from_is_err_and, done_start, done_more, done_part, writes_last}
 use Rattle.age_file.proofs.encrypting.write_header_and_nonce.Goals as goal
 
 pub returns-in_err-write_header-clause-text : goal.returns-in_err-write_header-clause-text

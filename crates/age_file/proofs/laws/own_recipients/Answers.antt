@@ -1,4 +1,4 @@
-use Rattle.std.proofs.Common.{refl}
+use Rattle.age_file.proofs.Common.{refl}
 use Rattle.age_file.proofs.OwnLabels.{alone_after, keyed_index, one_index}
 use Rattle.age_file.proofs.laws.own_recipients.Goals as goal
 

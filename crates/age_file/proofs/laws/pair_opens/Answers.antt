@@ -1,4 +1,4 @@
-use Rattle.std.proofs.Common.{rules}
+use Rattle.age_file.proofs.Common.{rules}
 use Rattle.age_file.proofs.FileLemmas.{opens_whole}
 use Rattle.age_file.proofs.laws.pair_opens.Goals as goal
 

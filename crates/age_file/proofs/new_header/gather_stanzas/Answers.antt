@@ -1,4 +1,4 @@
-use Rattle.std.proofs.Common.{◌≡◌, rules, Err}
+use Rattle.age_file.proofs.Common.{◌≡◌, rules, Err}
 use Rattle.age_file.proofs.IncompatibleLemmas.{refused_first}
 use Rattle.age_file.proofs.new_header.gather_stanzas.Goals as goal
 

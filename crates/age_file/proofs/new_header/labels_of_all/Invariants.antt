@@ -1,6 +1,4 @@
-use Rattle.std.proofs.Common.{map, take}
-use Rattle.std.specs.List.{AllZip}
-use Rattle.age_recipient.specs.Labels.{MayLabel}
+use Rattle.age_file.proofs.Common.{map, take, AllZip, MayLabel}
 use Rattle.age_file.proofs.new_header.labels_of_all.Given as goal
 
 -- the labels of the recipients so far

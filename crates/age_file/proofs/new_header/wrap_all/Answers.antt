@@ -1,5 +1,4 @@
-use Rattle.std.proofs.Common.{ap, inr, ◌++◌, ◌≡◌, rules}
-use Rattle.age_file.specs.declared.fault.Fault.TheVariants.{Refused}
+use Rattle.age_file.proofs.Common.{ap, inr, ◌++◌, ◌≡◌, rules, Refused}
 use Rattle.age_file.proofs.GatheredLemmas.{gathered_more, gathered_refused, refusal}
 use Rattle.age_file.proofs.new_header.wrap_all.Goals as goal
 

@@ -1,5 +1,4 @@
-use Rattle.std.proofs.Common.{◌≡◌, map, drop}
-use Rattle.age_file.specs.NewFile.{with_stanzas, gathering_from}
+use Rattle.age_file.proofs.Common.{◌≡◌, map, drop, with_stanzas, gathering_from}
 use Rattle.age_file.proofs.new_header.wrap_all.Given as goal
 
 -- the stanzas so far, followed by the remaining ones, are all stanzas

@@ -1,5 +1,4 @@
-use Rattle.std.proofs.Common.{◌∙◌, ap, drop, option_map, refl, sym, subst}
-use Rattle.age_file.specs.Ranges.{IsWithin}
+use Rattle.age_file.proofs.Common.{◌∙◌, ap, drop, refl, sym, subst, IsWithin, option_map}
 use Rattle.age_file.proofs.RangeLemmas.{range_header_found, header_gave, header_missed, header_most, header_named}
 use Rattle.age_file.proofs.ranges.header_at.Goals as goal
 

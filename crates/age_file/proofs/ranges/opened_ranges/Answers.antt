@@ -1,7 +1,4 @@
-use Rattle.std.proofs.Common.{◌∙◌, ap, List, map}
-use Rattle.age_header.specs.Header.{StanzaParts}
-use Rattle.age_stream.specs.Ranges.{chunks_of}
-use Rattle.age_file.specs.Verdict.{stream_fault}
+use Rattle.age_file.proofs.Common.{◌∙◌, ap, List, map, StanzaParts, chunks_of, stream_fault}
 use Rattle.age_file.proofs.RangeLemmas.{file_begins, file_ranges, header_refuses, header_stays, locked_refuses, payload_refuses}
 use Rattle.age_file.proofs.ranges.opened_ranges.Goals as goal
 

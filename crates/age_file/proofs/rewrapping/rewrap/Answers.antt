@@ -1,8 +1,7 @@
-use Rattle.std.proofs.Common.{◌≡◌, Err, rules}
+use Rattle.age_file.proofs.Common.{◌≡◌, Err, rules, flow, seen_by}
 use Rattle.age_file.proofs.DecryptLemmas.{headed}
 use Rattle.age_file.proofs.EncryptLemmas.{made}
 use Rattle.age_file.proofs.RewrapLemmas.{begun_rewraps, copied_rewraps, copies_late, heading_rewraps, inspect_rewraps, key_found, locked_rewraps}
-use Rattle.age_header.specs.Device.{flow, seen_by}
 use Rattle.age_file.proofs.FrontLemmas.{copied_took, front_ahead, front_gave, headed_took, read_took}
 use Rattle.age_file.proofs.rewrapping.rewrap.Goals as goal
 

@@ -1,7 +1,4 @@
-use Rattle.std.proofs.Common.{Err, inr, sym}
-use Rattle.age_header.specs.Device.{flow, move_by, seen_by}
-use Rattle.age_stream.specs.Salvage.{losses_by}
-use Rattle.age_file.specs.Verdict.{answers_by}
+use Rattle.age_file.proofs.Common.{Err, inr, sym, flow, move_by, seen_by, losses_by, answers_by}
 use Rattle.age_file.proofs.DecryptLemmas.{reads_file}
 use Rattle.age_file.proofs.SalvageLaws.{quiet_pieces}
 use Rattle.age_file.proofs.SalvageLemmas.{inspect_salvages, locked_salvages, payload_salvages, salvage_takes}

@@ -1,6 +1,4 @@
-use Rattle.std.proofs.Common.{◌≡◌, drop}
-use Rattle.std.specs.List.{list_any}
-use Rattle.age_file.specs.AgeFile.{is_scrypt}
+use Rattle.age_file.proofs.Common.{◌≡◌, drop, list_any, is_scrypt}
 use Rattle.age_file.proofs.unlocking.has_scrypt.Given as goal
 
 abbrev pub invariant-loop-stanza : goal.invariant-loop-stanza

@@ -1,4 +1,4 @@
-use Rattle.std.proofs.Common.{rules, ◌≡◌, ◌+◌, ◌-◌, ◌^◌, ◌≤◌, length, min, sym}
+use Rattle.age_file.proofs.Common.{rules, ◌≡◌, ◌+◌, ◌-◌, ◌^◌, ◌≤◌, length, min, sym}
 use Rattle.age_file.proofs.AtStateLemmas.{gives_on, grows_on}
 use Rattle.age_file.proofs.at_source.AtSourceSource.read.Goals as goal
 

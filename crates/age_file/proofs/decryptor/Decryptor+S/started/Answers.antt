@@ -1,5 +1,4 @@
-use Rattle.std.proofs.Common.{inl, inr, rules}
-use Rattle.age_header.specs.Device.{flow_by}
+use Rattle.age_file.proofs.Common.{inl, inr, rules, flow_by}
 use Rattle.age_file.proofs.FrontLemmas.{front_gave}
 use Rattle.age_file.proofs.decryptor.Decryptor+S.started.Goals as goal
 

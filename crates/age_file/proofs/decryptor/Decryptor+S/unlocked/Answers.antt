@@ -1,5 +1,4 @@
-use Rattle.std.proofs.Common.{sym}
-use Rattle.age_stream.proofs.ReaderLemmas.{starts_reader}
+use Rattle.age_file.proofs.Common.{sym, starts_reader}
 use Rattle.age_file.proofs.DecryptLemmas.{found_key}
 use Rattle.age_file.proofs.decryptor.Decryptor+S.unlocked.Goals as goal
 
