@@ -132,6 +132,14 @@ class Writing(InFolder):
                 write(file)
                 written = file.tell()
             self.assertEqual(agefile.decrypt(self.got("o.age"), identities=KEY), text(65537)[:written])
+        self.put(b"old", "o.age")
+        file = agefile.open("o.age", "wb", recipients=KEY)
+        try:
+            raise KeyError
+        except KeyError:
+            file.flush()
+        file.abort()
+        self.assertEqual(self.got("o.age"), b"old")
 
     def test_what_an_opener_opens_is_opened_last(self):
         opened = []

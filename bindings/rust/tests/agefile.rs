@@ -706,6 +706,10 @@ fn callers_own_recipients_and_identities() {
     assert_eq!(decrypt(&file, &[&Key::new([8; 32]), &Plain]).unwrap(), b"text");
     assert_eq!(decrypt(&file, &[&key()]).unwrap(), b"text");
     assert_eq!(decrypt(&file, &[&Wrong]), Err(Error::BadMac));
+    let alone = encrypt(b"", &[&passphrase()]).unwrap();
+    let (stanzas, mac) = alone.split_at(inspect(&alone).unwrap().text().len() - 48);
+    let mixed = [stanzas, b"-> other\n\n", mac].concat();
+    assert_eq!(decrypt(&mixed, &[&Plain]), Err(Error::MixedPassphrase));
     for name in ["", "a b", "ü", "a\n"] {
         struct Named<'a>(&'a str);
         impl Recipient for Named<'_> {

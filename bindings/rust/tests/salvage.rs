@@ -106,9 +106,10 @@ fn damaged_and_whole_files() {
     }
     assert_lost(Cursor::new(&damaged), &[(0..1, false), (2..4, false)]);
     // From a file object's position on.
-    let mut later = Disk::new([vec![1; 1000], damaged].concat(), &[(1000 + front + 9, 1000 + front + 10)]);
+    let bad = 1000 + front + 3 * SEALED + 9;
+    let mut later = Disk::new([vec![1; 1000], damaged].concat(), &[(bad, bad + 1)]);
     later.seek(SeekFrom::Start(1000)).unwrap();
-    assert_lost(later, &[(0..1, true), (2..4, false)]);
+    assert_lost(later, &[(0..1, false), (2..3, false), (3..4, true)]);
 }
 
 #[test]
