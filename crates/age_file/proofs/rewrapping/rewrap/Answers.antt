@@ -1,4 +1,4 @@
-use Rattle.age_file.proofs.Common.{◌≡◌, Err, rules, flow, seen_by}
+use Rattle.age_file.proofs.Common.{◌≡◌, Err, rules, flow, seen_by, of_more, OutOfMemory}
 use Rattle.age_file.proofs.DecryptLemmas.{headed}
 use Rattle.age_file.proofs.EncryptLemmas.{made}
 use Rattle.age_file.proofs.RewrapLemmas.{begun_rewraps, copied_rewraps, copies_late, heading_rewraps, inspect_rewraps, key_found, locked_rewraps}
@@ -17,6 +17,11 @@ returns-in-Err-header_for-clause-rewraps g c =
     let read = c.in-Ok.ensures in
     let key = c.in-Ok-unlock_header.ensures.key in
     search (heading_rewraps, headed, key_found, read.verdict, key, c.in-Err-header_for.ensures.err)
+
+pub returns-in_err-buf-clause-rewraps : goal.returns-in_err-buf-clause-rewraps
+returns-in_err-buf-clause-rewraps g c =
+    let is : c.from_residual-in_err-buf.result ≡ Err OutOfMemory = search rules in
+    rw is (of_more (headed c.args.limits.now c.in-Ok.ensures.verdict).took (λ d end. tt))
 
 pub returns-in_default-clause-rewraps : goal.returns-in_default-clause-rewraps
 returns-in_default-clause-rewraps g c =
