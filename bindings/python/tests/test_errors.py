@@ -45,7 +45,7 @@ class Kinds(InFolder):
     def test_pickles_keep_the_hint(self):
         for error in (AgeError(13, 4, 0, "a.age", "why"), AgeError(9), agefile.AgeMemoryError(17), agefile.AgeChangedError(13, 2)):
             other = pickle.loads(pickle.dumps(error))
-            self.assertEqual((str(other), other.hint, vars(other)), (str(error), error.hint, vars(error)))
+            self.assertEqual((repr(other), other.hint, vars(other)), (f"{type(error).__name__}({str(error)!r})", error.hint, vars(error)))
         self.assertEqual(getattr(AgeError(13, hint="why"), "__notes__", ["why"]), ["why"])
 
 

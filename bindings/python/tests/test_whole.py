@@ -182,6 +182,12 @@ class Wrong(unittest.TestCase):
             for identities in ([right, wrong], [wrong, right]):
                 self.assertEqual(agefile.decrypt(file, identities=identities), b"text")
 
+    def test_a_passphrase_beside_others(self):
+        """A stanza of a passphrase that is not alone is refused before any identity is asked."""
+        mixed = agefile.encrypt(b"", recipients=Passphrase("x", work=1)).replace(b"\n--- ", b"\n-> other\n\n--- ", 1)
+        with self.assertRaisesRegex(AgeError, pattern("MixedPassphrase")):
+            agefile.decrypt(mixed, identities=mock.Mock(unwrap=lambda stanzas: None))
+
     def test_cut_files(self):
         """A file cut at each end of a piece: one thread and two report the same chunk."""
         file = agefile.encrypt(text(3 * 65536), recipients=KEY)
