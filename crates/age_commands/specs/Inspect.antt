@@ -1,5 +1,6 @@
 -- What the command `inspect` writes and returns.
-use Rattle.age_commands.specs.Words.{◌≡◌, ◌≢◌, ◌^◌, ◌-◌, ◌+◌, ◌∷◌, ◌++◌, ℕ, List, [], ⊤, Bool, true, false, Result, Ok, Err, if◌then◌else◌, codes, decimal, flat_map, length, min, Option, None, Some, Bytes, Flow, OfGiven, WritesPart, Moved, Took, Stays, Head, HeaderParts, StanzaParts, line, Fault, BadMac, OutOfMemory, Read, Write, Bounds, finding, header_fault}
+use Rattle.std.specs.Prelude.{◌≡◌, ◌≢◌, ◌^◌, ◌-◌, ◌+◌, ◌∷◌, ◌++◌, if◌then◌else◌}
+use Rattle.age_commands.specs.Words.{ℕ, List, [], ⊤, Bool, true, false, Result, Ok, Err, codes, decimal, flat_map, length, min, Option, None, Some, Bytes, Flow, OfGiven, WritesPart, Moved, Took, Stays, Head, HeaderParts, StanzaParts, line, Fault, BadMac, OutOfMemory, Read, Write, Bounds, finding, header_fault}
 use Rattle.std.specs.Fmt.{format_spec, styled_decimal}
 use Rattle.std.specs.Str.{bytes_eq}
 use Rattle.age_header.specs.declared.fault.HeaderFault.{HeaderFault}

@@ -1,5 +1,6 @@
 -- The output and the results of the command `range`.
-use Rattle.age_commands.specs.Words.{◌≡◌, ◌⊎◌, ◌<◌, ◌≤◌, ◌+◌, ◌*◌, ◌-◌, ◌/◌, ◌%◌, ℕ, ⊤, length, slice_get, slice_index, Option, None, Some, Result, Ok, Err, Bytes, Known, Moved, Took, Stays, Fault, BadChunk, Read, Write, Bounds, Answering}
+use Rattle.std.specs.Prelude.{◌≡◌, ◌⊎◌, ◌<◌, ◌≤◌, ◌+◌, ◌*◌, ◌-◌, ◌/◌, ◌%◌}
+use Rattle.age_commands.specs.Words.{ℕ, ⊤, length, slice_get, slice_index, Option, None, Some, Result, Ok, Err, Bytes, Known, Moved, Took, Stays, Fault, BadChunk, Read, Write, Bounds, Answering}
 use Rattle.age_stream.specs.declared.layout.Layout.{Layout}
 use Rattle.age_stream.specs.Ranges.{IsVerifiedByte, RangeState, bytes_from, source_opening, range_len}
 use Rattle.age_stream.specs.Sizes.{chunk_size}

@@ -1,5 +1,6 @@
 -- The meaning of a job's secrets and limits.
-use Rattle.age_commands.specs.Words.{◌^◌, ℕ, List, [], ◌∷◌, map, Result, Ok, Bytes, StanzaParts, Bounds, Gathered, Gathering, Answering, Job}
+use Rattle.std.specs.Prelude.{◌^◌, ◌∷◌}
+use Rattle.age_commands.specs.Words.{ℕ, List, [], map, Result, Ok, Bytes, StanzaParts, Bounds, Gathered, Gathering, Answering, Job}
 use Rattle.age_header.specs.declared.file_key.FileKey.{FileKey}
 use Rattle.age_recipient.specs.declared.labels.Labels.{Labels}
 use Rattle.age_recipient.specs.declared.labels.Labels.TheVariants.{Alone, Names}

@@ -1,5 +1,6 @@
 -- Reading a file of which some bytes cannot be read.
-use Rattle.age_commands.specs.Words.{◌≡◌, ◌⊎◌, ℕ, ⊤, Bool, true, false, IfSome, Option, None, Some, if◌then◌else◌, Consumes, IsAtEnd, Bytes, Known}
+use Rattle.std.specs.Prelude.{◌≡◌, ◌⊎◌, if◌then◌else◌}
+use Rattle.age_commands.specs.Words.{ℕ, ⊤, Bool, true, false, IfSome, Option, None, Some, Consumes, IsAtEnd, Bytes, Known}
 use Rattle.age_commands.specs.declared.skipping.Reached.{Reached}
 use Rattle.age_commands.specs.declared.skipping.Reached.TheVariants.{Place, End, Failure}
 use Rattle.age_commands.specs.declared.skipping.Unread.{Unread}

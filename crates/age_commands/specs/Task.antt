@@ -1,5 +1,6 @@
 -- The results of a job with its secrets, from the bytes of its input to those of its output.
-use Rattle.age_commands.specs.Words.{◌≡◌, ◌⊎◌, ◌&&◌, ℕ, ⊤, Bool, IfErr, IfSome, Option, Result, Ok, Err, if◌then◌else◌, Bytes, Flow, Known, Moved, Fault, BadChunk, BadMac, Bounds, EncryptsGiven, EncryptsText, Gathering, RefusesFirst, TookWhileEncrypting, Answering, Job}
+use Rattle.std.specs.Prelude.{◌≡◌, ◌⊎◌, ◌&&◌, if◌then◌else◌}
+use Rattle.age_commands.specs.Words.{ℕ, ⊤, Bool, IfErr, IfSome, Option, Result, Ok, Err, Bytes, Flow, Known, Moved, Fault, BadChunk, BadMac, Bounds, EncryptsGiven, EncryptsText, Gathering, RefusesFirst, TookWhileEncrypting, Answering, Job}
 use Rattle.age_stream.specs.declared.done.Done.{Done}
 use Rattle.age_file.specs.declared.limits.Fresh.{Fresh}
 use Rattle.age_file.specs.Decrypt.{DecryptsText}

@@ -1,5 +1,6 @@
 -- The codes of faults in C, by the numbers of `agefile.h`.
-use Rattle.agefile.specs.Words.{ℕ, ◌-◌, ◌^◌, min, Option, Some, None, Fault, NotAge, BadLine, HeaderTruncated, HeaderTooLarge, MixedPassphrase, NoMatch, WrongKey, Malformed, BadMac, NonceTruncated, ChunkShort, EmptyFinal, BadChunk, TooManyChunks, Read, Write, OutOfMemory, NoRecipients, Refused, IncompatibleRecipients}
+use Rattle.std.specs.Prelude.{◌-◌, ◌^◌}
+use Rattle.agefile.specs.Words.{ℕ, min, Option, Some, None, Fault, NotAge, BadLine, HeaderTruncated, HeaderTooLarge, MixedPassphrase, NoMatch, WrongKey, Malformed, BadMac, NonceTruncated, ChunkShort, EmptyFinal, BadChunk, TooManyChunks, Read, Write, OutOfMemory, NoRecipients, Refused, IncompatibleRecipients}
 use Rattle.age_recipient.specs.declared.unwrapped.StanzaFault.{StanzaFault}
 use Rattle.age_recipient.specs.declared.unwrapped.StanzaFault.TheVariants.{ArgCount, Salt, WorkFactorText, WorkFactorTooHigh, BodyLength, Other}
 

@@ -1,5 +1,6 @@
 -- The results of calls on whole buffers.
-use Rattle.agefile.specs.Words.{◌≡◌, ◌⊎◌, ◌<◌, ◌≤◌, ◌++◌, ℕ, List, [], ◌∷◌, length, drop, Option, None, Bytes, StanzaParts, Unwrapped, Fault, Answering, Report}
+use Rattle.std.specs.Prelude.{◌≡◌, ◌⊎◌, ◌<◌, ◌≤◌, ◌++◌, ◌∷◌}
+use Rattle.agefile.specs.Words.{ℕ, List, [], length, drop, Option, None, Bytes, StanzaParts, Unwrapped, Fault, Answering, Report}
 use Rattle.agefile.specs.Codes.{code_of, too_small}
 use Rattle.agefile.specs.Report.{report_of}
 

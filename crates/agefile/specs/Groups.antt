@@ -1,7 +1,8 @@
 -- The results of calls on a payload and on its parts, in the order of the chunks: single calls, or
 -- groups of them. The calls share no struct, so calls on different parts may come in any order, and
 -- at the same time.
-use Rattle.agefile.specs.Words.{◌≡◌, ◌⊎◌, ◌++◌, ◌+◌, ℕ, false, List, [], ◌∷◌, length, take, ◌≢◌, Bytes, sealed_text, chunk_nonce, is_end, tag_size, Part, Payload, Report}
+use Rattle.std.specs.Prelude.{◌≡◌, ◌⊎◌, ◌++◌, ◌+◌, ◌∷◌, ◌≢◌}
+use Rattle.agefile.specs.Words.{ℕ, false, List, [], length, take, Bytes, sealed_text, chunk_nonce, is_end, tag_size, Part, Payload, Report}
 use Rattle.agefile.specs.Codes.{ok}
 use Rattle.agefile.specs.Part as part
 use Rattle.agefile.specs.Payload.{OpensNext, SealsNext}

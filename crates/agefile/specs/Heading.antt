@@ -1,5 +1,6 @@
 -- The text of stanzas, and the results of calls that make a header of it.
-use Rattle.agefile.specs.Words.{◌≡◌, ◌≢◌, ◌⊎◌, ◌==◌, ℕ, ◌-◌, ◌++◌, List, [], length, replicate, codes, nat_lt, None, Result, Ok, Err, if◌then◌else◌, Vec, Global, count_by, Bytes, HeaderFault, StanzaParts, line, version_line, Found, HeaderVerdict, FileKey, Fault, BadLine, MixedPassphrase, NoRecipients, OutOfMemory, is_mixed, header_fault, payload_key, Payload, Report}
+use Rattle.std.specs.Prelude.{◌≡◌, ◌≢◌, ◌⊎◌, ◌==◌, ◌-◌, ◌++◌, if◌then◌else◌}
+use Rattle.agefile.specs.Words.{ℕ, List, [], length, replicate, codes, nat_lt, None, Result, Ok, Err, Vec, Global, count_by, Bytes, HeaderFault, StanzaParts, line, version_line, Found, HeaderVerdict, FileKey, Fault, BadLine, MixedPassphrase, NoRecipients, OutOfMemory, is_mixed, header_fault, payload_key, Payload, Report}
 use Rattle.age_header.specs.Mac.{header_mac}
 use Rattle.age_file.specs.NewFile.{Gathering, IsHeading}
 use Rattle.agefile.specs.Codes.{out_of_memory}

@@ -1,5 +1,6 @@
 -- The results of calls on a header: its summary, and its stanzas.
-use Rattle.agefile.specs.Words.{◌≡◌, ◌⊎◌, ℕ, List, [], ◌∷◌, length, None, Result, Ok, Err, ◌<◌, ◌≤◌, ◌++◌, drop, map, flat_map, join_by, Bytes, HeaderFault, HeaderParts, StanzaParts, Found, HeaderVerdict, Fault, OutOfMemory, header_fault, Report}
+use Rattle.std.specs.Prelude.{◌≡◌, ◌⊎◌, ◌∷◌, ◌<◌, ◌≤◌, ◌++◌}
+use Rattle.agefile.specs.Words.{ℕ, List, [], length, None, Result, Ok, Err, drop, map, flat_map, join_by, Bytes, HeaderFault, HeaderParts, StanzaParts, Found, HeaderVerdict, Fault, OutOfMemory, header_fault, Report}
 use Rattle.agefile.specs.declared.inspecting.StanzaSummary.{StanzaSummary}
 use Rattle.agefile.specs.declared.inspecting.Summary.{Summary}
 use Rattle.agefile.specs.Codes.{ok, out_of_memory, too_small}

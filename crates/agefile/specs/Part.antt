@@ -1,5 +1,6 @@
 -- A part of a payload: some of its chunks, without the last.
-use Rattle.agefile.specs.Words.{◌≡◌, ◌⊎◌, ℕ, ◌+◌, ◌-◌, ◌<◌, ◌≤◌, ◌&&◌, ◌||◌, Bool, true, false, nat_eq, nat_lt, replicate, None, if◌then◌else◌, Bytes, TooManyChunks, Part, Payload, Report}
+use Rattle.std.specs.Prelude.{◌≡◌, ◌⊎◌, ◌+◌, ◌-◌, ◌<◌, ◌≤◌, ◌&&◌, ◌||◌, if◌then◌else◌}
+use Rattle.agefile.specs.Words.{ℕ, Bool, true, false, nat_eq, nat_lt, replicate, None, Bytes, TooManyChunks, Part, Payload, Report}
 use Rattle.agefile.specs.Codes.{ok, out_of_order}
 use Rattle.agefile.specs.Sizes.{limits}
 use Rattle.agefile.specs.Payload as payload

@@ -1,6 +1,7 @@
 -- A payload, which the caller holds between two calls: its phases and those of its parts, by the
 -- numbers of `agefile.h`; the result of opening or sealing one chunk at its number; and the calls.
-use Rattle.agefile.specs.Words.{◌≡◌, ℕ, ◌+◌, ◌&&◌, Bool, length, nat_eq, replicate, if◌then◌else◌, ◌⊎◌, ◌-◌, ◌<◌, ◌≤◌, ◌++◌, ◌||◌, [], take, drop, nat_le, nat_lt, None, Result, Ok, Err, Bytes, Payload, Report, sealed_text, StreamFault, chunk_nonce, outcome, tag_size, sealed_chunk_size, TooManyChunks, stream_fault}
+use Rattle.std.specs.Prelude.{◌≡◌, ◌+◌, ◌&&◌, if◌then◌else◌, ◌⊎◌, ◌-◌, ◌<◌, ◌≤◌, ◌++◌, ◌||◌}
+use Rattle.agefile.specs.Words.{ℕ, Bool, length, nat_eq, replicate, [], take, drop, nat_le, nat_lt, None, Result, Ok, Err, Bytes, Payload, Report, sealed_text, StreamFault, chunk_nonce, outcome, tag_size, sealed_chunk_size, TooManyChunks, stream_fault}
 use Rattle.agefile.specs.Codes.{ok}
 use Rattle.agefile.specs.Report.{Steps, Refuses, report_of}
 use Rattle.agefile.specs.Sizes.{limits}

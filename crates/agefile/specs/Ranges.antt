@@ -1,6 +1,7 @@
 -- Reading parts of a plaintext in steps: the caller reads one sealed chunk of the file at a time
 -- (C2SP age.md, "Payload").
-use Rattle.agefile.specs.Words.{ℕ, ◌≡◌, ◌⊎◌, ◌<◌, ◌≤◌, ◌+◌, ◌-◌, ◌*◌, ◌/◌, ◌%◌, ◌^◌, ◌++◌, ◌&&◌, ◌||◌, Bool, length, take, drop, min, nat_eq, nat_le, nat_lt, replicate, None, Result, Ok, Err, Bytes, StreamFault, outcome, Fault, Answering, stream_fault, Report, Start, tag_size, chunk_size, sealed_chunk_size}
+use Rattle.std.specs.Prelude.{◌≡◌, ◌⊎◌, ◌<◌, ◌≤◌, ◌+◌, ◌-◌, ◌*◌, ◌/◌, ◌%◌, ◌^◌, ◌++◌, ◌&&◌, ◌||◌}
+use Rattle.agefile.specs.Words.{ℕ, Bool, length, take, drop, min, nat_eq, nat_le, nat_lt, replicate, None, Result, Ok, Err, Bytes, StreamFault, outcome, Fault, Answering, stream_fault, Report, Start, tag_size, chunk_size, sealed_chunk_size}
 use Rattle.agefile.specs.declared.ranges.Ranges.{Ranges}
 use Rattle.agefile.specs.Codes.{ok, out_of_order}
 use Rattle.agefile.specs.Sizes.{limits}

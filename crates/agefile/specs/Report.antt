@@ -1,5 +1,6 @@
 -- The report of a call, and the parts common to calls on payloads and on parts.
-use Rattle.agefile.specs.Words.{ℕ, ◌≡◌, Option, Some, None, Bool, Fault, Report, Bytes}
+use Rattle.std.specs.Prelude.{◌≡◌}
+use Rattle.agefile.specs.Words.{ℕ, Option, Some, None, Bool, Fault, Report, Bytes}
 use Rattle.agefile.specs.Codes.{fault_code, fault_detail, fault_place, out_of_order}
 use Rattle.std.specs.Bool.{OnFalse, OnTrue}
 

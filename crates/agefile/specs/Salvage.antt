@@ -1,5 +1,6 @@
 -- Saving what is left of a payload, one sealed chunk after another.
-use Rattle.agefile.specs.Words.{◌≡◌, ℕ, ◌⊎◌, ◌<◌, ◌≤◌, List, [], ◌∷◌, ◌++◌, Bool, length, take, drop, Bytes, TooManyChunks, is_end, Payload, Report}
+use Rattle.std.specs.Prelude.{◌≡◌, ◌⊎◌, ◌<◌, ◌≤◌, ◌∷◌, ◌++◌}
+use Rattle.agefile.specs.Words.{ℕ, List, [], Bool, length, take, drop, Bytes, TooManyChunks, is_end, Payload, Report}
 use Rattle.age_stream.specs.declared.salvaged.Saved.{Saved}
 use Rattle.age_stream.specs.declared.salvaged.Saved.TheVariants.{Chunk, LastChunk, Padded, Early, Zeros, Nothing}
 use Rattle.age_stream.specs.Salvage.{Part, part}

@@ -1,5 +1,6 @@
 -- The limits of every call, and the lengths of files and plaintexts.
-use Rattle.agefile.specs.Words.{ℕ, ◌+◌, ◌-◌, ◌*◌, ◌/◌, ◌%◌, ◌^◌, nonce_size, tag_size, chunk_size, sealed_chunk_size, Bounds, default_max_header}
+use Rattle.std.specs.Prelude.{◌+◌, ◌-◌, ◌*◌, ◌/◌, ◌%◌, ◌^◌}
+use Rattle.agefile.specs.Words.{ℕ, nonce_size, tag_size, chunk_size, sealed_chunk_size, Bounds, default_max_header}
 
 -- a header of 65,536 bytes, and 2^64 - 1 chunks
 abbrev pub limits : Bounds

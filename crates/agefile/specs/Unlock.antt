@@ -1,6 +1,7 @@
 -- The results of unlocking: the file key and the length of the header; the offset of the sealed
 -- chunks and their key; and a payload opened under the file key.
-use Rattle.agefile.specs.Words.{◌≡◌, ◌⊎◌, ℕ, length, None, Result, Ok, Err, ◌+◌, take, drop, nat_lt, if◌then◌else◌, List, Bytes, HeaderFault, Found, HeaderVerdict, FileKey, Fault, OutOfMemory, NonceTruncated, Answering, header_fault, parts_of, header_key, Report, payload_key, Start, nonce_size, StanzaParts, Unwrapped, Payload}
+use Rattle.std.specs.Prelude.{◌≡◌, ◌⊎◌, ◌+◌, if◌then◌else◌}
+use Rattle.agefile.specs.Words.{ℕ, length, None, Result, Ok, Err, take, drop, nat_lt, List, Bytes, HeaderFault, Found, HeaderVerdict, FileKey, Fault, OutOfMemory, NonceTruncated, Answering, header_fault, parts_of, header_key, Report, payload_key, Start, nonce_size, StanzaParts, Unwrapped, Payload}
 use Rattle.agefile.specs.declared.unlocking.Unlocked.{Unlocked}
 use Rattle.agefile.specs.Codes.{ok}
 use Rattle.agefile.specs.Sizes.{limits}

@@ -1,6 +1,7 @@
 -- The results of encrypting a plaintext for a text of stanzas, and of decrypting a file under its
 -- file key.
-use Rattle.agefile.specs.Words.{◌≡◌, ◌⊎◌, ◌≤◌, ◌++◌, ℕ, length, None, Vec, Result, Ok, Err, ◌-◌, drop, Option, Global, Bytes, FileKey, chunks, payload, Fault, Report, StreamFault, Reading, Answering, IsVerdict, Start}
+use Rattle.std.specs.Prelude.{◌≡◌, ◌⊎◌, ◌≤◌, ◌++◌, ◌-◌}
+use Rattle.agefile.specs.Words.{ℕ, length, None, Vec, Result, Ok, Err, drop, Option, Global, Bytes, FileKey, chunks, payload, Fault, Report, StreamFault, Reading, Answering, IsVerdict, Start}
 use Rattle.agefile.specs.Codes.{out_of_memory}
 use Rattle.agefile.specs.Giving.{Gives, Exceeds, Fits}
 use Rattle.agefile.specs.Heading.{MakesHeader}

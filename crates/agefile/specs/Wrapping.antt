@@ -1,5 +1,6 @@
 -- The results of calls that write a stanza.
-use Rattle.agefile.specs.Words.{◌⊎◌, ◌==◌, ℕ, List, None, slice_split, Bytes, AreArguments, IsStanza, StanzaParts, Report}
+use Rattle.std.specs.Prelude.{◌⊎◌, ◌==◌}
+use Rattle.agefile.specs.Words.{ℕ, List, None, slice_split, Bytes, AreArguments, IsStanza, StanzaParts, Report}
 use Rattle.std.specs.Str.{IsUtf8}
 use Rattle.age_header.specs.declared.stanza.StanzaError.{StanzaError}
 use Rattle.age_header.specs.declared.stanza.StanzaError.TheVariants.{Memory}

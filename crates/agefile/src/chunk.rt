@@ -1,6 +1,7 @@
 //! One chunk by its number, in place.
 
-ghost use Rattle.agefile.specs.Words.{◌≡◌, ◌<◌, ◌≤◌, length, sealed_chunk_size, tag_size};
+ghost use Rattle.std.specs.Prelude.{◌≡◌, ◌<◌, ◌≤◌};
+ghost use Rattle.agefile.specs.Words.{length, sealed_chunk_size, tag_size};
 ghost use Rattle.agefile.specs.Payload.{OpensAs, SealsAs, has_text, is_chunk_len};
 ghost use Rattle.agefile.specs.Codes.{ok};
 ghost use Rattle.agefile.specs.Sizes.{limits};

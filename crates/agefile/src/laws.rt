@@ -1,6 +1,7 @@
 //! Laws about the definitions alone. Each is the contract of a function that does nothing.
 
-ghost use Rattle.agefile.specs.Words.{Ok, List, [], ◌∷◌, drop, length, map, take, true, ℕ, ◌≤◌, ◌%◌, ◌++◌, ◌+◌, ◌/◌, ◌<◌, ◌≡◌, ◌≢◌, ◌⊎◌, Bytes, IsStanza, StanzaParts, chunk_size, nonce_size, tag_size, Fault, HeaderTruncated, NonceTruncated, Answering, IsVerdict, Payload, Report};
+ghost use Rattle.std.specs.Prelude.{◌∷◌, ◌≤◌, ◌%◌, ◌++◌, ◌+◌, ◌/◌, ◌<◌, ◌≡◌, ◌≢◌, ◌⊎◌};
+ghost use Rattle.agefile.specs.Words.{Ok, List, [], drop, length, map, take, true, ℕ, Bytes, IsStanza, StanzaParts, chunk_size, nonce_size, tag_size, Fault, HeaderTruncated, NonceTruncated, Answering, IsVerdict, Payload, Report};
 ghost use Rattle.std.specs.List.{concat};
 ghost use Rattle.age_stream.specs.Payload.{chunks, pieces, sealed_chunks_from};
 ghost use Rattle.age_stream.specs.Reading.{Reading, outcome, whole};

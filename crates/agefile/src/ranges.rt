@@ -1,6 +1,7 @@
 //! Reading parts of a plaintext in steps. The caller reads the file, one sealed chunk at a time.
 
-ghost use Rattle.agefile.specs.Words.{◌≡◌, ◌≤◌, ◌/◌, None, true, outcome, chunk_size};
+ghost use Rattle.std.specs.Prelude.{◌≡◌, ◌≤◌, ◌/◌};
+ghost use Rattle.agefile.specs.Words.{None, true, outcome, chunk_size};
 ghost use Rattle.std.specs.Bool.{OnFalse, OnTrue};
 ghost use Rattle.agefile.specs.Sizes.{limits};
 ghost use Rattle.agefile.specs.Unlock.{by_file_key};

@@ -1,6 +1,7 @@
 //! Saving what is left of a damaged payload, one sealed chunk after another.
 
-ghost use Rattle.agefile.specs.Words.{◌≡◌, ◌<◌, ◌≤◌, length, sealed_chunk_size};
+ghost use Rattle.std.specs.Prelude.{◌≡◌, ◌<◌, ◌≤◌};
+ghost use Rattle.agefile.specs.Words.{length, sealed_chunk_size};
 ghost use Rattle.agefile.specs.Codes.{ok};
 ghost use Rattle.agefile.specs.Salvage.{SavesAs, SavesNext, saved_number};
 ghost use Rattle.agefile.specs.Sizes.{limits};

@@ -1,6 +1,7 @@
 //! From a file key to the text of a stanza.
 
-ghost use Rattle.agefile.specs.Words.{◌≡◌, [], ◌∷◌, StanzaParts};
+ghost use Rattle.std.specs.Prelude.{◌≡◌, ◌∷◌};
+ghost use Rattle.agefile.specs.Words.{[], StanzaParts};
 ghost use Rattle.age_recipient.specs.KeyedStanza.{keyed_stanza};
 ghost use Rattle.age_recipient.specs.PassphraseHolders.{WorkFits};
 ghost use Rattle.age_recipient.specs.PassphraseStanza.{pass_stanza};
