@@ -82,7 +82,8 @@ impl Salvaged {
 /// [is whole](Salvaged::is_whole).
 ///
 /// If a read fails and the source can seek, the chunk is lost, and salvaging continues at the next
-/// one. A pipe can be passed as a [`File`](std::fs::File), which then cannot seek.
+/// one. A read that would block is an error. A pipe can be passed as a [`File`](std::fs::File),
+/// which then cannot seek.
 ///
 /// # Errors
 /// Damaged chunks are not an error. A wrong key is one, and so is a damaged header, even if a key
@@ -156,8 +157,10 @@ impl<R: Read + Seek> Skipping<R> {
 
     /// Moves the source to the next chunk or to its end. Returns the error if it cannot.
     fn skip(&mut self, error: io::Error) -> io::Result<()> {
+        // These say nothing of the disk.
+        let is_retried = matches!(error.kind(), io::ErrorKind::Interrupted | io::ErrorKind::WouldBlock);
         let first = match self.first {
-            Some(first) if self.can_seek && error.kind() != io::ErrorKind::Interrupted => first,
+            Some(first) if self.can_seek && !is_retried => first,
             _ => return Err(error),
         };
         let end = self.source.seek(SeekFrom::End(0))?;

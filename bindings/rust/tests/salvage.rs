@@ -121,6 +121,7 @@ fn cut_and_too_long_files() {
     assert_eq!(facts(file[..front + 2 * SEALED].to_vec()), (2 * TEXT, None, 0, true, false));
     assert_eq!(facts(file[..front + 2 * SEALED + 9].to_vec()), (2 * TEXT, None, 0, true, false));
     assert_eq!(facts(file[..file.len() - 1].to_vec()), (plain.len() - 1, None, 0, false, false));
+    assert_eq!(facts([&file[..], &[0; 512]].concat()), (plain.len(), None, 512, false, false));
     let full = encrypt(&plain[..TEXT], &[&key()]).unwrap();
     assert_eq!(facts([&full[..], b"\n"].concat()), (TEXT, Some(0), 1, false, false));
     assert_eq!(
@@ -167,9 +168,11 @@ fn errors() {
     assert_eq!(saved(endless).unwrap_err().to_string(), "bad block");
     // Nothing is lost if a read fails at the end.
     assert_lost(Disk::new(file.clone(), &[(file.len(), file.len() + 1)]), &[]);
-    // An interrupted read is repeated.
+    // An interrupted read is repeated, and one that would block is an error.
     let interrupted = Disk { kind: ErrorKind::Interrupted, failures: 3, ..Disk::new(file.clone(), &bad) };
     assert_lost(interrupted, &[]);
+    let blocked = Disk { kind: ErrorKind::WouldBlock, failures: 1, ..Disk::new(file.clone(), &bad) };
+    assert_eq!(saved(blocked).unwrap_err().kind(), ErrorKind::WouldBlock);
     // Errors of the header, and of the sink.
     let wrong = salvage(Cursor::new(&file), &mut out, &[&Key::new([8; 32])]).unwrap_err();
     assert_eq!((fault(wrong), out.len()), (agefile::Error::WrongKey, 2 * TEXT));
