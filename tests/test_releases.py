@@ -28,7 +28,8 @@ def setUpModule():
 class PastReleases(unittest.TestCase):
     def test_commits(self):
         """Each release in CHANGELOG.md has a commit, that of its heading or the one in docs/PACKAGES.md,
-        whose program has this version."""
+        whose program has this version. Since then the lists of the library's names and of its layout have lost
+        no line, and no name was added with the number of that release."""
         if run("git", *HERE, "rev-parse", "--is-shallow-repository") == "true\n":
             self.skipTest("the repository is shallow")
         rows = dict(re.findall(r"^\| ([\d.]+) \| `(\w+)` \|$", (ROOT / "docs/PACKAGES.md").read_text(), re.MULTILINE))
@@ -39,6 +40,8 @@ class PastReleases(unittest.TestCase):
                 commit = rows.get(version) or run("git", *HERE, "log", "-1", "--format=%H", f"-S## {version} (").strip()
                 options = run("git", *HERE, "grep", "-hF", f'"{version}"', commit, "--", ":/crates/*/src/options.rt")
                 self.assertIn(f'"{version}"', options)
+                changes = run("git", *HERE, "diff", commit, "--", ":/share/debian/*.symbols", ":/share/debian/*.layout")
+                self.assertEqual(re.findall(rf"^-[^-#].*|^\+.* {re.escape(version)}$", changes, re.MULTILINE), [])
 
 
 @program.made_once
