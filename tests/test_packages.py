@@ -49,7 +49,8 @@ def glibc(path):
     needed = re.findall(r"NEEDED +(\S+)", run("objdump", "-p", path))
     if not {"libc.so.6", "ld-linux-x86-64.so.2"} >= set(needed):
         raise AssertionError(f"{path} needs {needed}")
-    return max((int(major), int(minor)) for major, minor in re.findall(r"GLIBC_(\d+)\.(\d+)", run("objdump", "-T", path)))
+    found = re.findall(r"GLIBC_(\d+)\.(\d+)", run("objdump", "-T", path))
+    return max((tuple(map(int, version)) for version in found), default=(0, 0))
 
 
 def run(*words, **options):
@@ -113,6 +114,10 @@ class Packages(unittest.TestCase):
         (cls.work / "other folder/.pydistutils.cfg").write_text("[bdist_wheel]\nuniversal = 1\n")
         other = os.environ | ENVIRONMENT | {name: str(cls.work / "other folder") for name in ("TMPDIR", "HOME")}
         other |= {name: os.environ.get(name, f"{Path.home()}/.{name[:-5].lower()}") for name in ("CARGO_HOME", "RUSTUP_HOME")}
+        # For `date`, it is nine days later.
+        (cls.work / "other folder/date").write_text(f'#!/bin/sh\nexec {shutil.which("date")} -d "9 days" "$@"\n')
+        (cls.work / "other folder/date").chmod(0o755)
+        other["PATH"] = f"{cls.work}/other folder:{os.environ['PATH']}"
         run(*as_a_user(), ROOT / "package", cls.work / "other folder/again", umask=0o077, env=other)
 
     def one(self, pattern):
@@ -128,8 +133,8 @@ class Packages(unittest.TestCase):
         return root
 
     def test_the_same_bytes_again(self):
-        """Packing the same builds gives the same bytes in another folder, as another user with another home.
-        This does not show that building again gives the same bytes."""
+        """Packing the same builds gives the same bytes in another folder, on another day, as another user with
+        another home. This does not show that building again gives the same bytes."""
         sums = [(folder / "SHA256SUMS").read_text() for folder in (self.dist, self.work / "other folder/again")]
         self.assertEqual(sums[0], sums[1])
         run("sha256sum", "-c", "SHA256SUMS", cwd=self.dist)
@@ -139,9 +144,11 @@ class Packages(unittest.TestCase):
         names = [
             *debs, f"python3-agefile_{self.for_debian}_all.deb", f"cushionduck_{self.for_debian}.dsc", f"cushionduck_{self.for_debian}.tar.xz",
             f"agefile-{self.for_python}-py3-none-manylinux_2_17_x86_64.whl", f"agefile-{self.version}.crate",
-            f"agep-{self.version}-linux-x86_64.tar.xz", "SHA256SUMS",
+            f"agep-{self.version}-linux-x86_64.tar.xz",
         ]
-        self.assertEqual(sorted(path.name for path in self.dist.iterdir()), sorted(names))
+        found = sorted((path.name, f"{path.stat().st_mode & 0o777:o}") for path in self.dist.iterdir())
+        self.assertEqual(found, [(name, "644") for name in sorted([*names, "SHA256SUMS"])])
+        self.assertEqual([line[66:] for line in (self.dist / "SHA256SUMS").read_text().splitlines()], sorted(names))
 
     def installed(self, pattern):
         """The mode, owner, link target and contents of each file of a package; the mode and owner of each
@@ -237,9 +244,10 @@ class Packages(unittest.TestCase):
 
     def test_source_package(self):
         """With the toolchain, it builds exactly the bytes of the Debian packages; without, it says what it
-        needs."""
+        needs. Its target clean removes all that a build makes."""
         tree = self.work / "unpacked"
         run("dpkg-source", "-x", self.one("*.dsc"), tree)
+        sources = sorted(tree.rglob("*"))
         words = ("dpkg-buildpackage", "-b", "-us", "-uc", "-d")
         without = stand_in.tools_but(self.work / "tools", "rt")
         done = subprocess.run(words, cwd=tree, env=without, capture_output=True, text=True)
@@ -247,6 +255,8 @@ class Packages(unittest.TestCase):
         run(*words, cwd=tree, env=stand_in.toolchain(self.work / "kit"))
         for deb in self.dist.glob("*.deb"):
             self.assertEqual((self.work / deb.name).read_bytes(), deb.read_bytes(), deb.name)
+        run("debian/rules", "clean", cwd=tree)
+        self.assertEqual(sorted(tree.rglob("*")), sources)
 
     def test_documents(self):
         """The links of each page lead somewhere in its package, and each package has the license."""
@@ -258,8 +268,9 @@ class Packages(unittest.TestCase):
                 targets = [path.parent / link for path, text in texts.items() for link in re.findall(r"\]\((?!https?:)([^)#]+)", text)]
                 self.assertEqual([path for path in targets if not path.exists()], [])
                 self.assertEqual(len([path for path in texts if path.name == "README.md"]), pages)
-                licence = "Permission is hereby granted, free of charge, to any person obtaining a copy"
-                self.assertIn(licence, "".join(path.read_text() for path in [*tree.rglob("LICENSE"), *tree.rglob("copyright")]))
+                said = " ".join(path.read_text() for path in [*tree.rglob("LICENSE"), *tree.rglob("copyright")])
+                for part in (ROOT / "LICENSE").read_text().split("(c) ")[1].split("\n\n"):
+                    self.assertIn(" ".join(part.split()), " ".join(said.split()))
                 self.assertEqual({path.name for path in tree.rglob("*.md")} >= {"USE.md", "CHANGELOG.md"}, pages == 5)
 
     def test_relations(self):
@@ -317,16 +328,20 @@ class Packages(unittest.TestCase):
         self.assertRegex(said, rf"\nagep {re.escape(self.version)} +\d{{4}}-\d\d-\d\d +AGEP")
 
     def test_libraries_that_are_needed(self):
-        """The oldest glibc for programs and libraries is that of docs/PACKAGES.md, and the wheel has its tag."""
-        root = self.unpacked("*.deb", "*.whl")
+        """The oldest glibc for programs and libraries is that of docs/PACKAGES.md. They have no table of symbols,
+        and no fixed address. The wheel has its tag and its description."""
+        root = self.unpacked("*.deb", "*.whl", "agep-*.tar.xz")
         files = [path for path in root.rglob("*") if path.is_file() and path.read_bytes()[:4] == b"\x7fELF"]
         libraries = {path for path in files if ".so" in path.name}
-        self.assertEqual((len(libraries), len(files)), (3, 4))
+        self.assertEqual((len(libraries), len(files)), (5, 8))
         self.assertEqual(max(glibc(path) for path in libraries), GLIBC_OF_LIBRARY)
         self.assertEqual(max(glibc(path) for path in files), GLIBC)
+        self.assertEqual([path for path in files if run("nm", path) or "DYNAMIC" not in run("objdump", "-f", path)], [])
         (facts,) = self.unpacked("*.whl").glob("*.dist-info")
         self.assertIn("Root-Is-Purelib: false\nTag: py3-none-manylinux_2_17_x86_64\n", (facts / "WHEEL").read_text())
-        self.assertRegex((facts / "METADATA").read_text(), r"\nRequires-Python: >=3\.9\n(.*\n)*Requires-Dist: fsspec .*; extra == 'fsspec'\n")
+        metadata = (facts / "METADATA").read_text()
+        self.assertRegex(metadata, r"\nRequires-Python: >=3\.9\n(.*\n)*Requires-Dist: fsspec .*; extra == 'fsspec'\n")
+        self.assertIn((ROOT / "bindings/python/README.md").read_text(), metadata)
 
     @needs("cc", "pkg-config")
     def test_a_program_in_c(self):
