@@ -147,7 +147,7 @@ fn bad_blocks_cost_their_chunks() {
             assert_lost(all_or_none, &[(chunk..chunk + 1, true)]);
         }
     }
-    let blocks = [(front + SEALED - 1, front + SEALED + 1), (front + 3 * SEALED + 9, front + 3 * SEALED + 10)];
+    let blocks = [(front + SEALED - 17, front + SEALED + 1), (front + 3 * SEALED + 9, front + 3 * SEALED + 10)];
     assert_lost(Disk::new(file.clone(), &blocks), &[(0..2, true), (3..4, true)]);
     assert_lost(Disk::new(file.clone(), &[(4096, file.len())]), &[(0..CHUNKS, true)]);
 }
