@@ -248,6 +248,7 @@ class Packages(unittest.TestCase):
         tree = self.work / "unpacked"
         run("dpkg-source", "-x", self.one("*.dsc"), tree)
         sources = sorted(tree.rglob("*"))
+        self.assertNotIn(tree / "share/commit", sources, "an archive and a clone differ in it")
         words = ("dpkg-buildpackage", "-b", "-us", "-uc", "-d")
         without = stand_in.tools_but(self.work / "tools", "rt")
         done = subprocess.run(words, cwd=tree, env=without, capture_output=True, text=True)
