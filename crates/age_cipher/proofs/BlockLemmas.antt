@@ -1,5 +1,5 @@
 -- Vectors as rows, words as bytes, and texts xored piece by piece.
-use Rattle.age_cipher.proofs.Common.{◌≡◌, ℕ, suc, ◌+◌, ◌-◌, ◌*◌, ◌/◌, ◌%◌, ◌^◌, ◌<◌, ◌≤◌, List, [], ◌∷◌, ◌++◌, length, take, drop, map, slice_index, slice_index_or, bit_xor, inl, inr, arith, refl, sym, ap, ◌∙◌, number_l, digits_l, zip2, range_with_len, length-append, length-map, fill_by_all, cases_lt, length-zip2, get_or-zip2, Bytes, Words, start, block_words, block, stream_byte, lane, bytes, Each1, put_chunk, get_or_append_left, get_or-append_right, length-chunk, get_or-chunk, get_or-put_chunk_below, get_or-put_chunk_at, get_or-put_chunk_above, IsXoredAt}
+use Rattle.age_cipher.proofs.Common.{◌≡◌, ℕ, suc, ◌+◌, ◌-◌, ◌*◌, ◌/◌, ◌%◌, ◌^◌, ◌<◌, ◌≤◌, List, [], ◌∷◌, ◌++◌, length, take, drop, map, slice_index, slice_index_or, bit_xor, arith, refl, sym, ap, ◌∙◌, number_l, digits_l, zip2, range_with_len, length-append, length-map, fill_by_all, cases_lt, length-zip2, get_or-zip2, Bytes, Words, start, block_words, block, stream_byte, lane, bytes, Each1, put_chunk, get_or_append_left, get_or-append_right, length-chunk, get_or-chunk, get_or-put_chunk_below, get_or-put_chunk_at, get_or-put_chunk_above, IsXoredAt, rules}
 use Rattle.age_cipher.proofs.LaneLemmas.{lane_word}
 
 -- lane j of sixteen vectors, written out
@@ -32,43 +32,29 @@ length-bytes (w ∷ words) = omega (arith, length-bytes words)
 -- the length of four blocks
 pub length-four_blocks : (a b c d : Bytes) → length a ≡ 64 → length b ≡ 64 → length c ≡ 64 → length d ≡ 64
     → length (a ++ (b ++ (c ++ d))) ≡ 256
-length-four_blocks a b c d la lb lc ld =
-    omega (arith, length-append a (b ++ (c ++ d)), length-append b (c ++ d), length-append c d)
+length-four_blocks a b c d la lb lc ld = search (rules, length-append)
 
 -- two pieces xored one after the other
 pub xored_on : {at next : ℕ} {s t old mid new : Bytes} → next ≡ at + length s → IsXoredAt at s old mid
     → IsXoredAt next t mid new → IsXoredAt at (s ++ t) old new
 xored_on {at} {next} {s} {t} {old} {mid} {new} e first then =
-    record {
-      before = λ j below. then.before j (omega arith) ∙ first.before j below;
-      inside = λ j below. elim (cases_lt j (length s)) [
-        | inl low ↦ rw (get_or_append_left s t 0 j low) (then.before (at + j) (omega arith) ∙ first.inside j low)
-        | inr high ↦
-            let k = j - length s in
-            let at_is : at + j ≡ next + k = omega arith in
-            rw (at_is, get_or-append_right s t (length s) j 0 refl high, ← first.after (next + k) (omega arith))
-            (then.inside k (omega (arith, length-append s t)))
-      ];
-      after = λ j above. then.after j (omega (arith, length-append s t))
-          ∙ first.after j (omega (arith, length-append s t));
-    }
+    search (rules, cases_lt, get_or_append_left, get_or-append_right, length-append)
 
 -- n bytes of a buffer xored with a stream
 pub chunk_xored : (n at : ℕ) (buf : Bytes) {digits : Bytes} (stream : Bytes)
     → digits ≡ stream → length stream ≡ n → at + n ≤ length buf
     → IsXoredAt at stream buf (put_chunk at buf (zip2 bit_xor (take n (drop at buf)) digits))
 chunk_xored n at buf stream e long room =
-    let chunk_long : length (take n (drop at buf)) ≡ n = length-chunk at n buf room in
-    let block_words = zip2 bit_xor (take n (drop at buf)) stream in
-    let mixed_long : length block_words ≡ n = length-zip2 bit_xor (take n (drop at buf)) stream (chunk_long ∙ sym long)
-    ∙ chunk_long in
-    rw e (record {
-      before = λ j below. get_or-put_chunk_below at buf block_words j 0 below;
-      inside = λ j below. get_or-put_chunk_at at buf block_words j 0 (omega arith) (omega arith)
-          ∙ get_or-zip2 bit_xor (take n (drop at buf)) stream j 0 0 0 (omega arith) below
-          ∙ ap (λ b. bit_xor b (slice_index stream j)) (get_or-chunk at n buf j 0 (omega arith));
-      after = λ j above. get_or-put_chunk_above at buf block_words j 0 (omega arith);
-    })
+    search (
+      rules,
+      length-chunk,
+      length-zip2,
+      get_or-put_chunk_below,
+      get_or-put_chunk_at,
+      get_or-zip2,
+      get_or-chunk,
+      get_or-put_chunk_above,
+    )
 
 -- a list is the key stream's first n bytes, from the block `counter` on
 pub record IsStream (key nonce : Bytes) (counter n : ℕ) (stream : Bytes) : Type 0 where
@@ -93,17 +79,7 @@ pub stream_on : (key nonce : Bytes) (counter next m n : ℕ) {prefix back : Byte
     → IsStream key nonce counter (64 * m) prefix → IsStream key nonce next n back
     → IsStream key nonce counter (64 * m + n) (prefix ++ back)
 stream_on key nonce counter next m n {prefix} {back} e one two =
-    record {
-      long = omega (arith, length-append prefix back, one.long, two.long);
-      byte = λ j below. elim (cases_lt j (64 * m)) [
-        | inl low ↦ get_or_append_left prefix back 0 j (omega (arith, one.long)) ∙ one.byte j low
-        | inr high ↦
-            let block_number : next + (j - 64 * m) / 64 ≡ counter + j / 64 = omega arith in
-            let at_is : (j - 64 * m) % 64 ≡ j % 64 = omega arith in
-            get_or-append_right prefix back (64 * m) j 0 one.long high
-            ∙ rw (block_number, at_is) at (two.byte (j - 64 * m) (omega arith))
-      ];
-    }
+    search (rules, length-append, cases_lt, get_or_append_left, get_or-append_right)
 
 -- four blocks' stream
 pub four_stream : (key nonce : Bytes) (counter : ℕ) {a b c d : Bytes}
@@ -120,6 +96,4 @@ four_stream key nonce counter {a} {b} {c} {d} ea eb ec ed =
 pub xored_with_stream : {key nonce : Bytes} {counter : ℕ} (at : ℕ) {n : ℕ} {stream old new : Bytes}
     → IsStream key nonce counter n stream → IsXoredAt at stream old new → (j : ℕ) → at ≤ j → j < at + n
     → slice_index new j ≡ bit_xor (slice_index old j) (stream_byte key nonce counter (j - at))
-xored_with_stream at {old} {new} is xored j low high =
-    let at_is : at + (j - at) ≡ j = omega arith in
-    rw (at_is, is.byte (j - at) (omega arith)) at (xored.inside (j - at) (omega (arith, is.long)))
+xored_with_stream at {old} {new} is xored j low high = search (rules)

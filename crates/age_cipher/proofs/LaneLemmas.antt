@@ -1,5 +1,5 @@
 -- Vectors, seen lane by lane.
-use Rattle.age_cipher.proofs.Common.{◌≡◌, ◌≢◌, ℕ, zero, suc, ◌-◌, ◌*◌, ◌/◌, ◌%◌, ◌^◌, ◌<◌, List, [], ◌∷◌, length, set, replicate, slice_index, slice_index_or, bit_xor, arith, refl, sym, ap, ap₂, ◌∙◌, w32, rotate_left, zip2, length-map, fill_by_all, get_or-zip2, get_or-replicate, length-zip2, Words, add_words, add_xor_rotate, quarter_round, start, lane, bit_or, get_or-map, get_or-set_other, map-set, length-set, length-replicate, quarter_round_at, AreApart}
+use Rattle.age_cipher.proofs.Common.{◌≡◌, ◌≢◌, ℕ, ◌-◌, ◌*◌, ◌/◌, ◌%◌, ◌^◌, ◌<◌, List, [], ◌∷◌, length, set, replicate, slice_index, slice_index_or, bit_xor, arith, refl, sym, ap, ◌∙◌, w32, rotate_left, zip2, length-map, fill_by_all, get_or-zip2, zip2_splat, length-zip2, Words, add_words, add_xor_rotate, quarter_round, start, lane, bit_or, get_or-map, get_or-set_other, map-set, set_comm, length-set, length-replicate, quarter_round_at, AreApart, rules}
 
 -- a word of a lane is a lane of a word
 pub lane_word : (state : List Words) (j k : ℕ) → k < length state
@@ -15,8 +15,7 @@ lane_set state j k vector = map-set (λ v. slice_index v j) state k vector
 pub with_splat : (n : ℕ) (f : ℕ → ℕ → ℕ) (x : Words) (m j : ℕ) → length x ≡ n → j < n
     → slice_index (zip2 f x (replicate n m)) j ≡ f (slice_index x j) m
 with_splat n f x m j long inside =
-    get_or-zip2 f x (replicate n m) j 0 0 0 (omega arith) (omega (arith, length-replicate n m))
-    ∙ ap (f (slice_index x j)) (get_or-replicate n j m 0 inside)
+    rw (zip2_splat f x n m long) (get_or-map (λ a. f a m) x j 0 0 (omega arith))
 
 -- two shifts of each lane and an or rotate it
 pub shifts_rotate : (n : ℕ) (x : Words) (by j : ℕ) → length x ≡ n → 0 < by → by < 32 → j < n
@@ -41,18 +40,7 @@ pub lane_line : (state : List Words) (a b d by j : ℕ) (sum turned : Words)
     (slice_index (slice_index_or (set state a sum) a []) j)) by
     → lane j (set (set state a sum) d turned) ≡ add_xor_rotate a b d by (lane j state)
 unfolding add_xor_rotate
-lane_line state a b d by j sum turned a_in b_in d_in es et =
-    let next = set state a sum in
-    let long = length-set state a sum in
-    rw (
-      lane_word state j a a_in,
-      lane_word state j b b_in,
-      ← es,
-      ← lane_set state j a sum,
-      lane_word next j d (omega arith),
-      lane_word next j a (omega arith),
-      ← et,
-    ) (lane_set next j d turned)
+lane_line state a b d by j sum turned a_in b_in d_in es et = search (rules, length-set, lane_word, lane_set)
 
 -- sixteen words that are those of lane j
 pub lane_is : (state : List Words) (words : Words) (j : ℕ) → length state ≡ 16 → length words ≡ 16
@@ -73,14 +61,6 @@ pub eight_long : (x : Words) → length x ≡ 8
     ∷ slice_index x 4 ∷ slice_index x 5 ∷ slice_index x 6 ∷ slice_index x 7 ∷ []
 eight_long x long = fill_by_all (λ k. slice_index x k) x 8 0 long (λ k h. refl)
 
--- words written at two indices, in either order
-set_swap : (w : Words) (i m x y : ℕ) → i ≢ m → set (set w i x) m y ≡ set (set w m y) i x
-set_swap [] i m x y apart = refl
-set_swap (v ∷ w) zero zero x y apart = absurd (apart refl)
-set_swap (v ∷ w) zero (suc m) x y apart = refl
-set_swap (v ∷ w) (suc i) zero x y apart = refl
-set_swap (v ∷ w) (suc i) (suc m) x y apart = ap (λ l. v ∷ l) (set_swap w i m x y (λ e. apart (ap suc e)))
-
 -- half a line of the quarter round: a word is written that depends on what it was and on another
 abbrev step : (f : ℕ → ℕ → ℕ) (i k : ℕ) (w : Words) → Words
 step f i k w = set w i (f (slice_index w i) (slice_index w k))
@@ -88,13 +68,7 @@ step f i k w = set w i (f (slice_index w i) (slice_index w k))
 -- two such writes, in either order
 step_swap : (f g : ℕ → ℕ → ℕ) (i k m n : ℕ) (w : Words) → i ≢ m → i ≢ n → k ≢ m
     → step g m n (step f i k w) ≡ step f i k (step g m n w)
-step_swap f g i k m n w im kn km =
-    let x = f (slice_index w i) (slice_index w k) in
-    let y = g (slice_index w m) (slice_index w n) in
-    ap (set (set w i x) m) (ap₂ g (get_or-set_other w i m x 0 (λ e. im (sym e)))
-    (get_or-set_other w i n x 0 (λ e. kn (sym e))))
-    ∙ set_swap w i m x y im
-    ∙ ap (set (set w m y) i) (sym (ap₂ f (get_or-set_other w m i y 0 im) (get_or-set_other w m k y 0 km)))
+step_swap f g i k m n w im kn km = search (rules, get_or-set_other, set_comm)
 
 -- a line on three of four indices
 abbrev line : (by i k l : ℕ) (indices : List ℕ) (w : Words) → Words
@@ -128,9 +102,4 @@ pub two_by_lines : (p q : List ℕ) (w : Words) → AreApart p q
     (line 8 0 1 3 p (line 12 2 3 1 q (line 12 2 3 1 p (line 16 0 1 3 q (line 16 0 1 3 p w)))))))
     ≡ quarter_round_at q (quarter_round_at p w)
 unfolding quarter_round
-two_by_lines p q w apart =
-    let first : 0 < 4 = omega arith in
-    let second : 1 < 4 = omega arith in
-    let third : 2 < 4 = omega arith in
-    let fourth : 3 < 4 = omega arith in
-    simp (line_swap p q apart)
+two_by_lines p q w apart = search (rules, line_swap)

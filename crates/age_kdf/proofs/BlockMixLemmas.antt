@@ -1,5 +1,5 @@
 -- The blocks of BlockMix, one by one.
-use Rattle.age_kdf.proofs.Common.{◌≡◌, ℕ, suc, ◌+◌, ◌*◌, ◌≤◌, ◌++◌, length, take, drop, bit_xor, ap, ◌∙◌, arith, add-one, refl, zip2, take-put_mid, Words, put_mid, salsa8, x_after, evens, odds}
+use Rattle.age_kdf.proofs.Common.{◌≡◌, ℕ, suc, ◌+◌, ◌*◌, ◌≤◌, ◌++◌, length, take, drop, bit_xor, add-one, refl, zip2, take-put_mid, Words, put_mid, salsa8, x_after, evens, odds, rules}
 
 -- one step: X after it
 pub mixed_next : (r : ℕ) (b : Words) {x out : Words} (i at next : ℕ) → x ≡ x_after r b i → at ≡ 16 * i → next ≡ suc i
@@ -11,8 +11,7 @@ mixed_next r b i at next is at_is after made = rw (made, is, at_is, after) refl
 pub block_written : (out : Words) {prefix : Words} (x : Words) (at k : ℕ) {next : ℕ}
     → take at out ≡ prefix → length x ≡ 16 → next ≡ at + 16
     → at + 16 ≤ length out → take next (put_mid at k out x) ≡ prefix ++ x
-block_written out x at k {next} is len after room =
-    take-put_mid at k out x next (omega arith) (omega arith) ∙ ap (λ z. z ++ x) is
+block_written out x at k {next} is len after room = search (rules, take-put_mid)
 
 -- one more even block
 pub evens_next : (r : ℕ) (b : Words) {x all : Words} (i : ℕ) → all ≡ evens r b i ++ x → x ≡ x_after r b (2 * i + 1)

@@ -1,5 +1,5 @@
 -- The rounds of Salsa20/8 lane by lane.
-use Rattle.age_kdf.proofs.Common.{◌≡◌, ℕ, ◌-◌, ◌*◌, ◌/◌, ◌%◌, ◌^◌, ◌<◌, [], ◌∷◌, length, replicate, slice_index, arith, refl, ap, ◌∙◌, w32, zip2, get_or-zip2, length-zip2, Words, quarter, columns, rows, four_steps, words_in_order, bit_or, rotate_left, get_or-replicate, rotation}
+use Rattle.age_kdf.proofs.Common.{◌≡◌, ℕ, ◌-◌, ◌*◌, ◌/◌, ◌%◌, ◌^◌, ◌<◌, [], ◌∷◌, length, replicate, slice_index, arith, refl, ap, ◌∙◌, w32, zip2, get_or-zip2, length-zip2, Words, quarter, columns, rows, four_steps, words_in_order, bit_or, rotate_left, get_or-replicate, rotation, rules}
 
 -- two shifts of each lane and an or rotate it
 pub shifts_rotate : (x : Words) (k j : ℕ) → length x ≡ 4 → 0 < k → k < 32 → j < 4
@@ -26,22 +26,10 @@ AreQuartered a b c d e f g h = (j : ℕ) → j < 4
 pub columns_spread : (a b c d e f g h : Words) → AreQuartered a b c d e f g h
     → words_in_order (e ∷ f ∷ g ∷ h ∷ []) ≡ columns (words_in_order (a ∷ b ∷ c ∷ d ∷ []))
 unfolding columns quarter four_steps
-columns_spread a b c d e f g h q =
-    let q0 = q 0 (omega arith) in
-    let q1 = q 1 (omega arith) in
-    let q2 = q 2 (omega arith) in
-    let q3 = q 3 (omega arith) in
-    λ i. (q0 i).0 ∷ (q1 i).3 ∷ (q2 i).2 ∷ (q3 i).1 ∷ (q0 i).1 ∷ (q1 i).0 ∷ (q2 i).3 ∷ (q3 i).2
-    ∷ (q0 i).2 ∷ (q1 i).1 ∷ (q2 i).0 ∷ (q3 i).3 ∷ (q0 i).3 ∷ (q1 i).2 ∷ (q2 i).1 ∷ (q3 i).0 ∷ []
+columns_spread a b c d e f g h q = search (rules)
 
 -- the steps in every lane are those on the rows, where the lanes are moved before and back after
 pub rows_spread : (a b c d e f g h : Words) → AreQuartered a (rotation 1 d) (rotation 2 c) (rotation 3 b) e f g h
     → words_in_order (e ∷ rotation 1 h ∷ rotation 2 g ∷ rotation 3 f ∷ []) ≡ rows (words_in_order (a ∷ b ∷ c ∷ d ∷ []))
 unfolding rows quarter four_steps
-rows_spread a b c d e f g h q =
-    let q0 = q 0 (omega arith) in
-    let q1 = q 1 (omega arith) in
-    let q2 = q 2 (omega arith) in
-    let q3 = q 3 (omega arith) in
-    λ i. (q0 i).0 ∷ (q0 i).1 ∷ (q0 i).2 ∷ (q0 i).3 ∷ (q1 i).3 ∷ (q1 i).0 ∷ (q1 i).1 ∷ (q1 i).2
-    ∷ (q2 i).2 ∷ (q2 i).3 ∷ (q2 i).0 ∷ (q2 i).1 ∷ (q3 i).1 ∷ (q3 i).2 ∷ (q3 i).3 ∷ (q3 i).0 ∷ []
+rows_spread a b c d e f g h q = search (rules)

@@ -1,13 +1,10 @@
 -- The rows of the table, and the row that the last block of X names.
-use Rattle.age_kdf.proofs.Common.{◌≡◌, ℕ, ◌+◌, ◌*◌, ◌-◌, ◌%◌, ◌^◌, ◌<◌, ◌≤◌, [], ◌∷◌, length, take, drop, get_or, bit_xor, refl, sym, ap, ◌∙◌, arith, add-one, zip2, get_or-chunk, take-put_mid, Words, put_mid, block_mix, v_at, romix_after, number_l, drop-take, drop_at, length-take-le, take-put_mid_below, add-mul-mod_self_left, mul_assoc, mul-le-mul_left, pow-add, mod_below, pow_pos, block, integerify}
+use Rattle.age_kdf.proofs.Common.{◌≡◌, ℕ, ◌+◌, ◌*◌, ◌-◌, ◌%◌, ◌^◌, ◌<◌, ◌≤◌, [], ◌∷◌, length, take, drop, get_or, bit_xor, refl, sym, ap, ◌∙◌, arith, add-one, zip2, get_or-chunk, take-put_mid, Words, put_mid, block_mix, v_at, romix_after, number_l, drop-take, drop_at, length-take-le, take-put_mid_below, add-mul-mod_self_left, mul_assoc, mul-le-mul_left, pow-add, mod_below, pow_pos, block, integerify, common_steps, rules}
 
 -- a row that was just written
 pub row_here : (at size k : ℕ) (xs ys : Words) → length ys ≡ size → at ≤ length xs
     → take size (drop at (put_mid at k xs ys)) ≡ ys
-row_here at size k xs ys len room =
-    sym (drop-take at size (put_mid at k xs ys))
-    ∙ ap (drop at) (take-put_mid at k xs ys (at + size) (omega arith) room)
-    ∙ drop_at (take at xs) ys at (length-take-le at xs room)
+row_here at size k xs ys len room = grind (arith, common_steps, drop-take, take-put_mid, drop_at, length-take-le)
 
 -- a row before the one that was written
 pub row_below : (a : ℕ) {at : ℕ} (size k : ℕ) (xs ys : Words) → a + size ≤ at → at ≤ length xs
@@ -33,9 +30,7 @@ low_word k (w ∷ ws) h =
 
 -- the first word of the last block modulo N is Integerify(X) modulo N
 pub index_is : (r k : ℕ) (x : Words) → 0 < r → k ≤ 32 → get_or x (32 * r - 16) 0 % 2 ^ k ≡ integerify r (2 ^ k) x
-index_is r k x pos h =
-    let at_is : 32 * r - 16 ≡ 16 * (2 * r - 1) + 0 = omega arith in
-    rw (low_word k (block x (2 * r - 1)) h, get_or-chunk (16 * (2 * r - 1)) 16 x 0 0 (omega arith), at_is) refl
+index_is r k x pos h = grind (arith, common_steps, low_word, get_or-chunk)
 
 -- one turn of the second loop
 pub look_turn : {r k : ℕ} (m : ℕ) {len n : ℕ} (b : Words) {x x1 x2 : Words} (table : Words) → 0 < r → k ≤ 32
@@ -46,5 +41,4 @@ pub look_turn : {r k : ℕ} (m : ℕ) {len n : ℕ} (b : Words) {x x1 x2 : Words
     → x2 ≡ block_mix r x1 → x2 ≡ romix_after r (2 ^ k) b (m + 1)
 unfolding romix_after
 look_turn {r} {k} m {len} {n} b {x} table pos low len-is n-is x-is rows x1-is x2-is =
-    let at_j = rows (get_or x (32 * r - 16) 0 % 2 ^ k) (mod_below (get_or x (32 * r - 16) 0) (2 ^ k) (pow_pos k)) in
-    rw (x2-is, x1-is, len-is, n-is, at_j, index_is r k x pos low, x-is, add-one m) refl
+    search (rules, mod_below, pow_pos, index_is, add-one)

@@ -1,35 +1,21 @@
 -- Words of joined bytes, and parts that are mixed one after another.
-use Rattle.age_kdf.proofs.Common.{◌≡◌, ℕ, zero, suc, ◌+◌, ◌*◌, ◌≤◌, ◌<◌, [], ◌∷◌, ◌++◌, length, take, drop, get_or, refl, sym, ap, ap₂, ◌∙◌, arith, append_assoc, append-nil, take-put_mid, Bytes, Words, put_mid, words_of, mixed_parts, romix, get_or-append-add, drop-drop, get_or-append, drop-put_mid, word_at}
+use Rattle.age_kdf.proofs.Common.{◌≡◌, ℕ, zero, suc, ◌+◌, ◌*◌, ◌≤◌, [], ◌∷◌, ◌++◌, length, take, drop, refl, ap, ap₂, ◌∙◌, arith, append_assoc, append-nil, take-put_mid, Bytes, Words, put_mid, words_of, mixed_parts, romix, get_or-append-add, drop-drop, get_or-append, drop-put_mid, word_at, rules}
 
 -- words that lie in the first bytes
 words_prefix : (xs ys : Bytes) (n : ℕ) → 4 * n ≤ length xs → words_of (xs ++ ys) n ≡ words_of xs n
 unfolding words_of
 words_prefix xs ys zero room = refl
-words_prefix xs ys (suc n) room =
-    let at : (k : ℕ) → k < length xs → get_or (xs ++ ys) k 0 ≡ get_or xs k 0 = λ k h. get_or-append xs ys 0 k h in
-    rw (
-      at (4 * n) (omega arith),
-      at (4 * n + 1) (omega arith),
-      at (4 * n + 2) (omega arith),
-      at (4 * n + 3) (omega arith),
-      words_prefix xs ys n (omega arith),
-    ) refl
+words_prefix xs ys (suc n) room = search (rules, get_or-append, words_prefix xs ys n (omega arith))
 
 -- a word that lies after the first bytes
 word_behind : (xs ys : Bytes) (k : ℕ) → word_at (xs ++ ys) (length xs + k) ≡ word_at ys k
-word_behind xs ys k =
-    let at : (i : ℕ) → get_or (xs ++ ys) (length xs + k + i) 0 ≡ get_or ys (k + i) 0 = λ i.
-    let e : length xs + k + i ≡ length xs + (k + i) = omega arith in
-    ap (λ p. get_or (xs ++ ys) p 0) e ∙ get_or-append-add xs ys (k + i) 0 in
-    rw (get_or-append-add xs ys k 0, at 1, at 2, at 3) refl
+word_behind xs ys k = search (rules, get_or-append-add)
 
 -- the words of joined bytes are the words of each, joined
 pub words_joined : (xs ys : Bytes) (m n : ℕ) → length xs ≡ 4 * m
     → words_of (xs ++ ys) (m + n) ≡ words_of xs m ++ words_of ys n
 unfolding words_of
-words_joined xs ys m zero len =
-    let none : m + 0 ≡ m = omega arith in
-    rw (none, append-nil) (words_prefix xs ys m (omega arith))
+words_joined xs ys m zero len = search (rules, append-nil, words_prefix)
 words_joined xs ys m (suc n) len =
     let next : m + suc n ≡ suc (m + n) = omega arith in
     let at_is : 4 * (m + n) ≡ length xs + 4 * n = omega arith in
@@ -42,12 +28,7 @@ pub block_loaded : (words : Words) {ws : Words} (prefix block : Bytes) (i k : �
     → take (8 * i) words ≡ words_of prefix (8 * i)
     → ws ≡ words_of block 8 → length ws ≡ 8 → length prefix ≡ 32 * i → 8 * i + 8 ≤ length words
     → take (8 * (i + 1)) (put_mid (8 * i) k words ws) ≡ words_of (prefix ++ block) (8 * (i + 1))
-block_loaded words {ws} prefix block i k before is len long room =
-    let next : 8 * i + 8 ≡ 8 * (i + 1) = omega arith in
-    take-put_mid (8 * i) k words ws (8 * (i + 1)) (omega arith) (omega arith)
-    ∙ ap₂ ◌++◌ before is
-    ∙ sym (words_joined prefix block (8 * i) 8 (omega arith))
-    ∙ ap (words_of (prefix ++ block)) next
+block_loaded words {ws} prefix block i k before is len long room = search (rules, take-put_mid, words_joined)
 
 -- a part mixed in place after those that were mixed before
 pub part_mixed : (r n size i : ℕ) {k : ℕ} (next : ℕ) (b parts : Words) {x : Words}
@@ -60,14 +41,4 @@ pub part_mixed : (r n size i : ℕ) {k : ℕ} (next : ℕ) (b parts : Words) {x 
     }
 unfolding mixed_parts
 part_mixed r n size i {k} next b parts {x} size-is k-is next-is done rest x-is len room =
-    let one : suc i ≡ i + 1 = omega arith in
-    record {
-      done = take-put_mid (size * i) k parts x next (omega arith) (omega arith)
-          ∙ ap₂ ◌++◌ done (x-is ∙ ap₂ (λ a d. romix r n (take a d)) (k-is ∙ size-is)
-          (rest ∙ ap (λ s. drop (s * i) b) size-is))
-          ∙ ap (mixed_parts r n b) one;
-      rest = drop-put_mid (size * i) k parts x next (omega arith) (omega arith) (omega arith)
-          ∙ ap (λ a. drop a parts) next-is ∙ sym (drop-drop size (size * i) parts)
-          ∙ ap (drop size) rest
-          ∙ drop-drop size (size * i) b ∙ ap (λ a. drop a b) (sym next-is);
-    }
+    search (rules, take-put_mid, drop-put_mid, drop-drop)

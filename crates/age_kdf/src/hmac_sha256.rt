@@ -20,6 +20,7 @@ fn put_prefix(block: &mut [u8; 64], bytes: &[u8])
 }
 
 // The key as one block: hashed if it is longer, then padded with zeros.
+#[tactic(auto, using(crate::proofs::HkdfLemmas::zeros_behind))]
 fn block_key(key: &[u8]) -> [u8; 64]
     ensures { result ≡ block_key key.now }
 {
@@ -55,6 +56,7 @@ impl Mac {
     ghost use Rattle.age_kdf.specs.Bytes.{Bytes};
 
     /// The state of an HMAC under `key` before any text.
+    #[tactic(auto, unfolding(crate::specs::HmacState::IsFed))]
     pub(crate) fn new(key: &[u8]) -> Mac
         ensures { IsFed result key.now [] }
     {
@@ -76,6 +78,7 @@ impl Mac {
     }
 
     /// Feeds `bytes`.
+    #[tactic(auto, unfolding(crate::specs::HmacState::IsFed))]
     pub(crate) fn update(&mut self, bytes: &[u8])
         ensures { (key text : Bytes) → IsFed self.old key text
             → IsFed self.new key (text ++ bytes.now) }
@@ -84,6 +87,7 @@ impl Mac {
     }
 
     /// The MAC of the text fed.
+    #[tactic(auto, unfolding(crate::specs::HmacState::IsFed, crate::specs::Hmac::hmac))]
     fn finalize(self) -> [u8; 32]
         ensures { (key text : Bytes) → IsFed self key text → result ≡ hmac key text }
     {

@@ -9,6 +9,7 @@ ghost use Rattle.age_kdf.specs.HmacState.{IsFed};
 use crate::hmac_sha256::Mac;
 use crate::output_blocks::put_block;
 
+#[tactic(auto, using(crate::proofs::ListLemmas::zipped))]
 fn xor_block(sum: &mut [u8; 32], block: &[u8; 32])
     ensures { sum.new ≡ zip2 bit_xor sum.old block.now }
 {

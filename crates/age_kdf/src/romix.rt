@@ -20,6 +20,7 @@ fn put_row(table: &mut [u32], size: usize, i: usize, row: &[u32])
 }
 
 // XORs each word of `x` with that of `row`.
+#[tactic(auto, using(crate::proofs::ListLemmas::zipped))]
 fn xor_into(x: &mut [u32], row: &[u32])
     requires { length row.now ≡ length x.old }
     ensures { x.new ≡ zip2 bit_xor x.old row.now }

@@ -18,6 +18,7 @@ fn sum(x: u32x4, y: u32x4) -> u32x4
 }
 
 #[inline(always)]
+#[tactic(auto, using(crate::proofs::DiagonalLemmas::shifts_rotate))]
 fn rotated(x: u32x4, k: u32) -> u32x4
     requires { (0 < k) × (k < 32) }
     ensures { (j : ℕ) → j < 4 → slice_index result j ≡ rotate_left w32 (slice_index x j) k }
@@ -44,6 +45,7 @@ fn step(b: u32x4, a: u32x4, d: u32x4, k: u32) -> u32x4
 
 // The four steps in every lane.
 #[inline(always)]
+#[tactic(auto, unfolding(crate::specs::Diagonals::four_steps))]
 fn quarter(a: u32x4, b: u32x4, c: u32x4, d: u32x4) -> (u32x4, u32x4, u32x4, u32x4)
     ensures { (j : ℕ) → j < 4
         → (

@@ -14,6 +14,7 @@ use crate::romix::romix;
 use std::alloc::{AllocError, Global};
 
 // The eight words of a block of bytes.
+#[tactic(auto, unfolding(crate::specs::Scrypt::words_of))]
 fn load_block(words: &mut [u32], block: &[u8; 32])
     requires { length words.old ≡ 8 }
     ensures { words.new ≡ words_of block.now 8 }

@@ -1,18 +1,11 @@
-use Rattle.age_kdf.proofs.Common.{◌≡◌, ◌+◌, ◌*◌, ◌-◌, ◌++◌, length, take, drop, arith, rules, ◌∙◌, ap, ap₂, refl, x_after, evens, odds, block_mix}
+use Rattle.age_kdf.proofs.Common.{◌≡◌, ◌+◌, ◌*◌, arith, rules, ◌∙◌, ap, x_after, evens, odds, block_mix, common_steps}
 use Rattle.age_kdf.proofs.ListLemmas.{filled}
 use Rattle.age_kdf.proofs.BlockMixLemmas.{mixed_next, block_written, evens_next, odds_next}
 use Rattle.age_kdf.proofs.block_mix.block_mix.Goals as goal
 
 pub pairs-init : goal.pairs-init
 unfolding x_after evens odds
-pairs-init c =
-    let many : length c.args.from.now - (32 * c.args.r - 16) ≡ 16 = omega arith in
-    let at_is : 32 * c.args.r - 16 ≡ 16 * (2 * c.args.r - 1) = omega arith in
-    record {
-      x = c.copy_from_slice.ensures.after ∙ ap₂ (λ n a. take n (drop a c.args.from.now)) many at_is;
-      even = refl;
-      odd = refl;
-    }
+pairs-init c = search rules
 
 pub pairs-preserved : goal.pairs-preserved
 pairs-preserved c =
@@ -36,12 +29,4 @@ pairs-preserved c =
 
 pub returns : goal.returns
 unfolding block_mix
-returns c =
-    let r = c.args.r in
-    let b = c.args.from.now in
-    let end : c.pairs.i ≡ r = omega arith in
-    ap₂ ◌++◌
-    (filled (omega (arith, c.pairs.auto.even, c.split_at_mut-even.ensures.front_len))
-    c.pairs.invariant.even ∙ ap (evens r b) end)
-    (filled (omega (arith, c.pairs.auto.odd, c.split_at_mut-even.ensures.back_len))
-    c.pairs.invariant.odd ∙ ap (odds r b) end)
+returns c = search (rules, common_steps, filled)

@@ -1,4 +1,4 @@
-use Rattle.age_kdf.proofs.Common.{arith, rules, sym, ◌∙◌, ap, refl, ◌≡◌, length, ◌+◌, ◌/◌, [], take_all, append-nil, Bytes, hmac, hkdf, hkdf_block, hkdf_blocks, IsFed, subst}
+use Rattle.age_kdf.proofs.Common.{arith, rules, sym, ◌∙◌, ap, refl, ◌≡◌, length, [], take_all, append-nil, Bytes, hmac, hkdf, hkdf_block, hkdf_blocks, IsFed, subst, common_steps}
 use Rattle.age_kdf.proofs.ListLemmas.{filled}
 use Rattle.age_kdf.proofs.HkdfLemmas.{hkdf_next, length-hkdf_blocks}
 use Rattle.age_kdf.proofs.hkdf_sha256.hkdf.Goals as goal
@@ -27,7 +27,4 @@ each_block-preserved c =
 
 pub returns : goal.returns
 unfolding hkdf
-returns c =
-    let end : c.each_block.i ≡ (length c.args.out.now + 31) / 32 = omega arith in
-    filled (omega (arith, c.each_block.auto.out)) c.each_block.invariant.out
-    ∙ rw (c.each_block.auto.out, end) refl
+returns c = grind (arith, common_steps, filled)

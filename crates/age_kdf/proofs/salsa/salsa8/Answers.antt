@@ -1,4 +1,4 @@
-use Rattle.age_kdf.proofs.Common.{◌≡◌, arith, ◌∙◌, ap, ap₂, refl, add-one, zip2, salsa8, double_rounds, rows, columns, add32}
+use Rattle.age_kdf.proofs.Common.{◌≡◌, arith, ◌∙◌, ap₂, refl, add-one, zip2, salsa8, double_rounds, columns, add32}
 use Rattle.age_kdf.proofs.salsa.salsa8.Goals as goal
 
 pub rounds-init : goal.rounds-init
@@ -7,8 +7,7 @@ rounds-init c = refl
 
 pub rounds-preserved : goal.rounds-preserved
 unfolding double_rounds
-rounds-preserved c =
-    rw add-one (c.rows-s.ensures ∙ ap rows (c.columns.ensures ∙ ap columns c.rounds.invariant))
+rounds-preserved c = search (add-one, c.rows-s.ensures, c.columns.ensures, c.rounds.invariant)
 
 pub returns : goal.returns
 unfolding salsa8

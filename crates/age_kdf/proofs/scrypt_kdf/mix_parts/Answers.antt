@@ -1,13 +1,11 @@
-use Rattle.age_kdf.proofs.Common.{arith, rules, ap, refl, ◌≡◌, ◌+◌, ◌*◌, ◌^◌, take, mixed_parts}
+use Rattle.age_kdf.proofs.Common.{arith, rules, refl, ◌+◌, ◌*◌, ◌^◌, mixed_parts}
 use Rattle.age_kdf.proofs.RoMixLemmas.{rows_apart}
 use Rattle.age_kdf.proofs.ScryptLemmas.{part_mixed}
 use Rattle.age_kdf.proofs.scrypt_kdf.mix_parts.Goals as goal
 
 pub each_part-init : goal.each_part-init
 unfolding mixed_parts
-each_part-init c =
-    let none : 32 * c.args.r * 0 ≡ 0 = omega arith in
-    record { done = ap (λ k. take k c.args.parts.now) none; rest = refl }
+each_part-init c = search (rules)
 
 pub each_part-preserved : goal.each_part-preserved
 each_part-preserved c =
