@@ -1,5 +1,5 @@
 -- The arguments of a line, read one after the other.
-use Rattle.age_header.proofs.Common.{◌≡◌, ◌≢◌, zero, suc, ◌≤◌, List, [], ◌∷◌, ◌++◌, refl, sym, ap, arith, append_assoc, ◌∙◌, codes, flat_map, append-nil, append_cancel_left, append_cancel_right, flat_map_more, AllByRecursion, Bytes, NoVisible, AreArguments, IsArgument, IsVisible, argument_line, line, IsAscii}
+use Rattle.age_header.proofs.Common.{◌≡◌, ◌≢◌, zero, suc, ◌≤◌, List, [], ◌∷◌, ◌++◌, refl, sym, ap, arith, append_assoc, ◌∙◌, codes, flat_map, append-nil, append_cancel_left, append_cancel_right, flat_map_more, AllByRecursion, Bytes, NoVisible, AreArguments, IsArgument, IsVisible, argument_line, line, IsAscii, rules}
 use Rattle.age_header.proofs.LinesLemmas.{All-append}
 
 pub visible_ascii : (a : Bytes) → AllByRecursion IsVisible a → IsAscii a
@@ -58,11 +58,7 @@ pub no_arrow : (text : Bytes) → ((x : Bytes) → text ≢ codes "->" ++ x) →
 no_arrow text none bs h e = none (spaced bs) (line_text text bs e)
 
 pub parsed_none : (text rest : Bytes) → text ≡ codes "->" ++ rest → Parsed text [] rest
-parsed_none text rest is = record {
-  each = tt;
-  spelled = is;
-  only = λ bs h e. (bs, h.1, append_cancel_left (codes "->") rest (spaced bs) (sym is ∙ line_text text bs e));
-}
+parsed_none text rest is = search (rules, append_cancel_left, line_text)
 
 -- where the rest begins with no argument, the line has none
 pub stuck_space : (text : Bytes) (az : List Bytes) (rest : Bytes) → Parsed text az rest → rest ≢ []

@@ -1,5 +1,5 @@
 -- What a source gave in reads one after another, and a text that is written part by part.
-use Rattle.age_header.proofs.Common.{◌∙◌, ◌++◌, ◌+◌, ℕ, [], ap, refl, arith, append-nil, length-append, ◌≡◌, length, take, min, sym, append_assoc, subst, None, Some, IsAtEnd, Appends, Appends-trans, take-append-add, Result, Ok, Err, Bytes, Flow, Gave, GaveSome, Known, Seen, flow, move_of, Consumes, IfSome, ⊤, Consumes-nil, Consumes-trans, Appends-nil, take_min, take-append-le, GaveAtMost, Grew, OfGiven, Writes, WritesPart}
+use Rattle.age_header.proofs.Common.{◌∙◌, ◌++◌, ◌+◌, ℕ, [], ap, refl, arith, append-nil, length-append, ◌≡◌, length, take, min, sym, append_assoc, subst, None, Some, IsAtEnd, Appends, Appends-trans, take-append-add, Result, Ok, Err, Bytes, Flow, Gave, GaveSome, Known, Seen, flow, move_of, Consumes, IfSome, ⊤, Consumes-nil, Consumes-trans, Appends-nil, take_min, take-append-le, GaveAtMost, Grew, OfGiven, Writes, WritesPart, common_steps, rules}
 
 grew_none : (a : Seen) → Grew (flow a a) []
 grew_none a past h = rw append-nil h
@@ -12,10 +12,7 @@ pub gave_none : {a : Seen} → Gave (flow a a) []
 gave_none {a} = record { consumes = Consumes-nil a.to_come; grew = grew_none a }
 
 pub gave_then : {a b c : Seen} {x y : Bytes} → Gave (flow a b) x → Gave (flow b c) y → Gave (flow a c) (x ++ y)
-gave_then {a} {b} {c} {x} {y} g h = record {
-  consumes = Consumes-trans a.to_come b.to_come c.to_come x y g.consumes h.consumes;
-  grew = grew_then a b c x y g.grew h.grew;
-}
+gave_then {a} {b} {c} {x} {y} g h = search (rules, Consumes-trans, grew_then)
 
 pub gave_some : {a b : Seen} {x : Bytes} → Gave (flow a b) x → GaveSome (flow a b)
 gave_some {x} g = record { bytes = x; grew = g.grew }
@@ -36,12 +33,7 @@ known_any None P p = tt
 known_any (Some told) P p = p told
 
 pub of_any : {a b : Seen} {P : Bytes → Type 0} → GaveSome (flow a b) → ((b : Bytes) → P b) → OfGiven (flow a b) P
-of_any {a} {P} g p = record {
-  given = g.bytes;
-  grew = g.grew;
-  holds = p g.bytes;
-  known = known_any a.to_come P p;
-}
+of_any {a} {P} g p = search (rules, known_any)
 
 -- what holds of these bytes and those that follow them
 known_then : (a b : Known) (x : Bytes) (P Q : Bytes → Type 0) → Consumes a b x → IfSome b Q
@@ -52,12 +44,7 @@ known_then (Some told) (Some left) x P Q h q p = subst P (sym h) (p left q)
 
 pub of_then : {a b c : Seen} {x : Bytes} {P Q : Bytes → Type 0} → Gave (flow a b) x → OfGiven (flow b c) Q
     → ((y : Bytes) → Q y → P (x ++ y)) → OfGiven (flow a c) P
-of_then {a} {b} {c} {x} {P} {Q} g h p = record {
-  given = x ++ h.given;
-  grew = grew_then a b c x h.given g.grew h.grew;
-  holds = p h.given h.holds;
-  known = known_then a.to_come b.to_come x P Q g.consumes h.known p;
-}
+of_then {a} {b} {c} {x} {P} {Q} g h p = grind (arith, common_steps, grew_then, known_then)
 
 -- a source that is at its end has nothing left
 nothing_left : (b : Seen) → OfGiven (flow b b) (λ d. IsAtEnd b.to_come → d ≡ [])
@@ -83,12 +70,7 @@ of_map h p = of_then (gave_none) h p
 
 -- a source that gave no more
 pub of_still : (a b c : Seen) {P : Bytes → Type 0} → OfGiven (flow a b) P → Grew (flow b c) [] → OfGiven (flow a c) P
-of_still a b c h g = record {
-  given = h.given;
-  grew = λ past p. rw append-nil at (g (past ++ h.given) (h.grew past p));
-  holds = h.holds;
-  known = h.known;
-}
+of_still a b c h g = search (rules, append-nil)
 
 -- what holds of the bytes that a source gave holds of its known bytes
 pub of_known : (P : Bytes → Type 0) (source : Flow) (told : Bytes) → source.before.to_come ≡ Some told
@@ -120,11 +102,7 @@ done_start {a} whole = record { prefix = []; took = Appends-nil a; is = refl }
 pub done_more : {a b c : Known} {whole left : Bytes} (x : Bytes) {y : Bytes}
     → Done a b whole left → left ≡ x ++ y → Appends b c x
     → Done a c whole y
-done_more {a} {b} {c} x {y} d e h = record {
-  prefix = d.prefix ++ x;
-  took = Appends-trans a b c d.prefix x d.took h;
-  is = d.is ∙ ap (λ (z : Bytes). d.prefix ++ z) e ∙ sym (append_assoc d.prefix x y);
-}
+done_more {a} {b} {c} x {y} d e h = search (rules, Appends-trans, append_assoc)
 
 pub done_part : {a b : Known} (c : Known) {whole left : Bytes} (x y : Bytes) → Done a b whole left → left ≡ x ++ y
     → WritesPart (move_of b c) x → WritesPart (move_of a c) whole

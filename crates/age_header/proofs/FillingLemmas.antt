@@ -1,5 +1,5 @@
 -- One read into a buffer.
-use Rattle.age_header.proofs.Common.{◌≡◌, ◌++◌, ◌+◌, ℕ, length, take, ap, sym, arith, length-append, Result, Ok, Err, take-append-add, Bytes, Seen, flow, move_of, IfOk, take-append_seam, ReadsAtMost, DeviceFault, Gives, Grows, Got}
+use Rattle.age_header.proofs.Common.{◌≡◌, ◌++◌, ◌+◌, ℕ, length, length-append, Result, Ok, Err, take-append-add, Bytes, Seen, flow, move_of, IfOk, take-append_seam, ReadsAtMost, DeviceFault, Gives, Grows, Got, rules}
 
 -- one read after a prefix
 pub got_read : (r : Result ℕ DeviceFault) (at : ℕ) (buf prefix rest after : Bytes) (a b : Seen) → buf ≡ prefix ++ rest
@@ -8,13 +8,4 @@ pub got_read : (r : Result ℕ DeviceFault) (at : ℕ) (buf prefix rest after : 
     → IfOk r (λ n. Got at n buf (prefix ++ after) (flow a b))
 got_read (Err e) at buf prefix rest after a b is len size bound gives grows = tt
 got_read (Ok n) at buf prefix rest after a b is len size bound gives grows =
-    let all = ap length is in
-    let sum = length-append prefix rest in
-    record {
-      piece = take n after;
-      len = sym bound.1;
-      room = omega arith;
-      is = rw (is, ← len, take-append_seam, take-append-add);
-      bytes = record { consumes = gives.0; grew = grows };
-      none = λ zero room. gives.1 zero (omega arith);
-    }
+    search (rules, length-append, take-append_seam, take-append-add)

@@ -1,5 +1,5 @@
 -- Stanzas and a MAC have one text, which has one reading, begins no other, and is the one that a writer writes.
-use Rattle.age_header.proofs.Common.{◌≡◌, ◌≢◌, ◌<◌, List, [], ◌∷◌, ◌++◌, length, length-append, take, drop, sym, ap, arith, ◌∙◌, append_assoc, flat_map, codes, inl, inr, ◌⊎◌, ℕ, refl, slice_index, ◌-◌, take_at, append-nil, append_cancel_left, flat_map_more, AllByRecursion, concat, cases_lt, Bytes, StanzaParts, Head, IsStanza, AreStanzas, IsFullLine, argument_line, line, version_line, line_size, IsBase64, State, between, within, Step, Leads, IsLineText, lines_text, IsWhole, IsHeaderValue, signed_text, mac_end, drop_at}
+use Rattle.age_header.proofs.Common.{◌≡◌, ◌<◌, List, [], ◌∷◌, ◌++◌, length, length-append, take, drop, sym, ap, arith, ◌∙◌, append_assoc, flat_map, codes, inl, inr, ◌⊎◌, ℕ, refl, ◌-◌, take_at, append-nil, append_cancel_left, flat_map_more, AllByRecursion, concat, cases_lt, Bytes, StanzaParts, Head, IsStanza, AreStanzas, IsFullLine, argument_line, line, version_line, line_size, IsBase64, State, between, within, Step, Leads, IsLineText, lines_text, IsWhole, IsHeaderValue, signed_text, mac_end, drop_at, rules}
 use Rattle.age_header.proofs.Base64Lemmas.{IsBase64-only, IsBase64-injective, IsBase64-bytes}
 use Rattle.age_header.proofs.LinesLemmas.{All-append, lines_prefix, no_line, characters_text}
 use Rattle.age_header.proofs.StepsLemmas.{Leads-once, Leads-split, stanzas_lead}
@@ -33,10 +33,7 @@ same_stanzas (s ∷ ss) x y (front, back, h, hs, is) (other, others, k, ks, also
     cc
 
 pub one_text : (ss : List StanzaParts) (m h k : Bytes) → Head ss m h → Head ss m k → h ≡ k
-one_text ss m h k a b =
-    let body = same_stanzas ss a.body b.body a.stanza_text b.stanza_text in
-    let characters = IsBase64-only m a.mac_text ∙ sym (IsBase64-only m b.mac_text) in
-    rw (a.spelled, b.spelled, body, characters) refl
+one_text ss m h k a b = search (rules, same_stanzas, IsBase64-only)
 
 abbrev pub end_text : Bytes → Bytes
 end_text characters = codes "--- " ++ characters
@@ -50,8 +47,7 @@ pub record HeadPath (ss : List StanzaParts) (mac h : Bytes) : Type 0 where
   pub mac_text : IsBase64 mac characters
 
 end_is_text : (mac characters : Bytes) → IsBase64 mac characters → IsLineText (end_text characters)
-end_is_text mac characters h =
-    All-append (λ c. c ≢ 10) (codes "--- ") characters (omega arith) (characters_text mac characters h)
+end_is_text mac characters h = search (rules, All-append, characters_text)
 
 pub head_path : {ss : List StanzaParts} {mac h : Bytes} → Head ss mac h → HeadPath ss mac h
 head_path {ss} {mac} k =
@@ -70,15 +66,12 @@ head_path {ss} {mac} k =
 -- an end line leads nowhere
 no_step : (ss : List StanzaParts) (characters : Bytes) (s : State) → Step (between ss) (end_text characters) s → ⊥
 no_step ss characters (between ts) h = h
-no_step ss characters (within ts args body) h = let second =
-    ap (λ (x : Bytes). slice_index x 1) h.3 in absurd (omega arith)
+no_step ss characters (within ts args body) h = search (rules)
 
 -- a path that goes on after an end line is none
 pub past_end : (ls more : List Bytes) (ss : List StanzaParts) (p : Bytes) (t : State)
     → Leads (between []) ls (between ss) → Leads (between []) (ls ++ end_text p ∷ more) t → ⊥
-past_end ls more ss p t h k =
-    let (mid, there, (next, step, _)) = Leads-split (between []) t ls (end_text p ∷ more) k in
-    no_step ss p next (rw (Leads-once (between []) mid (between ss) ls there h) at step)
+past_end ls more ss p t h k = search (rules, Leads-split, no_step, Leads-once)
 
 -- the last of a list
 last_one : (ms : List Bytes) (f : Bytes) (ls : List Bytes) (e : Bytes) (more : List Bytes)
@@ -138,12 +131,7 @@ whole_stanzas (s ∷ ss) text h = ((h.2.arguments, search (IsBase64-bytes, h.2.b
 
 -- what a header spells is a value that has a text
 pub head_value : (ss : List StanzaParts) (mac h : Bytes) → Head ss mac h → IsHeaderValue ss mac
-head_value ss mac h k = record {
-  some = k.some;
-  each = whole_stanzas ss k.body k.stanza_text;
-  mac_len = k.mac_len;
-  mac_bytes = IsBase64-bytes mac k.characters k.mac_text;
-}
+head_value ss mac h k = search (rules, whole_stanzas, IsBase64-bytes)
 
 -- the header without its last 45 bytes
 pub signed_prefix : (ss : List StanzaParts) (mac h : Bytes) → Head ss mac h → signed_text ss ≡ take (length h - 45) h

@@ -1,5 +1,5 @@
 -- How long the texts are that a writer writes.
-use Rattle.age_header.proofs.Common.{◌≡◌, ℕ, zero, suc, ◌+◌, ◌-◌, ◌*◌, ◌/◌, ◌%◌, ◌≤◌, List, [], ◌∷◌, ◌++◌, length, length-append, length-take, length-drop, take, drop, min, refl, arith, flat_map, Bytes, StanzaParts, argument_line, line, version_line, version_size, line_size, bytes_of_a_line, mac_size, base64_of, body_lines, body_text, stanza_text, signed_text, mac_end}
+use Rattle.age_header.proofs.Common.{◌≡◌, ℕ, zero, suc, ◌+◌, ◌-◌, ◌*◌, ◌/◌, ◌%◌, ◌≤◌, List, [], ◌∷◌, ◌++◌, length, length-append, length-take, length-drop, take, drop, min, refl, arith, flat_map, Bytes, StanzaParts, argument_line, line, version_line, version_size, line_size, bytes_of_a_line, mac_size, base64_of, body_lines, body_text, stanza_text, signed_text, mac_end, rules}
 use Rattle.age_header.proofs.TextLemmas.{signs_size}
 
 pub length-line : (t : Bytes) → length (line t) ≡ length t + 1
@@ -27,9 +27,7 @@ lines_size (suc n) b low =
 pub body_size : (b : Bytes) → length (body_text b)
     ≡ (line_size + 1) * (length b / bytes_of_a_line) + ((length b % bytes_of_a_line * 4 + 2) / 3 + 1)
 unfolding body_text
-body_size b =
-    let left : length b - bytes_of_a_line * (length b / bytes_of_a_line) ≡ length b % bytes_of_a_line = omega arith in
-    omega (arith, lines_size (length b / bytes_of_a_line) b (omega arith))
+body_size b = search (rules, lines_size)
 
 pub stanza_size : (s : StanzaParts) → length (stanza_text s) ≡ length (argument_line s.args) + length (body_text s.body)
 unfolding stanza_text

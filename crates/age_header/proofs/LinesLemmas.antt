@@ -1,5 +1,5 @@
 -- Whole lines: a text has one list of lines, and no line of a header has an LF in it.
-use Rattle.age_header.proofs.Common.{◌≡◌, ◌≤◌, List, [], ◌∷◌, ◌++◌, length, refl, arith, append_assoc, ◌≢◌, ℕ, ◌==◌, true, slice_index, sym, ◌∙◌, codes, flat_map, AllByRecursion, concat, append-nil, all_below, all_below_at, Bytes, IsLineText, lines_text, IsBase64, StandsFor, alphabet, AreArguments, IsArgument, IsVisible, not, eq-eqb}
+use Rattle.age_header.proofs.Common.{◌≡◌, ◌≤◌, List, [], ◌∷◌, ◌++◌, length, refl, arith, append_assoc, ◌≢◌, ℕ, ◌==◌, true, slice_index, sym, ◌∙◌, codes, flat_map, AllByRecursion, concat, append-nil, all_below, all_below_at, Bytes, IsLineText, lines_text, IsBase64, StandsFor, alphabet, AreArguments, IsArgument, IsVisible, not, eq-eqb, rules}
 
 -- a line ends at its first LF
 pub line_split : {a b x y : Bytes} → IsLineText a → IsLineText b → a ++ 10 ∷ x ≡ b ++ 10 ∷ y → (a ≡ b) × (x ≡ y)
@@ -63,11 +63,10 @@ pub characters_text : (bytes characters : Bytes) → IsBase64 bytes characters �
 unfolding IsBase64
 characters_text [] [] h = tt
 characters_text (a ∷ []) (p ∷ q ∷ []) (u, v, is_p, is_q, low, bits) = (no_lf is_p, (no_lf is_q, tt))
-characters_text (a ∷ b ∷ []) (p ∷ q ∷ r ∷ []) (u, v, w, is_p, is_q, is_r, low_a, low_b, bits) =
-    (no_lf is_p, (no_lf is_q, (no_lf is_r, tt)))
+characters_text (a ∷ b ∷ []) (p ∷ q ∷ r ∷ []) (u, v, w, is_p, is_q, is_r, low_a, low_b, bits) = search (rules, no_lf)
 characters_text (a ∷ b ∷ c ∷ bytes) (p ∷ q ∷ r ∷ s ∷ characters)
     ((u, v, w, x, is_p, is_q, is_r, is_s, low_a, low_b, low_c, bits), more) =
-    (no_lf is_p, (no_lf is_q, (no_lf is_r, (no_lf is_s, characters_text bytes characters more))))
+    search (rules, no_lf, characters_text bytes characters more)
 characters_text bytes characters h = absurd h
 
 -- the lines whose join has no LF

@@ -1,5 +1,5 @@
 -- How much is read of a header that is refused.
-use Rattle.age_header.proofs.Common.{◌++◌, ◌∷◌, [], ◌+◌, ◌≤◌, ℕ, arith, length, length-append, Option, Bytes, Flow, Gave, GaveAtMost, Seen, flow, HeaderFault, Read, LineEnd, Lf, Input, Room, version_line, IsEnd, line_bytes, ReadAtMost, State, lines_text}
+use Rattle.age_header.proofs.Common.{◌++◌, ◌+◌, ◌≤◌, ℕ, arith, length, length-append, Option, Bytes, Flow, Gave, GaveAtMost, Seen, flow, HeaderFault, Read, LineEnd, Lf, Input, Room, version_line, IsEnd, line_bytes, ReadAtMost, State, lines_text, rules}
 use Rattle.age_header.proofs.DeviceLemmas.{gave_then}
 use Rattle.age_header.proofs.LengthLemmas.{length-version_line}
 use Rattle.age_header.proofs.VerdictPathLemmas.{Reached}
@@ -11,8 +11,7 @@ within {x} k n g h low = (x ++ h.0, gave_then g h.1, omega (arith, length-append
 -- a line that was read under a limit
 pub line_most : (end : LineEnd) (text : Bytes) (k n : ℕ) (left : Option Bytes) (source : Flow)
     → Gave source (line_bytes text end) → IsEnd end (length text) k left → k ≤ n → GaveAtMost n source
-line_most Lf text k n left source g is low =
-    (text ++ 10 ∷ [], g, omega (arith, length-append text (10 ∷ []), is, low))
+line_most Lf text k n left source g is low = search (rules, length-append)
 line_most Input text k n left source g is low = (text, g, omega (arith, is.0, low))
 line_most Room text k n left source g is low = (text, g, omega (arith, is, low))
 
@@ -36,5 +35,4 @@ reached_most e new p h = reached_within new p h
 pub line_within : {a mid : Seen} (new : Seen) {max room count : ℕ} {s : State} (end : LineEnd) (text : Bytes)
     → Reached a mid max room count s → Gave (flow mid new) (line_bytes text end)
     → IsEnd end (length text) room new.to_come → GaveAtMost max (flow a new)
-line_within {mid = mid} new {room = room} end text p g is =
-    reached_within new p (line_most end text room room new.to_come (flow mid new) g is (omega arith))
+line_within {mid = mid} new {room = room} end text p g is = search (rules, reached_within, line_most)

@@ -1,5 +1,5 @@
 -- Lines that lead from state to state: joined, only one way, those of a header, and the text that a state stands for.
-use Rattle.age_header.proofs.Common.{◌≡◌, ◌*◌, List, [], ◌∷◌, ◌++◌, length, refl, sym, ap, append_assoc, ◌∙◌, ◌+◌, ◌<◌, line_size, arith, codes, flat_map, inl, inr, ◌≢◌, length-append, append-nil, append_cancel_left, append_cancel_right, flat_map_more, AllByRecursion, concat, Bytes, IsBase64, StanzaParts, AreArguments, IsFullLine, argument_line, line, IsStanza, AreStanzas, version_line, State, between, within, Step, Leads, IsLineText, lines_text, concat-append, flat_map-append, IsHeaderPrefix, IsOpenStanza}
+use Rattle.age_header.proofs.Common.{◌≡◌, ◌*◌, List, [], ◌∷◌, ◌++◌, length, refl, sym, ap, append_assoc, ◌∙◌, ◌+◌, ◌<◌, line_size, arith, codes, flat_map, inl, inr, ◌≢◌, length-append, append-nil, append_cancel_left, append_cancel_right, flat_map_more, AllByRecursion, concat, Bytes, IsBase64, StanzaParts, AreArguments, IsFullLine, argument_line, line, IsStanza, AreStanzas, version_line, State, between, within, Step, Leads, IsLineText, lines_text, concat-append, flat_map-append, IsHeaderPrefix, IsOpenStanza, rules}
 use Rattle.age_header.proofs.ArgumentsLemmas.{args_once}
 use Rattle.age_header.proofs.Base64Lemmas.{IsBase64-append, IsBase64-split, IsBase64-injective}
 use Rattle.age_header.proofs.LinesLemmas.{All-append, All-split, characters_text, lines_of, argument_text, argument_line_text}
@@ -177,8 +177,7 @@ Spells (within ss args body) text = Within ss args body text
 stanzas_more : (ss : List StanzaParts) {s : StanzaParts} (w : Bytes) {x : Bytes} → AreStanzas ss w → IsStanza s x
     → AreStanzas (ss ++ s ∷ []) (w ++ x)
 stanzas_more [] w {x} h k = (x, [], k, refl, rw h (sym (append-nil x)))
-stanzas_more (t ∷ ss) w {x} (front, back, one, more, is) k =
-    (front, back ++ x, one, stanzas_more ss back more k, ap (◌++ x) is ∙ append_assoc front back x)
+stanzas_more (t ∷ ss) w {x} (front, back, one, more, is) k = search (rules, append_assoc, stanzas_more ss back more k)
 
 full_size : (full : List Bytes) → AllByRecursion IsFullLine full → length (concat full) ≡ 4 * (16 * length full)
 full_size [] h = refl
@@ -224,14 +223,7 @@ step_spells s l t text h k = absurd assumption
 
 -- what a state stands for is a prefix of a header
 pub spells_prefix : (s : State) (text : Bytes) → Spells s text → IsHeaderPrefix (version_line ++ text)
-spells_prefix (between ss) text h = record {
-  stanzas = ss;
-  whole = text;
-  rest = [];
-  stanza_text = h;
-  rest_text = inl refl;
-  spelled = sym (append-nil (version_line ++ text));
-}
+spells_prefix (between ss) text h = search (rules, append-nil)
 spells_prefix (within ss args body) text h = record {
   stanzas = ss;
   whole = h.whole;

@@ -1,5 +1,5 @@
 -- The text that a writer writes is the text of a header.
-use Rattle.age_header.proofs.Common.{inl, inr, ◌≡◌, ℕ, zero, suc, ◌+◌, ◌*◌, ◌/◌, ◌<◌, ◌≤◌, List, [], ◌∷◌, ◌++◌, length, length-take, length-drop, get_or, take, drop, take-append-drop, map, refl, sym, ap, arith, append_assoc, ◌∙◌, codes, flat_map, take_at, cases_lt, concat, AllByRecursion, encode_symbols, encoded_size_of, GeneralPurpose, Bytes, IsBase64, alphabet, base64_of, StanzaParts, Head, IsStanza, AreStanzas, IsFullLine, argument_line, line, version_line, line_size, bytes_of_a_line, IsWhole, IsHeaderValue, body_lines, body_text, stanza_text, signed_text, mac_end, at_drop_more, get_or-take, get_or-drop, get_or_past, unpadded_len, length-encode_symbols, IsBytes, IsEncodedOver, IsPlain}
+use Rattle.age_header.proofs.Common.{◌≡◌, ℕ, zero, suc, ◌+◌, ◌*◌, ◌/◌, ◌<◌, ◌≤◌, List, [], ◌∷◌, ◌++◌, length, length-take, length-drop, get_or, take, drop, take-append-drop, map, refl, sym, ap, arith, append_assoc, ◌∙◌, codes, flat_map, take_at, concat, AllByRecursion, encoded_size_of, GeneralPurpose, Bytes, IsBase64, alphabet, base64_of, StanzaParts, Head, IsStanza, AreStanzas, IsFullLine, argument_line, line, line_size, bytes_of_a_line, IsWhole, IsHeaderValue, body_lines, body_text, stanza_text, signed_text, mac_end, at_drop_more, flat_map-map, front_bytes, get_or-drop, length-encode_symbols, IsBytes, IsEncodedOver, IsPlain, common_steps, rules}
 use Rattle.age_header.proofs.Base64Lemmas.{IsBase64-encode, encode_of_unpadded, IsBase64-append}
 
 -- what the engine wrote into a buffer
@@ -7,11 +7,7 @@ pub encoded : {e : GeneralPurpose} (m old : Bytes) {new : Bytes} {len : ℕ} →
     → len ≡ encoded_size_of e (length m)
     → take len new ≡ base64_of m
 unfolding base64_of
-encoded {e} m old {len} p over is =
-    let plain = encode_of_unpadded e m p.unpadded p.characters in
-    let size : encoded_size_of e (length m) ≡ unpadded_len (length m) = rw p.unpadded refl in
-    let fits = length-encode_symbols alphabet m ∙ sym (is ∙ size) in
-    rw (over, plain) (take_at (encode_symbols alphabet m) (drop (encoded_size_of e (length m)) old) len fits)
+encoded {e} m old {len} p over is = grind (arith, encode_of_unpadded, length-encode_symbols, take_at)
 
 pub encoded_size_plain : (e : GeneralPurpose) (n : ℕ) → IsPlain e → encoded_size_of e n ≡ (4 * n + 2) / 3
 encoded_size_plain e n p = rw p.unpadded refl
@@ -27,44 +23,29 @@ body_step b p a low =
 
 pub body_end : (b : Bytes) → length b < bytes_of_a_line → body_text b ≡ base64_of b ++ 10 ∷ []
 unfolding body_text body_lines
-body_end b h =
-    let n : length b / bytes_of_a_line ≡ 0 = omega arith in
-    rw n refl
+body_end b h = search (rules)
 
 -- one element more of a list of texts
 pub flat_step : {X : Type 0} (f : X → Bytes) (end : Bytes) (xs : List X) (i : ℕ) (x : X) → i < length xs
     → x ≡ get_or xs i x
     → flat_map f (drop i xs) ++ end ≡ f x ++ (flat_map f (drop (i + 1) xs) ++ end)
-flat_step f end xs i x low is =
-    at_drop_more (λ ys. flat_map f ys ++ end) xs i x low ∙ rw (← is, append_assoc) refl
+flat_step f end xs i x low is = grind (arith, common_steps, at_drop_more, append_assoc)
 
 -- one stanza more of a list of stanzas, before the text's end
 pub stanza_step : (ss : List StanzaParts) (i : ℕ) (s : StanzaParts) → i < length ss → s ≡ get_or ss i s
     → flat_map stanza_text (drop i ss) ++ codes "---"
     ≡ argument_line s.args ++ (body_text s.body ++ (flat_map stanza_text (drop (i + 1) ss) ++ codes "---"))
 unfolding stanza_text
-stanza_step ss i s low is =
-    flat_step stanza_text (codes "---") ss i s low is
-    ∙ append_assoc (argument_line s.args) (body_text s.body) (flat_map stanza_text (drop (i + 1) ss) ++ codes "---")
-
-pub flat_of_map : {X : Type 0} (f : X → Bytes) (xs : List X)
-    → flat_map (λ a. 32 ∷ a) (map f xs) ≡ flat_map (λ x. 32 ∷ f x) xs
-flat_of_map f [] = refl
-flat_of_map f (x ∷ xs) = ap ((32 ∷ f x) ++◌) (flat_of_map f xs)
+stanza_step ss i s low is = grind (arith, common_steps, flat_step, append_assoc)
 
 pub args_step : {X : Type 0} (f : X → Bytes) (xs : List X) (i : ℕ) {x : X} → i < length xs → x ≡ get_or xs i x
     → flat_map (λ a. 32 ∷ a) (map f (drop i xs)) ++ 10 ∷ []
     ≡ (32 ∷ []) ++ (f x ++ (flat_map (λ a. 32 ∷ a) (map f (drop (i + 1) xs)) ++ 10 ∷ []))
 args_step f xs i {x} low is =
-    rw (flat_of_map f (drop i xs), flat_of_map f (drop (i + 1) xs)) (flat_step (λ x. 32 ∷ f x) (10 ∷ []) xs i x low is)
+    simp flat_map-map (flat_step (λ x. 32 ∷ f x) (10 ∷ []) xs i x low is)
 
 pub bytes_take : (n : ℕ) (b : Bytes) → IsBytes b → IsBytes (take n b)
-bytes_take n b h i = elim (cases_lt i n) [
-  | inl low ↦ rw (get_or-take n b i 0 low) (h i)
-  | inr high ↦
-      let e = get_or_past (take n b) i 0 (omega (arith, length-take n b)) in
-      omega arith
-]
+bytes_take n b h = front_bytes (take n b) (drop n b) (rw take-append-drop h)
 
 pub bytes_drop : (n : ℕ) (b : Bytes) → IsBytes b → IsBytes (drop n b)
 bytes_drop n b h i = rw (get_or-drop n b i 0) (h (n + i))
@@ -130,23 +111,9 @@ stanza_text_is s h =
 
 stanzas_text_is : (ss : List StanzaParts) → AllByRecursion IsWhole ss → AreStanzas ss (flat_map stanza_text ss)
 stanzas_text_is [] h = refl
-stanzas_text_is (s ∷ ss) h = (
-  stanza_text s,
-  flat_map stanza_text ss,
-  stanza_text_is s h.0,
-  stanzas_text_is ss h.1,
-  refl,
-)
+stanzas_text_is (s ∷ ss) h = search (rules, stanza_text_is, stanzas_text_is ss h.1)
 
 pub header_text_is : (ss : List StanzaParts) (mac : Bytes) → IsHeaderValue ss mac
     → Head ss mac (signed_text ss ++ mac_end mac)
 unfolding signed_text mac_end
-header_text_is ss mac h = record {
-  body = flat_map stanza_text ss;
-  characters = base64_of mac;
-  some = h.some;
-  stanza_text = stanzas_text_is ss h.each;
-  mac_len = h.mac_len;
-  mac_text = characters_are mac h.mac_bytes;
-  spelled = append_assoc (version_line ++ flat_map stanza_text ss) (codes "---") (32 ∷ (base64_of mac ++ 10 ∷ []));
-}
+header_text_is ss mac h = search (rules, stanzas_text_is, characters_are, append_assoc)

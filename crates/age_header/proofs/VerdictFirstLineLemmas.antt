@@ -1,5 +1,5 @@
 -- What the first line of a text decides.
-use Rattle.age_header.proofs.Common.{inl, inr, ◌≡◌, ◌≢◌, ℕ, ◌+◌, ◌-◌, ◌<◌, ◌≤◌, [], ◌∷◌, ◌++◌, length, length-append, length-take, take, drop, refl, sym, ap, arith, append_assoc, ◌∙◌, min, append-nil, append_cancel_left, take_all, take_at, cases_lt, IsAtEnd, Err, Bytes, Gave, Seen, flow, NotAge, Truncated, TooLarge, LineEnd, Lf, Input, Room, line_bytes, IsEnd, line, version_line, version_size, ReadsHeader, IsLineText, BeginsAsAge, IsUndecided, take-take, starts_with_rest}
+use Rattle.age_header.proofs.Common.{inl, inr, ◌≡◌, ◌≢◌, ℕ, ◌+◌, ◌-◌, ◌<◌, ◌≤◌, [], ◌∷◌, ◌++◌, length, length-append, length-take, take, drop, refl, ap, arith, append_assoc, ◌∙◌, min, append-nil, append_cancel_left, take_all, take_at, cases_lt, IsAtEnd, Err, Bytes, Gave, Seen, flow, NotAge, Truncated, TooLarge, LineEnd, Lf, Input, Room, line_bytes, IsEnd, line, version_line, version_size, ReadsHeader, IsLineText, BeginsAsAge, IsUndecided, take-take, starts_with_rest, rules, sym}
 use Rattle.age_header.proofs.VerdictPathLemmas.{version_text, version_is_text, no_empty, both, take_past}
 use Rattle.age_header.proofs.LengthLemmas.{length-line}
 use Rattle.age_header.proofs.DeviceLemmas.{of_ended, of_more}
@@ -44,17 +44,13 @@ begins_version x n max low age =
 
 not_age : (first n : Bytes) (max : ℕ) → IsLineText first → length first ≤ min max version_size
     → ((x : Bytes) → version_text ≢ first ++ x) → BeginsAsAge (take max (first ++ n)) → ⊥
-not_age first n max text low none age =
-    let (d, whole) = begins_version first n max low age in
-    let (x, is) = prefix_text version_text first d text (sym version_is_line ∙ whole) in
-    none x is
+not_age first n max text low none age = search (rules, begins_version, prefix_text, version_is_line)
 
 -- no prefix of the version line's text
 pub no_prefix : {a new : Seen} (first : Bytes) (end : LineEnd) (max : ℕ) → Gave (flow a new) (line_bytes first end)
     → IsLineText first → IsEnd end (length first) (min max version_size) new.to_come
     → ((x : Bytes) → version_text ≢ first ++ x) → ReadsHeader (flow a new) max (Err NotAge)
-no_prefix first Lf max took text low none =
-    of_more took (λ n _. rw append_assoc (not_age first (10 ∷ n) max text (omega arith) none))
+no_prefix first Lf max took text low none = search (rules, of_more, append_assoc, not_age)
 no_prefix first Input max took text (low, _) none = of_more took (λ n _. not_age first n max text (omega arith) none)
 no_prefix first Room max took text full none = of_more took (λ n _. not_age first n max text (omega arith) none)
 
@@ -77,10 +73,7 @@ prefix_size first rest is = omega (arith, ap length is, length-append first rest
 first_open : (first rest cap : Bytes) → cap ≡ first → IsLineText first → version_text ≡ first ++ rest
     → BeginsAsAge cap × IsUndecided cap
 first_open first rest cap same text is =
-    let whole : version_line ≡ first ++ (rest ++ 10 ∷ []) = rw (version_is_line, is, append_assoc) refl in
-    let size = prefix_size first rest is in
-    let all = take_all version_size first (omega arith) in
-    rw same (rw (all, whole) (take_at first (rest ++ 10 ∷ []) (length first) refl), line_open first text)
+    search (rules, version_is_line, append_assoc, prefix_size, take_all, take_at, line_open)
 
 -- at the end of the input, or under the limit
 pub short_input : {a new : Seen} {first : Bytes} (rest : Bytes) {max : ℕ} → Gave (flow a new) first → IsLineText first
@@ -102,7 +95,4 @@ short_room {first} rest {max} took text full is = of_more took (λ n _.
 pub version_read : {a new : Seen} (first : Bytes) {rest : Bytes} {max : ℕ} → Gave (flow a new) (line first)
     → length first < min max version_size
     → version_text ≡ first ++ rest → rest ≡ [] → (version_size ≤ max) × Gave (flow a new) version_line
-version_read first {rest} took low is none =
-    let size = prefix_size first rest is in
-    let same : version_text ≡ first = rw (none, append-nil) at is in
-    (omega (arith, ap length none), rw (version_is_line, same) took)
+version_read first {rest} took low is none = search (rules, prefix_size, append-nil, version_is_line)

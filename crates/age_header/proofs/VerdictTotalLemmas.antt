@@ -1,5 +1,5 @@
 -- Every text has a header verdict under every limit: line after line, one of the verdict's cases is met.
-use Rattle.age_header.proofs.Common.{inl, inr, ◌≡◌, ◌≢◌, ◌⊎◌, ℕ, zero, suc, ◌+◌, ◌-◌, ◌<◌, ◌≤◌, List, [], ◌∷◌, ◌++◌, length, length-append, min, refl, sym, ap, arith, ◌∙◌, codes, Some, None, Ok, Err, append_cancel_left, cases_lt, cases_order, AllByRecursion, Result, Bytes, Known, HeaderFault, NotAge, BadLine, Truncated, TooLarge, LineEnd, Lf, Input, Room, NoVisible, IsBase64, decoded_bytes, StanzaParts, IsVisible, line, version_size, line_size, mac_size, line_bytes, IsEnd, State, between, within, Step, IsLineText, Found, HeaderVerdict, cases_eq}
+use Rattle.age_header.proofs.Common.{inl, inr, ◌≡◌, ◌≢◌, ◌⊎◌, ℕ, zero, suc, ◌+◌, ◌-◌, ◌<◌, ◌≤◌, List, [], ◌∷◌, ◌++◌, length, length-append, min, refl, sym, ap, arith, ◌∙◌, codes, Some, None, Ok, Err, append_cancel_left, cases_lt, cases_order, AllByRecursion, Result, Bytes, Known, HeaderFault, NotAge, BadLine, Truncated, TooLarge, LineEnd, Lf, Input, Room, NoVisible, IsBase64, decoded_bytes, StanzaParts, IsVisible, line, version_size, line_size, mac_size, line_bytes, IsEnd, State, between, within, Step, IsLineText, Found, HeaderVerdict, cases_eq, rules}
 use Rattle.age_header.proofs.DeviceLemmas.{gave_told, of_known, of_told}
 use Rattle.age_header.proofs.ArgumentsLemmas.{Parsed, SpellsArguments, SpellsNone, no_arrow, parsed_none, parsed_more, parsed_all, parsed_nothing, stuck_space, stuck_empty}
 use Rattle.age_header.proofs.Base64Lemmas.{decoded_b64, b64_decoded, IsBase64-injective}
@@ -26,10 +26,7 @@ prefix_of (c ∷ f) (d ∷ v) = elim (cases_eq d c) [
 ]
 
 visible_or_not : (c : ℕ) → IsVisible c ⊎ (IsVisible c → ⊥)
-visible_or_not c = elim (cases_lt c 33) [
-  | inl low ↦ inr (λ h. omega (arith, h.0))
-  | inr least ↦ elim (cases_lt 126 c) [ inl high ↦ inr (λ h. omega (arith, h.1)) | inr most ↦ inl (least, most) ]
-]
+visible_or_not c = search (rules, cases_lt)
 
 base64_or_none : (l : Bytes) → ((b : Bytes) × IsBase64 b l) ⊎ ((b : Bytes) → IsBase64 b l → ⊥)
 base64_or_none l = here (decoded_bytes l) refl

@@ -1,5 +1,5 @@
 -- One text has one header verdict, and it is a header exactly where that header begins the text within the limit.
-use Rattle.age_header.proofs.Common.{inl, inr, ◌≡◌, ℕ, ◌<◌, List, [], ◌∷◌, ◌++◌, length, length-append, length-take, take, drop, take-append-drop, refl, sym, ap, arith, append_assoc, ◌∙◌, Ok, Err, append-nil, nil_from_length, cases_order, Result, Bytes, HeaderFault, NotAge, BadLine, Truncated, TooLarge, version_line, between, lines_text, AreLines, Decides, Found, HeaderVerdict, Finds, IsFault, BeginsWith}
+use Rattle.age_header.proofs.Common.{inl, ◌≡◌, ℕ, ◌<◌, List, [], ◌∷◌, ◌++◌, length, length-append, length-take, take, drop, take-append-drop, refl, sym, ap, arith, append_assoc, ◌∙◌, Ok, Err, append-nil, nil_from_length, cases_order, Result, Bytes, HeaderFault, NotAge, BadLine, Truncated, TooLarge, version_line, between, lines_text, AreLines, Decides, Found, HeaderVerdict, Finds, IsFault, BeginsWith, rules}
 use Rattle.age_header.proofs.LinesLemmas.{lines_prefix}
 use Rattle.age_header.proofs.HeaderLemmas.{head_path, end_text, one_parts}
 use Rattle.age_header.proofs.VerdictPathLemmas.{version_text, path_decides, whole_lines, both}
@@ -10,18 +10,11 @@ not_fewer b ks ls d e fewer = let (viable, no_header) = e.first ks d.lines fewer
 
 -- as many lines of one text are the same lines
 as_many : (b : Bytes) (ks ls : List Bytes) → AreLines ks b → AreLines ls b → length ks ≡ length ls → ks ≡ ls
-as_many b ks ls d e size =
-    let (more, same, _) = lines_prefix ks ls d.rest e.rest d.each e.each (sym d.prefix ∙ e.prefix) (omega arith) in
-    let none = nil_from_length more (omega (arith, ap length same, length-append ks more)) in
-    sym (rw (none, append-nil) at same)
+as_many b ks ls d e size = search (rules, lines_prefix, nil_from_length, length-append, append-nil)
 
 -- one list of lines decides
 decides_once : (b : Bytes) (ks ls : List Bytes) → Decides ks b → Decides ls b → ks ≡ ls
-decides_once b ks ls d e = elim (cases_order (length ks) (length ls)) [
-  | inl same ↦ as_many b ks ls d.lines e.lines same
-  | inr (inl fewer) ↦ absurd (not_fewer b ks ls d e fewer)
-  | inr (inr fewer) ↦ absurd (not_fewer b ls ks e d fewer)
-]
+decides_once b ks ls d e = search (rules, cases_order, as_many, not_fewer)
 
 same_found : (b : Bytes) (max : ℕ) (x y : Found) → Finds b max x → Finds b max y → x ≡ y
 same_found b max x y h k =
@@ -33,9 +26,7 @@ same_found b max x y h k =
 
 header_fault : (b : Bytes) (max : ℕ) (x : Found) (f : HeaderFault) → Finds b max x → IsFault b max f → ⊥
 header_fault b max x NotAge h k = k h.begun
-header_fault b max x (BadLine n) h (age, (ls, size, decides, no_header)) =
-    let lines = decides_once (take max b) h.lines ls h.decides decides in
-    no_header (x.stanzas, x.mac, rw (h.is, lines) at h.head)
+header_fault b max x (BadLine n) h (age, (ls, size, decides, no_header)) = search (rules, decides_once)
 header_fault b max x Truncated h k = k.1 h.lines h.decides
 header_fault b max x TooLarge h k = k.1 h.lines h.decides
 header_fault b max x f h k = assumption
@@ -91,6 +82,4 @@ found_begins b max x h =
 
 -- a header that was found is found in every text that it begins
 pub found_again : (b : Bytes) (max : ℕ) (x : Found) → Finds b max x → (rest : Bytes) → Finds (x.text ++ rest) max x
-found_again b max x h rest =
-    let w = begins_found b max x h in
-    found_begins (x.text ++ rest) max x (record { rest = rest; head = w.head; prefix = refl; fits = w.fits })
+found_again b max x h rest = search (rules, begins_found, found_begins)

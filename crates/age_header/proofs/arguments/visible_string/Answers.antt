@@ -1,4 +1,4 @@
-use Rattle.age_header.proofs.Common.{sym, subst, Bytes, IsUtf8-from_ascii, false≢true, IsUtf8}
+use Rattle.age_header.proofs.Common.{IsUtf8-from_ascii, false≢true, sym, subst, Bytes, IsUtf8}
 use Rattle.age_header.proofs.ArgumentsLemmas.{visible_ascii}
 use Rattle.age_header.proofs.arguments.visible_string.Goals as goal
 

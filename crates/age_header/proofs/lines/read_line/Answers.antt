@@ -1,4 +1,4 @@
-use Rattle.age_header.proofs.Common.{◌∙◌, ℕ, length-append, length-take, arith, common_steps}
+use Rattle.age_header.proofs.Common.{length-append, length-take, arith, common_steps, ℕ}
 use Rattle.age_header.proofs.DeviceLemmas.{gave_then, some_then}
 use Rattle.age_header.proofs.lines.read_line.Goals as goal
 
@@ -14,9 +14,4 @@ returns-then-is_err-clause-most g c = (
 )
 
 pub loop-preserved : goal.loop-preserved
-loop-preserved g c = record {
-  count = c.in-Ok.ensures.count ∙ c.loop.invariant.count;
-  bytes = grind (arith, common_steps);
-  text = grind (arith, common_steps);
-  len = grind (arith, common_steps);
-}
+loop-preserved g c = grind (arith, common_steps, c.in-Ok.ensures.count, c.loop.invariant.count)

@@ -3,9 +3,7 @@ use Rattle.age_header.proofs.StepsLemmas.{no_base64, too_long}
 use Rattle.age_header.proofs.progress.body_line.Goals as goal
 
 pub returns-in_default-clause-none : goal.returns-in_default-clause-none
-returns-in_default-clause-none c s h =
-    let none = rw c.in_default.is at c.in_ok-more.ensures.none in
-    no_base64 c.args.stanzas.items c.args.stanza.args c.args.stanza.body c.args.text.now s none h
+returns-in_default-clause-none c s h = grind (arith, no_base64, c.in_ok-more.ensures.none)
 
 pub returns-then-text-gt-LINE_SIZE-clause-none : goal.returns-then-text-gt-LINE_SIZE-clause-none
 returns-then-text-gt-LINE_SIZE-clause-none c s h = too_long _ _ _ _ s c.if-text-gt-LINE_SIZE.true h

@@ -1,4 +1,4 @@
-use Rattle.age_header.proofs.Common.{◌≡◌, ◌∙◌, length, sym, ap, subst, codes, append_cancel_left, Bytes, IsBase64, arith, common_steps}
+use Rattle.age_header.proofs.Common.{append_cancel_left, arith, common_steps, ◌≡◌, ◌∙◌, length, sym, ap, subst, codes, Bytes, IsBase64}
 use Rattle.age_header.proofs.Base64Lemmas.{IsBase64-injective}
 use Rattle.age_header.proofs.reader.end_mac.Goals as goal
 
@@ -14,10 +14,7 @@ returns-clause-none c mac characters n e h =
 
 pub returns-in_default-2-clause-none : goal.returns-in_default-2-clause-none
 returns-in_default-2-clause-none c mac characters n e h =
-    let none = rw c.in_default-2.is at c.in_ok-mac.ensures.none in
-    let same : characters ≡ c.in-Some.characters.now =
-    append_cancel_left (codes "--- ") characters c.in-Some.characters.now (sym e ∙ c.in-Some.ensures) in
-    none mac (subst (λ (x : Bytes). IsBase64 mac x) same h)
+    grind (arith, append_cancel_left, c.in_ok-mac.ensures.none, c.in-Some.ensures)
 
 pub returns-in-Ok-clause-some : goal.returns-in-Ok-clause-some
 returns-in-Ok-clause-some c = grind (arith, common_steps)

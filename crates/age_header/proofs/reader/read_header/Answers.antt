@@ -39,8 +39,7 @@ returns-in-Room-clause-verdict g c =
     (rw c.in-Room.is at c.in_ok-text.ensures.end)
 
 pub overflow_add-lines : goal.overflow_add-lines
-overflow_add-lines g c =
-    omega (arith, path_lines c.args.max c.lines.room c.lines.lines c.lines.progress c.lines.invariant.path)
+overflow_add-lines g c = search (rules, path_lines, c.lines.invariant.path)
 
 pub returns-in-Ok-Some-clause-verdict : goal.returns-in-Ok-Some-clause-verdict
 returns-in-Ok-Some-clause-verdict g c =
@@ -93,25 +92,20 @@ returns-in_err-text-clause-most g c =
 
 pub returns-in-Input-clause-most : goal.returns-in-Input-clause-most
 returns-in-Input-clause-most g c =
-    line_within (seen_by g.S.Source.to_come g.S.Source.gave c.read_line.new.input) c.in_ok-text.end
-    c.in_ok-text.text.items c.lines.invariant.path c.in_ok-text.ensures.bytes c.in_ok-text.ensures.end
+    search (rules, line_within, c.lines.invariant.path, c.in_ok-text.ensures.bytes, c.in_ok-text.ensures.end)
 
 pub returns-in-Room-clause-most : goal.returns-in-Room-clause-most
 returns-in-Room-clause-most g c =
-    line_within (seen_by g.S.Source.to_come g.S.Source.gave c.read_line.new.input) c.in_ok-text.end
-    c.in_ok-text.text.items c.lines.invariant.path c.in_ok-text.ensures.bytes c.in_ok-text.ensures.end
+    search (rules, line_within, c.lines.invariant.path, c.in_ok-text.ensures.bytes, c.in_ok-text.ensures.end)
 
 pub returns-in-Err-clause-most : goal.returns-in-Err-clause-most
 returns-in-Err-clause-most g c =
-    line_within (seen_by g.S.Source.to_come g.S.Source.gave c.read_line.new.input) c.in_ok-text.end
-    c.in_ok-text.text.items c.lines.invariant.path c.in_ok-text.ensures.bytes c.in_ok-text.ensures.end
+    search (rules, line_within, c.lines.invariant.path, c.in_ok-text.ensures.bytes, c.in_ok-text.ensures.end)
 
 pub returns-in-Ok-None-step-clause-most : goal.returns-in-Ok-None-step-clause-most
 returns-in-Ok-None-step-clause-most g c =
-    line_within (seen_by g.S.Source.to_come g.S.Source.gave c.read_line.new.input) c.in_ok-text.end
-    c.in_ok-text.text.items c.lines.invariant.path c.in_ok-text.ensures.bytes c.in_ok-text.ensures.end
+    search (rules, line_within, c.lines.invariant.path, c.in_ok-text.ensures.bytes, c.in_ok-text.ensures.end)
 
 pub returns-in-Err-step-clause-most : goal.returns-in-Err-step-clause-most
 returns-in-Err-step-clause-most g c =
-    line_within (seen_by g.S.Source.to_come g.S.Source.gave c.read_line.new.input) c.in_ok-text.end
-    c.in_ok-text.text.items c.lines.invariant.path c.in_ok-text.ensures.bytes c.in_ok-text.ensures.end
+    search (rules, line_within, c.lines.invariant.path, c.in_ok-text.ensures.bytes, c.in_ok-text.ensures.end)

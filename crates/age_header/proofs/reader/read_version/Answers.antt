@@ -1,4 +1,4 @@
-use Rattle.age_header.proofs.Common.{◌∙◌, ◌++◌, length, sym, ap, arith, common_steps, nil_from_length, Bytes}
+use Rattle.age_header.proofs.Common.{arith, common_steps, nil_from_length, ◌∙◌, ◌++◌, length, sym, ap, Bytes}
 use Rattle.age_header.proofs.VerdictPathLemmas.{version_text}
 use Rattle.age_header.proofs.VerdictFirstLineLemmas.{no_prefix, short_line, short_input, short_room, version_read}
 use Rattle.age_header.proofs.reader.read_version.Goals as goal

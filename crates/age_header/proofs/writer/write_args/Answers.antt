@@ -1,4 +1,4 @@
-use Rattle.age_header.proofs.Common.{◌∙◌, ◌+◌, [], ◌∷◌, ◌++◌, map, drop, refl, codes, drop_all, string_bytes, Bytes, argument_line, err_from_is_err_and}
+use Rattle.age_header.proofs.Common.{◌∙◌, ◌+◌, [], ◌∷◌, ◌++◌, map, drop, refl, codes, drop_all, string_bytes, Bytes, argument_line, err_from_is_err_and, rules}
 use Rattle.age_header.proofs.ArgumentsLemmas.{spaced}
 use Rattle.age_header.proofs.TextLemmas.{args_step}
 use Rattle.age_header.proofs.DeviceLemmas.{done_start, done_more, done_part, writes_last}
@@ -41,6 +41,4 @@ loop-arg-preserved g c =
 
 pub returns-clause-text : goal.returns-clause-text
 returns-clause-text g c =
-    let none = drop_all c.loop-arg.arg-index c.args.args.now c.loop-arg-test.false in
-    let done = rw none at c.loop-arg.invariant.written in
-    search (writes_last, done, c.write_all-2.ensures.text)
+    search (rules, drop_all, writes_last, c.loop-arg.invariant.written, c.write_all-2.ensures.text)

@@ -1,4 +1,4 @@
-use Rattle.age_header.proofs.Common.{◌≡◌, length, take, arith, encoded_size_of, base64_of, rules}
+use Rattle.age_header.proofs.Common.{arith, rules, ◌≡◌, length, take, encoded_size_of, base64_of}
 use Rattle.age_header.proofs.TextLemmas.{encoded, encoded_size_plain}
 use Rattle.age_header.proofs.writer.write_base64.Goals as goal
 
@@ -13,8 +13,7 @@ returns-clause-text g c =
 
 pub unreachable-requires : goal.unreachable-requires
 unreachable-requires g c =
-    let size = encoded_size_plain c.args.engine.now (length c.args.bytes.now) c.requires.plain in
-    c.in_default.not-Ok _ (c.encode_slice.ensures.fits (omega (arith, c.requires.short)))
+    search (rules, encoded_size_plain, c.requires.plain, c.encode_slice.ensures.fits, c.requires.short)
 
 pub slice_bounds-characters-end : goal.slice_bounds-characters-end
 slice_bounds-characters-end g c = search rules

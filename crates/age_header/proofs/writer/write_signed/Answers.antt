@@ -1,4 +1,4 @@
-use Rattle.age_header.proofs.Common.{◌∙◌, ◌++◌, ◌+◌, drop, flat_map, refl, codes, append_assoc, drop_all, Bytes, argument_line, version_line, body_text, stanza_text, signed_text, err_from_is_err_and}
+use Rattle.age_header.proofs.Common.{◌∙◌, ◌++◌, ◌+◌, drop, flat_map, refl, codes, append_assoc, drop_all, Bytes, argument_line, version_line, body_text, stanza_text, signed_text, err_from_is_err_and, rules}
 use Rattle.age_header.proofs.TextLemmas.{stanza_step}
 use Rattle.age_header.proofs.DeviceLemmas.{done_start, done_more, done_part, writes_last}
 use Rattle.age_header.proofs.writer.write_signed.Goals as goal
@@ -59,6 +59,4 @@ loop-stanza-preserved g c =
 
 pub returns-clause-text : goal.returns-clause-text
 returns-clause-text g c =
-    let none = drop_all c.loop-stanza.stanza-index c.args.stanzas.now c.loop-stanza-test.false in
-    let done = rw none at c.loop-stanza.invariant.written in
-    search (writes_last, done, c.write_all-2.ensures.text)
+    search (rules, drop_all, writes_last, c.loop-stanza.invariant.written, c.write_all-2.ensures.text)

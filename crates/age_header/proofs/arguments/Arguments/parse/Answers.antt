@@ -1,4 +1,4 @@
-use Rattle.age_header.proofs.Common.{◌≡◌, ◌≢◌, ◌∙◌, List, ℕ, [], ◌∷◌, ◌++◌, map, length, take, drop, sym, ap, subst, arith, rules, take-append-drop, length-take, Global, String, common_steps, nil_from_length, map_push, string_bytes, Bytes, NoVisible}
+use Rattle.age_header.proofs.Common.{◌≡◌, ◌≢◌, ◌∙◌, List, ℕ, [], ◌∷◌, ◌++◌, map, length, take, drop, sym, ap, arith, rules, take-append-drop, length-take, Global, String, common_steps, nil_from_length, map_push, string_bytes, Bytes}
 use Rattle.age_header.proofs.ArgumentsLemmas.{no_arrow, stuck_space, stuck_empty, parsed_more, parsed_nothing}
 use Rattle.age_header.proofs.arguments.Arguments.parse.Goals as goal
 
@@ -7,17 +7,11 @@ returns-in_default-clause-none c = no_arrow c.args.text.now c.in_default.ensures
 
 pub returns-in_default-strip_prefix-clause-none : goal.returns-in_default-strip_prefix-clause-none
 returns-in_default-strip_prefix-clause-none c =
-    let az = map string_bytes c.loop-rest.texts.items in
-    stuck_space c.args.text.now az c.loop-rest.rest.now c.loop-rest.invariant (λ e. search rules)
-    c.in_default-strip_prefix.ensures
+    search (rules, stuck_space, c.loop-rest.invariant, c.in_default-strip_prefix.ensures)
 
 pub returns-then-len-eq0-clause-none : goal.returns-then-len-eq0-clause-none
 returns-then-len-eq0-clause-none c =
-    let tail : Bytes = c.in-Some-strip_prefix.tail.now in
-    let end : NoVisible tail = subst (λ (n : ℕ). NoVisible (drop n tail)) c.if-len-eq0.true
-    c.visible_len-len.ensures.rest in
-    let az = map string_bytes c.loop-rest.texts.items in
-    stuck_empty c.args.text.now az c.loop-rest.rest.now tail c.loop-rest.invariant c.in-Some-strip_prefix.ensures end
+    search (rules, stuck_empty, c.visible_len-len.ensures.rest, c.loop-rest.invariant, c.in-Some-strip_prefix.ensures)
 
 pub loop-rest-preserved : goal.loop-rest-preserved
 loop-rest-preserved c =
@@ -39,6 +33,4 @@ loop-rest-preserved c =
 
 pub returns-then-is_empty-clause-none : goal.returns-then-is_empty-clause-none
 returns-then-is_empty-clause-none c =
-    let none : c.loop-rest.texts.items ≡ [] = nil_from_length c.loop-rest.texts.items (grind (arith, common_steps)) in
-    let end : c.loop-rest.rest.now ≡ [] = nil_from_length c.loop-rest.rest.now (grind (arith, common_steps)) in
-    parsed_nothing c.args.text.now (rw (none, end) at c.loop-rest.invariant)
+    search (rules, nil_from_length, common_steps, parsed_nothing, c.loop-rest.invariant)

@@ -1,4 +1,4 @@
-use Rattle.age_header.proofs.Common.{◌≡◌, ◌∙◌, ◌++◌, length, sym, ap, subst, arith, rules, append-nil, drop_all, encoded_size_of, encode_of, Bytes, IsBase64, HeaderParts, mac_size, replicate}
+use Rattle.age_header.proofs.Common.{arith, rules, append-nil, drop_all, ◌≡◌, ◌∙◌, ◌++◌, length, sym, ap, subst, encoded_size_of, encode_of, Bytes, IsBase64, HeaderParts, mac_size, replicate}
 use Rattle.age_header.proofs.Base64Lemmas.{IsBase64-encode, encode_of_unpadded}
 use Rattle.age_header.proofs.TextLemmas.{encoded_size_plain}
 use Rattle.age_header.proofs.header.Header.mac_signs.Goals as goal
@@ -19,6 +19,4 @@ returns c =
     subst (λ (z : HeaderParts). IsBase64 z.mac characters) c.self.view_is here
 
 pub unreachable-requires : goal.unreachable-requires
-unreachable-requires c =
-    let size = encoded_size_plain c.engine.result (length c.self.inside.mac) c.engine.ensures in
-    c.in_default.not-Ok _ (c.encode_slice.ensures.fits (omega arith))
+unreachable-requires c = search (rules, encoded_size_plain, c.engine.ensures, c.encode_slice.ensures.fits)
