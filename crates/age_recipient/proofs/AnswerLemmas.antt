@@ -1,23 +1,21 @@
 -- The first answer that decides, one answer after the other.
 use Rattle.std.proofs.Common.{Result, Ok, Err}
 use Rattle.std.specs.Result.{IfErr}
-use Rattle.age_recipient.proofs.Common.{◌≡◌, Bool, true, false, ◌||◌, ◌&&◌, not, ℕ, ◌+◌, ◌<◌, List, ◌∷◌, map, drop, length, get_or, drop_more, decides, decision_from, drop-map, lacks_memory, or-true, Unwrapped}
+use Rattle.age_recipient.proofs.Common.{◌≡◌, Bool, true, false, ◌||◌, ◌&&◌, not, ℕ, ◌+◌, ◌<◌, List, ◌∷◌, map, drop, length, get_or, drop_more, decides, decision_from, drop-map, lacks_memory, or-true, Unwrapped, arith}
 
 -- what is decided by what is left, at an element whose answer is known
 pub decided_step : {A : Type 0} (f : A → Unwrapped) (xs : List A) {i : ℕ} {x : A} (so_far : Unwrapped) {a : Unwrapped}
     → i < length xs
     → x ≡ get_or xs i x → a ≡ f x
     → decision_from so_far (drop i (map f xs)) ≡ decision_from so_far (a ∷ drop (i + 1) (map f xs))
-decided_step f xs {i} {x} so_far {a} low is answer =
-    rw (drop-map f i xs, drop-map f (i + 1) xs, drop_more xs i x low, ← is, answer)
+decided_step f xs {i} {x} so_far {a} low is answer = grind (arith, drop-map, drop_more)
 
 -- whether memory may run out in what is left, at an element
 lacks_step : {A : Type 0} (f : A → Unwrapped) (may : A → Bool) (xs : List A) {i : ℕ} {x : A}
     → i < length xs → x ≡ get_or xs i x
     → lacks_memory (drop i (map f xs)) (drop i (map may xs))
     ≡ (may x || (not (decides (f x)) && lacks_memory (drop (i + 1) (map f xs)) (drop (i + 1) (map may xs))))
-lacks_step f may xs {i} {x} low is =
-    rw (drop-map f i xs, drop-map may i xs, drop-map f (i + 1) xs, drop-map may (i + 1) xs, drop_more xs i x low, ← is)
+lacks_step f may xs {i} {x} low is = grind (arith, drop-map, drop_more)
 
 pub lacks_here : {A : Type 0} (f : A → Unwrapped) (may : A → Bool) (xs : List A) {i : ℕ} {x : A}
     → i < length xs → x ≡ get_or xs i x → may x ≡ true

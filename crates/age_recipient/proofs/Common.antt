@@ -1,9 +1,10 @@
 -- The names that the proofs of this crate cite, passed on from one place.
-pub use Rattle.std.proofs.Common.{Bool, Bor, List, None, Option, Some, String, [], ap, arith, cond, drop, false, flat_map, get_or, inl, inr, length, length-append, map, nat_eq, nat_le, not, refl, sym, take, take-append-drop, true, true≢false, ℕ, ◌&&◌, ◌*◌, ◌++◌, ◌+◌, ◌-◌, ◌/◌, ◌<◌, ◌||◌, ◌∙◌, ◌∷◌, ◌≡◌, ◌≤◌}
+pub use Rattle.std.proofs.Common.{Bool, Bor, List, None, Option, Some, String, [], ap, arith, cond, drop, false, flat_map, get_or, inl, length, length-append, map, not, refl, sym, take, take-append-drop, true, true≢false, ℕ, ◌&&◌, ◌*◌, ◌++◌, ◌+◌, ◌-◌, ◌/◌, ◌<◌, ◌||◌, ◌∙◌, ◌∷◌, ◌≡◌, ◌≤◌}
 pub use Rattle.std.proofs.Math.Bool.{or-true}
 pub use Rattle.std.proofs.lemmas.Bool.{and_parts, cases_Bool, eqb-true, leb-true}
 pub use Rattle.std.proofs.lemmas.Cmp.{lists_equiv}
 pub use Rattle.std.proofs.lemmas.Fmt.{length-decimal-le}
+pub use Rattle.std.proofs.lemmas.Grind.{common_steps}
 pub use Rattle.std.proofs.lemmas.List.{drop-map, drop_more, take_all}
 pub use Rattle.std.proofs.lemmas.List.Folds.{list_any_at, list_any_more}
 pub use Rattle.std.proofs.lemmas.Map.Text.{btree_set_updates_text, is_eq-slice_cmp}
@@ -28,7 +29,7 @@ pub use Rattle.age_header.proofs.Base64Lemmas.{IsBase64-only}
 pub use Rattle.age_header.proofs.HeaderLemmas.{head_value, one_text}
 pub use Rattle.age_header.proofs.LengthLemmas.{body_size, header_size, stanza_size}
 pub use Rattle.age_header.proofs.TextLemmas.{header_text_is, signs_size}
-pub use Rattle.age_header.specs.Base64.{IsBase64, decoded_bytes}
+pub use Rattle.age_header.specs.Base64.{IsBase64}
 unfoldable pub use Rattle.age_header.specs.Base64.{base64_of}
 pub use Rattle.age_header.specs.Device.{Known}
 pub use Rattle.age_header.specs.Header.{Head, StanzaParts, argument_line, line}
@@ -50,4 +51,3 @@ unfoldable pub use Rattle.age_recipient.specs.Sealing.{unsealed_key}
 pub use Rattle.age_recipient.specs.declared.labels.Labels.{Labels}
 pub use Rattle.age_recipient.specs.declared.labels.Labels.TheVariants.{Names}
 pub use Rattle.age_recipient.specs.declared.unwrapped.Unwrapped.{Unwrapped}
-pub use Rattle.age_recipient.specs.declared.unwrapped.Unwrapped.TheVariants.{NotMine}

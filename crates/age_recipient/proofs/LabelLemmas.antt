@@ -1,5 +1,5 @@
 -- The set of a list of texts: its order, and which texts are in it.
-use Rattle.age_recipient.proofs.Common.{◌≡◌, ℕ, true, ◌+◌, ◌<◌, List, [], ◌∷◌, map, take, length, get_or, sym, ◌∙◌, ap, refl, list_any, bytes_eq, string_bytes, string_cmp, Bytes, Names, Bool, false, cond, not, ◌||◌, Option, Bor, String, true≢false, lists_equiv, list_any_more, is_eq-slice_cmp, is_at, nat_eq_equiv, pointwise-map, slice_cmp, pointwise, Global, AllByRecursion, AllZip, position_from, IsStrictlySortedBy, nat_cmp, string_eq, Less, Labels, IsSetOf, go_together}
+use Rattle.age_recipient.proofs.Common.{◌≡◌, ℕ, true, ◌+◌, ◌<◌, List, [], ◌∷◌, map, take, length, get_or, sym, ◌∙◌, ap, refl, list_any, bytes_eq, string_bytes, string_cmp, Bytes, Names, Bool, false, cond, not, ◌||◌, Option, Bor, String, true≢false, lists_equiv, list_any_more, is_eq-slice_cmp, is_at, nat_eq_equiv, pointwise-map, slice_cmp, pointwise, Global, AllByRecursion, AllZip, position_from, IsStrictlySortedBy, nat_cmp, string_eq, Less, Labels, IsSetOf, go_together, common_steps, arith}
 
 below_all : (x : String Global) (ks : List (String Global)) → AllByRecursion (λ y. string_cmp x y ≡ Less) ks
     → AllByRecursion (λ b. slice_cmp nat_cmp (string_bytes x) b ≡ Less) (map string_bytes ks)
@@ -35,11 +35,7 @@ pub one_more : (texts : List (Bor Bytes)) {i : ℕ} (d : Bor Bytes) {bytes : Byt
     → new ≡ cond (bytes_eq bytes text) true old → old ≡ list_any (λ t. bytes_eq text t.now) (take i texts)
     → new ≡ list_any (λ t. bytes_eq text t.now) (take (i + 1) texts)
 one_more texts {i} d {bytes} text {old} low is now before =
-    let test : bytes_eq bytes text ≡ bytes_eq text (get_or texts i d).now = bytes_eq_sym bytes text
-    ∙ ap (bytes_eq text) is in
-    now ∙ or_last (bytes_eq bytes text) old ∙ ap (λ b. b || bytes_eq bytes text) before
-    ∙ ap (λ b. list_any (λ t. bytes_eq text t.now) (take i texts) || b) test
-    ∙ sym (list_any_more (λ t. bytes_eq text t.now) texts i d low)
+    grind (arith, common_steps, bytes_eq_sym, or_last, list_any_more)
 
 -- the test of a text, of borrowed texts and of the texts themselves
 pub any_now : (text : Bytes) (texts : List (Bor Bytes))

@@ -2,7 +2,4 @@ pub mod Common
 pub mod AnswerLemmas
 pub mod LabelLemmas
 pub mod HeaderSizeLemmas
-mod PassphraseLemmas
-mod SealingLemmas
-mod SaltLemmas
 mod StanzaLemmas

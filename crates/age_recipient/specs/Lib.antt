@@ -9,4 +9,5 @@ pub mod PassphraseHolders
 pub mod PassphraseStanza
 pub mod Salt
 pub mod Sealing
+pub mod Texts
 pub mod Wrap

@@ -63,6 +63,7 @@ pub enum Labels {
 impl Labels {
     /// Returns whether recipients with these labels may share a file: both have names, and the same
     /// ones. Two recipients that are `Alone` do not go together, although their labels are equal.
+    #[tactic(auto, using(crate::proofs::LabelLemmas::names_together))]
     pub fn go_together(&self, other: &Labels) -> bool
         ensures { result ≡ go_together self.now other.now }
     {

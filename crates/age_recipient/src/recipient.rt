@@ -44,6 +44,7 @@ pub trait Recipient: Drop {
     ///
     /// # Errors
     /// If an allocation was refused.
+    #[tactic(auto, using(crate::proofs::LabelLemmas::no_texts))]
     fn labels(&self, alloc: Global) -> Result<Labels, AllocError>
         // Returns the labels of the recipient's meaning, or an empty set of names: the default body
         // returns the latter, and is proved once for all recipients, whatever they mean. For a

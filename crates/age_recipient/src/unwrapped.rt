@@ -1,33 +1,46 @@
 //! The answer of an identity to the stanzas of a header.
 
-ghost use Rattle.std.specs.Prelude.{◌≡◌, List, ◌∷◌, false, IfOk, IfErr};
+ghost use Rattle.std.specs.Prelude.{◌≡◌, List, ◌∷◌, Some, false, IfOk, IfErr};
 ghost use Rattle.age_recipient.specs.Answer.{decides, decision_from};
+ghost use Rattle.age_recipient.specs.Texts.{stanza_fault_text};
 
 use age_header::FileKey;
-use thiserror::Error;
+use std::error::Error;
+use std::fmt;
 
 /// Why a stanza of an identity's own type is malformed. This crate's identities check in this
 /// order.
-#[derive(Clone, Copy, Debug, Drop, PartialEq, Eq, Error)]
+#[derive(Clone, Copy, Debug, Drop, PartialEq, Eq)]
 pub enum StanzaFault {
-    #[error("argument count")]
     ArgCount,
     /// The salt is not the canonical base64 of 16 bytes.
-    #[error("salt")]
     Salt,
     /// The work factor is not a digit 1 to 9 followed by any digits.
-    #[error("work factor")]
     WorkFactorText,
     /// The work factor is above the identity's maximum.
-    #[error("work factor is too high")]
     WorkFactorTooHigh,
     /// The body does not have 32 bytes.
-    #[error("body length")]
     BodyLength,
     /// Another fault, with a code chosen by a caller's own identity.
-    #[error("code {0}")]
     Other(u32),
 }
+
+impl fmt::Display for StanzaFault {
+    ghost output = { λ fault. Some (stanza_fault_text fault) };
+
+    fn fmt<W: fmt::Write>(&self, f: &mut fmt::Formatter<W>) -> fmt::Result {
+        match self {
+            StanzaFault::ArgCount => f.write_str("argument count"),
+            StanzaFault::Salt => f.write_str("salt"),
+            StanzaFault::WorkFactorText => f.write_str("work factor"),
+            StanzaFault::WorkFactorTooHigh => f.write_str("work factor is too high"),
+            StanzaFault::BodyLength => f.write_str("body length"),
+            StanzaFault::Other(code) => write!(f, "code {code}"),
+        }
+    }
+}
+
+impl Error for StanzaFault {}
 
 /// The answer of an identity to a header's stanzas.
 #[derive(Clone, Copy, PartialEq, Eq)]

@@ -21,6 +21,7 @@ const LABEL: &[u8; 28] = b"age-encryption.org/v1/scrypt";
 pub const SCRYPT_TYPE: &str = "scrypt";
 
 /// The wrap key.
+#[tactic(auto, unfolding(crate::specs::PassphraseStanza::pass_wrap_key))]
 fn pass_wrap_key(
     alloc: Global,
     pass: &[u8],

@@ -26,6 +26,7 @@ fn are_digits(text: &[u8]) -> bool
 
 /// The value of these digits, if it is at most `max`. There may be any number of digits; since
 /// three or more exceed every maximum, at most two are evaluated.
+#[tactic(auto, using(crate::proofs::StanzaLemmas::long_number))]
 pub(crate) fn work_at_most(text: &[u8], max: u8) -> Option<u8>
     requires digits { is_work_factor text.now ≡ true }
     requires small { max ≤ most_work }

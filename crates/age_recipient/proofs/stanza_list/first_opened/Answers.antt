@@ -1,4 +1,4 @@
-use Rattle.age_recipient.proofs.Common.{sym, ◌∙◌, list_any_at}
+use Rattle.age_recipient.proofs.Common.{sym, ◌∙◌, list_any_at, arith}
 use Rattle.age_recipient.proofs.AnswerLemmas.{decided_step, if_err_of}
 use Rattle.age_recipient.proofs.stanza_list.first_opened.Goals as goal
 
@@ -8,11 +8,7 @@ returns-in-Err-clause-answer g c =
     (decided_step _ _ _ c.loop-stanza-test.true c.stanza-item.is c.in_ok-open.ensures.answer) ∙ c.loop-stanza.invariant)
 
 pub loop-stanza-preserved : goal.loop-stanza-preserved
-loop-stanza-preserved g c =
-    sym (c.in-Ok.ensures.continues _) ∙ (sym
-    (decided_step _ _ _ c.loop-stanza-test.true c.stanza-item.is c.in_ok-open.ensures.answer) ∙ c.loop-stanza.invariant)
+loop-stanza-preserved g c = grind (arith, decided_step)
 
 pub returns-in_err-open-clause-memory : goal.returns-in_err-open-clause-memory
-returns-in_err-open-clause-memory g c =
-    if_err_of _ (list_any_at _ _ c.loop-stanza.stanza-index c.stanza-item.result c.loop-stanza-test.true
-    (rw (← c.stanza-item.is) c.in_err-open.ensures.memory))
+returns-in_err-open-clause-memory g c = grind (arith, if_err_of, list_any_at)
