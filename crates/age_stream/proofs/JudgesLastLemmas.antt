@@ -1,18 +1,8 @@
 -- What the last piece gives, and what opening a payload for ranges finds.
-use Rattle.age_stream.proofs.Common.{◌≡◌, ◌⊎◌, ℕ, [], ◌+◌, ◌-◌, ◌*◌, ◌/◌, ◌<◌, ◌≤◌, length, take, drop, get_or, nat_eq, sym, ◌∙◌, ap, arith, true, refl, inl, inr, subst, Some, None, Result, Ok, Err, IfSome, eq-eqb, le-leb, le-ltb, length-drop, length-take-le, drop-drop, take_all, Bytes, Known, FileKey, StreamFault, TooManyChunks, Write, Layout, sealed_chunk_size, chunk_buf_size, length-sealed_text, opened_text-sealed_text, IsAtPiece, pieces, chunk_nonce, payload_key, EndsBefore, HasAt, GaveAt, piece_opening, outcome, last_len, source_opening, IsOpenFault, IsVerified, JudgesLast, OpensRanges, opening, plain_len, chunk_len, last_piece, last_outcome, range_outcome}
-use Rattle.age_stream.proofs.ReadingLemmas.{cut_count}
-use Rattle.age_stream.proofs.OutcomeLemmas.{outcome_many}
+use Rattle.age_stream.proofs.Common.{Bool, Probes, move_of, ◌≡◌, ℕ, [], ◌+◌, ◌-◌, ◌*◌, ◌/◌, ◌<◌, ◌≤◌, length, take, drop, get_or, nat_eq, sym, ◌∙◌, ap, arith, true, refl, inl, inr, Some, None, Result, Ok, Err, IfSome, eq-eqb, le-leb, le-ltb, length-drop, length-take-le, drop-drop, take_all, Bytes, Known, FileKey, StreamFault, TooManyChunks, Write, Layout, sealed_chunk_size, chunk_buf_size, length-sealed_text, opened_text-sealed_text, IsAtPiece, pieces, chunk_nonce, payload_key, EndsBefore, HasAt, GaveAt, outcome, last_len, source_opening, IsOpenFault, IsVerified, JudgesLast, OpensRanges, opening, plain_len, chunk_len, last_piece, last_outcome, range_outcome}
 use Rattle.age_stream.proofs.PayloadLemmas.{outcome_opens}
-use Rattle.age_stream.proofs.LoadLemmas.{tight_at}
+use Rattle.age_stream.proofs.LoadLemmas.{count_there, piece_count, some_or_none, tight_at}
 use Rattle.age_stream.proofs.SliceLemmas.{cut_at, opening_at, plain_count}
-
-pub some_or_none : (last len : ℕ) → last ≡ (len - 1) / sealed_chunk_size → (last ≡ 0) ⊎ (sealed_chunk_size * last < len)
-some_or_none last len is = grind (arith, is)
-
-pub piece_count : (rest : Bytes) (last : ℕ) → last ≡ (length rest - 1) / sealed_chunk_size
-    → length (pieces rest) ≡ last + 1
-piece_count rest last is =
-    cut_count sealed_chunk_size last rest (omega arith) (some_or_none last (length rest) is) (omega arith)
 
 last_index : (rest : Bytes) (last : ℕ) → last ≡ (length rest - 1) / sealed_chunk_size → length (pieces rest) - 1 ≡ last
 last_index rest last is = omega (arith, piece_count rest last is)
@@ -40,6 +30,11 @@ last_is key max rest last is =
 behind_len : (at n : ℕ) (bytes : Bytes) → length bytes ≡ at + n → length (drop at bytes) ≡ n
 behind_len at n bytes size = let d : length (drop at bytes) ≡ length bytes - at = length-drop at bytes in omega arith
 
+outcome_many : (key : Bytes) (max i : ℕ) (last : Bool) (c : Bytes) → max ≤ i
+    → outcome key max i last c ≡ Err TooManyChunks
+unfolding outcome
+outcome_many key max i last c le = rw (le-leb max i le) refl
+
 -- too many pieces
 pub last_many : (key : Bytes) (max first sealed last : ℕ) (told : Known) → last ≡ (sealed - 1) / sealed_chunk_size
     → max ≤ last
@@ -63,8 +58,7 @@ last_gone key max first sealed last end (Some bytes) fault is len gone = λ size
 pub last_read : (key : Bytes) (max first sealed last end : ℕ) (told : Known) (buf : Bytes)
     (r : Result Bytes StreamFault) → last ≡ (sealed - 1) / sealed_chunk_size
     → end ≡ sealed - sealed_chunk_size * last → length buf ≡ chunk_buf_size
-    → HasAt told (first + sealed_chunk_size * last) (take end buf)
-    → outcome key max last true (take end buf) ≡ r
+    → HasAt told (first + sealed_chunk_size * last) (take end buf) → outcome key max last true (take end buf) ≡ r
     → IfSome told (λ bytes. length bytes ≡ first + sealed → last_outcome key max (drop first bytes) ≡ r)
 last_read key max first sealed last end None buf r is len room has gives = tt
 last_read key max first sealed last end (Some bytes) buf r is len room has gives = λ size.
@@ -78,15 +72,13 @@ last_read key max first sealed last end (Some bytes) buf r is len room has gives
     ∙ ap (take end) (sym (drop-drop (sealed_chunk_size * last) first bytes))
     ∙ take_all end (drop (sealed_chunk_size * last) rest) (omega arith) in
     last_is key max rest last (is ∙ ap (λ n. (n - 1) / sealed_chunk_size) (sym all))
-    ∙ ap (outcome key max last true) (sym same)
-    ∙ gives
+    ∙ ap (outcome key max last true) (sym same) ∙ gives
 
 -- how long a last piece is that opens
-pub open_len : (key : Bytes) (max i end n : ℕ) (buf after : Bytes) → length buf ≡ chunk_buf_size
-    → end ≤ sealed_chunk_size
-    → outcome key max i true (take end buf) ≡ Ok (take n after) → n ≤ length after
+pub open_len : (key : Bytes) (max i : ℕ) {end n : ℕ} (buf after : Bytes) → length buf ≡ chunk_buf_size
+    → end ≤ sealed_chunk_size → outcome key max i true (take end buf) ≡ Ok (take n after) → n ≤ length after
     → (n + 16 ≡ end) × (0 < i → 0 < n)
-open_len key max i end n buf after room le opens within =
+open_len key max i {end} {n} buf after room le opens within =
     let o = outcome_opens key max i true (take end buf) (take n after) opens in
     let len = ap length o.sealed_so ∙ length-sealed_text key (chunk_nonce i true) [] (take n after) in
     let a = length-take-le end buf (omega arith) in
@@ -95,8 +87,7 @@ open_len key max i end n buf after room le opens within =
 
 -- a last piece that was read, and opens
 pub last_verified : {gave : ℕ → ℕ → Type 0} {layout : Layout} (max last end : ℕ) {n : ℕ} (buf after : Bytes)
-    → layout.count ≡ last + 1
-    → GaveAt gave (layout.first + sealed_chunk_size * last) (take end buf)
+    → layout.count ≡ last + 1 → GaveAt gave (layout.first + sealed_chunk_size * last) (take end buf)
     → outcome layout.key max last true (take end buf) ≡ Ok (take n after)
     → n ≡ chunk_len layout.plain last → IsVerified gave layout (layout.count - 1)
     (take (chunk_len layout.plain (layout.count - 1)) after)
@@ -104,14 +95,8 @@ last_verified {gave} {layout} max last end {n} buf after count read opens len =
     let o = outcome_opens layout.key max last true (take end buf) (take n after) opens in
     let at : last ≡ layout.count - 1 = omega arith in
     let is_last : nat_eq (last + 1) layout.count ≡ true = eq-eqb (last + 1) layout.count (sym count) in
-    subst (λ i. IsVerified gave layout i (take (chunk_len layout.plain i) after)) at (record {
-      piece = take end buf;
-      read = read;
-      opens = ap (λ b. piece_opening layout.key last b (take end buf)) is_last
-          ∙ ap (piece_opening layout.key last true) o.sealed_so
-          ∙ opened_text-sealed_text layout.key (chunk_nonce last true) [] (take n after)
-          ∙ ap (λ k. Some (take k after)) len;
-    })
+    let opens = opened_text-sealed_text layout.key (chunk_nonce last true) [] (take n after) in
+    rw (← at) (record { piece = take end buf; read = read; opens = rw (is_last, o.sealed_so, opens, len) })
 
 -- a last piece that opens
 last_opens : (key : Bytes) (max : ℕ) (rest t : Bytes) (last : ℕ) → last ≡ (length rest - 1) / sealed_chunk_size
@@ -121,12 +106,13 @@ last_opens key max rest t last is h =
     let d : length piece ≡ length rest - sealed_chunk_size * last = length-drop (sealed_chunk_size * last) rest in
     let n : length (pieces rest) ≡ last + 1 = piece_count rest last is in
     let o = outcome_opens key max last true piece t (sym (last_is key max rest last is) ∙ h) in
-    opening_at key rest last (omega arith)
-    ∙ ap (λ b. piece_opening key last b (take sealed_chunk_size piece))
-    (le-leb (length rest) (sealed_chunk_size * (last + 1)) (omega arith))
-    ∙ ap (piece_opening key last true) (take_all sealed_chunk_size piece (omega arith))
-    ∙ ap (piece_opening key last true) o.sealed_so
-    ∙ opened_text-sealed_text key (chunk_nonce last true) [] t
+    rw (
+      opening_at key rest last (omega arith),
+      le-leb (length rest) (sealed_chunk_size * (last + 1)) (omega arith),
+      take_all sealed_chunk_size piece (omega arith),
+      o.sealed_so,
+      opened_text-sealed_text key (chunk_nonce last true) [] t,
+    )
 
 -- what is known of a nonce that was read, and of the n bytes after it
 abbrev pub IsNonce : Known → ℕ → Bytes → ℕ → Type 0
@@ -138,9 +124,7 @@ behind_nonce : (k : FileKey) (max at : ℕ) (bytes nonce : Bytes) (n : ℕ) → 
     → range_outcome k max (drop at bytes) ≡ last_outcome (payload_key k nonce) max (drop (at + 16) bytes)
 behind_nonce k max at bytes nonce n is size =
     let d : length (drop at bytes) ≡ length bytes - at = length-drop at bytes in
-    rw (le-ltb (length (drop at bytes)) 16 (omega arith))
-    (ap (λ x. last_outcome (payload_key k x) max (drop 16 (drop at bytes))) (sym is)
-    ∙ ap (last_outcome (payload_key k nonce) max) (drop-drop 16 at bytes))
+    rw (le-ltb (length (drop at bytes)) 16 (omega arith), ← is, drop-drop 16 at bytes)
 
 -- the last piece's fault
 pub judged_err : (k : FileKey) (max at : ℕ) (told : Known) (nonce after : Bytes) (n : ℕ) (fault : StreamFault)
@@ -155,25 +139,13 @@ plain_there : (layout : Layout) (rest : Bytes) → length rest ≡ layout.plain 
     → plain_len rest ≡ layout.plain
 plain_there layout rest size =
     let low = tight_at layout (layout.count - 1) (omega (arith, layout.some)) in
-    let more : (layout.count - 1 ≡ 0) ⊎ (sealed_chunk_size * (layout.count - 1) < length rest) =
-    grind (arith, layout.tight, size) in
-    omega (
-      arith,
-      layout.some,
-      layout.covers,
-      plain_count (layout.count - 1) rest more
-          (omega (arith, layout.covers)) (omega (arith, layout.covers)),
-    )
-
-count_there : (layout : Layout) (n : ℕ) → layout.plain + 16 * layout.count ≡ n
-    → layout.count - 1 ≡ (n - 1) / sealed_chunk_size
-count_there layout n sealed =
-    grind (arith, sealed, layout.some, layout.covers, layout.tight)
+    let more = some_or_none (layout.count - 1) (length rest) (count_there layout (length rest) (sym size)) in
+    let high = plain_count (layout.count - 1) rest more (omega (arith, layout.covers)) (omega (arith, layout.covers)) in
+    omega (arith, layout.some, layout.covers, high)
 
 -- the last piece opened
 pub judged_ok : (k : FileKey) (max at : ℕ) (told : Known) (nonce buf : Bytes) (n : ℕ) (layout : Layout)
-    → IsNonce told at nonce n
-    → JudgesLast (payload_key k nonce) max (at + 16) n told buf (Ok layout)
+    → IsNonce told at nonce n → JudgesLast (payload_key k nonce) max (at + 16) n told buf (Ok layout)
     → OpensRanges k max at told (Ok (record
     { layout = layout; index = Some (layout.count - 1); buf = buf; opened = 1 }))
 judged_ok k max at None nonce buf n layout h j = (refl, refl, tt)
@@ -184,10 +156,8 @@ judged_ok k max at (Some bytes) nonce buf n layout h j =
     let there : length (drop layout.first bytes) ≡ layout.plain + 16 * layout.count =
     ap (λ f. length (drop f bytes)) j.1 ∙ size ∙ sym j.2 in
     let opens : source_opening (Some bytes) layout (layout.count - 1) ≡ Some text =
-    ap (λ x. opening x (drop layout.first bytes) (layout.count - 1)) j.0
-    ∙ ap (λ f. opening (payload_key k nonce) (drop f bytes) (layout.count - 1)) j.1
-    ∙ last_opens (payload_key k nonce) max (drop (at + 16) bytes) text (layout.count - 1)
-    (count_there layout n j.2 ∙ ap (λ m. (m - 1) / sealed_chunk_size) (sym size)) gives in (
+    rw (j.0, j.1) (last_opens (payload_key k nonce) max (drop (at + 16) bytes) text (layout.count - 1)
+    (count_there layout n j.2 ∙ ap (λ m. (m - 1) / sealed_chunk_size) (sym size)) gives) in (
       refl,
       refl,
       record {
@@ -203,14 +173,16 @@ judged_ok k max at (Some bytes) nonce buf n layout h j =
     )
 
 -- what was given, with the last piece
-pub given_last : (told : Known) (nonce : Bytes) (at n : ℕ) {new : ℕ} (mid old : ℕ) → IsNonce told at nonce n
-    → new ≤ mid + last_len n → mid ≤ old + 16
-    → IfSome told (λ bytes. new ≤ old + (16 + length (last_piece (drop (at + 16) bytes))))
-given_last None nonce at n mid old h le le2 = tt
-given_last (Some bytes) nonce at n mid old h le le2 =
-    let l : length (last_piece (drop (at + 16) bytes)) ≡ last_len n = length_last (drop (at + 16) bytes)
-    ∙ ap last_len (behind_len (at + 16) n bytes h.1) in
-    omega (arith, l, le, le2)
+pub probes_last : (told : Known) {after : Known} (nonce : Bytes) (at n : ℕ) {new mid old : ℕ} → after ≡ told
+    → IsNonce told at nonce n → new ≤ mid + last_len n → mid ≤ old + 16 → Probes (move_of told after) at old new
+probes_last told nonce at n {new} {old = old} same h le le2 =
+    record { stay = same; most = omega arith; last = last told h }
+  where
+    last : (k : Known) → IsNonce k at nonce n
+        → IfSome k (λ bytes. new ≤ old + (16 + length (last_piece (drop (at + 16) bytes))))
+    last None i = tt
+    last (Some bytes) i =
+        omega (arith, length_last (drop (at + 16) bytes), ap last_len (behind_len (at + 16) n bytes i.1))
 
 -- a fault of a piece is one of opening
 pub piece_named : (max i : ℕ) (fault : StreamFault) → IsAtPiece max i fault → IsOpenFault fault

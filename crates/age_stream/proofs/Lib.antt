@@ -1,10 +1,8 @@
 pub mod Common
 pub mod CuttingLemmas
 pub mod JudgesLastLemmas
-pub mod KeptLemmas
 pub mod LoadLemmas
 pub mod OpeningLemmas
-pub mod OutcomeLemmas
 pub mod PayloadLemmas
 pub mod RangeLemmas
 pub mod ReadAtLemmas
@@ -15,8 +13,6 @@ pub mod SalvageReading
 mod SalvageSlices
 pub mod SealingLemmas
 pub mod SliceLemmas
-pub mod TailLemmas
 mod Vectors
-pub mod VerifiedLemmas
 pub mod WholeSlices
 pub mod WritesAllLemmas

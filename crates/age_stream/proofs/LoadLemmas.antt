@@ -1,27 +1,32 @@
 -- A piece that was read at its offset.
-use Rattle.age_stream.proofs.Common.{◌≡◌, ◌⊎◌, ℕ, [], ◌+◌, ◌-◌, ◌*◌, ◌<◌, ◌≤◌, length, take, drop, nat_le, nat_eq, ◌∙◌, sym, ap, arith, inl, inr, Some, None, cases_lt, false≢true, nat_tests, take_all, length-drop, length-take-le, drop-drop, Bytes, opened_text, Known, Layout, chunk_size, sealed_chunk_size, chunk_buf_size, chunk_nonce, pieces, piece_opening, HasAt, bytes_from, source_opening, IsThere, chunk_len}
+use Rattle.age_stream.proofs.Common.{◌≡◌, ◌⊎◌, ℕ, [], ◌+◌, ◌-◌, ◌*◌, ◌/◌, Bytes, ◌<◌, ◌≤◌, length, take, drop, nat_le, nat_eq, ◌∙◌, sym, ap, arith, inl, inr, Some, None, cases_lt, false≢true, nat_tests, take_all, length-drop, length-take-le, drop-drop, opened_text, Known, Layout, chunk_size, sealed_chunk_size, chunk_buf_size, chunk_nonce, pieces, HasAt, bytes_from, source_opening, IsThere, chunk_len}
 use Rattle.age_stream.proofs.ReadingLemmas.{cut_count}
 use Rattle.age_stream.proofs.SliceLemmas.{opening_at}
 
+pub some_or_none : (last len : ℕ) → last ≡ (len - 1) / sealed_chunk_size → (last ≡ 0) ⊎ (sealed_chunk_size * last < len)
+some_or_none last len is = grind (arith, is)
+
+pub piece_count : (rest : Bytes) (last : ℕ) → last ≡ (length rest - 1) / sealed_chunk_size
+    → length (pieces rest) ≡ last + 1
+piece_count rest last is =
+    cut_count sealed_chunk_size last rest (omega arith) (some_or_none last (length rest) is) (omega arith)
+
+pub count_there : (layout : Layout) (n : ℕ) → layout.plain + 16 * layout.count ≡ n
+    → layout.count - 1 ≡ (n - 1) / sealed_chunk_size
+count_there layout n sealed = grind (arith, sealed, layout.some, layout.covers, layout.tight)
+
 -- there are as many pieces as are counted
-pub there_count : (layout : Layout) (rest : Bytes) → length rest ≡ layout.plain + 16 * layout.count
+there_count : (layout : Layout) (rest : Bytes) → length rest ≡ layout.plain + 16 * layout.count
     → length (pieces rest) ≡ layout.count
 there_count layout rest size =
-    let more : (layout.count - 1 ≡ 0) ⊎ (sealed_chunk_size * (layout.count - 1) < length rest) =
-    grind (arith, layout.tight, layout.some, size) in
-    omega (
-      arith,
-      layout.some,
-      cut_count sealed_chunk_size (layout.count - 1) rest (omega arith) more
-          (omega (arith, layout.covers, layout.some)),
-    )
+    let count = piece_count rest (layout.count - 1) (count_there layout (length rest) (sym size)) in
+    omega (arith, layout.some, count)
 
 pub tight_at : (layout : Layout) (i : ℕ) → i < layout.count → chunk_size * i ≤ layout.plain
 tight_at layout i lt = grind (arith, layout.tight, layout.covers, lt)
 
 there_last : (layout : Layout) (rest : Bytes) (i : ℕ) → length rest ≡ layout.plain + 16 * layout.count
-    → i < layout.count
-    → nat_eq (i + 1) layout.count ≡ nat_le (length rest) (sealed_chunk_size * (i + 1))
+    → i < layout.count → nat_eq (i + 1) layout.count ≡ nat_le (length rest) (sealed_chunk_size * (i + 1))
 there_last layout rest i size lt = grind (arith, nat_tests, layout.tight, layout.covers, size, lt)
 
 there_piece : (told : Known) (layout : Layout) (i : ℕ) (piece : Bytes) → IsThere told layout → i < layout.count
@@ -54,9 +59,5 @@ open_there told layout nonce buf i end o there lt has len room at opens =
     let rest : Bytes = bytes_from told layout.first in
     let count : length (pieces rest) ≡ layout.count = there_count layout rest there.size in
     let size : length (take end buf) ≡ end = length-take-le end buf (omega arith) in
-    opening_at layout.key rest i (omega arith)
-    ∙ ap (λ b. piece_opening layout.key i b (take sealed_chunk_size (drop (sealed_chunk_size * i) rest)))
-    (sym (there_last layout rest i there.size lt))
-    ∙ ap (piece_opening layout.key i (nat_eq (i + 1) layout.count))
-    (sym (there_piece told layout i (take end buf) there lt has (size ∙ len)))
-    ∙ ap (λ n. opened_text layout.key n [] (take end buf)) (sym at) ∙ opens
+    let piece = there_piece told layout i (take end buf) there lt has (size ∙ len) in
+    rw (opening_at layout.key rest i (omega arith), ← there_last layout rest i there.size lt, ← piece, ← at) opens

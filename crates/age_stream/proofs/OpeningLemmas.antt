@@ -1,6 +1,5 @@
 -- The next piece, by what was read ahead, what was given, and what may still come.
-use Rattle.age_stream.proofs.Common.{◌≡◌, ◌⊎◌, ◌∙◌, ◌+◌, ◌-◌, ◌^◌, ◌<◌, ◌≤◌, ℕ, [], length, take, drop, min, ap, sym, arith, refl, inl, inr, not, subst, Option, Some, None, true, false, Bool, nat_le, cond, Result, Ok, Err, IfNone, IfSome, IsErrOf, IsAtEnd, cases_lt, le-leb, lt-leb, drop-drop, take_all, take-take, length-drop, length-take, length-take-le, Bytes, Flow, GaveSome, Known, Seen, flow, StreamFault, Read, chunk_size, sealed_chunk_size, chunk_buf_size, gave_none, Piece, Advances, IsAtPiece, IsFilled, Loses, OpenerState, ReadsPiece, held_of, outcome, first_outcome, after_first}
-use Rattle.age_stream.proofs.KeptLemmas.{when_none}
+use Rattle.age_stream.proofs.Common.{◌≡◌, ◌⊎◌, ◌∙◌, ◌+◌, ◌-◌, ◌^◌, ◌<◌, ◌≤◌, ℕ, [], length, take, drop, min, ap, sym, arith, refl, inl, inr, not, subst, Option, Some, None, true, false, Bool, nat_le, cond, Result, Ok, Err, IfNone, IfSome, IsErrOf, IsAtEnd, cases_lt, le-leb, lt-leb, drop-drop, take_all, take-take, length-drop, length-take, length-take-le, Bytes, Flow, GaveSome, Seen, flow, StreamFault, Read, chunk_size, sealed_chunk_size, chunk_buf_size, gave_none, Piece, Advances, IsAtPiece, Loses, OpenerState, ReadsPiece, held_of, outcome, first_outcome, after_first, ◌++◌, length-append, Filled, GivesText, IfOk, OpensPiece, ReadsAhead, when_none}
 
 -- ---- n bytes of a buffer, of which the first piece was opened
 
@@ -11,49 +10,82 @@ take_most size n l = elim (cases_lt size n) [
   | inr le ↦ take_all size (take n l) (omega (arith, length-take n l)) ∙ ap (λ k. take k l) (omega arith)
 ]
 
-pub first_of : (key : Bytes) (max i n : ℕ) {c : Bytes} (filled : Bytes) → take n filled ≡ c
-    → length filled ≡ chunk_buf_size → n ≤ chunk_buf_size
-    → first_outcome key max i c ≡ outcome key max i (nat_le n sealed_chunk_size) (take (min n sealed_chunk_size) filled)
-first_of key max i n filled is size le =
-    ap (first_outcome key max i) (sym is)
-    ∙ ap (λ k. outcome key max i (nat_le k sealed_chunk_size) (take sealed_chunk_size (take n filled)))
-    (length-take-le n filled (omega arith))
-    ∙ ap (outcome key max i (nat_le n sealed_chunk_size)) (take_most sealed_chunk_size n filled)
+-- what is the same from an offset on is the same from a later one on
+pub drop_same : (n size : ℕ) (a b : Bytes) → n ≤ size → drop n a ≡ drop n b → drop size a ≡ drop size b
+drop_same n size a b le same =
+    let sum : n + (size - n) ≡ size = omega arith in
+    let tail = λ (l : Bytes). rw sum at (drop-drop (size - n) n l) in
+    sym (tail a) ∙ ap (drop (size - n)) same ∙ tail b
 
 rest_of : (size n : ℕ) (filled after : Bytes) → length filled ≡ size + 1 → n ≤ size + 1 → 16 ≤ size
-    → drop (min n size - 16) after ≡ drop (min n size - 16) filled
-    → held_of (not (nat_le n size)) (drop size after)
+    → drop (min n size - 16) after ≡ drop (min n size - 16) filled → held_of (not (nat_le n size)) (drop size after)
     ≡ cond (nat_le (length (take n filled)) size) None (Some (drop size (take n filled)))
 rest_of size n filled after full le some kept = elim (cases_lt size n) [
   | inl lt ↦
-      let most : min n size ≡ size = omega arith in
-      let at : size - 16 + 16 ≡ size = omega arith in
-      let rest = rw most at kept in
-      let tail = λ (l : Bytes). rw at at (drop-drop 16 (size - 16) l) in
       rw (take_all n filled (omega arith), lt-leb n size lt, lt-leb (length filled) size (omega arith))
-      (ap Some (sym (tail after) ∙ ap (drop 16) rest ∙ tail filled))
+      (ap Some (drop_same (min n size - 16) size after filled (omega arith) kept))
   | inr le ↦ rw (length-take-le n filled (omega arith), le-leb n size le)
 ]
-
--- what follows it is as it was
-pub after_of : (n : ℕ) {c : Bytes} (filled after : Bytes) → take n filled ≡ c
-    → length filled ≡ chunk_buf_size → n ≤ chunk_buf_size
-    → drop (min n sealed_chunk_size - 16) after ≡ drop (min n sealed_chunk_size - 16) filled
-    → held_of (not (nat_le n sealed_chunk_size)) (drop sealed_chunk_size after) ≡ after_first c
-after_of n filled after is size le kept =
-    rest_of sealed_chunk_size n filled after size le (omega arith) kept ∙ ap after_first is
 
 ahead_has_len : (ahead : ℕ) (bytes : Bytes) → length bytes ≡ chunk_buf_size → ahead ≤ 1
     → length (take ahead (drop sealed_chunk_size bytes)) ≡ ahead
 ahead_has_len ahead bytes size le =
     length-take-le ahead (drop sealed_chunk_size bytes) (omega (arith, length-drop sealed_chunk_size bytes))
 
--- what filling the buffer after these bytes gave
-pub is_filled : {n : ℕ} (ahead : ℕ) (bytes given : Bytes) (left : Known) → length bytes ≡ chunk_buf_size → ahead ≤ 1
-    → ahead + length given ≡ n → n ≤ chunk_buf_size → (n < chunk_buf_size → IsAtEnd left)
-    → IsFilled (Some (take ahead (drop sealed_chunk_size bytes))) given left
-is_filled ahead bytes given left size le sum room end =
-    let l = ahead_has_len ahead bytes size le in (omega arith, λ low. end (omega arith))
+-- what filling the buffer after the byte that was held leaves there
+pub reads_ahead : {E : Type 0} (r : Result ℕ E) (ahead : ℕ) {held : Bytes} (carried after : Bytes) (now next : Seen)
+    → IfOk r (λ n. Filled ahead n carried after (flow now next))
+    → IfOk r (λ n. n < length carried → IsAtEnd next.to_come) → take ahead carried ≡ held → length carried
+    ≡ chunk_buf_size
+    → IfOk r (λ n. ReadsAhead held n after (flow now next))
+reads_ahead (Ok n) ahead carried after now next f end is size = record {
+  given = f.piece;
+  gave = f.bytes;
+  is = f.is ∙ ap (λ t. t ++ f.piece) is;
+  room = omega (arith, f.room);
+  end = λ low. end (omega arith);
+}
+reads_ahead (Err e) ahead carried after now next f end is size = tt
+
+-- what opening a piece returns, and whether another follows
+abbrev piece_of : (last : Bool) → Result ℕ StreamFault → Result Piece StreamFault
+piece_of last (Ok len) = Ok (record { len = len; more = not last })
+piece_of last (Err fault) = Err fault
+
+-- a piece was read, and opened with this result
+pub reads_piece : {key : Bytes} {max i n : ℕ} {held filled after : Bytes} {source : Flow} (r : Result ℕ StreamFault)
+    → ReadsAhead held n filled source → length filled ≡ chunk_buf_size
+    → GivesText (outcome key max i (nat_le n sealed_chunk_size) (take (min n sealed_chunk_size) filled)) after r
+    → drop (min n sealed_chunk_size - 16) after ≡ drop (min n sealed_chunk_size - 16) filled
+    → ReadsPiece key max i held after source (piece_of (nat_le n sealed_chunk_size) r)
+reads_piece {key} {max} {i} {n} {held} {filled} {after} r h size text rest = record {
+  given = h.given;
+  gave = h.gave;
+  filled = (omega (arith, h.room, len), λ low. h.end (omega (arith, len)));
+  opens = opens r text;
+}
+  where
+    whole : length (take n filled) ≡ n
+    whole = length-take-le n filled (omega (arith, h.room))
+
+    len : length held + length h.given ≡ n
+    len = sym (length-append held h.given) ∙ ap length (sym h.is) ∙ whole
+
+    first : first_outcome key max i (held ++ h.given)
+        ≡ outcome key max i (nat_le n sealed_chunk_size) (take (min n sealed_chunk_size) filled)
+    first = ap (first_outcome key max i) (sym h.is)
+        ∙ ap (λ k. outcome key max i (nat_le k sealed_chunk_size) (take sealed_chunk_size (take n filled))) whole
+        ∙ ap (outcome key max i (nat_le n sealed_chunk_size)) (take_most sealed_chunk_size n filled)
+
+    opens : (q : Result ℕ StreamFault)
+        → GivesText (outcome key max i (nat_le n sealed_chunk_size) (take (min n sealed_chunk_size) filled)) after q
+        → OpensPiece key max i (held ++ h.given) after (piece_of (nat_le n sealed_chunk_size) q)
+    opens (Ok k) (is, within) = (
+      first ∙ is,
+      within,
+      rest_of sealed_chunk_size n filled after size h.room (omega arith) rest ∙ ap after_first h.is,
+    )
+    opens (Err fault) is = first ∙ is
 
 -- the byte that was read ahead is all that follows the first 65,552 bytes
 pub ahead_one : (bytes : Bytes) → length bytes ≡ chunk_buf_size
@@ -63,8 +95,7 @@ ahead_one bytes size =
 
 -- one byte is read ahead, and the text before it is a full chunk
 one_byte_ahead : (more : Bool) (len : ℕ) (bytes : Bytes) → length bytes ≡ chunk_buf_size
-    → (more ≡ true → len ≡ chunk_size)
-    → IfSome (held_of more (take 1 (drop sealed_chunk_size bytes)))
+    → (more ≡ true → len ≡ chunk_size) → IfSome (held_of more (take 1 (drop sealed_chunk_size bytes)))
     (λ ahead. (length ahead ≡ 1) × (length (take len bytes) ≡ chunk_size))
 one_byte_ahead true len bytes size full =
     let is = full refl in
@@ -86,8 +117,7 @@ parts key max i more ahead bytes len fault = record {
 -- the same buffers by other names
 moved : {key : Bytes} {max i : ℕ}
     (ahead : ℕ) {slice old bytes items : Bytes} {source : Flow} {r : Result Piece StreamFault}
-    → slice ≡ old → items ≡ bytes
-    → ReadsPiece key max i (take ahead (drop sealed_chunk_size slice)) bytes source r
+    → slice ≡ old → items ≡ bytes → ReadsPiece key max i (take ahead (drop sealed_chunk_size slice)) bytes source r
     → ReadsPiece key max i (take ahead (drop sealed_chunk_size old)) items source r
 moved {key} {max} {i} ahead {slice} {items} {source} {r} same all h =
     subst (λ t. ReadsPiece key max i (take ahead (drop sealed_chunk_size t)) items source r) same
@@ -98,66 +128,59 @@ pub advances_ok : {now : OpenerState} {from to : Seen} {key : Bytes} {max i : �
     (old : Bytes) {slice bytes items : Bytes} {fault : Option StreamFault} {piece : Piece}
     → parts key max i more ahead old len fault ≡ now → more ≡ true → fault ≡ None → slice ≡ old
     → length old ≡ chunk_buf_size → ahead ≤ 1 → length bytes ≡ chunk_buf_size → items ≡ bytes
-    → max ≤ 2 ^ 88 → i < max → (piece.more ≡ true → piece.len ≡ chunk_size)
-    → IsErrOf {T = Piece} (Ok piece) Read
+    → max ≤ 2 ^ 88 → i < max → (piece.more ≡ true → piece.len ≡ chunk_size) → IsErrOf {T = Piece} (Ok piece) Read
     ⊎ ReadsPiece key max i (take ahead (drop sealed_chunk_size slice)) bytes (flow from to) (Ok piece)
     → IfNone now.fault (IsErrOf {T = Bool} (Ok true) Read
     ⊎ Advances now (parts key max (i + 1) piece.more 1 items piece.len fault) (flow from to) (Ok true))
-advances_ok ahead len {more = false} old view is_more none same size le new_size all small within full opens =
-    absurd (cc)
-advances_ok ahead len {more = true} old view is_more none same size le new_size all small within full (inl e) =
-    absurd (cc)
-advances_ok {from} {to} {key} {max} {i} ahead len {more = true} old {items} {fault} {piece} view is_more none same size
-    le new_size all small within full (inr found) =
-    let r = moved ahead same all found in
-    let l = ahead_has_len ahead old size le in
-    let next : OpenerState = parts key max (i + 1) piece.more 1 items piece.len fault in
-    subst (λ s. IfNone s.fault (IsErrOf {T = Bool} (Ok true) Read ⊎ Advances s next (flow from to) (Ok true))) view
-    (when_none fault (λ _. inr (record {
-      key = refl;
-      max_chunks = refl;
-      small = small;
-      keeps = (none, refl, (λ e. within), one_byte_ahead piece.more piece.len items (ap length all ∙ new_size) full);
-      ahead = omega arith;
-      given = r.given;
-      gave = r.gave;
-      filled = r.filled;
-      opens = (refl, r.opens.0, ap (held_of piece.more) (ahead_one items (ap length all ∙ new_size)) ∙ r.opens.2);
-    })))
+advances_ok ahead len old {items} {piece} view is_more none same size le new_size all small within full opens =
+    rw (← view, is_more, none) (elim opens [
+      | inl e ↦ absurd (cc)
+      | inr found ↦
+          let r = moved ahead same all found in
+          let l = ahead_has_len ahead old size le in
+          let room = ap length all ∙ new_size in
+          inr (record {
+            key = refl;
+            max_chunks = refl;
+            small = small;
+            keeps = (refl, refl, (λ e. within), one_byte_ahead piece.more piece.len items room full);
+            ahead = omega arith;
+            given = r.given;
+            gave = r.gave;
+            filled = r.filled;
+            opens = (refl, r.opens.0, ap (held_of piece.more) (ahead_one items room) ∙ r.opens.2);
+          })
+    ])
 
 -- a fault was met
 pub advances_err : {now : OpenerState} {from to : Seen} {key : Bytes} {max i : ℕ} (ahead len : ℕ) {more : Bool}
     (old : Bytes) {slice bytes : Bytes} (items : Bytes) {kept : Option StreamFault} {fault : StreamFault}
     → parts key max i more ahead old len kept ≡ now → more ≡ true → slice ≡ old → length old ≡ chunk_buf_size
-    → ahead ≤ 1 → max ≤ 2 ^ 88
-    → IsErrOf {T = Piece} (Err fault) Read
+    → ahead ≤ 1 → max ≤ 2 ^ 88 → IsErrOf {T = Piece} (Err fault) Read
     ⊎ ReadsPiece key max i (take ahead (drop sealed_chunk_size slice)) bytes (flow from to) (Err fault)
-    → (fault ≡ Read) ⊎ IsAtPiece max i fault
-    → IfNone now.fault (IsErrOf {T = Bool} (Err fault) Read
+    → (fault ≡ Read) ⊎ IsAtPiece max i fault → IfNone now.fault (IsErrOf {T = Bool} (Err fault) Read
     ⊎ Advances now (parts key max i false ahead items 0 (Some fault)) (flow from to) (Err fault))
-advances_err ahead len {more = false} old items view is_more same size le small opens at = absurd (cc)
-advances_err {now} ahead len {more = true} old items view is_more same size le small (inl e) at =
-    when_none now.fault (λ _. inl (cc))
-advances_err {now} ahead len {more = true} old items view is_more same size le small (inr found) (inl read) =
-    when_none now.fault (λ _. inl (ap Err read))
-advances_err {from} {to} {key} {max} {i} ahead len {more = true}
-    old items {kept} {fault} view is_more same size le small
-    (inr found) (inr at) =
-    let r = moved ahead same refl found in
-    let l = ahead_has_len ahead old size le in
-    let next : OpenerState = parts key max i false ahead items 0 (Some fault) in
-    subst (λ s. IfNone s.fault (IsErrOf {T = Bool} (Err fault) Read ⊎ Advances s next (flow from to) (Err fault))) view
-    (when_none kept (λ _. inr (record {
-      key = refl;
-      max_chunks = refl;
-      small = small;
-      keeps = (refl, refl, at);
-      ahead = omega arith;
-      given = r.given;
-      gave = r.gave;
-      filled = r.filled;
-      opens = r.opens;
-    })))
+advances_err ahead len old items {kept} {fault} view is_more same size le small opens at =
+    rw (← view, is_more) (when_none kept (λ _. elim opens [
+      | inl e ↦ inl (cc)
+      | inr found ↦ elim at [
+        | inl read ↦ inl (ap Err read)
+        | inr met ↦
+            let r = moved ahead same refl found in
+            let l = ahead_has_len ahead old size le in
+            inr (record {
+              key = refl;
+              max_chunks = refl;
+              small = small;
+              keeps = (refl, refl, met);
+              ahead = omega arith;
+              given = r.given;
+              gave = r.gave;
+              filled = r.filled;
+              opens = r.opens;
+            })
+      ]
+    ]))
 
 -- a fault is met only where a piece was left
 pub loses_held : {now : OpenerState} {from to : Seen} {key : Bytes} {max i : ℕ} (ahead len : ℕ) {more : Bool}

@@ -69,41 +69,45 @@ pub record AllOpen (key : Bytes) (max i : ℕ) (cs : List Bytes) (p : Bytes) : T
   pub sealed_so : sealed_chunks_from key i texts ≡ cs
   pub joined : concat texts ≡ p
   pub count : length texts + i ≤ max
-  pub sizes : AtMost sealed_chunk_size cs → Sized i texts
+  pub sizes : Sized i texts
+
+-- of pieces without a fault the first opens, and the others have none
+pub opens_first : (key : Bytes) (max i : ℕ) (c : Bytes) (cs : List Bytes)
+    → first_fault (outcomes key max i (c ∷ cs)) ≡ None
+    → (t : Bytes) × (outcome key max i (is_end cs) c ≡ Ok t) × (first_fault (outcomes key max (i + 1) cs) ≡ None)
+opens_first key max i c cs h = elim (result_cases (outcome key max i (is_end cs) c)) [
+  | inl (t, is) ↦ (t, is, rw is at h)
+  | inr (f, is) ↦ let fault = rw is at h in absurd (cc)
+]
 
 -- pieces without a fault open
-pub no_fault_open : (key : Bytes) (max i : ℕ) (c : Bytes) (cs : List Bytes)
-    → first_fault (outcomes key max i (c ∷ cs)) ≡ None
-    → AllOpen key max i (c ∷ cs) (plaintext_of (outcomes key max i (c ∷ cs)))
-no_fault_open key max i c [] h = elim (result_cases (outcome key max i true c)) [
-  | inr (f, is) ↦ let fault = rw is at h in absurd (cc)
-  | inl (t, is) ↦
-      let o = outcome_opens key max i true c t is in
-      let len = ap length o.sealed_so ∙ length-sealed_text key (chunk_nonce i true) [] t in
-      rw is (record {
-        texts = t ∷ [];
-        sealed_so = ap (λ x. x ∷ []) (sym o.sealed_so);
-        joined = refl;
-        count = omega (arith, o.within);
-        sizes = λ le. sized_one i t (omega (arith, le, len)) (o.some refl);
-      })
-]
-no_fault_open key max i c (d ∷ more) h = elim (result_cases (outcome key max i false c)) [
-  | inr (f, is) ↦ let fault = rw is at h in absurd (cc)
-  | inl (t, is) ↦
-      let o = outcome_opens key max i false c t is in
-      let len = ap length o.sealed_so ∙ length-sealed_text key (chunk_nonce i false) [] t in
-      let rest = no_fault_open key max (i + 1) d more (rw is at h) in
-      let more_left : is_end rest.texts ≡ false = sym (is_end_each key (i + 1) rest.texts)
-      ∙ ap is_end rest.sealed_so in
-      rw is (record {
-        texts = t ∷ rest.texts;
-        sealed_so = rw (more_left, rest.sealed_so) (ap (λ x. x ∷ d ∷ more) (sym o.sealed_so));
-        joined = ap (λ x. t ++ x) rest.joined;
-        count = omega (arith, rest.count);
-        sizes = λ le. sized_more i t rest.texts (omega (arith, le.0, len)) (rest.sizes le.1);
-      })
-]
+no_fault_open : (key : Bytes) (max i : ℕ) (cs : List Bytes) → AtMost sealed_chunk_size cs
+    → first_fault (outcomes key max i cs) ≡ None → AllOpen key max i cs (plaintext_of (outcomes key max i cs))
+no_fault_open key max i [] full h = absurd full
+no_fault_open key max i (c ∷ []) full h =
+    let (t, is, none) = opens_first key max i c [] h in
+    let o = outcome_opens key max i true c t is in
+    let len = ap length o.sealed_so ∙ length-sealed_text key (chunk_nonce i true) [] t in
+    rw is (record {
+      texts = t ∷ [];
+      sealed_so = ap (λ x. x ∷ []) (sym o.sealed_so);
+      joined = refl;
+      count = omega (arith, o.within);
+      sizes = sized_one i t (omega (arith, full, len)) (o.some refl);
+    })
+no_fault_open key max i (c ∷ d ∷ more) full h =
+    let (t, is, none) = opens_first key max i c (d ∷ more) h in
+    let o = outcome_opens key max i false c t is in
+    let len = ap length o.sealed_so ∙ length-sealed_text key (chunk_nonce i false) [] t in
+    let rest = no_fault_open key max (i + 1) (d ∷ more) full.1 none in
+    let more_left : is_end rest.texts ≡ false = sym (is_end_each key (i + 1) rest.texts) ∙ ap is_end rest.sealed_so in
+    rw is (record {
+      texts = t ∷ rest.texts;
+      sealed_so = rw (more_left, rest.sealed_so) (ap (λ x. x ∷ d ∷ more) (sym o.sealed_so));
+      joined = ap (λ x. t ++ x) rest.joined;
+      count = omega (arith, rest.count);
+      sizes = sized_more i t rest.texts (omega (arith, full.0, len)) rest.sizes;
+    })
 
 -- sealed texts open
 pub each_opens : (key : Bytes) (max i : ℕ) (ts : List Bytes) → Sized i ts → length ts + i ≤ max
@@ -122,8 +126,7 @@ each_opens key max i (t ∷ u ∷ ts) s le =
       within = omega arith;
       sealed_so = refl;
       some = λ no pos. absurd (cc);
-    }))
-    ∙ ap (λ rs. Ok t ∷ rs) (each_opens key max (i + 1) (u ∷ ts) rest (omega arith))
+    })) ∙ ap (λ rs. Ok t ∷ rs) (each_opens key max (i + 1) (u ∷ ts) rest (omega arith))
 
 plaintext_of_all : (ts : List Bytes) → plaintext_of {F = StreamFault} (map Ok ts) ≡ concat ts
 plaintext_of_all [] = refl
@@ -162,7 +165,7 @@ all_open_payload : (k : FileKey) (b p : Bytes) (max : ℕ) → 16 ≤ length b
 all_open_payload k b p max le o =
     let key : Bytes = payload_key k (take 16 b) in
     let same : o.texts ≡ chunks p = cut_is_unique chunk_size (concat o.texts) o.texts (omega arith)
-    (sized_cut o.texts (o.sizes (cut_at_most sealed_chunk_size (drop 16 b) (omega arith)))) ∙ ap chunks o.joined in
+    (sized_cut o.texts o.sizes) ∙ ap chunks o.joined in
     let rest : drop 16 b ≡ concat (sealed_chunks_from key 0 (chunks p)) =
     sym (is_cut sealed_chunk_size (drop 16 b) (omega arith)).joined ∙ ap concat (sym o.sealed_so)
     ∙ ap (λ ts. concat (sealed_chunks_from key 0 ts)) same in
@@ -173,12 +176,6 @@ all_open_payload k b p max le o =
       count = omega (arith, o.count, ap length same);
     }
 
-some_open : (key : Bytes) (max : ℕ) (cs : List Bytes) → AtMost sealed_chunk_size cs
-    → first_fault (outcomes key max 0 cs) ≡ None
-    → AllOpen key max 0 cs (plaintext_of (outcomes key max 0 cs))
-some_open key max [] at h = absurd at
-some_open key max (c ∷ cs) at h = no_fault_open key max 0 c cs h
-
 pub ok_payload : (k : FileKey) (b p : Bytes) (max : ℕ) → payload_reading k max b
     ≡ record { plaintext = p; fault = None }
     → IsPayload k b p max
@@ -188,7 +185,7 @@ ok_payload k b p max h = elim (cases_lt (length b) 16) [
       let key : Bytes = payload_key k (take 16 b) in
       let is : reading_from key max 0 (drop 16 b) ≡ record { plaintext = p; fault = None } =
       rw (le-ltb (length b) 16 ge) at h in
-      let all = some_open key max (pieces (drop 16 b)) (cut_at_most sealed_chunk_size (drop 16 b) (omega arith))
+      let all = no_fault_open key max 0 (pieces (drop 16 b)) (cut_at_most sealed_chunk_size (drop 16 b) (omega arith))
       (ap (λ (r : Reading StreamFault). r.fault) is) in
       all_open_payload k b p max ge (subst (AllOpen key max 0 (pieces (drop 16 b)))
       (ap (λ (r : Reading StreamFault). r.plaintext) is) all)
@@ -226,14 +223,15 @@ pub length_each : (key : Bytes) (i : ℕ) (ts : List Bytes) → length (sealed_c
 length_each key i [] = refl
 length_each key i (t ∷ ts) = ap suc (length_each key (i + 1) ts)
 
--- a payload that reads whole has as many pieces as chunks
-pub whole_count : (k : FileKey) (max : ℕ) (b p : Bytes) → payload_reading k max b ≡ whole p
+-- the pieces of a payload that reads whole are its sealed chunks
+pub whole_pieces : (k : FileKey) (b p : Bytes) (max : ℕ) → payload_reading k max b ≡ whole p
+    → pieces (drop 16 b) ≡ sealed_chunks_from (payload_key k (take 16 b)) 0 (chunks p)
+whole_pieces k b p max h =
+    let i = ok_payload k b p max h in
+    let text : Bytes = concat (sealed_chunks_from (payload_key k i.nonce) 0 (chunks p)) in
+    rw (i.spelled, take_at i.nonce text 16 i.nonce_len, drop_at i.nonce text 16 i.nonce_len)
+    (pieces_each (payload_key k i.nonce) (chunks p) (cut_at_most chunk_size p (omega arith)))
+
+pub whole_count : (k : FileKey) (b p : Bytes) (max : ℕ) → payload_reading k max b ≡ whole p
     → length (pieces (drop 16 b)) ≡ length (chunks p)
-whole_count k max b p e =
-    let i = ok_payload k b p max e in
-    let key : Bytes = payload_key k i.nonce in
-    rw (
-      i.spelled,
-      drop_at i.nonce (concat (sealed_chunks_from key 0 (chunks p))) 16 i.nonce_len,
-      pieces_each key (chunks p) (cut_at_most chunk_size p (omega arith)),
-    ) (length_each key 0 (chunks p))
+whole_count k b p max h = rw (whole_pieces k b p max h) (length_each (payload_key k (take 16 b)) 0 (chunks p))

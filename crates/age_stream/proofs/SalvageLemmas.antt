@@ -1,14 +1,8 @@
 -- The parts of pieces that are saved one after another.
-use Rattle.age_stream.proofs.Common.{◌≡◌, ◌⊎◌, ◌∙◌, ◌++◌, ◌∷◌, ◌+◌, ◌-◌, ◌*◌, ◌<◌, ◌≤◌, ℕ, List, [], length, take, drop, ap, sym, subst, arith, append_assoc, append-nil, length-append, refl, Bool, not, inl, inr, None, Some, Result, Ok, Err, nat_le, min, suc, IfErr, IfOk, Appends, IsAtEnd, Appends-trans, Appends-nil, le-leb, lt-leb, cases_lt, drop-append-le, take_all, take_at, drop_at, take-append-le, length-take-le, length-drop, Bytes, opened_text, Gave, GaveSome, Known, OfGiven, Seen, WritesPart, flow, move_of, FileKey, StreamFault, NonceTruncated, TooManyChunks, Read, Write, Memory, chunk_size, sealed_chunk_size, chunk_buf_size, Filled, gave_more, gave_none, gave_then, of_any, of_ended, of_map, of_more, of_then, LostChunk, Salvaged, Saved, Nothing, Zeros, length-sealed_text, opened_is, EndsAt, GivesNonce, chunk_nonce, payload_key, pieces, piece_opening, EndsSaving, KnownLosses, Part, ReadsAhead, Reports, Salvages, SavesParts, SavesPayload, early_after, first_part, in_place, last_saved, latest_early, loss, losses, lost_part, part, parts, payload_parts, salvaged_text, summary, losses_of, with_part, Option, concat-append, map-append, map}
-use Rattle.std.proofs.Common.{zero, true, false}
-use Rattle.std.proofs.lemmas.List.{take-take}
-use Rattle.age_stream.specs.declared.salvaged.Saved.TheVariants.{Padded}
-use Rattle.age_stream.specs.Salvage.{closed_part, opening_or, padded_part, padding}
-use Rattle.age_stream.specs.Sizes.{max_padding}
+use Rattle.age_stream.proofs.Common.{◌≡◌, ◌⊎◌, ◌∙◌, ◌++◌, ◌∷◌, ◌+◌, ◌-◌, ◌*◌, ◌<◌, ◌≤◌, ℕ, List, [], length, take, drop, ap, sym, arith, append_assoc, append-nil, length-append, refl, Bool, not, inl, inr, None, Some, Result, Ok, Err, nat_le, min, suc, IfErr, Appends, IsAtEnd, Appends-trans, Appends-nil, le-leb, lt-leb, cases_lt, drop-append-le, take_all, take_at, drop_at, take-append-le, length-take-le, length-drop, Bytes, opened_text, Gave, GaveSome, Known, OfGiven, Seen, WritesPart, flow, move_of, FileKey, StreamFault, NonceTruncated, TooManyChunks, Read, Write, Memory, chunk_size, sealed_chunk_size, chunk_buf_size, gave_more, gave_none, gave_then, of_any, of_ended, of_map, of_more, of_then, LostChunk, Salvaged, Saved, Nothing, Zeros, length-sealed_text, opened_is, EndsAt, GivesNonce, chunk_nonce, payload_key, pieces, piece_opening, EndsSaving, KnownLosses, Part, ReadsAhead, Reports, Salvages, SavesParts, SavesPayload, early_after, first_part, in_place, last_saved, latest_early, loss, losses, lost_part, part, parts, payload_parts, salvaged_text, summary, losses_of, with_part, Option, concat-append, map-append, map, zero, true, false, take-take, Padded, closed_part, opening_or, out_of_place, padded_part, padding, max_padding, cases_Option}
 use Rattle.age_stream.proofs.CuttingLemmas.{cut_last}
 use Rattle.age_stream.proofs.OpeningLemmas.{take_most}
 use Rattle.age_stream.proofs.ReadingLemmas.{cut_some, cut_step, is_end_cut}
-use Rattle.age_stream.proofs.KeptLemmas.{cases_Option}
 
 -- ---- one part
 
@@ -22,13 +16,21 @@ opened_short key nonce c short = elim (cases_Option (opened_text key nonce [] c)
 
 pub part-opened : (key : Bytes) (i : ℕ) (last : Bool) (c t : Bytes) → piece_opening key i last c ≡ Some t
     → part key i last c ≡ record { text = t; saved = in_place i last (length c) }
-part-opened key i last c t is =
-    rw is refl
+part-opened key i last c t is = rw is refl
 
-pub part_closed : (key : Bytes) (i : ℕ) (last : Bool) (c : Bytes) → piece_opening key i last c ≡ None
-    → piece_opening key i (not last) c ≡ None → part key i last c ≡ closed_part key i last c
-part_closed key i last c none other =
-    rw (none, other) refl
+-- what a piece is: it opens in its place, or in another, or neither
+pub part_cases : (key : Bytes) (i : ℕ) (last : Bool) (c : Bytes) → ((t : Bytes) × (piece_opening key i last c ≡ Some t)
+    × (part key i last c ≡ record { text = t; saved = in_place i last (length c) }))
+    ⊎ ((t : Bytes) × (piece_opening key i (not last) c ≡ Some t)
+    × (part key i last c ≡ record { text = t; saved = out_of_place last }))
+    ⊎ (part key i last c ≡ closed_part key i last c)
+part_cases key i last c = elim (cases_Option (piece_opening key i last c)) [
+  | inl (t, is) ↦ inl (t, is, part-opened key i last c t is)
+  | inr none ↦ elim (cases_Option (piece_opening key i (not last) c)) [
+    | inl (t, is) ↦ inr (inl (t, is, rw (none, is) refl))
+    | inr other ↦ inr (inr (rw (none, other) refl))
+  ]
+]
 
 -- a piece that has no chunk without its last k bytes does not open with more of them taken off
 pub padded_short : (key : Bytes) (i k n : ℕ) (c : Bytes) → length c < k + 16 → padded_part key i k n c ≡ lost_part c
@@ -44,21 +46,13 @@ shorter : (k end : ℕ) (b : Bytes) → end ≤ length b → take (length (take 
 shorter k end b le =
     ap (λ n. take (n - k) (take end b)) (length-take-le end b le) ∙ take-take (end - k) end b (omega arith)
 
-pub padded_opens : (key : Bytes) (i k n end : ℕ) {nonce : Bytes} (b text : Bytes) → end ≤ length b
-    → nonce ≡ chunk_nonce i true → opened_text key nonce [] (take (end - k) b) ≡ Some text
-    → padded_part key i k (suc n) (take end b) ≡ record { text = text; saved = Padded k }
+pub padded_step : (key : Bytes) (i k n end : ℕ) {nonce : Bytes} (b : Bytes) → end ≤ length b
+    → nonce ≡ chunk_nonce i true → k + n ≡ max_padding + 1 → k ≤ max_padding
+    → padded_part key i k n (take end b) ≡ opening_or (Padded k) (opened_text key nonce [] (take (end - k) b))
+    (padded_part key i (k + 1) (max_padding - k) (take end b))
 unfolding padded_part
-padded_opens key i k n end b text le is opens =
-    rw (shorter k end b le) (ap (λ o. opening_or (Padded k) o (padded_part key i (k + 1) n (take end b)))
-    (ap (λ x. opened_text key x [] (take (end - k) b)) (sym is) ∙ opens))
-
-pub padded_more : (key : Bytes) (i k n end : ℕ) {nonce : Bytes} (b : Bytes) → end ≤ length b
-    → nonce ≡ chunk_nonce i true → opened_text key nonce [] (take (end - k) b) ≡ None
-    → padded_part key i k (suc n) (take end b) ≡ padded_part key i (k + 1) n (take end b)
-unfolding padded_part
-padded_more key i k n end b le is none =
-    rw (shorter k end b le) (ap (λ o. opening_or (Padded k) o (padded_part key i (k + 1) n (take end b)))
-    (ap (λ x. opened_text key x [] (take (end - k) b)) (sym is) ∙ none))
+padded_step key i k n end b le is sum some =
+    let left : n ≡ suc (max_padding - k) = omega arith in rw (left, is, shorter k end b le)
 
 -- no padding is left
 pub padded_end : (key : Bytes) (i k : ℕ) {end most : ℕ} (c : Bytes) → length c ≡ end
@@ -80,10 +74,14 @@ pub part_short : (key : Bytes) (i : ℕ) (last : Bool) (c : Bytes) (end : ℕ) (
 part_short key i last c end bytes len short =
     let none : length c - 16 ≡ 0 = omega arith in
     let nothing : end - 16 - 0 ≡ 0 = omega arith in
-    part_closed key i last c (opened_short key (chunk_nonce i last) c (omega arith))
-    (opened_short key (chunk_nonce i (not last)) c (omega arith))
-    ∙ closed_short key i last c (omega arith)
-    ∙ rw (none, le-leb (length c) 16 (omega arith), nothing)
+    rw (
+      opened_short key (chunk_nonce i last) c (omega arith),
+      opened_short key (chunk_nonce i (not last)) c (omega arith),
+      closed_short key i last c (omega arith),
+      none,
+      le-leb (length c) 16 (omega arith),
+      nothing,
+    )
 
 -- ---- the parts of what follows the nonce
 
@@ -106,15 +104,6 @@ parts_next key i c d lt =
       drop-append-le sealed_chunk_size c d (omega arith),
     )
 
--- the first part, where the piece is whole
-pub parts_first : (key : Bytes) (i : ℕ) (c d : Bytes) → (sealed_chunk_size < length c) ⊎ (d ≡ [])
-    → (more : List Part) × (parts key i (pieces (c ++ d)) ≡ first_part key i c ∷ more)
-parts_first key i c d (inl lt) = (parts key (i + 1) (pieces (drop sealed_chunk_size c ++ d)), parts_next key i c d lt)
-parts_first key i c d (inr none) = elim (cases_lt sealed_chunk_size (length c)) [
-  | inl lt ↦ (parts key (i + 1) (pieces (drop sealed_chunk_size c ++ d)), parts_next key i c d lt)
-  | inr le ↦ ([], rw (none, append-nil c) (parts_last key i c le))
-]
-
 pub length-parts : (key : Bytes) (i : ℕ) (cs : List Bytes) → length (parts key i cs) ≡ length cs
 length-parts key i [] = refl
 length-parts key i (c ∷ cs) = ap suc (length-parts key (i + 1) cs)
@@ -129,20 +118,15 @@ salvaged_snoc xs y =
     let texts : List Bytes = map (λ p. p.text) xs in
     rw (map-append (λ (p : Part). p.text) xs (y ∷ []), concat-append texts (y.text ∷ []), append-nil y.text)
 
-lost_at : (s : Saved) (i j a b len : ℕ) → i ≡ j → a ≡ b
-    → loss s (record { chunk = i; start = a; len = len }) ≡ loss s (record { chunk = j; start = b; len = len })
-lost_at s i j a b len e f = rw (e, f) refl
-
-pub losses_snoc : (i at : ℕ) (xs : List Part) (y : Part)
-    → losses i at (xs ++ y ∷ []) ≡ losses i at xs
-    ++ loss y.saved (record { chunk = i + length xs; start = at + length (salvaged_text xs); len = length y.text })
-losses_snoc i at [] y = append-nil (loss y.saved (record { chunk = i; start = at; len = length y.text }))
-    ∙ lost_at y.saved i (i + 0) at (at + 0) (length y.text) (omega arith) (omega arith)
-losses_snoc i at (x ∷ xs) y =
-    let count : i + 1 + length xs ≡ i + length (x ∷ xs) = omega arith in
-    let bytes : at + length x.text + length (salvaged_text xs) ≡ at + length (salvaged_text (x ∷ xs)) =
-    omega (arith, length-append x.text (salvaged_text xs)) in
-    rw (losses_snoc (i + 1) (at + length x.text) xs y, count, bytes)
+losses_snoc : (i at j b : ℕ) (xs : List Part) (y : Part) → j ≡ i + length xs
+    → b ≡ at + length (salvaged_text xs) → losses i at (xs ++ y ∷ [])
+    ≡ losses i at xs ++ loss y.saved (record { chunk = j; start = b; len = length y.text })
+losses_snoc i at j b [] y e f =
+    let same : i ≡ j = omega arith in
+    let here : at ≡ b = omega arith in rw (same, here) (append-nil (loss y.saved _))
+losses_snoc i at j b (x ∷ xs) y e f =
+    let bytes = length-append x.text (salvaged_text xs) in
+    rw (losses_snoc (i + 1) (at + length x.text) j b xs y (omega arith) (omega (arith, f, bytes)))
     (sym (append_assoc (loss x.saved (record { chunk = i; start = at; len = length x.text }))
     (losses (i + 1) (at + length x.text) xs) (loss y.saved _)))
 
@@ -153,8 +137,7 @@ last_snoc (x ∷ z ∷ xs) y = last_snoc (z ∷ xs) y
 
 pub early_snoc : (i : ℕ) (before : Option ℕ) (xs : List Part) (y : Part)
     → latest_early i before (xs ++ y ∷ []) ≡ early_after y.saved (i + length xs) (latest_early i before xs)
-early_snoc i before [] y =
-    let none : i + 0 ≡ i = omega arith in rw none refl
+early_snoc i before [] y = let none : i + 0 ≡ i = omega arith in rw none refl
 early_snoc i before (x ∷ xs) y =
     let count : i + 1 + length xs ≡ i + length (x ∷ xs) = omega arith in
     rw count at (early_snoc (i + 1) (early_after x.saved i before) xs y)
@@ -166,55 +149,20 @@ reports_none None = tt
 reports_none (Some past) = ap Some (sym (append-nil past))
 
 pub reports_then : (a b c : KnownLosses) (xs ys : List LostChunk) → Reports (losses_of a b) xs
-    → Reports (losses_of b c) ys
-    → Reports (losses_of a c) (xs ++ ys)
+    → Reports (losses_of b c) ys → Reports (losses_of a c) (xs ++ ys)
 reports_then None b c xs ys g h = tt
 reports_then (Some past) b c xs ys g h = rw (g, append_assoc past xs ys) at h
 
 -- ---- the next piece
 
--- what filling the buffer after the byte that was held leaves there
-pub reads_ahead : {E : Type 0} (r : Result ℕ E) (ahead : ℕ) {held : Bytes} (carried after : Bytes) (now next : Seen)
-    → IfOk r (λ n. Filled ahead n carried after (flow now next))
-    → IfOk r (λ n. n < length carried → IsAtEnd next.to_come) → take ahead carried ≡ held → length carried
-    ≡ chunk_buf_size
-    → IfOk r (λ n. ReadsAhead held n after (flow now next))
-reads_ahead (Ok n) ahead carried after now next f end is size = record {
-  given = f.piece;
-  gave = f.bytes;
-  is = f.is ∙ ap (λ t. t ++ f.piece) is;
-  room = omega (arith, f.room);
-  end = λ low. end (omega arith);
-}
-reads_ahead (Err e) ahead carried after now next f end is size = tt
-
 -- the first piece of n bytes, in a buffer whose front was saved
-pub first_saved : (key : Bytes) (i n : ℕ) {end len : ℕ} {bytes : Bytes} (piece new rest : Bytes) {saved : Saved}
-    → bytes ≡ piece ++ rest → length piece ≡ sealed_chunk_size → n ≤ length bytes → length new ≡ length piece
-    → end ≡ min n sealed_chunk_size → len ≡ end - 16 - padding saved
-    → part key i (nat_le n sealed_chunk_size) (take end piece)
+pub first_saved : (key : Bytes) (i n : ℕ) {end len : ℕ} (bytes new : Bytes) {saved : Saved} → n ≤ length bytes
+    → end ≡ min n sealed_chunk_size → end - 16 - padding saved ≡ len
+    → part key i (nat_le n sealed_chunk_size) (take end bytes)
     ≡ record { text = take (end - 16 - padding saved) new; saved = saved }
-    → first_part key i (take n bytes) ≡ record { text = take len (new ++ rest); saved = saved }
-first_saved key i n {end} {bytes} piece new rest {saved} is whole le same least text found =
-    ap (λ k. part key i (nat_le k sealed_chunk_size) (take sealed_chunk_size (take n bytes)))
-    (length-take-le n bytes le)
-    ∙ ap (part key i (nat_le n sealed_chunk_size)) (take_most sealed_chunk_size n bytes
-    ∙ ap (λ k. take k bytes) (sym least) ∙ ap (take end) is ∙ take-append-le end piece rest (omega arith))
-    ∙ found ∙ ap (λ t. record { text = t; saved = saved })
-    (sym (take-append-le (end - 16 - padding saved) new rest (omega arith)) ∙ ap (λ k. take k (new ++ rest)) (sym text))
-
--- what follows the piece is as it was
-pub first_rest : (bytes piece new rest : Bytes) → bytes ≡ piece ++ rest → length piece ≡ sealed_chunk_size
-    → length new ≡ length piece → drop sealed_chunk_size (new ++ rest) ≡ drop sealed_chunk_size bytes
-first_rest bytes piece new rest is whole same =
-    drop_at new rest sealed_chunk_size (omega arith) ∙ sym (ap (drop sealed_chunk_size) is
-    ∙ drop_at piece rest sealed_chunk_size (omega arith))
-
--- one more was counted
-pub counted : (s : Salvaged) {t : Salvaged} (len : ℕ) {saved : Saved} → t ≡ with_part s len saved
-    → (t.chunks ≡ s.chunks + 1) × (s.lost ≤ t.lost)
-counted s len is =
-    let lost = ap (λ (x : Salvaged). x.lost) is in (ap (λ (x : Salvaged). x.chunks) is, omega arith)
+    → first_part key i (take n bytes) ≡ record { text = take len new; saved = saved }
+first_saved key i n bytes new {saved} le least text found =
+    rw (length-take-le n bytes le, take_most sealed_chunk_size n bytes, ← least, found, text)
 
 -- ---- the parts so far
 
@@ -228,30 +176,22 @@ pub record Salvaging (key : Bytes) (s : Salvaged) (ahead : Bytes) (from now : Se
   pub reads : (d : Bytes) → parts key 0 (pieces (given ++ d)) ≡ done ++ parts key s.chunks (pieces (ahead ++ d))
   pub written : Appends old new (salvaged_text done)
   pub reported : Reports (losses_of before after) (losses 0 0 done)
-  pub bytes : s.bytes ≡ length (salvaged_text done)
-  pub chunks : s.chunks ≡ length done
-  pub lost : s.lost ≡ length (losses 0 0 done)
-  pub early : s.early ≡ latest_early 0 None done
+  pub sum : s ≡ summary done
   pub full : s.bytes ≡ chunk_size * s.chunks
   pub lost_bound : s.lost ≤ s.chunks
   pub read : length given ≡ sealed_chunk_size * s.chunks + length ahead
   pub short : length ahead ≤ 1
 
-pub salvaging_none : {key : Bytes} {s : Salvaged} {ahead : Bytes} {from : Seen} {old : Known} {before : KnownLosses}
-    → s.bytes ≡ 0 → s.chunks ≡ 0 → s.lost ≡ 0 → s.early ≡ None → ahead ≡ []
-    → Salvaging key s ahead from from old old before before
-salvaging_none {key} {ahead} {from} {old} {before} bytes chunks lost early none = record {
+pub salvaging_none : {key : Bytes} {ahead : Bytes} {from : Seen} {old : Known} {before : KnownLosses}
+    → ahead ≡ [] → Salvaging key (summary []) ahead from from old old before before
+salvaging_none {key} {old = old} {before} none = record {
   done = [];
   given = [];
   gave = gave_none;
-  reads = λ d. ap (λ t. parts key 0 (pieces (t ++ d))) (sym none)
-      ∙ ap (λ k. parts key k (pieces (ahead ++ d))) (sym chunks);
+  reads = λ d. rw none refl;
   written = Appends-nil old;
   reported = reports_none before;
-  bytes = bytes;
-  chunks = chunks;
-  lost = lost;
-  early = early;
+  sum = refl;
   full = omega arith;
   lost_bound = omega arith;
   read = omega (arith, ap length none);
@@ -262,32 +202,18 @@ loss_len : (s : Saved) (lost : LostChunk) → length (loss s lost) ≤ 1
 loss_len Zeros lost = omega arith
 loss_len s lost = omega arith
 
-losses_next : (done : List Part) (s : Salvaged) (y : Part) → s.bytes ≡ length (salvaged_text done)
-    → s.chunks ≡ length done → losses 0 0 (done ++ y ∷ [])
-    ≡ losses 0 0 done ++ loss y.saved (record { chunk = s.chunks; start = s.bytes; len = length y.text })
-losses_next done s y bytes chunks = losses_snoc 0 0 done y ∙ ap (λ t. losses 0 0 done ++ t)
-    (lost_at y.saved (0 + length done) s.chunks (0 + length (salvaged_text done)) s.bytes (length y.text) (omega arith)
-    (omega arith))
-
 -- the summary of the parts so far and one more
-snoc_summary : (done : List Part) (s : Salvaged) (y : Part) → s.bytes ≡ length (salvaged_text done)
-    → s.chunks ≡ length done → s.lost ≡ length (losses 0 0 done) → s.early ≡ latest_early 0 None done
-    → with_part s (length y.text) y.saved ≡ summary (done ++ y ∷ [])
-snoc_summary done s y bytes chunks lost early =
+snoc_summary : (done : List Part) (y : Part)
+    → with_part (summary done) (length y.text) y.saved ≡ summary (done ++ y ∷ [])
+snoc_summary done y =
+    let s : Salvaged = summary done in
     let one : List LostChunk = loss y.saved (record { chunk = s.chunks; start = s.bytes; len = length y.text }) in
-    let text : length (salvaged_text (done ++ y ∷ [])) ≡ length (salvaged_text done) + length y.text =
-    ap length (salvaged_snoc done y) ∙ length-append (salvaged_text done) y.text in
-    let all : losses 0 0 (done ++ y ∷ []) ≡ losses 0 0 done ++ one =
-    losses_next done s y bytes chunks in
-    let count : length (losses 0 0 (done ++ y ∷ [])) ≡ length (losses 0 0 done) + length one =
-    ap length all ∙ length-append (losses 0 0 done) one in
-    let b : s.bytes + length y.text ≡ length (salvaged_text (done ++ y ∷ [])) = omega arith in
+    let text = ap length (salvaged_snoc done y) ∙ length-append (salvaged_text done) y.text in
+    let all = ap length (losses_snoc 0 0 s.chunks s.bytes done y (omega arith) (omega arith))
+    ∙ length-append (losses 0 0 done) one in
     let n : s.chunks + 1 ≡ length (done ++ y ∷ []) = omega (arith, length-append done (y ∷ [])) in
-    let m : s.lost + length one ≡ length (losses 0 0 (done ++ y ∷ [])) = omega arith in
     let zero : length done ≡ 0 + length done = omega arith in
-    let mark : early_after y.saved s.chunks s.early ≡ latest_early 0 None (done ++ y ∷ []) =
-    ap (λ k. early_after y.saved k s.early) (chunks ∙ zero) ∙ ap (early_after y.saved (0 + length done)) early
-    ∙ sym (early_snoc 0 None done y) in
+    let early = ap (λ k. early_after y.saved k s.early) zero ∙ sym (early_snoc 0 None done y) in
     let last = last_snoc done y in
     cc
 
@@ -295,9 +221,15 @@ snoc_summary done s y bytes chunks lost early =
 
 module _ {key : Bytes} {s : Salvaged} {ahead : Bytes} {from now : Seen} {old new : Known}
     {before after : KnownLosses} (o : Salvaging key s ahead from now old new before after) where
+  chunks : s.chunks ≡ length o.done
+  chunks = ap (λ (x : Salvaged). x.chunks) o.sum
+
+  bytes : s.bytes ≡ length (salvaged_text o.done)
+  bytes = ap (λ (x : Salvaged). x.bytes) o.sum
+
   first_parts : (d : Bytes) → take s.chunks (parts key 0 (pieces (o.given ++ d))) ≡ o.done
   first_parts d = ap (take s.chunks) (o.reads d)
-      ∙ take_at o.done (parts key s.chunks (pieces (ahead ++ d))) s.chunks (omega (arith, o.chunks))
+      ∙ take_at o.done (parts key s.chunks (pieces (ahead ++ d))) s.chunks (sym chunks)
 
   -- there is a piece more than are allowed
   pub saves_many : {max : ℕ} → s.chunks ≡ max → OfGiven (flow from now)
@@ -306,7 +238,7 @@ module _ {key : Bytes} {s : Salvaged} {ahead : Bytes} {from now : Seen} {old new
   saves_many full = rw (← full) (of_more o.gave (λ d end.
       let more : List Part = parts key s.chunks (pieces (ahead ++ d)) in
       let some : 0 < length more = parts_some key s.chunks (ahead ++ d) in (
-        omega (arith, ap length (o.reads d), length-append o.done more, o.chunks),
+        omega (arith, ap length (o.reads d), length-append o.done more, chunks),
         rw (first_parts d) (o.written, o.reported),
       )))
 
@@ -334,12 +266,19 @@ module _ {key : Bytes} {s : Salvaged} {held : Bytes} {n : ℕ} {buf : Bytes} {fr
   piece_len : length (held ++ r.given) ≡ n
   piece_len = ap length (sym r.is) ∙ length-take-le n buf (omega (arith, r.room))
 
-  -- the piece that was read is whole, whatever comes
-  whole_piece : (d : Bytes) → (IsAtEnd next.to_come → d ≡ [])
-      → (sealed_chunk_size < length (held ++ r.given)) ⊎ (d ≡ [])
-  whole_piece d end = elim (cases_lt sealed_chunk_size n) [
-    | inl lt ↦ inl (omega (arith, piece_len))
-    | inr le ↦ inr (end (r.end (omega arith)))
+  -- the part of the piece that was read, whatever comes
+  part_read : (d : Bytes) → (IsAtEnd next.to_come → d ≡ []) → (more : List Part)
+      × (parts key s.chunks (pieces ((held ++ r.given) ++ d)) ≡ first_part key s.chunks (held ++ r.given) ∷ more)
+  part_read d end = elim (cases_lt sealed_chunk_size n) [
+    | inl lt ↦ (
+      parts key (s.chunks + 1) (pieces (drop sealed_chunk_size (held ++ r.given) ++ d)),
+      parts_next key s.chunks (held ++ r.given) d (omega (arith, piece_len)),
+    )
+    | inr le ↦ (
+      [],
+      rw (end (r.end (omega arith)), append-nil (held ++ r.given))
+          (parts_last key s.chunks (held ++ r.given) (omega (arith, piece_len))),
+    )
   ]
 
   -- the parts so far, and those of this piece with what comes
@@ -354,7 +293,7 @@ module _ {key : Bytes} {s : Salvaged} {held : Bytes} {n : ℕ} {buf : Bytes} {fr
     piece = s.chunks;
     text = salvaged_text o.done ++ take part.0 text;
     written = Appends-trans old mid new (salvaged_text o.done) (take part.0 text) o.written part.1;
-    at = inl (refl, omega (arith, o.full, o.bytes, length-append (salvaged_text o.done) (take part.0 text)));
+    at = inl (refl, omega (arith, o.full, bytes o, length-append (salvaged_text o.done) (take part.0 text)));
     gave = (
       o.given ++ r.given,
       gave_then o.gave r.gave,
@@ -370,11 +309,11 @@ module _ {key : Bytes} {s : Salvaged} {held : Bytes} {n : ℕ} {buf : Bytes} {fr
     pub saves_write : (max : ℕ) (new : Known) → WritesPart (move_of mid new) y.text → OfGiven (flow from next)
         (λ rest. SavesParts max (parts key 0 (pieces rest)) (move_of old new) (losses_of before said) (Err Write))
     saves_write max new wrote = of_more (gave_then o.gave r.gave) (λ d end.
-        let (more, first) = parts_first key s.chunks (held ++ r.given) d (whole_piece d end) in
+        let (more, first) = part_read d end in
         let all : parts key 0 (pieces ((o.given ++ r.given) ++ d)) ≡ o.done ++ y ∷ more =
         reads_piece d ∙ ap (λ ps. o.done ++ ps) (first ∙ ap (λ p. p ∷ more) found) in
-        let done_parts = take_at o.done (y ∷ more) s.chunks (omega (arith, o.chunks)) in
-        let next_parts = drop_at o.done (y ∷ more) s.chunks (omega (arith, o.chunks)) in (
+        let done_parts = take_at o.done (y ∷ more) s.chunks (sym (chunks o)) in
+        let next_parts = drop_at o.done (y ∷ more) s.chunks (sym (chunks o)) in (
           s.chunks,
           wrote.0,
           rw (all, done_parts, next_parts, append-nil y.text)
@@ -392,11 +331,12 @@ module _ {key : Bytes} {s : Salvaged} {held : Bytes} {n : ℕ} {buf : Bytes} {fr
           (Appends-trans old mid new (salvaged_text o.done) y.text o.written put)
 
       reported_next : Reports (losses_of before after) (losses 0 0 (o.done ++ y ∷ []))
-      reported_next = rw (losses_next o.done s y o.bytes o.chunks, wide)
+      reported_next =
+          rw (losses_snoc 0 0 s.chunks s.bytes o.done y (omega (arith, chunks o)) (omega (arith, bytes o)), wide)
           (reports_then before said after (losses 0 0 o.done) (loss y.saved _) o.reported lost)
 
       summed : t ≡ summary (o.done ++ y ∷ [])
-      summed = rw (sum, ← wide) (snoc_summary o.done s y o.bytes o.chunks o.lost o.early)
+      summed = rw (sum, ← wide, o.sum) (snoc_summary o.done y)
 
       -- the last piece was saved
       pub saves_last : {max : ℕ} → n ≤ sealed_chunk_size → s.chunks < max → OfGiven (flow from next)
@@ -405,15 +345,14 @@ module _ {key : Bytes} {s : Salvaged} {held : Bytes} {n : ℕ} {buf : Bytes} {fr
           let count : length (o.done ++ y ∷ []) ≡ length o.done + 1 = length-append o.done (y ∷ []) in
           of_ended (gave_then o.gave r.gave) (r.end (omega arith))
           (rw (o.reads r.given, parts_last key s.chunks (held ++ r.given) (omega (arith, piece_len)), found) (
-            omega (arith, o.chunks),
+            omega (arith, chunks o),
             rw (take_all (length (o.done ++ y ∷ [])) (o.done ++ y ∷ []) (omega arith)) (written_next, reported_next),
             summed,
           ))
 
       -- a piece with more after it was saved
       pub salvaging_more : {ahead : Bytes} → sealed_chunk_size < n → len ≡ chunk_size
-          → ahead ≡ drop sealed_chunk_size buf
-          → Salvaging key t ahead from next old new before after
+          → ahead ≡ drop sealed_chunk_size buf → Salvaging key t ahead from next old new before after
       salvaging_more {ahead} high whole rest =
           let c : Bytes = held ++ r.given in
           let full : buf ≡ c = sym (take_all n buf (omega arith)) ∙ r.is in
@@ -421,8 +360,9 @@ module _ {key : Bytes} {s : Salvaged} {held : Bytes} {n : ℕ} {buf : Bytes} {fr
           let one_ahead : length ahead ≡ length c - sealed_chunk_size = ap length tail
           ∙ length-drop sealed_chunk_size c in
           let up : t.chunks ≡ s.chunks + 1 = ap (λ (x : Salvaged). x.chunks) sum in
-          let bytes = ap (λ (x : Salvaged). x.bytes) sum in
+          let sized = ap (λ (x : Salvaged). x.bytes) sum in
           let counted = ap (λ (x : Salvaged). x.lost) sum in
+          let one = loss_len y.saved (record { chunk = s.chunks; start = s.bytes; len = len }) in
           record {
             done = o.done ++ y ∷ [];
             given = o.given ++ r.given;
@@ -432,18 +372,9 @@ module _ {key : Bytes} {s : Salvaged} {held : Bytes} {n : ℕ} {buf : Bytes} {fr
                 ∙ rw (found, tail, up, append_assoc o.done (y ∷ []) _);
             written = written_next;
             reported = reported_next;
-            bytes = ap (λ (x : Salvaged). x.bytes) summed;
-            chunks = ap (λ (x : Salvaged). x.chunks) summed;
-            lost = ap (λ (x : Salvaged). x.lost) summed;
-            early = ap (λ (x : Salvaged). x.early) summed;
-            full = omega (arith, o.full, whole, bytes, up);
-            lost_bound = omega (
-              arith,
-              o.lost_bound,
-              counted,
-              up,
-              loss_len y.saved (record { chunk = s.chunks; start = s.bytes; len = len }),
-            );
+            sum = summed;
+            full = omega (arith, o.full, whole, sized, up);
+            lost_bound = omega (arith, o.lost_bound, counted, up, one);
             read = omega (
               arith,
               o.read,
@@ -468,13 +399,19 @@ nonce_salvages k max {from} {mid} old lost NonceTruncated h =
     of_map h.1 (λ c less. (less, (Appends-nil old, reports_none lost)))
 nonce_salvages k max old lost fault h = absurd (cc)
 
--- what was read with the nonce
-with_nonce : (max : ℕ) (nonce : Bytes) (from mid to : Seen) (old new : Known) (fault : StreamFault)
-    → Gave (flow from mid) nonce → length nonce ≡ 16 → EndsAt max 0 (flow mid to) (move_of old new) fault
-    → EndsAt max 16 (flow from to) (move_of old new) fault
-with_nonce max nonce from mid to old new fault gave size e =
-    let few : length nonce ≤ 16 = omega (arith, size) in
-    let all = gave_more from mid to 16 (0 + (sealed_chunk_size * (e.piece + 1) + 1)) (nonce, gave, few) e.gave in
+-- what was read, with the nonce
+pub payload_ends : (max : ℕ) {nonce : Bytes} {from mid : Seen} (to : Seen) (old new : Known)
+    (r : Result Salvaged StreamFault) → Gave (flow from mid) nonce → length nonce ≡ 16
+    → IfErr r (λ f. (f ≡ Read) ⊎ EndsAt max 0 (flow mid to) (move_of old new) f)
+    → IfErr r (EndsSaving max (flow from to) (move_of old new))
+payload_ends max to old new (Ok s) gave size h = tt
+payload_ends max to old new (Err Read) gave size h = tt
+payload_ends max to old new (Err NonceTruncated) gave size h = tt
+payload_ends max to old new (Err Memory) gave size h = tt
+payload_ends max to old new (Err fault) gave size (inl e) = absurd (cc)
+payload_ends max {nonce} {from} {mid} to old new (Err fault) gave size (inr e) =
+    let all = gave_more from mid to 16 (0 + (sealed_chunk_size * (e.piece + 1) + 1)) (nonce, gave, omega (arith, size))
+    e.gave in
     record {
       piece = e.piece;
       text = e.text;
@@ -482,24 +419,6 @@ with_nonce max nonce from mid to old new fault gave size e =
       at = e.at;
       gave = (all.0, all.1, omega (arith, all.2));
     }
-
-pub payload_ends : (max : ℕ) {nonce : Bytes} {from mid : Seen} (to : Seen) (old new : Known)
-    (r : Result Salvaged StreamFault)
-    → Gave (flow from mid) nonce → length nonce ≡ 16
-    → IfErr r (λ f. (f ≡ Read) ⊎ EndsAt max 0 (flow mid to) (move_of old new) f)
-    → IfErr r (EndsSaving max (flow from to) (move_of old new))
-payload_ends max {nonce} {from} {mid} to old new (Ok s) gave size h = tt
-payload_ends max {nonce} {from} {mid} to old new (Err fault) gave size (inl e) =
-    subst (EndsSaving max (flow from to) (move_of old new)) (sym e) tt
-payload_ends max {nonce} {from} {mid} to old new (Err fault) gave size (inr e) =
-    saving fault (with_nonce max nonce from mid to old new fault gave size e)
-  where
-    saving : (f : StreamFault) → EndsAt max 16 (flow from to) (move_of old new) f
-        → EndsSaving max (flow from to) (move_of old new) f
-    saving Read h = tt
-    saving NonceTruncated h = tt
-    saving Memory h = tt
-    saving f h = h
 
 pub nonce_ends : (max : ℕ) (from mid : Seen) (old : Known) (fault : StreamFault)
     → GivesNonce (flow from mid) (Err fault) → EndsSaving max (flow from mid) (move_of old old) fault
@@ -513,8 +432,7 @@ pub payload_salvages : (k : FileKey) (max : ℕ) {nonce key : Bytes} {from mid t
     (before after : KnownLosses) (r : Result Salvaged StreamFault) → Gave (flow from mid) nonce → length nonce ≡ 16
     → key ≡ payload_key k nonce
     → OfGiven (flow mid to) (λ rest. SavesParts max (parts key 0 (pieces rest)) (move_of old new)
-    (losses_of before after) r)
-    → Salvages k max (flow from to) (move_of old new) (losses_of before after) r
+    (losses_of before after) r) → Salvages k max (flow from to) (move_of old new) (losses_of before after) r
 payload_salvages k max {nonce} {key} {from} {mid} {to} old new before after r gave size is h =
     of_then gave h (λ c s.
     let l : length (nonce ++ c) ≡ length nonce + length c = length-append nonce c in

@@ -1,14 +1,9 @@
 -- What a reading gives is saved.
-use Rattle.age_stream.proofs.Common.{nat_le, ◌≡◌, ◌↔◌, ◌⊎◌, ◌∙◌, ◌++◌, ◌∷◌, ◌+◌, ◌-◌, ◌<◌, ◌≤◌, ◌&&◌, ℕ, List, [], length, take, drop, ap, sym, arith, append_assoc, refl, subst, inl, inr, Bool, true, false, not, Option, None, Some, Ok, cond, suc, nat_lt, nat_eq, cases_lt, le-ltb, lt-ltb, lt-leb, nat_tests, take_all, Bytes, FileKey, StreamFault, sealed_chunk_size, length-sealed_text, opened_is, Saved, Chunk, Early, LastChunk, chunk_nonce, is_end, payload_key, pieces, Reading, first_fault, plaintext_of, outcome, outcomes, payload_reading, piece_opening, reading_from, whole, Part, early_after, in_place, is_whole, is_whole_to, last_saved, latest_early, losses, lost_part, out_of_place, part, parts, payload_parts, salvaged_text, summary, cases_Bool, nil_from_length}
+use Rattle.age_stream.proofs.Common.{nat_le, ◌≡◌, ◌↔◌, ◌∙◌, ◌++◌, ◌∷◌, ◌+◌, ◌-◌, ◌<◌, ◌≤◌, ◌&&◌, ℕ, List, [], length, take, drop, ap, sym, arith, append_assoc, refl, subst, inl, inr, Bool, true, false, Option, None, Some, Ok, cond, suc, nat_lt, nat_eq, cases_lt, le-ltb, lt-ltb, lt-leb, nat_tests, take_all, Bytes, FileKey, StreamFault, sealed_chunk_size, length-sealed_text, opened_is, Saved, Chunk, Early, LastChunk, chunk_nonce, is_end, payload_key, pieces, Reading, first_fault, plaintext_of, outcome, outcomes, payload_reading, piece_opening, reading_from, whole, Part, early_after, in_place, is_whole, is_whole_to, last_saved, latest_early, losses, lost_part, part, parts, payload_parts, salvaged_text, summary, cases_Bool, nil_from_length, zero, Padded, padded_part, max_padding, cases_Option}
 use Rattle.age_stream.proofs.CuttingLemmas.{AtMost, cut_at_most}
-use Rattle.age_stream.proofs.PayloadLemmas.{opens_outcome, outcome_opens, result_cases}
+use Rattle.age_stream.proofs.PayloadLemmas.{opens_first, opens_outcome, outcome_opens, result_cases}
 use Rattle.age_stream.proofs.ReadingLemmas.{cut_some}
-use Rattle.age_stream.proofs.SalvageLemmas.{length-parts, part-opened, part_closed}
-use Rattle.age_stream.proofs.KeptLemmas.{cases_Option}
-use Rattle.std.proofs.Common.{zero}
-use Rattle.age_stream.specs.declared.salvaged.Saved.TheVariants.{Padded}
-use Rattle.age_stream.specs.Salvage.{closed_part, padded_part}
-use Rattle.age_stream.specs.Sizes.{max_padding}
+use Rattle.age_stream.proofs.SalvageLemmas.{length-parts, part-opened, part_cases}
 
 abbrev text_part : Bool → Bytes → Part
 text_part last text = record { text = text; saved = cond last LastChunk Chunk }
@@ -55,28 +50,24 @@ pub record AllSaved (max i : ℕ) (ps : List Part) (text : Bytes) : Type 0 where
   pub ends : last_saved ps ≡ LastChunk
   pub within : i + length ps ≤ max
 
-pub all_saved : (key : Bytes) (max i : ℕ) (c : Bytes) (cs : List Bytes)
-    → first_fault (outcomes key max i (c ∷ cs)) ≡ None
-    → AllSaved max i (parts key i (c ∷ cs)) (plaintext_of (outcomes key max i (c ∷ cs)))
-all_saved key max i c [] e = elim (result_cases (outcome key max i true c)) [
-  | inr (f, is) ↦ let fault = rw is at e in absurd (cc)
-  | inl (t, is) ↦
-      let o = outcome_opens key max i true c t is in
-      rw (is, opened-part key max i true c t is)
-      (record { is = refl; none = λ at. refl; early = refl; ends = refl; within = omega (arith, o.within) })
-]
-all_saved key max i c (d ∷ ds) e = elim (result_cases (outcome key max i false c)) [
-  | inr (f, is) ↦ let fault = rw is at e in absurd (cc)
-  | inl (t, is) ↦
-      let all = all_saved key max (i + 1) d ds (rw is at e) in
-      rw (is, opened-part key max i false c t is) (record {
-        is = ap (λ x. t ++ x) all.is;
-        none = λ at. all.none (at + length t);
-        early = all.early;
-        ends = all.ends;
-        within = omega (arith, all.within);
-      })
-]
+all_saved : (key : Bytes) (max i : ℕ) (cs : List Bytes) → 0 < length cs → first_fault (outcomes key max i cs) ≡ None
+    → AllSaved max i (parts key i cs) (plaintext_of (outcomes key max i cs))
+all_saved key max i [] some e = absurd (omega arith)
+all_saved key max i (c ∷ []) some e =
+    let (t, is, none) = opens_first key max i c [] e in
+    let o = outcome_opens key max i true c t is in
+    rw (is, opened-part key max i true c t is)
+    (record { is = refl; none = λ at. refl; early = refl; ends = refl; within = omega (arith, o.within) })
+all_saved key max i (c ∷ d ∷ ds) some e =
+    let (t, is, none) = opens_first key max i c (d ∷ ds) e in
+    let all = all_saved key max (i + 1) (d ∷ ds) (omega arith) none in
+    rw (is, opened-part key max i false c t is) (record {
+      is = ap (λ x. t ++ x) all.is;
+      none = λ at. all.none (at + length t);
+      early = all.early;
+      ends = all.ends;
+      within = omega (arith, all.within);
+    })
 
 -- ---- parts that are all in their places
 
@@ -91,18 +82,6 @@ early_stays i j (p ∷ ps) e = let (k, is) = after_some p.saved i j in early_sta
 
 zeros_lost : (i at : ℕ) (c : Bytes) (ps : List Part) → 16 < length c → losses i at (lost_part c ∷ ps) ≡ [] → ⊥
 zeros_lost i at c ps lt e = let some = rw (lt-leb (length c) 16 lt) at e in cc
-
--- what a piece is
-part_cases : (key : Bytes) (i : ℕ) (last : Bool) (c : Bytes)
-    → ((t : Bytes) × (piece_opening key i last c ≡ Some t))
-    ⊎ ((part key i last c).saved ≡ out_of_place last) ⊎ (part key i last c ≡ closed_part key i last c)
-part_cases key i last c = elim (cases_Option (piece_opening key i last c)) [
-  | inl some ↦ inl some
-  | inr none ↦ elim (cases_Option (piece_opening key i (not last) c)) [
-    | inl (t, is) ↦ inr (inl (rw (none, is) refl))
-    | inr other ↦ inr (inr (part_closed key i last c none other))
-  ]
-]
 
 some_text : (i len : ℕ) → in_place i true len ≡ LastChunk → 0 < i → 16 ≤ len → 16 < len
 some_text i len is pos ge = elim (cases_Bool (nat_lt 0 i && nat_eq len 16)) [
@@ -137,31 +116,25 @@ padded_last key i k (suc n) c e = elim (cases_Option (piece_opening key i true (
   | inr none ↦ padded_last key i (k + 1) n c (rw none at e)
 ]
 
-pub all_read : (key : Bytes) (max i at : ℕ) (c : Bytes) (cs : List Bytes) → AtMost sealed_chunk_size (c ∷ cs)
-    → i + length (c ∷ cs) ≤ max → losses i at (parts key i (c ∷ cs)) ≡ []
-    → latest_early i None (parts key i (c ∷ cs)) ≡ None → last_saved (parts key i (c ∷ cs)) ≡ LastChunk
-    → first_fault (outcomes key max i (c ∷ cs)) ≡ None
-all_read key max i at c [] full within none early ends = elim (part_cases key i true c) [
-  | inl (t, is) ↦
-      let place = ap (λ (p : Part). p.saved) (sym (part-opened key i true c t is)) ∙ ends in
-      rw (place_reads key max i true c t (omega (arith, within)) is (λ l. place)) refl
-  | inr (inl is) ↦ let no : Chunk ≡ LastChunk = sym is ∙ ends in absurd (cc)
+all_read : (key : Bytes) (max i at : ℕ) (cs : List Bytes) → AtMost sealed_chunk_size cs → i + length cs ≤ max
+    → losses i at (parts key i cs) ≡ [] → latest_early i None (parts key i cs) ≡ None
+    → last_saved (parts key i cs) ≡ LastChunk → first_fault (outcomes key max i cs) ≡ None
+all_read key max i at [] full within none early ends = absurd full
+all_read key max i at (c ∷ []) full within none early ends = elim (part_cases key i true c) [
+  | inl (t, opens, is) ↦
+      rw (place_reads key max i true c t (omega (arith, within)) opens (λ l. rw is at ends)) refl
+  | inr (inl (t, opens, is)) ↦ let no = rw is at ends in absurd (cc)
   | inr (inr is) ↦
       absurd (padded_last key i 1 max_padding c (ap (λ (p : Part). p.saved) (sym is) ∙ ends))
 ]
-all_read key max i at c (d ∷ ds) full within none early ends = elim (part_cases key i false c) [
-  | inl (t, is) ↦
-      let same = part-opened key i false c t is in
-      let more = all_read key max (i + 1) (at + length t) d ds full.1 (omega (arith, within)) (rw same at none)
-      (rw same at early) ends in
-      rw (place_reads key max i false c t (omega (arith, within)) is (λ l. absurd (cc))) more
-  | inr (inl is) ↦
-      let rest : List Part = parts key (i + 1) (d ∷ ds) in
-      let stays = subst (λ s. latest_early (i + 1) (early_after s i None) rest ≡ None) is early in
-      absurd (early_stays (i + 1) i rest stays)
+all_read key max i at (c ∷ d ∷ ds) full within none early ends = elim (part_cases key i false c) [
+  | inl (t, opens, is) ↦
+      let more = all_read key max (i + 1) (at + length t) (d ∷ ds) full.1 (omega (arith, within)) (rw is at none)
+      (rw is at early) ends in
+      rw (place_reads key max i false c t (omega (arith, within)) opens (λ l. absurd (cc))) more
+  | inr (inl (t, opens, is)) ↦ absurd (early_stays (i + 1) i (parts key (i + 1) (d ∷ ds)) (rw is at early))
   | inr (inr is) ↦
-      let rest : List Part = parts key (i + 1) (d ∷ ds) in
-      absurd (zeros_lost i at c rest (omega (arith, full.0)) (subst (λ p. losses i at (p ∷ rest) ≡ []) is none))
+      absurd (zeros_lost i at c (parts key (i + 1) (d ∷ ds)) (omega (arith, full.0)) (rw is at none))
 ]
 
 -- ---- a payload
@@ -186,17 +159,9 @@ payload_whole k text plain max is = elim (cases_lt (length text) 16) [
       let e : reading_from (payload_key k (take 16 text)) max 0 (drop 16 text) ≡ whole plain =
       rw (le-ltb (length text) 16 ge) at is in
       subst (AllSaved max 0 (payload_parts k text)) (ap (λ (r : Reading StreamFault). r.plaintext) e)
-      (some (pieces (drop 16 text)) (cut_some sealed_chunk_size [] (drop 16 text))
-      (ap (λ (r : Reading StreamFault). r.fault) e))
+      (all_saved (payload_key k (take 16 text)) max 0 (pieces (drop 16 text))
+      (cut_some sealed_chunk_size [] (drop 16 text)) (ap (λ (r : Reading StreamFault). r.fault) e))
 ]
-  where
-    key : Bytes
-    key = payload_key k (take 16 text)
-
-    some : (cs : List Bytes) → 0 < length cs → first_fault (outcomes key max 0 cs) ≡ None
-        → AllSaved max 0 (parts key 0 cs) (plaintext_of (outcomes key max 0 cs))
-    some [] pos e = absurd (omega arith)
-    some (c ∷ cs) pos e = all_saved key max 0 c cs e
 
 whole_to : (last : Saved) (lost : ℕ) (early : Option ℕ) → is_whole_to last lost early ≡ true
     → (last ≡ LastChunk) × (lost ≡ 0) × (early ≡ None)
@@ -228,15 +193,9 @@ payload_exactly k text max = (reads, saves)
           )
     ]
 
-    some : (cs : List Bytes) → 0 < length cs → AtMost sealed_chunk_size cs → length (parts key 0 cs) ≤ max
-        → (last_saved (parts key 0 cs) ≡ LastChunk) × (length (losses 0 0 (parts key 0 cs)) ≡ 0)
-        × (latest_early 0 None (parts key 0 cs) ≡ None) → first_fault (outcomes key max 0 cs) ≡ None
-    some [] pos full within w = absurd (omega arith)
-    some (c ∷ cs) pos full within w =
-        all_read key max 0 0 c cs full (omega (arith, within, length-parts key 0 (c ∷ cs)))
-        (nil_from_length (losses 0 0 (parts key 0 (c ∷ cs))) w.1) w.2 w.0
-
     saves : (16 ≤ length text) × (length ps ≤ max) × (is_whole (summary ps) ≡ true) → r.fault ≡ None
-    saves (ge, within, is) = rw (le-ltb (length text) 16 ge) (some (pieces (drop 16 text))
-        (cut_some sealed_chunk_size [] (drop 16 text)) (cut_at_most sealed_chunk_size (drop 16 text) (omega arith))
-        within (whole_to (last_saved ps) (length (losses 0 0 ps)) (latest_early 0 None ps) is))
+    saves (ge, within, is) =
+        let cs : List Bytes = pieces (drop 16 text) in
+        let (last, lost, early) = whole_to (last_saved ps) (length (losses 0 0 ps)) (latest_early 0 None ps) is in
+        rw (le-ltb (length text) 16 ge) (all_read key max 0 0 cs (cut_at_most sealed_chunk_size (drop 16 text)
+        (omega arith)) (omega (arith, within, length-parts key 0 cs)) (nil_from_length (losses 0 0 ps) lost) early last)

@@ -1,15 +1,8 @@
 -- What is saved stands at its offset.
-use Rattle.age_stream.proofs.Common.{◌≡◌, ◌∙◌, ◌++◌, ◌∷◌, ◌+◌, ◌-◌, ◌*◌, ◌/◌, ◌%◌, ◌<◌, ℕ, List, [], length, take, drop, get_or, slice_get, slice_index, ap, sym, arith, refl, subst, Bool, false, not, None, Some, zero, suc, sum_by, none-some, get_or_from_slice_get, slice_get_within, length-replicate, get_or_append_left, get_or-append-add, sum_by-cons, Bytes, FileKey, chunk_size, sealed_chunk_size, length-sealed_text, opened_is, Saved, chunk_nonce, is_end, payload_key, pieces, piece_opening, Part, in_place, lost_part, opening_or, out_of_place, part, parts, payload_parts, salvaged_text, IsSlice, opening, openings, length-append, inl, inr}
-use Rattle.std.proofs.Common.{replicate, if◌then◌else◌, true, nat_eq, nat_le, nat_lt, ◌&&◌}
-use Rattle.std.proofs.lemmas.List.{length-take-le}
-use Rattle.age_stream.specs.Words.{Known}
-use Rattle.age_stream.specs.declared.salvaged.Saved.TheVariants.{Chunk, Early, LastChunk, Nothing, Zeros}
-use Rattle.age_stream.specs.Salvage.{closed_part, last_saved, padded_part, padding}
-use Rattle.age_stream.specs.Sizes.{max_padding}
+use Rattle.age_stream.proofs.Common.{◌≡◌, ◌∙◌, ◌++◌, ◌∷◌, ◌+◌, ◌-◌, ◌*◌, ◌/◌, ◌%◌, ◌<◌, ℕ, List, [], length, take, drop, get_or, slice_get, slice_index, ap, sym, arith, refl, Bool, false, not, None, Some, zero, suc, sum_by, none-some, get_or_from_slice_get, slice_get_within, length-replicate, get_or_append_left, get_or-append-add, sum_by-cons, Bytes, FileKey, chunk_size, sealed_chunk_size, length-sealed_text, opened_is, chunk_nonce, is_end, payload_key, pieces, piece_opening, Part, in_place, lost_part, out_of_place, part, parts, payload_parts, salvaged_text, IsSlice, opening, openings, length-append, inl, inr, if◌then◌else◌, true, nat_eq, nat_le, nat_lt, ◌&&◌, length-take-le, Early, LastChunk, Nothing, Zeros, closed_part, last_saved, padded_part, padding, max_padding, cases_Option}
 use Rattle.age_stream.proofs.CuttingLemmas.{AtMost, cut_at_most}
-use Rattle.age_stream.proofs.SalvageLemmas.{part-opened}
+use Rattle.age_stream.proofs.SalvageLemmas.{part-opened, part_cases}
 use Rattle.age_stream.proofs.SliceLemmas.{slice_of}
-use Rattle.age_stream.proofs.KeptLemmas.{cases_Option}
 
 opened_len : (key : Bytes) (i : ℕ) (last : Bool) (c t : Bytes) → piece_opening key i last c ≡ Some t
     → length c ≡ length t + 16
@@ -21,25 +14,14 @@ opened_len key i last c t is =
 abbrev Fills : (c : Bytes) (p : Part) → Type 0
 Fills c p = length p.text + padding p.saved ≡ length c - 16
 
-or_fills : (key : Bytes) (i : ℕ) (last : Bool) (c : Bytes) (saved : Saved) (other : Part)
-    → padding saved ≡ 0 → Fills c other → Fills c (opening_or saved (piece_opening key i last c) other)
-or_fills key i last c saved other none same = elim (cases_Option (piece_opening key i last c)) [
-  | inl (t, is) ↦ rw is (omega (arith, opened_len key i last c t is, none))
-  | inr closed ↦ rw closed same
+lost_full : (c : Bytes) → padding (lost_part c).saved ≡ 0
+lost_full c = elim (nat_le (length c) 16) as (λ b. padding (if b then Nothing else Zeros) ≡ 0) [
+  | true ↦ refl
+  | false ↦ refl
 ]
 
 lost_fills : (c : Bytes) → Fills c (lost_part c)
-lost_fills c = go (nat_le (length c) 16)
-  where
-    zeros : Bytes
-    zeros = replicate (length c - 16) 0
-
-    size : length zeros ≡ length c - 16
-    size = length-replicate (length c - 16) 0
-
-    go : (b : Bool) → length zeros + padding (if b then Nothing else Zeros) ≡ length c - 16
-    go true = omega (arith, size)
-    go false = omega (arith, size)
+lost_fills c = omega (arith, lost_full c, length-replicate {A = ℕ} (length c - 16) 0)
 
 padded_fills : (key : Bytes) (i k n : ℕ) (c : Bytes) → Fills c (padded_part key i k n c)
 unfolding padded_part
@@ -57,37 +39,29 @@ closed_fills key i true c = padded_fills key i 1 max_padding c
 
 in_place_full : (i : ℕ) (last : Bool) (len : ℕ) → padding (in_place i last len) ≡ 0
 in_place_full i false len = refl
-in_place_full i true len = go (nat_lt 0 i && nat_eq len 16)
-  where
-    go : (b : Bool) → padding (if b then Early else LastChunk) ≡ 0
-    go true = refl
-    go false = refl
+in_place_full i true len = elim (nat_lt 0 i && nat_eq len 16) as (λ b. padding (if b then Early else LastChunk) ≡ 0) [
+  | true ↦ refl
+  | false ↦ refl
+]
 
 out_full : (last : Bool) → padding (out_of_place last) ≡ 0
 out_full true = refl
 out_full false = refl
 
 pub part_fills : (key : Bytes) (i : ℕ) (last : Bool) (c : Bytes) → Fills c (part key i last c)
-part_fills key i last c =
-    or_fills key i last c (in_place i last (length c))
-    (opening_or (out_of_place last) (piece_opening key i (not last) c) (closed_part key i last c))
-    (in_place_full i last (length c))
-    (or_fills key i (not last) c (out_of_place last) (closed_part key i last c) (out_full last)
-    (closed_fills key i last c))
+part_fills key i last c = elim (part_cases key i last c) [
+  | inl (t, opens, is) ↦ rw is (omega (arith, opened_len key i last c t opens, in_place_full i last (length c)))
+  | inr (inl (t, opens, is)) ↦ rw is (omega (arith, opened_len key i (not last) c t opens, out_full last))
+  | inr (inr is) ↦ rw is (closed_fills key i last c)
+]
 
 -- only the last piece may be padded
-pub inner_full : (key : Bytes) (i : ℕ) (c : Bytes) → padding (part key i false c).saved ≡ 0
-inner_full key i c = go (piece_opening key i false c) (piece_opening key i true c)
-  where
-    lost : (b : Bool) → padding (if b then Nothing else Zeros) ≡ 0
-    lost true = refl
-    lost false = refl
-
-    go : (o other : Known)
-        → padding (opening_or Chunk o (opening_or Early other (lost_part c))).saved ≡ 0
-    go (Some t) other = refl
-    go None (Some t) = refl
-    go None None = lost (nat_le (length c) 16)
+inner_full : (key : Bytes) (i : ℕ) (c : Bytes) → padding (part key i false c).saved ≡ 0
+inner_full key i c = elim (part_cases key i false c) [
+  | inl (t, opens, is) ↦ rw is refl
+  | inr (inl (t, opens, is)) ↦ rw is refl
+  | inr (inr is) ↦ rw is (lost_full c)
+]
 
 pub part_len : (key : Bytes) (i : ℕ) (c : Bytes) → length (part key i false c).text ≡ length c - 16
 part_len key i c = omega (arith, part_fills key i false c, inner_full key i c)
@@ -97,23 +71,12 @@ pub salvaged_len : (key : Bytes) (i : ℕ) (cs : List Bytes)
     ≡ sum_by (λ piece. length piece - 16) cs
 salvaged_len key i [] = refl
 salvaged_len key i (c ∷ []) =
-    let text : Bytes = (part key i true c).text in
-    omega (
-      arith,
-      length-append text [],
-      sum_by-cons (λ piece. length piece - 16) c [],
-      part_fills key i true c,
-    )
+    let text = length-append (part key i true c).text [] in
+    omega (arith, text, sum_by-cons (λ piece. length piece - 16) c [], part_fills key i true c)
 salvaged_len key i (c ∷ d ∷ cs) =
-    let text : Bytes = (part key i false c).text in
-    let rest : Bytes = salvaged_text (parts key (i + 1) (d ∷ cs)) in
-    omega (
-      arith,
-      length-append text rest,
-      sum_by-cons (λ piece. length piece - 16) c (d ∷ cs),
-      part_len key i c,
-      salvaged_len key (i + 1) (d ∷ cs),
-    )
+    let text = length-append (part key i false c).text (salvaged_text (parts key (i + 1) (d ∷ cs))) in
+    let sum = sum_by-cons (λ piece. length piece - 16) c (d ∷ cs) in
+    omega (arith, text, sum, part_len key i c, salvaged_len key (i + 1) (d ∷ cs))
 
 -- byte r of what the piece with number n from here opens to, in what is saved
 record IsSavedAt (all text : Bytes) (n r : ℕ) : Type 0 where
@@ -126,10 +89,8 @@ saved_at : (key : Bytes) (i n r : ℕ) (cs : List Bytes) (text : Bytes) → AtMo
 saved_at key i n r [] text full is lt = absurd (none-some text is)
 saved_at key i zero r (c ∷ cs) text full is lt =
     let more : Bytes = salvaged_text (parts key (i + 1) cs) in
-    let p : salvaged_text (parts key i (c ∷ cs)) ≡ text ++ more =
-    ap (λ (x : Part). x.text ++ more) (part-opened key i (is_end cs) c text is) in
     let l : length (text ++ more) ≡ length text + length more = length-append text more in
-    subst (λ t. IsSavedAt t text 0 r) (sym p) (record {
+    rw (part-opened key i (is_end cs) c text is) (record {
       within = omega (arith, l);
       is = ap (λ k. get_or (text ++ more) k 0) (zeroth r) ∙ get_or_append_left text more 0 r lt;
     })
@@ -150,8 +111,7 @@ saved_at key i (suc n) r (c ∷ d ∷ ds) text full is lt =
     }
 
 byte_saved : (key rest text : Bytes) (x v : ℕ) → opening key rest (x / chunk_size) ≡ Some text
-    → slice_get text (x % chunk_size) ≡ Some v
-    → (x < length (salvaged_text (parts key 0 (pieces rest)))) × (v
+    → slice_get text (x % chunk_size) ≡ Some v → (x < length (salvaged_text (parts key 0 (pieces rest)))) × (v
     ≡ get_or (salvaged_text (parts key 0 (pieces rest))) x 0)
 byte_saved key rest text x v opens at =
     let r : ℕ = x % chunk_size in
@@ -164,8 +124,7 @@ byte_saved key rest text x v opens at =
           ∙ ap (λ y. get_or (salvaged_text (parts key 0 (pieces rest))) y 0) sum,
     )
 
-pub slice_saved : (k : FileKey) (text xs : Bytes) (at : ℕ)
-    → IsSlice (payload_key k (take 16 text)) (drop 16 text) at xs
+pub slice_saved : (k : FileKey) (text xs : Bytes) (at : ℕ) → IsSlice (payload_key k (take 16 text)) (drop 16 text) at xs
     → xs ≡ take (length xs) (drop at (salvaged_text (payload_parts k text)))
 slice_saved k text xs at s = slice_of xs (salvaged_text (payload_parts k text)) at (λ j lt.
     let z = s j lt in

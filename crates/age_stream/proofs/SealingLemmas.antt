@@ -1,8 +1,7 @@
 -- Full chunks that go out, one after another.
-use Rattle.age_stream.proofs.Common.{◌≡◌, ◌⊎◌, ◌∙◌, ◌++◌, ◌+◌, ◌-◌, ◌*◌, ◌<◌, ◌≤◌, ℕ, List, [], ◌∷◌, length, take, drop, ap, sym, arith, append-nil, append_assoc, length-append, refl, Bool, Option, Some, None, Result, Ok, Err, false, inl, inr, zero, suc, slice_set, slice_index_or, concat, Appends, IsAtEnd, Appends-trans, Appends-nil, take-add, length-take-le, take_at, length-drop, Bytes, sealed_text, Flow, Gave, GaveAtMost, GaveSome, Known, Seen, WritesPart, flow, move_of, Done as StreamDone, StreamFault, Read, Write, TooManyChunks, chunk_size, sealed_chunk_size, chunk_buf_size, length-sealed_text, Filled, gave_all, gave_then, of_any, of_ended, of_more, of_still, of_then, done_part, cut_after, chunk_nonce, IfNone, FinishesBy, Fills, SealerState, SealsAll, StopsIn, TakesAll, Fed, IsFed, Stopped, WroteAtLeast, at_start, sealed_chunks_after, concat-append}
+use Rattle.age_stream.proofs.Common.{◌≡◌, ◌⊎◌, ◌∙◌, ◌++◌, ◌+◌, ◌-◌, ◌*◌, ◌<◌, ◌≤◌, ℕ, List, [], ◌∷◌, length, take, drop, ap, sym, arith, append-nil, append_assoc, length-append, refl, Bool, Option, Some, None, Result, Ok, Err, false, inl, inr, zero, suc, slice_set, slice_index_or, concat, Appends, IsAtEnd, Appends-trans, Appends-nil, take-add, length-take-le, take_at, length-drop, Bytes, sealed_text, Flow, Gave, GaveAtMost, GaveSome, Known, Seen, WritesPart, flow, move_of, Done as StreamDone, StreamFault, Read, Write, TooManyChunks, chunk_size, sealed_chunk_size, chunk_buf_size, length-sealed_text, Filled, gave_all, gave_then, of_any, of_ended, of_more, of_still, of_then, done_part, cut_after, chunk_nonce, IfNone, FinishesBy, Fills, SealerState, SealsAll, StopsIn, TakesAll, Fed, IsFed, Stopped, WroteAtLeast, at_start, sealed_chunks_after, concat-append, at_none, when_none}
 use Rattle.age_header.proofs.DeviceLemmas.{Done}
 use Rattle.age_stream.proofs.CuttingLemmas.{cut_first, cut_fits}
-use Rattle.age_stream.proofs.KeptLemmas.{at_none, when_none}
 use Rattle.age_stream.proofs.PayloadLemmas.{length_each}
 use Rattle.age_stream.proofs.ReadingLemmas.{is_end_cut, cut_some}
 
@@ -178,8 +177,7 @@ module _ {key : Bytes} {i j : ℕ} {held text now piece full next : Bytes} {a b 
 
 -- a buffer that was filled up to the byte after a full chunk
 pub full_is : {held n : ℕ} {bytes filled : Bytes} {a b : Seen} → chunk_size < n → n ≤ chunk_size + 1 → held ≤ chunk_size
-    → length bytes ≡ chunk_buf_size → length filled ≡ chunk_buf_size
-    → (f : Filled held n bytes filled (flow a b))
+    → length bytes ≡ chunk_buf_size → length filled ≡ chunk_buf_size → (f : Filled held n bytes filled (flow a b))
     → IsFull (take held bytes) f.piece (take chunk_size filled) (take 1 (drop chunk_size filled))
 full_is {held} {n} {bytes} {filled} low high le size full_size f =
     let is : n ≡ chunk_size + 1 = omega arith in
@@ -219,8 +217,7 @@ takes_ok {n} len old {bytes} {fault} view none same size all le within (fed, end
 pub takes_err : {now : SealerState} {from to : Seen} {a b : Known} {key : Bytes} {max i j : ℕ} (len : ℕ)
     (old : Bytes) {slice : Bytes} (items : Bytes) {kept : Option StreamFault} {fault : StreamFault}
     → parts key max i len old kept ≡ now → slice ≡ old
-    → Stopped key max i j (take len slice) (flow from to) (move_of a b) fault
-    → IfNone now.fault
+    → Stopped key max i j (take len slice) (flow from to) (move_of a b) fault → IfNone now.fault
     (TakesAll {A = Unit {0}} now (parts key max j len items (Some fault)) (flow from to) (move_of a b) (Err fault))
 takes_err len old items {kept} view same stopped =
     rw (← view, ← same) (when_none kept (λ _. (refl, refl, (refl, stopped))))
@@ -269,8 +266,7 @@ module _ (s t : SealerState) {u : Unit {0}} (source : Flow) (a b c : Known) (non
   seals_finish (Err fault) finishes = seals_last finishes
 
 pub seals_err : {s : SealerState} (t : SealerState) {from to : Seen} {a b : Known} {fault : StreamFault}
-    → s.fault ≡ None
-    → IfNone s.fault (TakesAll {A = Unit {0}} s t (flow from to) (move_of a b) (Err fault))
+    → s.fault ≡ None → IfNone s.fault (TakesAll {A = Unit {0}} s t (flow from to) (move_of a b) (Err fault))
     → SealsAll s (flow from to) (move_of a b) (Err fault)
 seals_err t none takes = (t.index, (at_none none takes).2.1)
 
@@ -306,11 +302,7 @@ filled_seals key max t more from mid to a c r (x, took, is, fits, full, ended) s
         rw (cut_held x text le) (q.0, q.1, omega (arith, q.2, length-append x text), q.3))
     go (Err fault) (j, s) = (
       j,
-      record {
-        stops = of_then took s.stops (λ text h. stops text fault h);
-        wrote = s.wrote;
-        gave = gave j s.gave;
-      },
+      record { stops = of_then took s.stops (λ text h. stops text fault h); wrote = s.wrote; gave = gave j s.gave },
     )
 
 -- a sealer that was filled with all that came seals it as the last chunk

@@ -51,17 +51,12 @@ pub opening_at : (key rest : Bytes) (i : ℕ) → i < length (pieces rest)
 opening_at key rest i lt =
     let none : 0 + i ≡ i = omega arith in
     let one : suc i ≡ i + 1 = omega arith in
-    openings_at key 0 i (pieces rest) lt
-    ∙ ap (λ n. piece_opening key n (is_end (drop (suc i) (pieces rest))) (get_or (pieces rest) i [])) none
-    ∙ ap (λ b. piece_opening key i b (get_or (pieces rest) i []))
-    (last_cut sealed_chunk_size i rest (omega arith) ∙ ap (λ n. nat_le (length rest) (sealed_chunk_size * n)) one)
-    ∙ ap (piece_opening key i (nat_le (length rest) (sealed_chunk_size * (i + 1))))
-    (cut_at sealed_chunk_size i rest (omega arith))
+    let last = last_cut sealed_chunk_size i rest (omega arith) in
+    rw (openings_at key 0 i (pieces rest) lt, none, last, one, cut_at sealed_chunk_size i rest (omega arith))
 
 -- how long the plaintext is, where the last piece has a tag
 pub plain_count : (n : ℕ) (rest : Bytes) → (n ≡ 0) ⊎ (sealed_chunk_size * n < length rest)
-    → length rest ≤ sealed_chunk_size * (n + 1)
-    → sealed_chunk_size * n + 16 ≤ length rest
+    → length rest ≤ sealed_chunk_size * (n + 1) → sealed_chunk_size * n + 16 ≤ length rest
     → plain_len rest + 16 * (n + 1) ≡ length rest
 plain_count zero rest some le tag =
     let one : plain_len rest ≡ (length rest - 16) + 0 =

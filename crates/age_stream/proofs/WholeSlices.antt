@@ -1,35 +1,10 @@
 -- A payload that reads whole, by ranges: what is saved of it is its plaintext.
-use Rattle.age_stream.proofs.Common.{◌≡◌, inl, inr, ℕ, List, [], ◌∷◌, ◌+◌, ◌-◌, ◌<◌, ◌≤◌, length, take, drop, get_or, ◌∙◌, ap, arith, true, false, None, Ok, concat, cases_lt, le-ltb, lt-ltb, take_at, drop_at, Bytes, FileKey, StreamFault, Reading, chunk_size, sealed_chunk_size, chunks, pieces, sealed_chunks_from, payload_key, outcome, outcomes, first_fault, payload_reading, whole, plain_len, IsSlice, range_outcome}
-use Rattle.std.proofs.Common.{◌*◌, ◌<◌, ap, map, refl, sym, Some}
-use Rattle.std.proofs.lemmas.List.{get_or-map, get_or_past, length-drop, length-take}
-use Rattle.age_cipher.proofs.OpeningLemmas.{opened_text-sealed_text}
-use Rattle.age_stream.specs.Payload.{chunk_nonce, is_end}
-use Rattle.age_stream.specs.Slice.{opening, openings}
-use Rattle.age_stream.proofs.PayloadLemmas.{is_end_each}
+use Rattle.age_stream.proofs.Common.{◌≡◌, inl, inr, ℕ, List, [], ◌∷◌, ◌+◌, ◌-◌, ◌<◌, length, take, drop, get_or, ◌∙◌, ap, arith, true, None, Ok, cases_lt, le-ltb, lt-ltb, Bytes, FileKey, StreamFault, Reading, chunk_size, sealed_chunk_size, chunks, pieces, sealed_chunks_from, payload_key, outcome, outcomes, first_fault, payload_reading, whole, plain_len, IsSlice, range_outcome, ◌*◌, map, refl, sym, Some, get_or-map, get_or_past, length-drop, length-take, opened_text-sealed_text, chunk_nonce, is_end, opening, openings, last_saved, padding, payload_parts, salvaged_text}
 use Rattle.age_stream.proofs.SliceLemmas.{cut_at}
-use Rattle.age_stream.specs.Salvage.{last_saved, padding, payload_parts, salvaged_text}
-use Rattle.age_stream.proofs.CuttingLemmas.{cut_at_most}
-use Rattle.age_stream.proofs.PayloadLemmas.{ok_payload, pieces_each, result_cases}
+use Rattle.age_stream.proofs.PayloadLemmas.{is_end_each, opens_first, whole_pieces}
 use Rattle.age_stream.proofs.ReadingLemmas.{cut_some}
 use Rattle.age_stream.proofs.SalvageReading.{payload_whole}
 use Rattle.age_stream.proofs.SalvageSlices.{salvaged_len, slice_saved}
-
--- what is known of a payload that reads whole
-pub record IsWhole (key rest p : Bytes) (max : ℕ) : Type 0 where
-  pub sealed_so : pieces rest ≡ sealed_chunks_from key 0 (chunks p)
-  pub count : length (chunks p) ≤ max
-
-pub whole_is : (k : FileKey) (b p : Bytes) (max : ℕ) → payload_reading k max b ≡ whole p
-    → IsWhole (payload_key k (take 16 b)) (drop 16 b) p max
-whole_is k b p max h =
-    let i = ok_payload k b p max h in
-    let key : Bytes = payload_key k i.nonce in
-    let text : Bytes = concat (sealed_chunks_from key 0 (chunks p)) in
-    record {
-      sealed_so = rw (i.spelled, take_at i.nonce text 16 i.nonce_len, drop_at i.nonce text 16 i.nonce_len)
-          (pieces_each key (chunks p) (cut_at_most chunk_size p (omega arith)));
-      count = i.count;
-    }
 
 pub whole_len : (k : FileKey) (b p : Bytes) (max : ℕ) → payload_reading k max b ≡ whole p
     → plain_len (drop 16 b) ≡ length p
@@ -44,14 +19,11 @@ whole_len k b p max h =
 last_ok : (key : Bytes) (max i n : ℕ) (c : Bytes) (cs : List Bytes) → n ≡ i + length cs
     → first_fault (outcomes key max i (c ∷ cs)) ≡ None
     → (t : Bytes) × (outcome key max n true (get_or (c ∷ cs) (length cs) []) ≡ Ok t)
-last_ok key max i n c [] at e = elim (result_cases (outcome key max i true c)) [
-  | inr (f, is) ↦ let fault = rw is at e in absurd (cc)
-  | inl (t, is) ↦ let here : n ≡ i = omega arith in (t, rw here is)
-]
-last_ok key max i n c (d ∷ ds) at e = elim (result_cases (outcome key max i false c)) [
-  | inr (f, is) ↦ let fault = rw is at e in absurd (cc)
-  | inl (t, is) ↦ last_ok key max (i + 1) n d ds (omega arith) (rw is at e)
-]
+last_ok key max i n c [] at e =
+    let (t, is, none) = opens_first key max i c [] e in
+    let here : n ≡ i = omega arith in (t, rw here is)
+last_ok key max i n c (d ∷ ds) at e =
+    last_ok key max (i + 1) n d ds (omega arith) (opens_first key max i c (d ∷ ds) e).2
 
 pub whole_opens : (k : FileKey) (b p : Bytes) (max : ℕ) → payload_reading k max b ≡ whole p
     → (last : Bytes) × (range_outcome k max b ≡ Ok last)
@@ -74,8 +46,7 @@ whole_opens k b p max h = elim (cases_lt (length b) 16) [
         rw n (last_ok key max 0 (length cs) c cs (omega arith) e)
 
 pub whole_slice : (k : FileKey) (b p xs : Bytes) (max at : ℕ) → payload_reading k max b ≡ whole p
-    → IsSlice (payload_key k (take 16 b)) (drop 16 b) at xs
-    → xs ≡ take (length xs) (drop at p)
+    → IsSlice (payload_key k (take 16 b)) (drop 16 b) at xs → xs ≡ take (length xs) (drop at p)
 whole_slice k b p xs max at h s =
     slice_saved k b xs at s ∙ ap (λ t. take (length xs) (drop at t)) (payload_whole k b p max h).is
 
@@ -99,5 +70,5 @@ whole_chunk k b p max i h less =
           ap length (sym is ∙ get_or_past (chunks p) i [] past) in
           absurd (omega (arith, length-take {A = ℕ}, length-drop {A = ℕ}))
     ] in
-    ap (λ os. get_or os i None) (ap (openings key 0) (whole_is k b p max h).sealed_so ∙ openings_each key 0 (chunks p))
+    ap (λ os. get_or os i None) (ap (openings key 0) (whole_pieces k b p max h) ∙ openings_each key 0 (chunks p))
     ∙ get_or-map Some (chunks p) i [] None within ∙ ap Some is

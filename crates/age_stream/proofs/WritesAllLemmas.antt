@@ -1,6 +1,5 @@
 -- The openings of pieces, written one after another.
-use Rattle.age_stream.proofs.Common.{◌≡◌, ◌⊎◌, ◌∙◌, ◌++◌, ◌+◌, ◌-◌, ◌*◌, ◌<◌, ◌≤◌, ℕ, [], length, take, ap, arith, append-nil, append_assoc, length-append, refl, Some, None, Bool, true, false, inl, inr, Result, Ok, Err, Fits, IfNone, IfSome, IsErrOf, w128, Appends, IsAtEnd, Appends-trans, Appends-nil, le-leb, lt-leb, cases_lt, drop-append-le, take-append-le, Bytes, Gave, Known, Seen, WritesPart, flow, move_of, Done, StreamFault, Read, Write, chunk_size, sealed_chunk_size, gave_none, gave_then, of_any, of_more, of_still, of_then, done_part, Advances, EndsAt, IsAtPiece, IsFilled, Loses, OpenerState, OpensNext, WritesAll, WritesReading, left_of, pieces_left, reading_left, pieces, Reading, after_first, first_outcome, reading_from, stop}
-use Rattle.age_stream.proofs.KeptLemmas.{at_none, cases_Option}
+use Rattle.age_stream.proofs.Common.{◌≡◌, ◌⊎◌, ◌∙◌, ◌++◌, ◌+◌, ◌-◌, ◌*◌, ◌<◌, ◌≤◌, ℕ, [], length, take, ap, arith, append-nil, append_assoc, length-append, refl, Some, None, Bool, true, false, inl, inr, Result, Ok, Err, Fits, IfNone, IfSome, IsErrOf, w128, Appends, IsAtEnd, Appends-trans, Appends-nil, le-leb, lt-leb, cases_lt, drop-append-le, take-append-le, Bytes, Gave, Known, Seen, WritesPart, flow, move_of, Done, StreamFault, Read, Write, chunk_size, sealed_chunk_size, gave_none, gave_then, of_any, of_more, of_still, of_then, done_part, Advances, EndsAt, IsAtPiece, IsFilled, Loses, OpenerState, OpensNext, WritesAll, WritesReading, left_of, pieces_left, reading_left, pieces, Reading, after_first, first_outcome, reading_from, stop, at_none, cases_Option}
 use Rattle.age_stream.proofs.ReadingLemmas.{count_first, reading_first}
 
 -- a text, and then what a reading gives
@@ -237,8 +236,7 @@ writes_read {s} {t} {from} {now} {next} {a} {b} o lost = elim (cases_Option t.he
 
 -- a piece's fault
 stops_writes : (reading : Reading StreamFault) (n max i : ℕ) (a b : Known) (fault : StreamFault) → IsAtPiece max i fault
-    → (reading.fault ≡ Some fault) × Appends a b reading.plaintext
-    → WritesReading reading n (move_of a b) (Err fault)
+    → (reading.fault ≡ Some fault) × Appends a b reading.plaintext → WritesReading reading n (move_of a b) (Err fault)
 stops_writes reading n max i a b Read at stops = absurd at
 stops_writes reading n max i a b Write at stops = absurd at
 stops_writes reading n max i a b fault at stops = stops
@@ -270,10 +268,11 @@ module _ {s t u : OpenerState} {n : ℕ} {from now next : Seen} {a b : Known} {f
   }
 
 -- the clause of a call that returned no fault
-pub advanced_ok : (some : Bool) (t u : OpenerState) {now next : Seen} → t.fault ≡ None
-    → IfNone t.fault (IsErrOf (Ok some) Read ⊎ Advances t u (flow now next) (Ok some))
+pub advanced : {s t : OpenerState} (u : OpenerState) {n : ℕ} {from now next : Seen} {a b : Known} {more some : Bool}
+    → Opened s t n from now a b → more ≡ some
+    → IfNone t.fault (IsErrOf (Ok more) Read ⊎ Advances t u (flow now next) (Ok more))
     → Advances t u (flow now next) (Ok some)
-advanced_ok some t u none h = elim (at_none none h) [ inl e ↦ absurd (cc) | inr adv ↦ adv ]
+advanced u o is h = elim (rw is at (at_none o.none h)) [ inl e ↦ absurd (cc) | inr adv ↦ adv ]
 
 -- the fault of a call, of a read or of a piece
 pub failed_writes : {s t : OpenerState} (u : OpenerState) {n : ℕ} {from now next : Seen} {a b : Known}

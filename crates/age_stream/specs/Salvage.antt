@@ -1,8 +1,7 @@
 -- Saving what is left of a payload if some chunks do not open.
 use Rattle.std.specs.Prelude.{ℕ, zero, suc, ◌+◌, ◌-◌, ◌≡◌, ◌≤◌, ◌<◌, ◌&&◌, ⊤, List, [], ◌∷◌, ◌++◌, Bool, true, false, not, length, map, take, drop, replicate, nat_eq, nat_le, nat_lt, IfSome, Option, Some, None, Result, Ok, Err, if◌then◌else◌}
-use Rattle.std.specs.Io.KnownBytes.{IsAtEnd}
 use Rattle.std.specs.List.{concat}
-use Rattle.age_stream.specs.Words.{Bytes, Key, Flow, Gave, Moved, OfGiven, Took, FileKey, StreamFault, NonceTruncated, TooManyChunks, Read, Write, Memory, chunk_buf_size, nonce_size, sealed_chunk_size, tag_size}
+use Rattle.age_stream.specs.Words.{Bytes, Key, Flow, Moved, OfGiven, Took, FileKey, StreamFault, NonceTruncated, TooManyChunks, Read, Write, Memory, nonce_size, sealed_chunk_size, tag_size}
 use Rattle.age_stream.specs.Sizes.{max_padding}
 use Rattle.age_stream.specs.declared.salvaged.LostChunk.{LostChunk}
 use Rattle.age_stream.specs.declared.salvaged.Salvaged.{Salvaged}
@@ -224,12 +223,3 @@ with_part s len saved = record {
   early = early_after saved s.chunks s.early;
   last = saved;
 }
-
--- n bytes are at the start of the buffer: those held, then those read from the source. If they are
--- fewer than it has room for, the source is at its end.
-pub record ReadsAhead (held : Bytes) (n : ℕ) (after : Bytes) (source : Flow) : Type 0 where
-  pub given : Bytes
-  pub gave : Gave source given
-  pub is : take n after ≡ held ++ given
-  pub room : n ≤ chunk_buf_size
-  pub end : n < chunk_buf_size → IsAtEnd source.after.to_come

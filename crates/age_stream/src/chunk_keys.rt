@@ -8,6 +8,7 @@ use age_kdf::hkdf;
 
 /// The nonce of chunk i: its number in eleven big-endian bytes, then 1 for the last chunk and 0 for
 /// the others (C2SP `age.md`, "Payload"). Eleven bytes hold the numbers below 2^88.
+#[tactic(auto, unfolding(crate::specs::Payload::chunk_nonce))]
 pub fn chunk_nonce(i: u128, last: bool) -> [u8; 12]
     requires { i < most_chunks }
     ensures { result ≡ chunk_nonce i last }
@@ -17,6 +18,7 @@ pub fn chunk_nonce(i: u128, last: bool) -> [u8; 12]
 }
 
 /// The key of the chunks that follow this nonce (C2SP `age.md`, "Payload").
+#[tactic(auto, unfolding(crate::specs::Payload::payload_key))]
 pub fn payload_key(key: &FileKey, nonce: &[u8; 16]) -> [u8; 32]
     ensures { result ≡ payload_key key.now nonce.now }
 {

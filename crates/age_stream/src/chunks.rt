@@ -62,8 +62,9 @@ fn put(text: &[u8], skip: usize, buf: &mut [u8], done: usize, end: usize) -> usi
     requires done { done < end }
     requires end { end ≤ length buf.old }
     ensures count { result ≡ min (length text.now - skip) (end - done) }
-    ensures bytes { buf.new
-        ≡ take done buf.old ++ take result (drop skip text.now) ++ drop (done + result) buf.old }
+    ensures prefix { take (done + result) buf.new
+        ≡ take done buf.old ++ take result (drop skip text.now) }
+    ensures rest { drop (done + result) buf.new ≡ drop (done + result) buf.old }
 {
     let n = (text.len() - skip).min(end - done);
     let (_, tail) = buf.split_at_mut(done);

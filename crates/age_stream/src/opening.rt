@@ -3,9 +3,9 @@ ghost use Rattle.std.specs.Prelude.{◌≡◌, ◌≢◌, ◌⊎◌, ◌<◌, �
 ghost use Rattle.std.specs.Bool.{OnTrue, OnFalse};
 ghost use Rattle.age_kdf.specs.Bytes.{Bytes};
 ghost use Rattle.age_cipher.specs.Sealing.{opened_text};
-ghost use Rattle.age_header.specs.Device.{CountsIf, GaveAtMost, GaveSome, flow_by, move_by};
+ghost use Rattle.age_header.specs.Device.{Counts, CountsIf, GaveAtMost, GaveSome, flow_by, move_by};
 ghost use Rattle.age_stream.specs.Counts.{is_read, is_write};
-ghost use Rattle.age_stream.specs.Opening.{Advances, EndsAt, GivesNonce, GivesText, IsAtPiece, IsSpentAfter, Loses, ReadsPiece, Starts, WritesAll};
+ghost use Rattle.age_stream.specs.Opening.{Advances, EndsAt, GivesNonce, GivesText, IsAtPiece, IsSpentAfter, Loses, ReadsAhead, ReadsPiece, Starts, WritesAll};
 ghost use Rattle.age_stream.specs.Reading.{outcome};
 ghost use Rattle.age_stream.specs.Sizes.{chunk_size, sealed_chunk_size, most_chunks, nonce_size, tag_size, chunk_buf_size};
 
@@ -15,7 +15,7 @@ use crate::done::Done;
 use crate::fault::StreamFault;
 use crate::sizes::{NONCE_SIZE, SEALED_CHUNK_SIZE, TAG_SIZE};
 use age_cipher::open_in_place;
-use age_header::{FileKey, Sink, Source, fill_from, write_all};
+use age_header::{DeviceFault, FileKey, Sink, Source, fill_from, write_all};
 use std::marker::Model;
 
 /// Opens the pieces of a payload in order, each in the same memory. It keeps a fault, and returns
@@ -229,13 +229,31 @@ fn next_piece<S: Source>(
         (λ piece. (piece.len ≤ chunk_size) × (piece.more ≡ true → piece.len ≡ chunk_size)) }
     ensures within { OnOk result (i < max) }
 {
-    carry(bytes, ahead);
-    let Ok(n) = fill_from(source, bytes, ahead) else {
+    let Ok(n) = read_piece(source, bytes, ahead) else {
         return Err(StreamFault::Read);
     };
     let last = n <= SEALED_CHUNK_SIZE;
     let len = open_chunk(key, max, i, last, bytes, n.min(SEALED_CHUNK_SIZE))?;
     Ok(Piece { len, more: !last })
+}
+
+/// Reads the next piece, and the byte after it. Before the call the last byte of the buffer is the
+/// first of this piece, if `ahead` is 1.
+pub(crate) fn read_piece<S: Source>(
+    source: &mut S,
+    bytes: &mut [u8],
+    ahead: usize,
+) -> Result<usize, DeviceFault>
+    requires size { length bytes.old ≡ chunk_buf_size }
+    requires ahead { ahead ≤ 1 }
+    ensures len { length bytes.new ≡ chunk_buf_size }
+    ensures reads { IfOk result (λ n. ReadsAhead (take ahead (drop sealed_chunk_size bytes.old)) n
+        bytes.new (flow_by S.to_come S.gave source.old source.new)) }
+    ensures lost { OnErr result (GaveSome (flow_by S.to_come S.gave source.old source.new)) }
+    ensures count { Counts (S.failed source.old) (S.failed source.new) result }
+{
+    carry(bytes, ahead);
+    fill_from(source, bytes, ahead)
 }
 
 /// The 16 bytes of a payload's nonce.
@@ -254,7 +272,7 @@ pub(crate) fn read_nonce<S: Source>(source: &mut S) -> Result<[u8; 16], StreamFa
 }
 
 /// Moves what was read ahead to the start of the buffer.
-pub(crate) fn carry(bytes: &mut [u8], ahead: usize)
+fn carry(bytes: &mut [u8], ahead: usize)
     requires size { length bytes.old ≡ chunk_buf_size }
     requires ahead { ahead ≤ 1 }
     ensures len { length bytes.new ≡ chunk_buf_size }
@@ -274,6 +292,7 @@ pub(crate) fn carry(bytes: &mut [u8], ahead: usize)
 /// The first that applies of `TooManyChunks` if `i` is `max`; `ChunkShort` if there are fewer bytes
 /// than a tag, 16; `EmptyFinal` if it is the last chunk, not the first, and only a tag; `BadChunk`
 /// if no plaintext seals to these bytes at this number. On each the buffer is unchanged.
+#[tactic(auto, unfolding(crate::specs::Reading::outcome))]
 pub fn open_chunk(
     key: &[u8; 32],
     max: u128,

@@ -1,21 +1,19 @@
 //! Saving the chunks that open of a damaged payload.
-ghost use Rattle.std.specs.Prelude.{◌≡◌, ◌⊎◌, ◌<◌, ◌≤◌, ◌+◌, ◌-◌, ◌^◌, length, take, drop, false, Some, None, Ok, Err, IfOk, IfSome, OnErr, IfErr};
-ghost use Rattle.std.specs.Io.KnownBytes.{IsAtEnd};
-ghost use Rattle.age_header.specs.Device.{Counts, CountsIf, GaveSome, OfGiven, flow_by, move_by};
-ghost use Rattle.age_header.specs.Filling.{Filled};
+ghost use Rattle.std.specs.Prelude.{◌≡◌, ◌⊎◌, ◌<◌, ◌≤◌, ◌+◌, ◌-◌, ◌^◌, length, take, drop, false, Some, None, Ok, Err, IfOk, IfSome, IfErr};
+ghost use Rattle.age_header.specs.Device.{CountsIf, OfGiven, flow_by, move_by};
 ghost use Rattle.age_stream.specs.Counts.{is_read, is_write};
 ghost use Rattle.age_stream.specs.Opening.{EndsAt};
 ghost use Rattle.age_stream.specs.Payload.{pieces};
-ghost use Rattle.age_stream.specs.Salvage.{EndsSaving, IsOfPieces, ReadsAhead, Reports, Salvages, SavesParts, first_part, in_place, loss, lost_part, losses_by, padded_part, padding, part, parts, with_part};
+ghost use Rattle.age_stream.specs.Salvage.{EndsSaving, IsOfPieces, Reports, Salvages, SavesParts, first_part, in_place, loss, lost_part, losses_by, padded_part, padding, part, parts, with_part};
 ghost use Rattle.age_stream.specs.Sizes.{chunk_size, max_padding, sealed_chunk_size, most_chunks, tag_size, chunk_buf_size};
 
 use crate::buffer::ChunkBuf;
 use crate::chunk_keys::{chunk_nonce, payload_key};
 use crate::fault::StreamFault;
-use crate::opening::{carry, open_prefix, read_nonce};
+use crate::opening::{open_prefix, read_nonce, read_piece};
 use crate::salvaged::{Losses, LostChunk, Salvaged, Saved};
 use crate::sizes::{MAX_PADDING, SEALED_CHUNK_SIZE, TAG_SIZE};
-use age_header::{DeviceFault, FileKey, Sink, Source, fill_from, write_all};
+use age_header::{FileKey, Sink, Source, write_all};
 use std::alloc::Global;
 
 /// Saves what it can of a payload that is left in the source. Writes, at its offset, the text of
@@ -64,6 +62,15 @@ pub fn salvage_payload<S: Source, W: Sink, L: Losses>(
     save_pieces(source, out, losses, &key, max_chunks, bytes.as_mut_slice())
 }
 
+/// What is saved of no piece.
+const NOTHING_SAVED: Salvaged = Salvaged {
+    bytes: 0,
+    chunks: 0,
+    lost: 0,
+    early: None,
+    last: Saved::Nothing,
+};
+
 /// Saves what it can of the pieces that are left in the source.
 fn save_pieces<S: Source, W: Sink, L: Losses>(
     source: &mut S,
@@ -85,13 +92,7 @@ fn save_pieces<S: Source, W: Sink, L: Losses>(
     ensures reads { CountsIf is_read (S.failed source.old) (S.failed source.new) result }
     ensures writes { CountsIf is_write (W.failed out.old) (W.failed out.new) result }
 {
-    let mut done = Salvaged {
-        bytes: 0,
-        chunks: 0,
-        lost: 0,
-        early: None,
-        last: Saved::Nothing,
-    };
+    let mut done = NOTHING_SAVED;
     let mut ahead = 0;
     loop {
         if done.chunks >= max {
@@ -112,25 +113,6 @@ fn save_pieces<S: Source, W: Sink, L: Losses>(
     }
 }
 
-/// Reads the next piece, and the byte after it. Before the call the last byte of the buffer is the
-/// first of this piece, if `ahead` is 1.
-fn read_piece<S: Source>(
-    source: &mut S,
-    bytes: &mut [u8],
-    ahead: usize,
-) -> Result<usize, DeviceFault>
-    requires size { length bytes.old ≡ chunk_buf_size }
-    requires ahead { ahead ≤ 1 }
-    ensures len { length bytes.new ≡ chunk_buf_size }
-    ensures reads { IfOk result (λ n. ReadsAhead (take ahead (drop sealed_chunk_size bytes.old)) n
-        bytes.new (flow_by S.to_come S.gave source.old source.new)) }
-    ensures lost { OnErr result (GaveSome (flow_by S.to_come S.gave source.old source.new)) }
-    ensures count { Counts (S.failed source.old) (S.failed source.new) result }
-{
-    carry(bytes, ahead);
-    fill_from(source, bytes, ahead)
-}
-
 /// Saves what it can of piece i, which is the first of these `n` bytes: its text, or zeros, is then
 /// at the start of the buffer. Returns its length.
 fn save_first(key: &[u8; 32], i: u128, bytes: &mut [u8], n: usize) -> (usize, Saved)
@@ -144,9 +126,8 @@ fn save_first(key: &[u8; 32], i: u128, bytes: &mut [u8], n: usize) -> (usize, Sa
     ensures text { result.0 ≤ chunk_size }
     ensures full { sealed_chunk_size < n → result.0 ≡ chunk_size }
 {
-    let (piece, _) = bytes.split_at_mut(SEALED_CHUNK_SIZE);
     let end = n.min(SEALED_CHUNK_SIZE);
-    let saved = save_piece(key, i, n <= SEALED_CHUNK_SIZE, piece, end);
+    let saved = save_piece(key, i, n <= SEALED_CHUNK_SIZE, bytes, end);
     let len = end.saturating_sub(TAG_SIZE).saturating_sub(saved.padding());
     (len, saved)
 }

@@ -2,8 +2,4 @@ use Rattle.age_stream.proofs.WholeSlices.{whole_opens, whole_len, whole_slice}
 use Rattle.age_stream.proofs.laws.whole_is_sliced.Goals as goal
 
 pub returns : goal.returns
-returns c = record {
-  opens = λ k text plain max. whole_opens k text plain max;
-  len = λ k text plain max. whole_len k text plain max;
-  slice = λ k text plain xs max at. whole_slice k text plain xs max at;
-}
+returns c = record { opens = whole_opens; len = whole_len; slice = whole_slice }

@@ -29,15 +29,13 @@ invariant_of-result g c =
     let last = c.saturating_sub.result / sealed_chunk_size in
     let end = c.args.sealed - sealed_chunk_size * last in
     let short : end ≤ sealed_chunk_size = omega arith in
-    let len = open_len c.args.key c.args.max last end c.in-Ok.len c.read_full.new.buf c.open_chunk.new.bytes
-    (c.read_full.auto.buf ∙ c.requires.room) short
-    c.in-Ok.ensures.text.0 c.in-Ok.ensures.text.1 in
-    let is = len.0 in
+    let (is, some) = open_len _ _ _ c.read_full.new.buf c.open_chunk.new.bytes
+    (c.read_full.auto.buf ∙ c.requires.room) short c.in-Ok.ensures.text.0 c.in-Ok.ensures.text.1 in
     record {
       fits = omega (arith, is, c.requires.fits);
       some = omega arith;
       covers = omega (arith, is, short);
-      tight = λ lt. omega (arith, len.1 (omega (arith, lt)));
+      tight = λ lt. omega (arith, some (omega (arith, lt)));
     }
 
 pub returns-in-Ok-clause-judges : goal.returns-in-Ok-clause-judges
@@ -47,9 +45,8 @@ returns-in-Ok-clause-judges g c =
     let n = c.in-Ok.len in
     let short : end ≤ sealed_chunk_size = omega arith in
     let room = c.read_full.auto.buf ∙ c.requires.room in
-    let len = open_len c.args.key c.args.max last end n c.read_full.new.buf c.open_chunk.new.bytes room short
-    c.in-Ok.ensures.text.0 c.in-Ok.ensures.text.1 in
-    let is = len.0 in
+    let (is, some) = open_len _ _ _ c.read_full.new.buf c.open_chunk.new.bytes room short c.in-Ok.ensures.text.0
+    c.in-Ok.ensures.text.1 in
     let text : n ≡ chunk_len (chunk_size * last + n) (last + 1 - 1) = omega (arith, is, short) in (
       refl,
       refl,
@@ -73,9 +70,8 @@ returns-in-Ok-clause-verified g c =
     let n = c.in-Ok.len in
     let short : end ≤ sealed_chunk_size = omega arith in
     let room = c.read_full.auto.buf ∙ c.requires.room in
-    let len = open_len c.args.key c.args.max last end n c.read_full.new.buf c.open_chunk.new.bytes room short
-    c.in-Ok.ensures.text.0 c.in-Ok.ensures.text.1 in
-    let is = len.0 in
+    let (is, some) = open_len _ _ _ c.read_full.new.buf c.open_chunk.new.bytes room short c.in-Ok.ensures.text.0
+    c.in-Ok.ensures.text.1 in
     let text : n ≡ chunk_len (chunk_size * last + n) last = omega (arith, is, short) in
     last_verified c.args.max last end c.read_full.new.buf c.open_chunk.new.bytes refl
     (OnTrue_at c.in-Ok-true.field-0-test c.in-Ok-true.ensures.read) c.in-Ok.ensures.text.0 text

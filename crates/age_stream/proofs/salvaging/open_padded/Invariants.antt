@@ -1,7 +1,5 @@
 -- No shorter padding was it, and the others remain.
-use Rattle.std.proofs.Common.{◌≡◌, ◌+◌, ◌-◌, take}
-use Rattle.age_stream.specs.Salvage.{padded_part}
-use Rattle.age_stream.specs.Sizes.{max_padding}
+use Rattle.age_stream.proofs.Common.{◌≡◌, ◌+◌, ◌-◌, take, max_padding, padded_part}
 use Rattle.age_stream.proofs.salvaging.open_padded.Given as goal
 
 abbrev pub invariant-lengths : goal.invariant-lengths

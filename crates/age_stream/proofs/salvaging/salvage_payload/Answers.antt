@@ -10,13 +10,7 @@ returns-in_err-nonce-clause-salvages g c =
 pub returns-clause-salvages : goal.returns-clause-salvages
 returns-clause-salvages g c =
     let size : length c.in_ok-nonce.nonce ≡ 16 = search rules in
-    search (
-      payload_salvages,
-      c.in_ok-nonce.ensures.nonce,
-      size,
-      c.payload_key-key.ensures,
-      c.save_pieces.ensures.saves,
-    )
+    search (payload_salvages, c.in_ok-nonce.ensures.nonce, size, c.payload_key-key.ensures, c.save_pieces.ensures.saves)
 
 pub returns-in_err-nonce-clause-took : goal.returns-in_err-nonce-clause-took
 returns-in_err-nonce-clause-took g c =

@@ -1,6 +1,6 @@
-use Rattle.age_stream.proofs.Common.{rules, arith, ◌∙◌, refl, inr, take, length-take-le}
+use Rattle.age_stream.proofs.Common.{rules, arith, ◌∙◌, ap, refl, inr, take, length-take-le, Salvaged}
 use Rattle.age_stream.proofs.OpeningLemmas.{ahead_one}
-use Rattle.age_stream.proofs.SalvageLemmas.{counted, ends_many, ends_write, salvaging_more, salvaging_none, saves_last, saves_many, saves_read, saves_write}
+use Rattle.age_stream.proofs.SalvageLemmas.{ends_many, ends_write, salvaging_more, salvaging_none, saves_last, saves_many, saves_read, saves_write}
 use Rattle.age_stream.proofs.salvaging.save_pieces.Goals as goal
 
 pub loop-done-init : goal.loop-done-init
@@ -8,7 +8,7 @@ loop-done-init g c = record {
   size = c.requires.size;
   ahead = omega arith;
   within = omega arith;
-  saved = salvaging_none refl refl refl refl refl;
+  saved = salvaging_none refl;
   silent = λ none. refl;
   reads = refl;
   writes = refl;
@@ -52,16 +52,16 @@ loop-done-preserved g c =
     let wide = length-take-le c.save_first-len.result.0 c.save_first-len.new.bytes (omega
     (arith, first.len, first.text))
     in
-    let more = counted c.loop-done.done c.save_first-len.result.0 c.note.ensures.counts in
     record {
       size = first.len;
       ahead = omega arith;
-      within = omega (arith, more.0);
+      within = omega (arith, ap (λ (x : Salvaged). x.chunks) c.note.ensures.counts);
       saved = salvaging_more c.loop-done.invariant.saved c.in-Ok.ensures.reads c.read_piece.ensures.len first.part
           (g.W.Sink.taken c.write_all.new.out) (g.L.Losses.lost c.note.new.losses) wide
           c.in-Ok-write_all.ensures.text c.note.ensures.reports c.note.ensures.counts (omega arith)
           (first.full (omega arith)) (ahead_one c.save_first-len.new.bytes first.len ∙ first.rest);
-      silent = λ none. c.note.ensures.silent none ∙ c.loop-done.invariant.silent (omega (arith, none, more.1));
+      silent = λ none. c.note.ensures.silent none
+          ∙ c.loop-done.invariant.silent (omega (arith, none, ap (λ (x : Salvaged). x.lost) c.note.ensures.counts));
       reads = search rules;
       writes = search rules;
     }

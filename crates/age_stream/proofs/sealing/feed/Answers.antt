@@ -51,9 +51,5 @@ loop-n-preserved g c =
       within = c.put_full.ensures.within;
       reads = c.in-Ok.ensures.count ∙ c.loop-n.invariant.reads;
       writes = c.in_ok-put_full.ensures.writes ∙ c.loop-n.invariant.writes;
-      fed = (
-        inv.0 ++ f.piece,
-        gave_then inv.1 f.bytes,
-        fed_next inv.2 h puts.0 puts.2 puts.1,
-      );
+      fed = (inv.0 ++ f.piece, gave_then inv.1 f.bytes, fed_next inv.2 h puts.0 puts.2 puts.1);
     }

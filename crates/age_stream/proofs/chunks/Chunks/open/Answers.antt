@@ -1,26 +1,19 @@
-use Rattle.age_stream.proofs.Common.{arith, rules, ◌∙◌, ◌+◌, ap, slice_index, Some}
-use Rattle.age_stream.proofs.TailLemmas.{written_all}
-use Rattle.age_stream.proofs.JudgesLastLemmas.{given_last, judged_err, judged_ok}
-use Rattle.age_stream.proofs.VerifiedLemmas.{keeps_last}
+use Rattle.age_stream.proofs.Common.{arith, rules, ◌∙◌, ◌+◌, ap, slice_index, Some, written_all}
+use Rattle.age_stream.proofs.JudgesLastLemmas.{judged_err, judged_ok, probes_last}
+use Rattle.age_stream.proofs.RangeLemmas.{keeps_last}
 use Rattle.age_stream.proofs.chunks.Chunks.open.Goals as goal
 
 pub returns-in-Ok-load_last-clause-probes : goal.returns-in-Ok-load_last-clause-probes
-returns-in-Ok-load_last-clause-probes g c = record {
-  stay = c.load_last.ensures.stay ∙ c.payload_start.ensures.stay;
-  most = omega (arith, c.load_last.ensures.given, c.payload_start.ensures.given);
-  last = given_last (g.D.ReadAt.bytes c.args.dev.now) c.in_ok-start.start.nonce c.args.payload_at
-      c.in_ok-start.start.sealed_len (g.D.ReadAt.given c.payload_start.new.dev) (g.D.ReadAt.given c.args.dev.now)
-      c.in_ok-start.ensures.ok c.load_last.ensures.given c.payload_start.ensures.given;
-}
+returns-in-Ok-load_last-clause-probes g c = probes_last (g.D.ReadAt.bytes c.args.dev.now)
+    c.in_ok-start.start.nonce c.args.payload_at c.in_ok-start.start.sealed_len
+    (c.load_last.ensures.stay ∙ c.payload_start.ensures.stay) c.in_ok-start.ensures.ok c.load_last.ensures.given
+    c.payload_start.ensures.given
 
 pub returns-in-Err-clause-probes : goal.returns-in-Err-clause-probes
-returns-in-Err-clause-probes g c = record {
-  stay = c.load_last.ensures.stay ∙ c.payload_start.ensures.stay;
-  most = omega (arith, c.load_last.ensures.given, c.payload_start.ensures.given);
-  last = given_last (g.D.ReadAt.bytes c.args.dev.now) c.in_ok-start.start.nonce c.args.payload_at
-      c.in_ok-start.start.sealed_len (g.D.ReadAt.given c.payload_start.new.dev) (g.D.ReadAt.given c.args.dev.now)
-      c.in_ok-start.ensures.ok c.load_last.ensures.given c.payload_start.ensures.given;
-}
+returns-in-Err-clause-probes g c = probes_last (g.D.ReadAt.bytes c.args.dev.now)
+    c.in_ok-start.start.nonce c.args.payload_at c.in_ok-start.start.sealed_len
+    (c.load_last.ensures.stay ∙ c.payload_start.ensures.stay) c.in_ok-start.ensures.ok c.load_last.ensures.given
+    c.payload_start.ensures.given
 
 pub returns-in-Err-clause-opens : goal.returns-in-Err-clause-opens
 returns-in-Err-clause-opens g c =

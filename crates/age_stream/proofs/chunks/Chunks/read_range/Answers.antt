@@ -1,17 +1,11 @@
-use Rattle.age_stream.proofs.Common.{arith, ◌≡◌, ◌+◌, ◌-◌, ◌*◌, ◌/◌, ◌<◌, ◌≤◌, ◌∙◌, ap, sym, refl, inl, inr, length, take, drop, Some, None, subst, chunk_size, HasPlain, IsSound, bytes_from, first_to_open, source_opening, sealed_span}
-use Rattle.age_stream.proofs.RangeLemmas.{prefix_put, put_rest, length-part, rest_on, prefix_on, opens_moved}
-use Rattle.age_stream.proofs.VerifiedLemmas.{changed_verified, verified_on, verified_text}
+use Rattle.age_stream.proofs.Common.{arith, ◌≡◌, ◌+◌, ◌-◌, ◌*◌, ◌/◌, ◌<◌, ◌≤◌, ◌∙◌, ap, sym, refl, inl, inr, length, Some, None, chunk_size, IsSound, bytes_from, first_to_open, source_opening, sealed_span}
+use Rattle.age_stream.proofs.RangeLemmas.{changed_verified, opens_moved, prefix_on, rest_on, verified_on, verified_text}
 use Rattle.age_stream.proofs.chunks.Chunks.read_range.Goals as goal
 
 pub returns : goal.returns
 returns g c =
     let inv = c.loop-done.invariant in
-    let s = c.args.self.now in
-    let l = c.loop-done.self in
-    let at = c.args.at in
-    let n = c.range_len-end.result in
-    let i = c.loop-done.i in
-    let end : c.loop-done.done ≡ n = omega (arith, inv.within, c.loop-done-test.false) in
+    let end : c.loop-done.done ≡ c.range_len-end.result = omega (arith, inv.within, c.loop-done-test.false) in
     let is = rw c.layout-layout.ensures at c.range_len-end.ensures in
     record {
       reads = record {
@@ -22,11 +16,7 @@ returns g c =
         keeps_verified = inv.keeps;
         verified = λ keeps k lt. inv.verified keeps k (omega (arith, end, lt));
         number = is;
-        filled = (
-          rw end at inv.rest,
-          λ sound. subst (λ k. HasPlain (g.D.ReadAt.bytes c.args.dev.now) s.layout at (take k c.loop-done.buf)) end
-              (inv.prefix sound),
-        );
+        filled = (rw end at inv.rest, λ sound. rw end at (inv.prefix sound));
         stop = tt;
         count = inv.failed;
         kept_chunk = λ some. grind (arith, inv.stage, inv.below, some, end);
@@ -51,11 +41,10 @@ returns-in-Err g c =
     let told = g.D.ReadAt.bytes c.args.dev.now in
     let at = c.args.at in
     let i = c.loop-done.i in
-    let n = c.range_len-end.result in
-    let pos : at + c.loop-done.done ≡ chunk_size * i + c.loop-done.skip = inv.pos c.loop-done-test.true in
+    let pos = inv.pos c.loop-done-test.true in
     let done : c.loop-done.done ≡ chunk_size * i - at = grind (arith, inv.stage, pos) in
     let is = rw c.layout-layout.ensures at c.range_len-end.ensures in
-    let more : c.loop-done.done < n = c.loop-done-test.true in
+    let more = c.loop-done-test.true in
     let touched : chunk_size * i < s.layout.plain = omega (arith, pos, more, is) in
     let more_given = rw inv.layout at c.hold-held.ensures.given in
     let opened : h.opened ≤ s.opened + (i + 1 - first_to_open s.index at) =
@@ -80,10 +69,7 @@ returns-in-Err g c =
           chunk = i;
           from = grind (arith, inv.stage);
           to = omega (arith, pos, more, is);
-          filled = (
-            rw done at inv.rest,
-            λ sound. subst (λ k. HasPlain told s.layout at (take k c.loop-done.buf)) done (inv.prefix sound),
-          );
+          filled = (rw done at inv.rest, λ sound. rw done at (inv.prefix sound));
           lost = elim c.in-Err.ensures.lost [
             | inl x ↦ inl x
             | inr x ↦ inr (
@@ -109,32 +95,26 @@ pub loop-done-preserved : goal.loop-done-preserved
 loop-done-preserved g c =
     let inv = c.loop-done.invariant in
     let s = c.args.self.now in
-    let l = c.loop-done.self in
     let h = c.hold-held.new.self in
     let told = g.D.ReadAt.bytes c.args.dev.now in
     let i = c.loop-done.i in
     let skip = c.loop-done.skip in
     let done = c.loop-done.done in
     let at = c.args.at in
-    let end = c.range_len-end.result in
     let n = c.put-n.result in
     let t = c.text.result.now in
-    let plain = s.layout.plain in
     let pos : at + done ≡ chunk_size * i + skip = inv.pos c.loop-done-test.true in
-    let more : done < end = c.loop-done-test.true in
+    let more = c.loop-done-test.true in
     let is = rw c.layout-layout.ensures at c.range_len-end.ensures in
-    let touched : chunk_size * i < plain = omega (arith, pos, more, is) in
+    let touched : chunk_size * i < s.layout.plain = omega (arith, pos, more, is) in
     let lies : h.layout ≡ s.layout = c.hold-held.ensures.same ∙ inv.layout in
     let len = rw lies at c.text.ensures.len in
     let count = c.put-n.ensures.count in
     let some : 0 < n = omega (arith, count, len, more, pos, is, inv.skip) in
     let part : skip + n ≤ length t = omega (arith, count, len, some) in
-    let inside : done + n ≤ end = omega (arith, count, more) in
+    let inside : done + n ≤ c.range_len-end.result = omega (arith, count, more) in
     let room : done + n ≤ length c.loop-done.buf = omega (arith, inside, is, inv.len) in
     let fits : done ≤ length c.loop-done.buf = omega (arith, room) in
-    let sized = length-part n skip t part in
-    let put = c.put-n.ensures.bytes in
-    let written = prefix_put c.loop-done.buf (take n (drop skip t)) c.put-n.new.buf done n fits sized put in
     let size : length t ≤ chunk_size = omega (arith, len) in
     let sound : IsSound told s → IsSound told h = λ told_so.
     rw inv.stay at (c.hold-held.ensures.sound (rw inv.stay (inv.sound told_so))) in
@@ -154,17 +134,16 @@ loop-done-preserved g c =
       skip = omega arith;
       pos = λ lt. omega (arith, lt, count, len, pos, is);
       below = omega (arith, next);
-      rest = rest_on c.loop-done.buf c.put-n.new.buf c.args.buf.now done n inv.rest
-          (put_rest c.loop-done.buf (take n (drop skip t)) c.put-n.new.buf done n fits sized put);
+      rest = rest_on c.loop-done.buf c.put-n.new.buf c.args.buf.now done n inv.rest c.put-n.ensures.rest;
       prefix = λ told_so. prefix_on s.layout.key (bytes_from told s.layout.first) t c.loop-done.buf c.put-n.new.buf at
-          done i skip n pos fits part size (opens told_so) (inv.prefix told_so) written;
+          done i skip n pos fits part size (opens told_so) (inv.prefix told_so) c.put-n.ensures.prefix;
       keeps = λ keeps. c.hold-held.ensures.keeps_verified (inv.keeps keeps);
       verified = λ keeps. verified_on (g.D.ReadAt.gave c.loop-done.dev) (g.D.ReadAt.gave c.hold-held.new.dev)
           s.layout t c.loop-done.buf c.put-n.new.buf at done i skip n
           c.hold-held.ensures.stays_given pos fits (omega (arith, room, c.put-n.auto.buf)) part size
           (verified_text (g.D.ReadAt.gave c.hold-held.new.dev) h s.layout i t lies c.in_default.ensures.kept_chunk
           c.text.ensures.text (c.hold-held.ensures.keeps_verified (inv.keeps keeps)))
-          (inv.verified keeps) written;
+          (inv.verified keeps) c.put-n.ensures.prefix;
       counts = grind (arith, inv.stage, inv.counts, c.hold-held.ensures.counts);
       rises = omega (arith, inv.rises, c.hold-held.ensures.rises);
       opened = grind (arith, inv.stage, inv.opened, c.hold-held.ensures.opened);

@@ -17,8 +17,7 @@ invariant-loop-done g l =
       below : l.at + l.done ≤ chunk_size * l.i + l.skip;
       rest : drop l.done l.buf ≡ drop l.done l.fn.buf;
       prefix : IsSound told s → HasPlain told s.layout l.at (take l.done l.buf);
-      keeps : KeepsVerified (g.D.ReadAt.gave l.fn.dev) s
-          → KeepsVerified (g.D.ReadAt.gave l.dev) l.self;
+      keeps : KeepsVerified (g.D.ReadAt.gave l.fn.dev) s → KeepsVerified (g.D.ReadAt.gave l.dev) l.self;
       verified : KeepsVerified (g.D.ReadAt.gave l.fn.dev) s → (k : ℕ) → k < l.done
           → IsVerifiedByte (g.D.ReadAt.gave l.dev) s.layout (l.at + k) (slice_index l.buf k);
       counts : OpenedAtLeast s l.self.opened (l.i - first_to_open s.index l.at);

@@ -1,6 +1,5 @@
-use Rattle.age_stream.proofs.Common.{rules, ◌∙◌, sym, with_items, seen_by}
+use Rattle.age_stream.proofs.Common.{rules, ◌∙◌, sym, with_items, seen_by, written_all}
 use Rattle.age_stream.proofs.OpeningLemmas.{advances_none, advances_ok, advances_err, loses_held}
-use Rattle.age_stream.proofs.TailLemmas.{written_all}
 use Rattle.age_stream.proofs.opening.ChunkOpener.advance.Goals as goal
 
 pub returns-in-Ok-clause-opens : goal.returns-in-Ok-clause-opens

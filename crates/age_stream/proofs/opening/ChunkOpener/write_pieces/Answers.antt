@@ -1,5 +1,5 @@
-use Rattle.age_stream.proofs.Common.{rules, arith, ◌<◌, refl, inr, length, true, false}
-use Rattle.age_stream.proofs.WritesAllLemmas.{advanced_ok, failed_ends, failed_writes, opened_none, opened_more, opened_room, writes_done, writes_write, ends_write}
+use Rattle.age_stream.proofs.Common.{rules, arith, refl, inr, length}
+use Rattle.age_stream.proofs.WritesAllLemmas.{advanced, failed_ends, failed_writes, opened_none, opened_more, opened_room, writes_done, writes_write, ends_write}
 use Rattle.age_stream.proofs.opening.ChunkOpener.write_pieces.Goals as goal
 
 pub loop-done-init : goal.loop-done-init
@@ -13,9 +13,8 @@ loop-done-init g c = record {
 pub returns-in-Ok-false-clause-writes_all : goal.returns-in-Ok-false-clause-writes_all
 returns-in-Ok-false-clause-writes_all g c =
     let o = c.loop-done.invariant.opened in
-    writes_done o
-    (advanced_ok false c.loop-done.opener c.advance.new.self o.none
-    (rw c.in-Ok-false.field-0-test at c.in-Ok-false.ensures.opens)) c.loop-done.done refl c.loop-done.invariant.count
+    writes_done o (advanced c.advance.new.self o c.in-Ok-false.field-0-test c.in-Ok-false.ensures.opens)
+    c.loop-done.done refl c.loop-done.invariant.count
 
 pub returns-in-Err-clause-writes_all : goal.returns-in-Err-clause-writes_all
 returns-in-Err-clause-writes_all g c =
@@ -29,31 +28,25 @@ returns-in-Err-clause-ends g c =
 pub overflow_add-done : goal.overflow_add-done
 overflow_add-done g c =
     let o = c.loop-done.invariant.opened in
-    let adv = advanced_ok true c.loop-done.opener c.advance.new.self o.none
-    (rw c.in-Ok-true.field-0-test at c.in-Ok-true.ensures.opens) in
-    let within : c.loop-done.opener.index < c.loop-done.opener.max_chunks = adv.keeps.2 refl in
-    omega (arith, c.loop-done.invariant.count, adv.small)
+    let adv = advanced c.advance.new.self o c.in-Ok-true.field-0-test c.in-Ok-true.ensures.opens in
+    omega (arith, c.loop-done.invariant.count, adv.small, adv.keeps.2 refl)
 
 pub overflow_add-done-in-Ok : goal.overflow_add-done-in-Ok
 overflow_add-done-in-Ok g c =
     let o = c.loop-done.invariant.opened in
-    opened_room o (advanced_ok true c.loop-done.opener c.advance.new.self o.none
-    (rw c.in-Ok-true.field-0-test at c.in-Ok-true.ensures.opens)) (length c.text-in-Ok.result.now)
-    c.text-in-Ok.ensures.len
+    opened_room o (advanced c.advance.new.self o c.in-Ok-true.field-0-test c.in-Ok-true.ensures.opens)
+    (length c.text-in-Ok.result.now) c.text-in-Ok.ensures.len
 
 pub loop-done-smaller : goal.loop-done-smaller
 loop-done-smaller g c =
     let o = c.loop-done.invariant.opened in
-    let adv = advanced_ok true c.loop-done.opener c.advance.new.self o.none
-    (rw c.in-Ok-true.field-0-test at c.in-Ok-true.ensures.opens) in
-    let within : c.loop-done.opener.index < c.loop-done.opener.max_chunks = adv.keeps.2 refl in
-    omega (arith, adv.max_chunks, adv.keeps.1)
+    let adv = advanced c.advance.new.self o c.in-Ok-true.field-0-test c.in-Ok-true.ensures.opens in
+    omega (arith, adv.max_chunks, adv.keeps.1, adv.keeps.2 refl)
 
 pub loop-done-preserved : goal.loop-done-preserved
 loop-done-preserved g c =
     let o = c.loop-done.invariant.opened in
-    let adv = advanced_ok true c.loop-done.opener c.advance.new.self o.none
-    (rw c.in-Ok-true.field-0-test at c.in-Ok-true.ensures.opens) in
+    let adv = advanced c.advance.new.self o c.in-Ok-true.field-0-test c.in-Ok-true.ensures.opens in
     record {
       opened = rw c.text-in-Ok.ensures.text
           (opened_more o adv (rw c.text.ensures.text at c.text.ensures.len)
@@ -66,13 +59,11 @@ loop-done-preserved g c =
 pub returns-in-Err-write_all-clause-writes_all : goal.returns-in-Err-write_all-clause-writes_all
 returns-in-Err-write_all-clause-writes_all g c =
     let o = c.loop-done.invariant.opened in
-    (writes_write o (advanced_ok true c.loop-done.opener c.advance.new.self o.none
-    (rw c.in-Ok-true.field-0-test at c.in-Ok-true.ensures.opens)) (g.W.Sink.taken c.write_all.new.out)
-    (rw c.text.ensures.text at c.in-Err-write_all.ensures.text))
+    writes_write o (advanced c.advance.new.self o c.in-Ok-true.field-0-test c.in-Ok-true.ensures.opens)
+    (g.W.Sink.taken c.write_all.new.out) (rw c.text.ensures.text at c.in-Err-write_all.ensures.text)
 
 pub returns-in-Err-write_all-clause-ends : goal.returns-in-Err-write_all-clause-ends
 returns-in-Err-write_all-clause-ends g c =
     let o = c.loop-done.invariant.opened in
-    (inr (ends_write o (advanced_ok true c.loop-done.opener c.advance.new.self o.none
-    (rw c.in-Ok-true.field-0-test at c.in-Ok-true.ensures.opens))
-    (rw c.text.ensures.text at c.in-Err-write_all.ensures.text)))
+    inr (ends_write o (advanced c.advance.new.self o c.in-Ok-true.field-0-test c.in-Ok-true.ensures.opens)
+    (rw c.text.ensures.text at c.in-Err-write_all.ensures.text))

@@ -1,6 +1,5 @@
-use Rattle.age_stream.proofs.Common.{rules, ◌∙◌, sym, with_items}
+use Rattle.age_stream.proofs.Common.{rules, ◌∙◌, sym, with_items, written_all}
 use Rattle.age_stream.proofs.SealingLemmas.{takes_ok, takes_err}
-use Rattle.age_stream.proofs.TailLemmas.{written_all}
 use Rattle.age_stream.proofs.sealing.ChunkSealer.write_from.Goals as goal
 
 pub returns-in-Ok-clause-takes : goal.returns-in-Ok-clause-takes

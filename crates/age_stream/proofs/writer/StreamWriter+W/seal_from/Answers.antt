@@ -1,5 +1,4 @@
-use Rattle.age_stream.proofs.Common.{flow_by}
-use Rattle.age_stream.proofs.KeptLemmas.{when_none}
+use Rattle.age_stream.proofs.Common.{flow_by, when_none}
 use Rattle.age_stream.proofs.SealingLemmas.{seals_err, seals_finish}
 use Rattle.age_stream.proofs.writer.StreamWriter+W.seal_from.Goals as goal
 use Rattle.age_stream.proofs.writer.StreamWriter+W.seal_from.Goals.{in-Ok, in-Err}

@@ -1,6 +1,6 @@
 use Rattle.age_stream.proofs.Common.{seen_by}
-use Rattle.age_stream.proofs.SalvageLemmas.{reads_ahead}
-use Rattle.age_stream.proofs.salvaging.read_piece.Goals as goal
+use Rattle.age_stream.proofs.OpeningLemmas.{reads_ahead}
+use Rattle.age_stream.proofs.opening.read_piece.Goals as goal
 
 pub returns-clause-reads : goal.returns-clause-reads
 returns-clause-reads g c =
