@@ -1,5 +1,36 @@
 -- A source that is copied piece by piece.
-use Rattle.age_file.proofs.Common.{◌≡◌, inl, inr, take, ℕ, ◌+◌, ◌*◌, ◌^◌, ◌≤◌, Bool, true, false, [], ◌++◌, length, refl, sym, subst, arith, append_assoc, Result, Ok, Err, true≢false, Appends-nil, Appends-trans, Appends, IfErr, Bytes, Gave, GaveSome, WritesPart, Known, Seen, flow, move_of, gave_none, gave_then, of_any, of_ended, of_more, of_then, done_part, Fault, TooManyChunks, Read, Write, Copies, CopiesAhead, CopiesPiece, GaveAhead, buffer_size, append-nil, length-append}
+use Rattle.age_file.proofs.Common.{◌≡◌, inl, inr, take, ℕ, ◌+◌, ◌*◌, ◌^◌, ◌≤◌, true, false, [], ◌++◌, length, refl, sym, arith, Result, Ok, Err, Appends-nil, Appends-trans, Appends, IfErr, Bytes, Flow, Gave, Moved, WritesPart, Known, Seen, flow, move_of, gave_then, of_any, of_ended, of_more, of_then, done_part, done_start, Fault, TooManyChunks, Read, Write, Copies, CopiesAhead, CopiesPiece, GaveAhead, buffer_size, append-nil, length-append}
+
+-- a prefix of a text is one of the text and what follows it
+pub part_more : (sink : Moved) (x y : Bytes) → WritesPart sink x → WritesPart sink (x ++ y)
+part_more sink x y = done_part sink.after x y (done_start (x ++ y)) refl
+
+-- a text, and then a prefix of another
+pub part_after : (a b c : Known) (x y : Bytes) → Appends a b x → WritesPart (move_of b c) y
+    → WritesPart (move_of a c) (x ++ y)
+part_after a b c x y put = done_part c y [] (record { prefix = x; took = put; is = refl }) (sym (append-nil y))
+
+-- a piece was copied, and then the rest
+pub copied_then : {from a : Seen} (b : Seen) (old m n : Known) {x : Bytes} (r : Result (Unit {0}) Fault)
+    → Gave (flow from a) x → Appends old m x → Copies (flow a b) (move_of m n) r
+    → Copies (flow from b) (move_of old n) r
+copied_then b old m n {x} (Ok done) took put h = of_then took h (λ rest h. Appends-trans old m n x rest put h)
+copied_then b old m n {x} (Err Read) took put h = of_then took h (λ rest part. part_after old m n x rest put part)
+copied_then b old m n {x} (Err Write) took put h = of_then took h (λ rest part. part_after old m n x rest put part)
+copied_then b old m n {x} (Err TooManyChunks) took put ((text, wrote, much), h) = (
+  (x ++ text, Appends-trans old m n x text put wrote, omega (arith, length-append x text, much)),
+  of_then took h (λ rest part. (part_after old m n x rest put part.0, omega (arith, length-append x rest, part.1))),
+)
+copied_then b old m n (Err fault) took put h = absurd h
+
+-- a device failed
+pub piece_failed : (size : ℕ) (from to : Seen) (old new : Known) (fault : Fault)
+    → CopiesPiece size (flow from to) (move_of old new) (Err fault)
+    → Copies (flow from to) (move_of old new) (Err fault)
+piece_failed size from to old new Read (some, still) = rw still (of_any some (λ d. (0, Appends-nil old)))
+piece_failed size from to old new Write (piece, took, part, few) =
+    of_more took (λ d end. part_more (move_of old new) piece d part)
+piece_failed size from to old new fault h = absurd h
 
 -- k full pieces were copied
 pub record Copied (from now : Seen) (old new : Known) (k : ℕ) : Type 0 where
@@ -8,84 +39,30 @@ pub record Copied (from now : Seen) (old new : Known) (k : ℕ) : Type 0 where
   pub put : Appends old new bytes
   pub long : buffer_size * k ≤ length bytes
 
-pub copied_none : {from : Seen} {old : Known} → Copied from from old old 0
-copied_none {from} {old} = record { bytes = []; took = gave_none; put = Appends-nil old; long = omega arith }
-
-pub copied_more : {size : ℕ} {from a b : Seen} {old m n : Known} {k : ℕ} (more : Bool) → size ≡ buffer_size
-    → more ≡ true
-    → Copied from a old m k
-    → CopiesPiece size (flow a b) (move_of m n) (Ok more) → Copied from b old n (k + 1)
-copied_more false full is c h = absurd (true≢false (sym is))
-copied_more {from} {a} {b} {old} {m} {n} true size is c (piece, took, put, full) = record {
+pub copied_more : {size : ℕ} {from a b : Seen} {old m n : Known} {k : ℕ} → size ≡ buffer_size → Copied from a old m k
+    → CopiesPiece size (flow a b) (move_of m n) (Ok true) → Copied from b old n (k + 1)
+copied_more {old} {m} {n} size c (piece, took, put, full) = record {
   bytes = c.bytes ++ piece;
   took = gave_then c.took took;
   put = Appends-trans old m n c.bytes piece c.put put;
   long = omega (arith, length-append c.bytes piece, full, size, c.long);
 }
 
-pub copied_all : (size : ℕ) {from a b : Seen} {old m : Known} (n : Known) {k : ℕ} (more : Bool)
-    → more ≡ false
-    → Copied from a old m k → CopiesPiece size (flow a b) (move_of m n) (Ok more)
-    → Copies (flow from b) (move_of old n) (Ok tt)
-copied_all size {m} n true is c h = absurd (true≢false is)
-copied_all size {from} {old} {m} n false is c (piece, took, put, end) =
+-- the last piece was not full
+pub copied_all : (size : ℕ) {from a b : Seen} {old m : Known} (n : Known) {k : ℕ} → Copied from a old m k
+    → CopiesPiece size (flow a b) (move_of m n) (Ok false) → Copies (flow from b) (move_of old n) (Ok tt)
+copied_all size {old} {m} n c (piece, took, put, end) =
     of_ended (gave_then c.took took) end (Appends-trans old m n c.bytes piece c.put put)
 
--- a prefix of a text was written
-front : (old new : Known) (bytes rest : Bytes) → Appends old new bytes → WritesPart (move_of old new) (bytes ++ rest)
-front old new bytes rest put =
-    done_part new [] rest (record { prefix = bytes; took = put; is = refl }) refl (0, Appends-nil new)
-
-write_failed : (from a b : Seen) (old m n : Known) (k : ℕ) (piece : Bytes) → Copied from a old m k
-    → Gave (flow a b) piece → WritesPart (move_of m n) piece → Copies (flow from b) (move_of old n) (Err Write)
-write_failed from a b old m n k piece c took part =
-    of_more (gave_then c.took took) (λ d end. done_part n piece d
-    (record { prefix = c.bytes; took = c.put; is = append_assoc c.bytes piece d }) refl part)
-
-read_failed : (from a b : Seen) (old m : Known) (k : ℕ) → Copied from a old m k → GaveSome (flow a b)
-    → Copies (flow from b) (move_of old m) (Err Read)
-read_failed from a b old m k c lost =
-    of_then c.took (of_any lost (λ d. front old m c.bytes d c.put)) (λ d part. part)
-
-pub copied_failed : (size : ℕ) {from a : Seen} (b : Seen) {old m : Known} (n : Known) {k : ℕ} (fault : Fault)
-    → Copied from a old m k
-    → CopiesPiece size (flow a b) (move_of m n) (Err fault)
-    → Copies (flow from b) (move_of old n) (Err fault)
-copied_failed size {from} {a} b {old} {m} n {k} Read c h =
-    subst (λ t. Copies (flow from b) (move_of old t) (Err Read)) (sym h.1) (read_failed from a b old m k c h.0)
-copied_failed size {from} {a} b {old} {m} n {k} Write c (piece, took, part, few) =
-    write_failed from a b old m n k piece c took part
-copied_failed size b n fault c h = absurd h
-
-pub copied_beyond : {from : Seen} (a : Seen) {old m : Known} (k : ℕ) → 2 ^ 89 ≤ k → Copied from a old m k
+pub copied_beyond : {from a : Seen} {old m : Known} {k : ℕ} → 2 ^ 89 ≤ k → Copied from a old m k
     → Copies (flow from a) (move_of old m) (Err TooManyChunks)
-copied_beyond {from} a {old} {m} k beyond c = (
+copied_beyond {old} {m} beyond c = (
   (c.bytes, c.put, omega (arith, c.long, beyond)),
-  of_more c.took (λ d end. (front old m c.bytes d c.put, omega (arith, length-append c.bytes d, c.long, beyond))),
+  of_more c.took (λ d end. (
+    part_after old m m c.bytes d c.put (0, Appends-nil m),
+    omega (arith, length-append c.bytes d, c.long, beyond),
+  )),
 )
-
--- a piece, and then the rest: a prefix of the rest was written after the piece
-after_piece : (old m n : Known) (piece rest : Bytes) → Appends old m piece
-    → WritesPart (move_of m n) rest → WritesPart (move_of old n) (piece ++ rest)
-after_piece old m n piece rest put part =
-    done_part n rest [] (record { prefix = piece; took = put; is = refl }) (sym (append-nil rest)) part
-
-pub copied_after : (size : ℕ) (from a b : Seen) (old m n : Known) (more : Bool) (r : Result (Unit {0}) Fault)
-    → more ≡ true → CopiesPiece size (flow from a) (move_of old m) (Ok more)
-    → Copies (flow a b) (move_of m n) r → Copies (flow from b) (move_of old n) r
-copied_after size from a b old m n false r is c h = absurd (true≢false (sym is))
-copied_after size from a b old m n true (Ok done) is (piece, took, put, full) h =
-    of_then took h (λ rest written. Appends-trans old m n piece rest put written)
-copied_after size from a b old m n true (Err Read) is (piece, took, put, full) h =
-    of_then took h (λ rest part. after_piece old m n piece rest put part)
-copied_after size from a b old m n true (Err Write) is (piece, took, put, full) h =
-    of_then took h (λ rest part. after_piece old m n piece rest put part)
-copied_after size from a b old m n true (Err TooManyChunks) is (piece, took, put, full) ((text, wrote, much), h) = (
-  (piece ++ text, Appends-trans old m n piece text put wrote, omega (arith, length-append piece text, much)),
-  of_then took h
-      (λ rest part. (after_piece old m n piece rest put part.0, omega (arith, length-append piece rest, part.1))),
-)
-copied_after size from a b old m n true (Err fault) is c h = absurd h
 
 -- ---- how much was read
 
@@ -101,24 +78,21 @@ ahead_then {a} {b} {c} {old} {put} {new} {x} y m s gave took few h = record {
   within = omega (arith, length-append x h.given, length-append y h.written, few, h.within);
 }
 
-pub failed_ahead : (size : ℕ) {from a : Seen} (b : Seen) {old m : Known} (n : Known) {k : ℕ} (fault : Fault)
-    → size ≤ buffer_size → Copied from a old m k → CopiesPiece size (flow a b) (move_of m n) (Err fault)
-    → CopiesAhead (flow from b) (move_of old n) fault
-failed_ahead size b n Read full c h = inl refl
-failed_ahead size {from} {a} b {old} {m} n {k} Write full c (piece, took, (i, put), few) =
-    inr (ahead_then c.bytes buffer_size buffer_size c.took c.put (omega arith)
-    (record { given = piece; gave = took; written = take i piece; took = put; within = omega (arith, few, full) }))
-failed_ahead size b n fault full c h = absurd h
+pub copies_ahead_then : {a b : Seen} (c : Seen) (old m n : Known) {x : Bytes} (r : Result (Unit {0}) Fault)
+    → Gave (flow a b) x → Appends old m x
+    → IfErr r (CopiesAhead (flow b c) (move_of m n)) → IfErr r (CopiesAhead (flow a c) (move_of old n))
+copies_ahead_then c old m n (Ok done) gave took h = tt
+copies_ahead_then c old m n (Err fault) gave took (inl e) = inl e
+copies_ahead_then c old m n {x} (Err fault) gave took (inr h) =
+    inr (ahead_then x buffer_size buffer_size gave took (omega arith) h)
+
+pub piece_ahead : (size : ℕ) (source : Flow) (sink : Moved) (fault : Fault) → size ≤ buffer_size
+    → CopiesPiece size source sink (Err fault) → CopiesAhead source sink fault
+piece_ahead size source sink Read full h = inl refl
+piece_ahead size source sink Write full (piece, took, (i, put), few) =
+    inr (record { given = piece; gave = took; written = take i piece; took = put; within = omega (arith, few, full) })
+piece_ahead size source sink fault full h = absurd h
 
 pub beyond_ahead : {from a : Seen} {old m : Known} {k : ℕ} → Copied from a old m k
     → CopiesAhead (flow from a) (move_of old m) TooManyChunks
 beyond_ahead c = inr (record { given = c.bytes; gave = c.took; written = c.bytes; took = c.put; within = omega arith })
-
-pub after_ahead : (size : ℕ) (from a b : Seen) (old m n : Known) (more : Bool) (r : Result (Unit {0}) Fault)
-    → more ≡ true → CopiesPiece size (flow from a) (move_of old m) (Ok more)
-    → IfErr r (CopiesAhead (flow a b) (move_of m n)) → IfErr r (CopiesAhead (flow from b) (move_of old n))
-after_ahead size from a b old m n false r is c h = absurd (true≢false (sym is))
-after_ahead size from a b old m n true (Ok done) is c h = tt
-after_ahead size from a b old m n true (Err fault) is (piece, took, put, full) (inl e) = inl e
-after_ahead size from a b old m n true (Err fault) is (piece, took, put, full) (inr h) =
-    inr (ahead_then piece buffer_size buffer_size took put (omega arith) h)

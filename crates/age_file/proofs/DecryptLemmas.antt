@@ -1,12 +1,9 @@
 -- What decrypting returns, from what its parts return.
-use Rattle.age_file.proofs.Common.{◌≡◌, ◌⊎◌, ◌+◌, ◌*◌, ◌/◌, ◌≤◌, ℕ, ◌++◌, length, drop, sym, ◌∙◌, ap, refl, subst, arith, append_assoc, inl, inr, Some, Result, Ok, Err, IfNone, option_map, Appends, Appends-nil, drop_at, take_all, HeaderFault, Bytes, CountsFaultIf, Gave, GaveSome, Known, Seen, flow, flow_by, move_of, seen_by, HeaderParts, ReadsHeader, Refuses, HeaderVerdict, gave_more, gave_some, gave_then, of_any, of_map, of_more, of_then, found_again, some_verdict, FileKey, Done, StreamFault, EndsAt, OpenerState, Starts, WritesAll, WritesReading, pieces, MissesNonce, Reading, payload_reading, stop, chunk_size, sealed_chunk_size, Fault, Read, Write, OutOfMemory, Bounds, BeginsVerdict, Decrypts, DecryptsText, GivesVerdict, TookUpTo, TookThrough, payload_pieces, is_read, Inspects, Answering, IsVerdict, finding, header_fault, reading_after, reading_under, stream_fault, header_key}
+use Rattle.age_file.proofs.Common.{◌≡◌, ◌⊎◌, ◌+◌, ◌*◌, ◌/◌, ◌≤◌, ℕ, ◌++◌, length, drop, sym, ap, refl, arith, append_assoc, length-append, inl, inr, Result, Ok, Err, IfErr, IfNone, option_map, Appends-nil, drop_at, take_at, le-ltb, lt-ltb, HeaderFault, Bytes, CountsFaultIf, Gave, GaveAtMost, Known, Seen, flow, seen_by, move_of, HeaderParts, Refuses, HeaderVerdict, gave_more, gave_then, of_any, of_map, of_more, of_then, found_again, some_verdict, FileKey, Done, StreamFault, EndsAt, OpenerState, Starts, StartsReader, WritesAll, WritesReading, pieces, Reading, payload_reading, stop, chunk_size, sealed_chunk_size, Fault, OutOfMemory, Bounds, Decrypts, DecryptsText, TookUpTo, TookThrough, is_read, Inspects, Answering, IsVerdict, finding, header_fault, reading_after, reading_under, stream_fault, header_key}
 use Rattle.age_header.specs.declared.fault.HeaderFault.TheVariants as header
 use Rattle.age_stream.specs.declared.fault.StreamFault.TheVariants as stream
 use Rattle.age_stream.specs.Counts as counts
-use Rattle.age_file.proofs.PayloadLemmas.{WritesPayload, nonce_writes, payload_writes}
-
-pub err_err : {A : Type 0} (f g : Fault) → ◌≡◌ {A = Result A Fault} (Err f) (Err g) → f ≡ g
-err_err f g e = cc
+use Rattle.age_file.specs.declared.fault.Fault.TheVariants.{Read, Write}
 
 -- a key that was returned is the one that was found
 pub found_key : {found : Result FileKey Fault} {k : FileKey}
@@ -14,70 +11,40 @@ pub found_key : {found : Result FileKey Fault} {k : FileKey}
 found_key (inl is) = absurd (cc)
 found_key (inr is) = sym is
 
--- ---- verdicts
+-- the outcome of a payload, with the names of faults of files
+abbrev pub file_result : Result Done StreamFault → Result Done Fault
+file_result (Ok done) = Ok done
+file_result (Err fault) = Err (stream_fault fault)
 
--- every text has one
+-- every text has a verdict
 pub file_has_verdict : (limits : Bounds) (answers : Answering) (b : Bytes)
     → (v : Reading Fault) × IsVerdict limits answers b v
 file_has_verdict limits answers b =
     let h = some_verdict b limits.max_header in
     (reading_after limits answers b h.0, record { header = h.0; header_verdict = h.1; is = refl })
 
--- the whole is a prefix of itself
-begins_whole : (limits : Bounds) (answers : Answering) (b : Bytes) (old new : Known) (r : Result Done Fault)
-    → GivesVerdict limits answers b (move_of old new) r → BeginsVerdict limits answers b (move_of old new)
-begins_whole limits answers b old new r (v, is, tells, h) = (
-  v,
-  is,
-  (
-    length v.plaintext,
-    subst (Appends old new) (sym (take_all (length v.plaintext) v.plaintext
-        (omega arith))) h,
-  ),
-)
-
--- a verdict that was written
-gives_decrypts : (limits : Bounds) (answers : Answering) (b : Bytes) (old new : Known) (fault : Fault)
-    → GivesVerdict limits answers b (move_of old new) (Err fault)
-    → DecryptsText limits answers b (move_of old new) (Err fault)
-gives_decrypts limits answers b old new Read h = begins_whole limits answers b old new (Err Read) h
-gives_decrypts limits answers b old new Write h = begins_whole limits answers b old new (Err Write) h
-gives_decrypts limits answers b old new OutOfMemory h = tt
-gives_decrypts limits answers b old new fault h = h
-
 -- a fault before any plaintext
-stops_decrypts : (limits : Bounds) (answers : Answering) (b : Bytes) (old : Known) (fault : Fault)
+stops_decrypts : {limits : Bounds} {answers : Answering} {b : Bytes} (old : Known) (fault : Fault)
     → IsVerdict limits answers b (stop fault) → DecryptsText limits answers b (move_of old old) (Err fault)
-stops_decrypts limits answers b old fault v =
-    gives_decrypts limits answers b old old fault (stop fault, v, refl, Appends-nil old)
-
--- nothing was read or written yet
-begins_none : (limits : Bounds) (answers : Answering) (b : Bytes) (old : Known)
-    → BeginsVerdict limits answers b (move_of old old)
-begins_none limits answers b old = let v = file_has_verdict limits answers b in (v.0, v.1, (0, Appends-nil old))
-
--- ---- the header
+stops_decrypts old Read v = (stop Read, v, (0, Appends-nil old))
+stops_decrypts old Write v = (stop Write, v, (0, Appends-nil old))
+stops_decrypts old OutOfMemory v = tt
+stops_decrypts old fault v = (stop fault, v, refl, Appends-nil old)
 
 header_text : (limits : Bounds) (answers : Answering) (b : Bytes) (old : Known) (g : HeaderFault)
     → Refuses b limits.max_header g → DecryptsText limits answers b (move_of old old) (Err (header_fault g))
-header_text limits answers b old header.Read h = begins_none limits answers b old
+header_text limits answers b old header.Read h =
+    let v = file_has_verdict limits answers b in (v.0, v.1, (0, Appends-nil old))
 header_text limits answers b old header.Memory h = tt
 header_text limits answers b old g h =
-    stops_decrypts limits answers b old (header_fault g) (record { header = Err g; header_verdict = h; is = refl })
-
-header_decrypts : (limits : Bounds) (answers : Answering) (come mid : Seen) (old : Known) (g : HeaderFault)
-    → ReadsHeader (flow come mid) limits.max_header (Err g)
-    → Decrypts limits answers (flow come mid) (move_of old old) (Err (header_fault g))
-header_decrypts limits answers come mid old g h =
-    of_map h (λ b refuses. header_text limits answers b old g refuses)
+    stops_decrypts old (header_fault g) (record { header = Err g; header_verdict = h; is = refl })
 
 pub inspect_decrypts : (limits : Bounds) (answers : Answering) {come mid : Seen} (old : Known) {fault : Fault}
-    → Inspects limits (flow come mid) (Err fault) → Decrypts limits answers (flow come mid) (move_of old old)
-    (Err fault)
-inspect_decrypts limits answers {mid} old {fault} (Ok parts, is, h) = absurd (cc)
-inspect_decrypts limits answers {come} {mid} old {fault} (Err g, is, h) =
-    subst (λ f. Decrypts limits answers (flow come mid) (move_of old old) (Err f))
-    (sym (err_err {A = HeaderParts} fault (header_fault g) is)) (header_decrypts limits answers come mid old g h)
+    → Inspects limits (flow come mid) (Err fault)
+    → Decrypts limits answers (flow come mid) (move_of old old) (Err fault)
+inspect_decrypts limits answers old (Ok parts, is, h) = absurd (cc)
+inspect_decrypts limits answers old {fault} (Err g, is, h) =
+    let e : fault ≡ header_fault g = cc in rw e (of_map h (λ b refuses. header_text limits answers b old g refuses))
 
 -- the header that was read, whatever follows it
 pub record IsHeaded (limits : Bounds) (come mid : Seen) (h : HeaderParts) : Type 0 where
@@ -85,199 +52,136 @@ pub record IsHeaded (limits : Bounds) (come mid : Seen) (h : HeaderParts) : Type
   pub took : Gave (flow come mid) text
   pub verdict : (rest : Bytes) → HeaderVerdict (text ++ rest) limits.max_header (Ok (finding text h))
 
-parts_headed : (limits : Bounds) (come mid : Seen) (h : HeaderParts)
-    → ReadsHeader (flow come mid) limits.max_header (Ok h)
-    → IsHeaded limits come mid h
-parts_headed limits come mid h r = record {
-  text = r.holds.0;
-  took = r.holds.2;
-  verdict = λ rest. found_again r.given limits.max_header (finding r.holds.0 h) r.holds.1 rest;
-}
-
 pub headed : (limits : Bounds) {come mid : Seen} {h : HeaderParts} → Inspects limits (flow come mid) (Ok h)
     → IsHeaded limits come mid h
-headed limits {come} {mid} {h} (Err g, is, a) = absurd (cc)
-headed limits {come} {mid} {h} (Ok k, is, a) =
-    subst (IsHeaded limits come mid) (sym (ok_ok h k is)) (parts_headed limits come mid k a)
-  where
-    ok_ok : (x y : HeaderParts) → ◌≡◌ {A = Result HeaderParts Fault} (Ok x) (Ok y) → x ≡ y
-    ok_ok x y e = cc
+headed limits (Err g, is, r) = absurd (cc)
+headed limits {h} (Ok k, is, r) = let e : h ≡ k = cc in rw e (record {
+  text = r.holds.0;
+  took = r.holds.2;
+  verdict = λ rest. found_again r.given limits.max_header (finding r.holds.0 k) r.holds.1 rest;
+})
 
--- the verdict on a header and what follows it
-verdict_of : (limits : Bounds) (answers : Answering) (come mid : Seen) (h : HeaderParts)
-    (i : IsHeaded limits come mid h) (rest : Bytes)
-    → IsVerdict limits answers (i.text ++ rest) (reading_under limits rest (header_key answers h))
-verdict_of limits answers come mid h i rest = record {
-  header = Ok (finding i.text h);
-  header_verdict = i.verdict rest;
-  is = ap (λ x. reading_under limits x (header_key answers h)) (sym (drop_at i.text rest (length i.text) refl));
-}
+module _ {limits : Bounds} (answers : Answering) {come mid : Seen} {h : HeaderParts}
+    (i : IsHeaded limits come mid h) where
+  -- the verdict on the header and what follows it
+  abbrev is_under : (rest : Bytes) {key : Result FileKey Fault} → header_key answers h ≡ key
+      → IsVerdict limits answers (i.text ++ rest) (reading_under limits rest key)
+  is_under rest key = record {
+    header = Ok (finding i.text h);
+    header_verdict = i.verdict rest;
+    is = rw (drop_at i.text rest (length i.text) refl) (ap (reading_under limits rest) (sym key));
+  }
 
--- memory was refused
-pub memory_decrypts : (limits : Bounds) (answers : Answering) (come to : Seen) (old new : Known)
-    → GaveSome (flow come to) → Decrypts limits answers (flow come to) (move_of old new) (Err OutOfMemory)
-memory_decrypts limits answers come to old new some = of_any some (λ b. tt)
+  -- no key
+  pub locked_decrypts : (old : Known) {fault : Fault}
+      → (◌≡◌ {A = Result FileKey Fault} (Err fault) (Err OutOfMemory)) ⊎ (Err fault ≡ header_key answers h)
+      → Decrypts limits answers (flow come mid) (move_of old old) (Err fault)
+  locked_decrypts old {fault} (inl memory) =
+      let e : fault ≡ OutOfMemory = cc in rw e (of_more i.took (λ d end. tt))
+  locked_decrypts old {fault} (inr key) =
+      of_more i.took (λ d end. stops_decrypts old fault (is_under d (sym key)))
 
--- no key
-pub locked_decrypts : (limits : Bounds) (answers : Answering) {come mid : Seen} (old : Known) {h : HeaderParts}
-    {fault : Fault} → Inspects limits (flow come mid) (Ok h)
-    → (◌≡◌ {A = Result FileKey Fault} (Err fault) (Err OutOfMemory)) ⊎ (Err fault ≡ header_key answers h)
-    → Decrypts limits answers (flow come mid) (move_of old old) (Err fault)
-locked_decrypts limits answers {come} {mid} old {h} {fault} i (inl memory) =
-    let is = headed limits i in
-    subst (λ f. Decrypts limits answers (flow come mid) (move_of old old) (Err f))
-    (sym (err_err {A = FileKey} fault OutOfMemory memory))
-    (memory_decrypts limits answers come mid old old (gave_some is.took))
-locked_decrypts limits answers {come} {mid} old {h} {fault} i (inr key) =
-    let is = headed limits i in
-    of_more is.took (λ d end. stops_decrypts limits answers (is.text ++ d) old fault
-    (subst (λ k. IsVerdict limits answers (is.text ++ d) (reading_under limits d k)) (sym key)
-    (verdict_of limits answers come mid h is d)))
+  -- the outcome of a payload under its key
+  payload_text : (c : Bytes) {k : FileKey} (a b : Known) (r : Result Done StreamFault) → header_key answers h ≡ Ok k
+      → WritesReading (payload_reading k limits.max_chunks c) (length (pieces (drop 16 c))) (move_of a b) r
+      → DecryptsText limits answers (i.text ++ c) (move_of a b) (file_result r)
+  payload_text c a b (Ok done) key x = (
+    _,
+    is_under c key,
+    (ap (option_map stream_fault) x.0, x.2, rw (drop_at i.text c (length i.text) refl) x.3),
+    x.1,
+  )
+  payload_text c a b (Err stream.Read) key x = (_, is_under c key, x)
+  payload_text c a b (Err stream.Write) key x = (_, is_under c key, x)
+  payload_text c a b (Err stream.Memory) key x = tt
+  payload_text c a b (Err fault) key x = (_, is_under c key, ap (option_map stream_fault) x.0, x.1)
 
--- ---- the payload
+  -- the pieces were written after the nonce
+  pub written_decrypts : (r : Result Done StreamFault) {at : Seen} (to : Seen) {s : OpenerState} (a b : Known)
+      {k : FileKey} → header_key answers h ≡ Ok k → Starts k limits.max_chunks (flow mid at) (Ok s)
+      → IfNone s.fault (WritesAll s (flow at to) (move_of a b) r)
+      → Decrypts limits answers (flow come to) (move_of a b) (file_result r)
+  written_decrypts r to a b key (nonce, len, is, gave) all =
+      of_then i.took (of_then gave (rw is at all) (λ c w.
+      let long : 16 ≤ length (nonce ++ c) = omega (arith, length-append nonce c) in
+      rw (le-ltb (length (nonce ++ c)) 16 long, take_at nonce c 16 len, drop_at nonce c 16 len) w))
+      (λ c w. payload_text c a b r key w)
 
--- the outcome of a payload under its key, with the names of faults of files
-abbrev pub file_result : Result Done StreamFault → Result Done Fault
-file_result (Ok done) = Ok done
-file_result (Err fault) = Err (stream_fault fault)
+  -- the nonce is cut short, or was not read
+  pub unread_decrypts : (fault : StreamFault) (to : Seen) (old : Known) {k : FileKey}
+      → header_key answers h ≡ Ok k → Starts k limits.max_chunks (flow mid to) (Err fault)
+      → Decrypts limits answers (flow come to) (move_of old old) (Err (stream_fault fault))
+  unread_decrypts stream.Read to old {k = k} key some = of_then i.took (of_any some (λ c. (0, Appends-nil old)))
+      (λ c w. payload_text c {k = k} old old (Err stream.Read) key w)
+  unread_decrypts stream.NonceTruncated to old {k = k} key (is, short) =
+      of_then i.took short (λ c less. payload_text c {k = k} old old (Err stream.NonceTruncated) key
+      (rw (lt-ltb (length c) 16 less) (refl, Appends-nil old)))
+  unread_decrypts fault to old key h = absurd (cc)
 
-payload_text : (limits : Bounds) (answers : Answering) (come mid : Seen) (h : HeaderParts)
-    (i : IsHeaded limits come mid h) (k : FileKey) (c : Bytes) (old new : Known)
-    (r : Result Done StreamFault)
-    → Ok k ≡ header_key answers h → WritesReading (payload_reading k limits.max_chunks c) (length (pieces (drop 16 c)))
-    (move_of old new) r → DecryptsText limits answers (i.text ++ c) (move_of old new) (file_result r)
-payload_text limits answers come mid h i k c old new r key w = go r w
-  where
-    v : Reading Fault
-    v = reading_under limits c (Ok k)
+-- how much was read
+module _ {limits : Bounds} {come mid : Seen} {h : HeaderParts} (i : IsHeaded limits come mid h) where
+  took_piece : (n : ℕ) {to : Seen} {a b : Known} {fault : StreamFault}
+      (e : EndsAt limits.max_chunks 16 (flow mid to) (move_of a b) fault) → e.piece ≤ n
+      → TookThrough limits n (flow come to)
+  took_piece n {to} e le =
+      let all = gave_more come mid to (length i.text) (16 + (sealed_chunk_size * (e.piece + 1) + 1))
+      (i.text, i.took, omega arith) e.gave in record {
+        found = finding i.text h;
+        header = of_more (gave_then i.took e.gave.1) (λ d end. rw append_assoc (i.verdict (e.gave.0 ++ d)));
+        gave = (all.0, all.1, omega (arith, all.2));
+      }
 
-    is : IsVerdict limits answers (i.text ++ c) v
-    is = record {
-      header = Ok (finding i.text h);
-      header_verdict = i.verdict c;
-      is = ap (reading_under limits c) key
-          ∙ ap (λ x. reading_under limits x (header_key answers h)) (sym (drop_at i.text c (length i.text) refl));
-    }
+  pub piece_takes : (fault : StreamFault) {to : Seen} {a b : Known}
+      → EndsAt limits.max_chunks 16 (flow mid to) (move_of a b) fault
+      → TookUpTo limits (flow come to) (move_of a b) (stream_fault fault)
+  piece_takes stream.Write e = (e.text, e.written, took_piece (length e.text / chunk_size) e (grind (arith, e.at)))
+  piece_takes (stream.ChunkShort j) e = took_piece j e (grind (arith, e.at))
+  piece_takes (stream.EmptyFinal j) e = took_piece j e (grind (arith, e.at))
+  piece_takes (stream.BadChunk j) e = took_piece j e (grind (arith, e.at))
+  piece_takes stream.TooManyChunks e = took_piece limits.max_chunks e (grind (arith, e.at))
+  piece_takes fault e = tt
 
-    count : length (pieces (drop 16 c)) ≡ length (payload_pieces (i.text ++ c) is.header)
-    count = ap (λ x. length (pieces (drop 16 x))) (sym (drop_at i.text c (length i.text) refl))
-
-    gives : (fault : StreamFault) → (payload_reading k limits.max_chunks c).fault ≡ Some fault
-        → Appends old new v.plaintext
-        → GivesVerdict limits answers (i.text ++ c) (move_of old new) (Err (stream_fault fault))
-    gives fault f a = (v, is, ap (option_map stream_fault) f, a)
-
-    go : (q : Result Done StreamFault) → WritesReading (payload_reading k limits.max_chunks c)
-        (length (pieces (drop 16 c))) (move_of old new) q
-        → DecryptsText limits answers (i.text ++ c) (move_of old new) (file_result q)
-    go (Ok done) x = (v, is, (ap (option_map stream_fault) x.0, x.2, x.3 ∙ count), x.1)
-    go (Err stream.Read) x = (v, is, x)
-    go (Err stream.Write) x = (v, is, x)
-    go (Err stream.Memory) x = tt
-    go (Err fault) x = gives fault x.0 x.1
-
-payload_decrypts : (r : Result Done StreamFault) {limits : Bounds} (answers : Answering) {come mid to : Seen}
-    (old new : Known) {h : HeaderParts} {k : FileKey} {max : ℕ} → Inspects limits (flow come mid) (Ok h)
-    → (◌≡◌ {A = Result FileKey Fault} (Ok k) (Err OutOfMemory)) ⊎ (Ok k ≡ header_key answers h) → max
-    ≡ limits.max_chunks
-    → WritesPayload k max (flow mid to) old new r
-    → Decrypts limits answers (flow come to) (move_of old new) (file_result r)
-payload_decrypts r {limits} answers {come} {mid} old new {h} {k} i (inl memory) same w = absurd (cc)
-payload_decrypts r {limits} answers {come} {mid} old new {h} {k} i (inr key) same w =
-    let is = headed limits i in
-    of_then is.took w (λ c x. payload_text limits answers come mid h is k c old new r key
-    (subst (λ m. WritesReading (payload_reading k m c) (length (pieces (drop 16 c))) (move_of old new) r) same x))
-
--- the pieces were written after the nonce
-pub written_decrypts : (r : Result Done StreamFault) {limits : Bounds} (answers : Answering) {come mid at to : Seen}
-    {s : OpenerState} (old new : Known) {h : HeaderParts} {k : FileKey} {max : ℕ}
-    → Inspects limits (flow come mid) (Ok h)
-    → (◌≡◌ {A = Result FileKey Fault} (Ok k) (Err OutOfMemory)) ⊎ (Ok k ≡ header_key answers h)
-    → max ≡ limits.max_chunks
-    → Starts k max (flow mid at) (Ok s) → IfNone s.fault (WritesAll s (flow at to) (move_of old new) r)
-    → Decrypts limits answers (flow come to) (move_of old new) (file_result r)
-written_decrypts r answers old new {k} i key same starts h =
-    payload_decrypts r answers old new i key same (payload_writes k old new r starts h)
+pub payload_takes : {limits : Bounds} {come : Seen} (mid : Seen) {to : Seen} {a b : Known} {h : HeaderParts}
+    (fault : StreamFault) → Inspects limits (flow come mid) (Ok h)
+    → (fault ≡ stream.Read) ⊎ EndsAt limits.max_chunks 16 (flow mid to) (move_of a b) fault
+    → TookUpTo limits (flow come to) (move_of a b) (stream_fault fault)
+payload_takes mid fault i (inl e) = rw e tt
+payload_takes {limits} mid fault i (inr e) = piece_takes {limits = limits} (headed limits i) fault e
 
 -- there is no nonce, or no memory
-pub missed_decrypts : {S : Type 0} (to_come : S → Known) (gave : S → Bytes → Type 0) {limits : Bounds}
-    (answers : Answering) {come : Seen} {mid to : S} (old : Known) (before after : ℕ) {h : HeaderParts}
-    {k : FileKey} {max : ℕ} {fault : StreamFault} → Inspects limits (flow come (seen_by to_come gave mid)) (Ok h)
-    → (◌≡◌ {A = Result FileKey Fault} (Ok k) (Err OutOfMemory)) ⊎ (Ok k ≡ header_key answers h) → max
-    ≡ limits.max_chunks
-    → ((fault ≡ stream.Memory) × (to ≡ mid)) ⊎ MissesNonce k max (flow_by to_come gave mid to) before after fault
+pub missed_decrypts : {S : Type 0} (to_come : S → Known) (gave : S → Bytes → Type 0) (failed : S → ℕ) {limits : Bounds}
+    (answers : Answering) {come : Seen} {mid to : S} (old : Known) {h : HeaderParts} {k : FileKey} (fault : StreamFault)
+    → IsHeaded limits come (seen_by to_come gave mid) h → header_key answers h ≡ Ok k
+    → StartsReader to_come gave failed k limits.max_chunks mid to (Err fault)
     → Decrypts limits answers (flow come (seen_by to_come gave to)) (move_of old old) (Err (stream_fault fault))
-missed_decrypts to_come gave {limits} answers {come} {mid} old before after {h} {k} {max} {fault} i key same (inl m) =
-    let is = headed limits i in
-    subst (λ x. Decrypts limits answers (flow come (seen_by to_come gave x)) (move_of old old) (Err
-    (stream_fault fault)))
-    (sym m.1)
-    (subst (λ f. Decrypts limits answers (flow come (seen_by to_come gave mid)) (move_of old old)
-    (Err (stream_fault f))) (sym m.0)
-    (memory_decrypts limits answers come (seen_by to_come gave mid) old old
-    (gave_some is.took)))
-missed_decrypts to_come gave {limits} answers {come} {mid} {to} old before after {h} {k} {max} {fault} i key same
-    (inr m) =
-    payload_decrypts (Err fault) answers old old i key same
-    (nonce_writes k max (seen_by to_come gave mid) (seen_by to_come gave to) old fault m.0)
+missed_decrypts to_come gave failed answers old fault i key (inl (memory, same)) =
+    rw (memory, same) (of_more i.took (λ d end. tt))
+missed_decrypts to_come gave failed answers {to = to} old fault i key (inr m) =
+    unread_decrypts answers i fault (seen_by to_come gave to) old key m.0
 
--- ---- counts, and what was taken
+-- what was taken, with the nonce
+pub payload_ends : (k : FileKey) {max : ℕ} {s : OpenerState} {from mid to : Seen} {a b : Known} {fault : StreamFault}
+    → Starts k max (flow from mid) (Ok s) → GaveAtMost 16 (flow from mid)
+    → IfNone s.fault
+    (IfErr {T = Done} (Err fault) (λ f. (f ≡ stream.Read) ⊎ EndsAt s.max_chunks 0 (flow mid to) (move_of a b) f))
+    → (fault ≡ stream.Read) ⊎ EndsAt max 16 (flow from to) (move_of a b) fault
+payload_ends k {max} {from} {mid} {to} {a} {b} {fault} starts nonce h = elim (rw starts.2 at h) [
+  | inl e ↦ inl e
+  | inr e ↦
+      let all = gave_more from mid to 16 (0 + (sealed_chunk_size * (e.piece + 1) + 1)) nonce e.gave in inr (record {
+        piece = e.piece;
+        text = e.text;
+        written = e.written;
+        at = e.at;
+        gave = (all.0, all.1, omega (arith, all.2));
+      })
+]
 
 pub reads_file : (old : ℕ) {new : ℕ} (fault : StreamFault) → CountsFaultIf counts.is_read old new fault
     → CountsFaultIf is_read old new (stream_fault fault)
 reads_file old stream.Read h = h
 reads_file old fault h = h
 
-took_piece : (limits : Bounds) (come mid to : Seen) (old new : Known) (h : HeaderParts) (i : IsHeaded limits come mid h)
-    (fault : StreamFault) (n : ℕ) (e : EndsAt limits.max_chunks 16 (flow mid to) (move_of old new) fault) → e.piece ≤ n
-    → TookThrough limits n (flow come to)
-took_piece limits come mid to old new h i fault n e le =
-    let g : Bytes = e.gave.0 in
-    let all =
-    gave_more come mid to (length i.text) (16 + (sealed_chunk_size * (e.piece + 1) + 1)) (i.text, i.took, omega arith)
-    e.gave in
-    record {
-      found = finding i.text h;
-      header = of_more (gave_then i.took e.gave.1) (λ d end.
-          subst (λ z. HeaderVerdict z limits.max_header (Ok (finding i.text h))) (sym (append_assoc i.text g d))
-          (i.verdict (g ++ d)));
-      gave = (all.0, all.1, omega (arith, all.2));
-    }
-
-ends_takes : (limits : Bounds) (come mid to : Seen) (old new : Known) (h : HeaderParts) (i : IsHeaded limits come mid h)
-    (fault : StreamFault) → EndsAt limits.max_chunks 16 (flow mid to) (move_of old new) fault
-    → TookUpTo limits (flow come to) (move_of old new) (stream_fault fault)
-ends_takes limits come mid to old new h i stream.Write e = elim e.at [
-  | inl (is, le) ↦ (
-    e.text,
-    e.written,
-    took_piece limits come mid to old new h i stream.Write (length e.text / chunk_size) e (omega arith),
-  )
-  | inr at ↦ absurd at
-]
-ends_takes limits come mid to old new h i (stream.ChunkShort j) e = elim e.at [
-  | inl (is, le) ↦ absurd (cc)
-  | inr at ↦ took_piece limits come mid to old new h i (stream.ChunkShort j) j e (omega (arith, at))
-]
-ends_takes limits come mid to old new h i (stream.EmptyFinal j) e = elim e.at [
-  | inl (is, le) ↦ absurd (cc)
-  | inr at ↦ took_piece limits come mid to old new h i (stream.EmptyFinal j) j e (omega (arith, at))
-]
-ends_takes limits come mid to old new h i (stream.BadChunk j) e = elim e.at [
-  | inl (is, le) ↦ absurd (cc)
-  | inr at ↦ took_piece limits come mid to old new h i (stream.BadChunk j) j e (omega (arith, at))
-]
-ends_takes limits come mid to old new h i stream.TooManyChunks e = elim e.at [
-  | inl (is, le) ↦ absurd (cc)
-  | inr at ↦ took_piece limits come mid to old new h i stream.TooManyChunks limits.max_chunks e (omega (arith, at))
-]
-ends_takes limits come mid to old new h i fault e = tt
-
-pub payload_takes : {limits : Bounds} {come : Seen} (mid : Seen) {to : Seen} {old new : Known} {h : HeaderParts}
-    (fault : StreamFault) → Inspects limits (flow come mid) (Ok h)
-    → (fault ≡ stream.Read) ⊎ EndsAt limits.max_chunks 16 (flow mid to) (move_of old new) fault
-    → TookUpTo limits (flow come to) (move_of old new) (stream_fault fault)
-payload_takes {limits} {come} mid {to} {old} {new} fault i (inl e) =
-    subst (λ f. TookUpTo limits (flow come to) (move_of old new) (stream_fault f)) (sym e) tt
-payload_takes {limits} {come} mid {to} {old} {new} {h} fault i (inr e) =
-    ends_takes limits come mid to old new h (headed limits i) fault e
+-- for the crates and files that name it
+pub err_err : {A : Type 0} (f g : Fault) → ◌≡◌ {A = Result A Fault} (Err f) (Err g) → f ≡ g
+err_err f g e = cc

@@ -18,11 +18,9 @@ with_file_fault_whole {p} {r} h =
     (z : Reading Fault). z.fault) h)))
 
 -- a file of the chosen key
-pub record IsChosenFile (limits : Bounds) (answers : Answering) (p b : Bytes) : Type 0 where
-  pub stanzas : List StanzaParts
-  pub key : FileKey
-  pub file : AgeFile limits key stanzas p b
-  pub chosen : choice (answers stanzas) ≡ Ok key
+abbrev pub IsChosenFile : (limits : Bounds) (answers : Answering) (p b : Bytes) → Type 0
+IsChosenFile limits answers p b =
+    (stanzas : List StanzaParts) × (k : FileKey) × AgeFile limits k stanzas p b × (choice (answers stanzas) ≡ Ok k)
 
 cond_else_err : {A F : Type 0} (t : Bool) (f : F) (a x : A) → ◌≡◌ {A = Result A F} (cond t (Ok a) (Err f)) (Ok x)
     → (t ≡ true) × (a ≡ x)
@@ -104,12 +102,10 @@ under_file limits answers b p found begins (Ok k) is h =
     let rest : Bytes = drop (length found.text) b in
     let has = unlocked_key answers (parts_of found) k is in
     let body = ok_payload k rest p limits.max_chunks
-    (with_file_fault_whole h) in
-    record {
-      stanzas = found.stanzas;
-      key = k;
-      chosen = has.chosen;
-      file = record {
+    (with_file_fault_whole h) in (
+      found.stanzas,
+      k,
+      record {
         header = found.text;
         nonce = body.nonce;
         head = subst (λ (m : Bytes). Head found.stanzas m found.text) has.mac begins.head;
@@ -119,8 +115,9 @@ under_file limits answers b p found begins (Ok k) is h =
         header_fits = begins.fits;
         chunks_fit = body.count;
         unmixed = has.unmixed;
-      };
-    }
+      },
+      has.chosen,
+    )
 
 judged_file : (limits : Bounds) (answers : Answering) (b p : Bytes) (r : Result Found HeaderFault)
     → HeaderVerdict b limits.max_header r
@@ -152,10 +149,10 @@ file_whole limits answers b p stanzas k file chosen =
           ∙ ap with_file_fault reads);
     }
 
-pub both_ways : (limits : Bounds) (answers : Answering) (b p : Bytes) → IsVerdict limits answers b (whole p)
-    ↔ ((stanzas : List StanzaParts) × (k : FileKey) × AgeFile limits k stanzas p b × (choice (answers stanzas) ≡ Ok k))
+pub both_ways : (limits : Bounds) (answers : Answering) (b p : Bytes)
+    → IsVerdict limits answers b (whole p) ↔ IsChosenFile limits answers p b
 both_ways limits answers b p = (
-  (λ v. let i = judged_file limits answers b p v.header v.header_verdict v.is in (i.stanzas, i.key, i.file, i.chosen)),
+  (λ v. judged_file limits answers b p v.header v.header_verdict v.is),
   (λ h. file_whole limits answers b p h.0 h.1 h.2 h.3),
 )
 

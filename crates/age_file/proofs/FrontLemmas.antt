@@ -1,5 +1,5 @@
 -- How much is read of a file of which no key is found.
-use Rattle.age_file.proofs.Common.{◌≡◌, ◌⊎◌, ◌+◌, [], arith, inl, inr, refl, Result, Err, Ok, Appends-nil, Appends, ⊤, IfErr, Bytes, Flow, GaveAtMost, Known, Moved, Seen, Took, flow, flow_by, move_of, HeaderParts, FileKey, StreamFault, EndsAt, StartsReader, Bounds, Fault, OutOfMemory, Read, TooManyChunks, Write, Copies, CopiesAhead, GaveAhead, buffer_size, IsLate, Inspects, ReadsFront, TookWhileRewrapping, stream_fault, begins_found, ℕ}
+use Rattle.age_file.proofs.Common.{◌≡◌, ◌⊎◌, ◌+◌, [], arith, inl, inr, refl, Result, Err, Ok, Appends-nil, Appends, ⊤, IfErr, Bytes, Flow, GaveAtMost, Known, Moved, Seen, Took, flow, flow_by, move_of, HeaderParts, FileKey, StreamFault, EndsAt, StartsReader, Bounds, Fault, OutOfMemory, Read, TooManyChunks, Write, Copies, CopiesAhead, GaveAhead, buffer_size, IsLate, Inspects, ReadsFront, TookWhileRewrapping, stream_fault, begins_found, finding, ℕ}
 use Rattle.age_stream.specs.declared.fault.StreamFault.TheVariants as stream
 use Rattle.age_file.specs.declared.fault.Fault.TheVariants.{NonceTruncated}
 use Rattle.age_file.proofs.CopiesLemmas.{ahead_then}
@@ -7,10 +7,8 @@ use Rattle.age_file.proofs.CopiesLemmas.{ahead_then}
 pub front_gave : (limits : Bounds) (source : Flow) (h : HeaderParts) → Inspects limits source (Ok h)
     → GaveAtMost limits.max_header source
 front_gave limits source h (Ok header, is, reads) =
-    let held = reads.holds in
-    let found = begins_found reads.given limits.max_header
-    (record { stanzas = header.stanzas; mac = header.mac; text = held.0 }) held.1 in
-    (held.0, held.2, found.fits)
+    let (text, found, gave) = reads.holds in
+    (text, gave, (begins_found reads.given limits.max_header (finding text header) found).fits)
 front_gave limits source h (Err e, is, reads) = absurd (cc)
 
 -- ---- of a file that is rewrapped
@@ -42,28 +40,23 @@ headed_took limits source old h (Ok done) is = tt
 headed_took limits source old h (Err fault) is = took_front limits source old fault (front_gave limits source h is)
 
 -- the fault of copying, after the new header was written
-pub copied_took : (limits : Bounds) {come mid : Seen} (to : Seen) (old put new : Known) (h : HeaderParts) (text : Bytes)
-    (r : Result ⊤ Fault)
-    → Inspects limits (flow come mid) (Ok h) → Appends old put text → Copies (flow mid to) (move_of put new) r
-    → IfErr r (CopiesAhead (flow mid to) (move_of put new))
-    → IfErr r (TookWhileRewrapping limits (flow come to) (move_of old new))
-copied_took limits to old put new h text (Ok done) is front copies ahead = tt
-copied_took limits {come} {mid} to old put new h text (Err fault) is front copies ahead = go fault copies ahead
-  where
-    join : GaveAhead buffer_size (flow mid to) (move_of put new)
-        → GaveAhead (limits.max_header + buffer_size) (flow come to) (move_of old new)
-    join a =
-        let (given, gave, few) = front_gave limits (flow come mid) h is in
-        ahead_then text buffer_size (limits.max_header + buffer_size) gave front (omega (arith, few)) a
+module _ (limits : Bounds) {come mid : Seen} (to : Seen) (old put new : Known) (h : HeaderParts) (text : Bytes)
+    (is : Inspects limits (flow come mid) (Ok h)) (front : Appends old put text) where
+  joined : (fault : Fault) → (fault ≡ Read → ⊥) → CopiesAhead (flow mid to) (move_of put new) fault
+      → GaveAhead (limits.max_header + buffer_size) (flow come to) (move_of old new)
+  joined fault other (inl e) = absurd (other e)
+  joined fault other (inr a) =
+      let (given, gave, few) = front_gave limits (flow come mid) h is in
+      ahead_then text buffer_size (limits.max_header + buffer_size) gave front (omega (arith, few)) a
 
-    go : (f : Fault) → Copies (flow mid to) (move_of put new) (Err f) → CopiesAhead (flow mid to) (move_of put new) f
-        → TookWhileRewrapping limits (flow come to) (move_of old new) f
-    go Read c a = tt
-    go Write c (inl e) = absurd (cc)
-    go Write c (inr a) = join a
-    go TooManyChunks c (inl e) = absurd (cc)
-    go TooManyChunks c (inr a) = join a
-    go f c a = absurd c
+  pub copied_took : (r : Result ⊤ Fault) → Copies (flow mid to) (move_of put new) r
+      → IfErr r (CopiesAhead (flow mid to) (move_of put new))
+      → IfErr r (TookWhileRewrapping limits (flow come to) (move_of old new))
+  copied_took (Ok done) c a = tt
+  copied_took (Err Read) c a = tt
+  copied_took (Err Write) c a = joined Write (λ e. cc) a
+  copied_took (Err TooManyChunks) c a = joined TooManyChunks (λ e. cc) a
+  copied_took (Err f) c a = absurd c
 
 -- the fault of starting a payload after a header
 pub started_front : (limits : Bounds) {S : Type 0} (to_come : S → Known) (gave : S → Bytes → Type 0) (failed : S → ℕ)

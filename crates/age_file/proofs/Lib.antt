@@ -1,5 +1,4 @@
 pub mod Common
-mod IncompatibleLemmas
 mod AtStateLemmas
 mod CopiesLemmas
 pub mod DecryptLemmas
@@ -8,7 +7,6 @@ pub mod FileLemmas
 mod FrontLemmas
 mod GatheredLemmas
 pub mod OwnLabels
-mod PayloadLemmas
 mod RangeLemmas
 mod RewrapLemmas
 pub mod SalvageLaws

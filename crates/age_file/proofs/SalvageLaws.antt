@@ -1,15 +1,9 @@
 -- What is saved of a file, and the verdict on it.
-use Rattle.age_file.proofs.Common.{refl, false, true, ◌≡◌, ◌↔◌, ◌⊎◌, ◌∙◌, ◌++◌, ◌≤◌, [], length, take, drop, sym, ap, subst, List, inl, inr, arith, None, Result, Ok, Err, ◌&&◌, if◌then◌else◌, option_map, lt-ltb, take_all, HeaderFault, FileKey, Bytes, Moved, Took, Found, StreamFault, Reading, payload_reading, stop, whole, IsOfPieces, Part, Reports, Saves, SavesParts, SavesPayload, LossesMoved, losses, is_whole, payload_parts, salvaged_text, payload_exactly, payload_plaintext, payload_whole, Fault, BadMac, OutOfMemory, Bounds, IsLate, SavesAfter, SavesFile, SavesUnder, is_whole_file, salvaged_file, SalvagedFile, Answering, IsVerdict, header_fault, reading_after, parts_of, reading_under, stream_fault, found_key, if_right, with_file_fault, Bool, ◌<◌}
+use Rattle.age_file.proofs.Common.{refl, false, true, ◌≡◌, ◌↔◌, ◌⊎◌, ◌∙◌, ◌++◌, ◌≤◌, [], length, drop, sym, ap, subst, List, inl, inr, arith, None, Result, Ok, Err, ◌&&◌, if◌then◌else◌, option_map, lt-ltb, take_all, HeaderFault, FileKey, Bytes, Moved, Took, Found, StreamFault, Reading, payload_reading, stop, whole, IsOfPieces, Part, Reports, Saves, SavesParts, SavesPayload, LossesMoved, losses, is_whole, payload_parts, salvaged_text, payload_exactly, payload_plaintext, payload_whole, Fault, BadMac, OutOfMemory, Bounds, IsLate, SavesAfter, SavesFile, SavesUnder, is_whole_file, salvaged_file, SalvagedFile, Answering, IsVerdict, header_fault, reading_after, parts_of, reading_under, stream_fault, found_key, if_right, with_file_fault, Bool, ◌<◌}
 use Rattle.age_header.proofs.VerdictUniqueLemmas as headers
 use Rattle.age_stream.specs.declared.fault.StreamFault.TheVariants as stream
 use Rattle.age_file.proofs.DecryptLemmas.{err_err}
 use Rattle.age_file.proofs.FileLemmas.{never_stops, no_stream_fault, with_file_fault_whole}
-
-err_ok : (f : Fault) (s : SalvagedFile) → ◌≡◌ {A = Result SalvagedFile Fault} (Ok s) (Err f) → ⊥
-err_ok f s e = cc
-
-ok_ok : (s t : SalvagedFile) → ◌≡◌ {A = Result SalvagedFile Fault} (Ok s) (Ok t) → s ≡ t
-ok_ok s t e = cc
 
 -- the header of the verdict is the one under which the file was saved
 same_header : (limits : Bounds) (answers : Answering) (b : Bytes) (v : Reading Fault) (sink : Moved)
@@ -45,29 +39,22 @@ saved_of limits answers b v sink lost s i f = go f.header (same_header limits an
   where
     under : (rest : Bytes) (key : Result (FileKey × Bool) Fault) → v ≡ reading_under limits rest (if_right key)
         → SavesUnder limits rest key sink lost (Ok s) → SavedOf limits v sink lost s
-    under rest (Err fault) is h = absurd (err_ok fault s h.0)
-    under rest (Ok k) is (Err g, e, h) = absurd (err_ok (stream_fault g) s e)
+    under rest (Err fault) is (e, h) = absurd (cc)
+    under rest (Ok k) is (Err g, e, h) = absurd (cc)
     under rest (Ok k) is (Ok t, e, h) =
-        let same = ok_ok s (salvaged_file k.1 t) e in
-        subst (λ x. SavedOf limits v sink lost x) (sym same) (record {
-          key = k.0;
-          rest = rest;
-          reads = is ∙ under_right limits rest k.0 k.1;
-          long = h.0;
-          saves = h.1;
-        })
+        let same : s ≡ salvaged_file k.1 t = cc in
+        let reads = is ∙ under_right limits rest k.0 k.1 in
+        rw same (record { key = k.0; rest = rest; reads = reads; long = h.0; saves = h.1 })
 
     go : (header : Result Found HeaderFault) → v ≡ reading_after limits answers b header
         → SavesAfter limits answers b header sink lost (Ok s) → SavedOf limits v sink lost s
-    go (Err g) is h = absurd (err_ok (header_fault g) s h.0)
+    go (Err g) is (e, h) = absurd (cc)
     go (Ok found) is h = under (drop (length found.text) b) (found_key answers (parts_of found)) is h
 
 -- all parts were written
 written : (ps : List Part) (sink : Moved) (lost : LossesMoved) → Saves (length ps) ps sink lost
     → Took sink (salvaged_text ps) × Reports lost (losses 0 0 ps)
-written ps sink lost h =
-    let all : take (length ps) ps ≡ ps = take_all (length ps) ps (omega arith) in
-    subst (λ x. Took sink (salvaged_text x) × Reports lost (losses 0 0 x)) all h
+written ps sink lost h = rw (take_all (length ps) ps (omega arith)) at h
 
 -- what was written begins with the verdict's plaintext
 begins_with : (has_right_mac : Bool) (r : Reading Fault) (text rest : Bytes) → text ≡ r.plaintext ++ rest
@@ -84,11 +71,9 @@ saved_plaintext limits answers b v sink lost s i f =
     let ps : List Part = payload_parts o.key o.rest in
     let r = payload_reading o.key limits.max_chunks o.rest in
     let begins = payload_plaintext o.key o.rest limits.max_chunks in
-    let all : take limits.max_chunks ps ≡ ps = take_all limits.max_chunks ps o.saves.0 in
-    let text = begins_with s.has_right_mac (with_file_fault r) (salvaged_text ps) begins.0
-    (ap salvaged_text (sym all) ∙ begins.1) in
-    let is = text.1 ∙ ap (λ (r : Reading Fault). r.plaintext ++ text.0) (sym o.reads) in
-    (text.0, subst (Took sink) is (written ps sink lost o.saves.1).0)
+    let (text, is) = begins_with s.has_right_mac (with_file_fault r) (salvaged_text ps) begins.0
+    (rw (take_all limits.max_chunks ps o.saves.0) at begins.1) in
+    (text, subst (Took sink) (rw (← o.reads) at is) (written ps sink lost o.saves.1).0)
 
 -- a verdict without fault is that on the payload, and the MAC is right
 right_whole : (has_right_mac : Bool) (r : Reading Fault) (plain : Bytes) → whole plain ≡ verdict_of has_right_mac r
@@ -105,10 +90,7 @@ saved_whole limits answers b plain sink lost s i f =
     let r = payload_reading o.key limits.max_chunks o.rest in
     let a = payload_whole o.key o.rest plain limits.max_chunks
     (with_file_fault_whole (right_whole s.has_right_mac (with_file_fault r) plain o.reads)) in
-    let w = written ps sink lost o.saves.1 in (
-      subst (Took sink) a.is w.0,
-      subst (Reports lost) (a.none 0) w.1,
-    )
+    rw (a.is, a.none 0) at (written ps sink lost o.saves.1)
 
 -- what is whole of a payload is so of its file exactly if the MAC is right
 exactly_right : (has_right_mac payload : Bool) (r : Reading Fault) → (payload ≡ true) ↔ (r.fault ≡ None)
@@ -178,7 +160,7 @@ saved_fault limits answers b v sink lost fault i f =
     under : (rest : Bytes) (key : Result (FileKey × Bool) Fault) → v ≡ reading_under limits rest (if_right key)
         → SavesUnder limits rest key sink lost (Err fault) → Explained
     under rest (Err g) is h = same g h.0 is
-    under rest (Ok k) is (Ok t, e, h) = absurd (err_ok fault (salvaged_file k.1 t) (sym e))
+    under rest (Ok k) is (Ok t, e, h) = absurd (cc)
     under rest (Ok k) is (Err g, e, h) = piece k.1 k.0 rest g (is ∙ under_right limits rest k.0 k.1) e h
 
     go : (header : Result Found HeaderFault) → v ≡ reading_after limits answers b header

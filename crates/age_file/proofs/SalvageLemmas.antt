@@ -1,8 +1,8 @@
 -- What salvaging returns, from what its parts return.
-use Rattle.age_file.proofs.Common.{◌≡◌, ◌⊎◌, ◌++◌, length, sym, refl, subst, inl, inr, Result, Ok, Err, ℕ, result_map_both, Appends-nil, drop_at, HeaderFault, FileKey, Bytes, Known, Moved, Seen, flow, move_of, HeaderParts, Refuses, gave_some, of_any, of_map, of_more, of_then, StreamFault, Salvaged, EndsAt, EndsSaving, KnownLosses, Salvages, SavesPayload, LossesMoved, losses_of, reports_none, Fault, Read, OutOfMemory, Bounds, TookUpTo, Inspects, SalvagedFile, SalvagesFile, SalvagesText, SavesFile, SavesNone, SavesUnder, salvaged_file, Answering, finding, header_fault, stream_fault, found_key, Bool}
+use Rattle.age_file.proofs.Common.{◌≡◌, ◌⊎◌, ◌++◌, length, refl, subst, inl, inr, Result, Ok, Err, ℕ, result_map_both, Appends-nil, drop_at, HeaderFault, FileKey, Bytes, Known, Moved, Seen, flow, move_of, HeaderParts, Refuses, gave_some, of_any, of_map, of_more, of_then, StreamFault, Salvaged, EndsAt, EndsSaving, KnownLosses, Salvages, SavesPayload, LossesMoved, losses_of, reports_none, Fault, Read, OutOfMemory, Bounds, TookUpTo, Inspects, SalvagedFile, SalvagesFile, SalvagesText, SavesFile, SavesNone, SavesUnder, salvaged_file, Answering, finding, header_fault, stream_fault, found_key, Bool}
 use Rattle.age_header.specs.declared.fault.HeaderFault.TheVariants as header
 use Rattle.age_stream.specs.declared.fault.StreamFault.TheVariants as stream
-use Rattle.age_file.proofs.DecryptLemmas.{IsHeaded, err_err, headed, payload_takes}
+use Rattle.age_file.proofs.DecryptLemmas.{IsHeaded, headed, payload_takes}
 
 saves_none : (old : Known) (lost : KnownLosses) → SavesNone (move_of old old) (losses_of lost lost)
 saves_none old lost = (Appends-nil old, reports_none lost)
@@ -30,9 +30,8 @@ pub inspect_salvages : (limits : Bounds) (answers : Answering) {come mid : Seen}
     → SalvagesFile limits answers (flow come mid) (move_of old old) (losses_of lost lost) (Err fault)
 inspect_salvages limits answers {come} {mid} old lost {fault} (Ok parts, is, h) = absurd (cc)
 inspect_salvages limits answers {come} {mid} old lost {fault} (Err g, is, h) =
-    subst (λ f. SalvagesFile limits answers (flow come mid) (move_of old old) (losses_of lost lost) (Err f))
-    (sym (err_err {A = HeaderParts} fault (header_fault g) is))
-    (of_map h (λ b refuses. header_text limits answers b old lost g refuses))
+    let same : fault ≡ header_fault g = cc in
+    rw same (of_map h (λ b refuses. header_text limits answers b old lost g refuses))
 
 -- what follows a header that was read
 after_header : (limits : Bounds) (answers : Answering) (come mid : Seen) (h : HeaderParts)
@@ -43,8 +42,7 @@ after_header : (limits : Bounds) (answers : Answering) (come mid : Seen) (h : He
 after_header limits answers come mid h i key rest old new before after r is s = record {
   header = Ok (finding i.text h);
   header_verdict = i.verdict rest;
-  saves = subst (λ x. SavesUnder limits x (found_key answers h) (move_of old new) (losses_of before after) r)
-      (sym (drop_at i.text rest (length i.text) refl))
+  saves = rw (drop_at i.text rest (length i.text) refl)
       (subst (λ k. SavesUnder limits rest k (move_of old new) (losses_of before after) r) is s);
 }
 
@@ -55,9 +53,8 @@ pub locked_salvages : (limits : Bounds) (answers : Answering) {come mid : Seen} 
     → SalvagesFile limits answers (flow come mid) (move_of old old) (losses_of lost lost) (Err fault)
 locked_salvages limits answers {come} {mid} old lost {h} {fault} i (inl memory) =
     let is = headed limits i in
-    subst (λ f. SalvagesFile limits answers (flow come mid) (move_of old old) (losses_of lost lost) (Err f))
-    (sym (err_err {A = FileKey × Bool} fault OutOfMemory memory))
-    (of_any (gave_some is.took) (λ b. saves_none old lost))
+    let same : fault ≡ OutOfMemory = cc in
+    rw same (of_any (gave_some is.took) (λ b. saves_none old lost))
 locked_salvages limits answers {come} {mid} old lost {h} {fault} i (inr key) =
     let is = headed limits i in
     of_more is.took (λ d end. stopped limits answers (is.text ++ d) old lost fault

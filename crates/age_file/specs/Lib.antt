@@ -8,5 +8,6 @@ pub mod Ranges
 pub mod Rewrap
 pub mod Salvage
 pub mod States
+pub mod Texts
 pub mod Verdict
 pub mod Words

@@ -1,5 +1,5 @@
 -- A new file: the stanzas of its recipients, its header, and its payload (C2SP age.md).
-use Rattle.std.specs.Prelude.{◌≡◌, ℕ, ◌+◌, ◌-◌, ◌*◌, ◌<◌, ◌≤◌, ◌⊎◌, Bool, true, false, ⊤, List, [], ◌∷◌, ◌++◌, length, map, take, Result, Ok, Err, Option, Some, None, Vec}
+use Rattle.std.specs.Prelude.{◌≡◌, ℕ, ◌+◌, ◌-◌, ◌*◌, ◌<◌, ◌≤◌, ◌⊎◌, true, false, ⊤, List, [], ◌∷◌, ◌++◌, length, map, take, Result, Ok, Err, Option, Some, None, Vec}
 use Rattle.std.specs.Global.{Global}
 use Rattle.std.specs.List.{AllZip, concat}
 use Rattle.age_header.specs.Device.{Bytes, Flow, Gave, GaveAtMost, OfGiven, WritesPart, Moved, Took}
@@ -9,8 +9,6 @@ use Rattle.age_header.specs.declared.file_key.FileKey.{FileKey}
 use Rattle.age_recipient.specs.declared.labels.Labels.{Labels}
 use Rattle.age_recipient.specs.Labels.{MayLabel, first_incompatible}
 use Rattle.age_stream.specs.declared.done.Done.{Done}
-use Rattle.age_stream.specs.declared.fault.StreamFault.{StreamFault}
-use Rattle.age_stream.specs.Sealing.{FinishesBy, SealerState, SealsAll}
 use Rattle.age_stream.specs.Payload.{chunks, payload, sealed_chunks}
 use Rattle.age_file.specs.declared.fault.Fault.{Fault}
 use Rattle.age_file.specs.declared.fault.Fault.TheVariants.{HeaderTooLarge, MixedPassphrase, TooManyChunks, Read, Write, OutOfMemory, NoRecipients, Refused, IncompatibleRecipients}
@@ -72,6 +70,12 @@ pub record IsHeading (limits : Bounds) (k : FileKey) (gathered : Gathering)
   pub head : Head stanzas (header_mac k.0 stanzas) text
   pub fits : length text ≤ limits.max_header
 
+-- the same of some stanzas
+pub record IsNewHeader (limits : Bounds) (k : FileKey) (gathered : Gathering) (text : Bytes)
+    : Type 0 where
+  pub stanzas : List StanzaParts
+  pub heading : IsHeading limits k gathered stanzas text
+
 -- a header that would be longer than the limit
 pub record IsTooLarge (limits : Bounds) (k : FileKey) (gathered : Gathering) : Type 0 where
   pub stanzas : List StanzaParts
@@ -96,19 +100,17 @@ IsRefusal limits k gathered _ = ⊥
 -- the file written: that of these stanzas, this plaintext, and the file key and nonce passed
 pub record NewFile (limits : Bounds) (fresh : Fresh) (gathered : Gathering) (plain : Bytes)
     (gained : Bytes) : Type 0 where
-  pub stanzas : List StanzaParts
   pub text : Bytes
-  pub heading : IsHeading limits fresh.file_key gathered stanzas text
+  pub header : IsNewHeader limits fresh.file_key gathered text
   pub spelled : gained ≡ text ++ payload fresh.file_key fresh.nonce plain
-  pub file : AgeFile limits fresh.file_key stanzas plain gained
+  pub file : AgeFile limits fresh.file_key header.stanzas plain gained
 
 -- The beginning of a file of too many chunks: the header, the nonce and the sealed chunks with an
 -- index below the limit less one.
 pub record FileBelowLimit (limits : Bounds) (fresh : Fresh) (gathered : Gathering) (plain : Bytes)
     (gained : Bytes) : Type 0 where
-  pub stanzas : List StanzaParts
   pub text : Bytes
-  pub heading : IsHeading limits fresh.file_key gathered stanzas text
+  pub header : IsNewHeader limits fresh.file_key gathered text
   pub too_many : limits.max_chunks < length (chunks plain)
   pub spelled : gained
       ≡ text
@@ -119,9 +121,8 @@ pub record FileBelowLimit (limits : Bounds) (fresh : Fresh) (gathered : Gatherin
 -- a prefix of the header and payload was written
 pub record BegunFile (limits : Bounds) (fresh : Fresh) (gathered : Gathering) (plain : Bytes)
     (sink : Moved) : Type 0 where
-  pub stanzas : List StanzaParts
   pub text : Bytes
-  pub heading : IsHeading limits fresh.file_key gathered stanzas text
+  pub header : IsNewHeader limits fresh.file_key gathered text
   pub part : WritesPart sink (text ++ payload fresh.file_key fresh.nonce plain)
 
 -- The result and the output of `encrypt` for the plaintext `plain`. `gathered` is the results that
@@ -175,13 +176,6 @@ abbrev pub FailsHeading : (limits : Bounds) (k : FileKey) (gathered : Gathering)
     → Type 0
 FailsHeading limits k gathered fault = (fault ≡ OutOfMemory) ⊎ IsRefusal limits k gathered fault
 
--- a sealer that keeps no fault seals what it holds: with the rest of an open source, or as the last
--- chunk if the source has ended
-abbrev pub SealsRest : (s : SealerState) (is_open : Bool) (source : Flow) (sink : Moved)
-    (result : Result Done StreamFault) → Type 0
-SealsRest s true source sink result = SealsAll s source sink result
-SealsRest s false source sink result = FinishesBy s sink result × Gave source []
-
 -- a whole chunk was read from the source
 abbrev pub FillsChunk : (source : Flow) → Type 0
 FillsChunk source = OfGiven source (λ text. chunk_size ≤ length text)
@@ -190,9 +184,8 @@ FillsChunk source = OfGiven source (λ text. chunk_size ≤ length text)
 -- and the nonce, n + 2 chunks of text.
 pub record TookChunks (limits : Bounds) (fresh : Fresh) (gathered : Gathering)
     (source : Flow) (sink : Moved) : Type 0 where
-  pub stanzas : List StanzaParts
   pub text : Bytes
-  pub heading : IsHeading limits fresh.file_key gathered stanzas text
+  pub header : IsNewHeader limits fresh.file_key gathered text
   pub written : Bytes
   pub gained : Took sink written
   pub n : ℕ

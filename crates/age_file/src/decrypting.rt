@@ -64,8 +64,5 @@ pub fn decrypt<S: Source, W: Sink>(
         Ok(reader) => reader,
         Err(refused) => return Err(Fault::from(refused.fault())),
     };
-    match reader.copy_to(out) {
-        Ok(done) => Ok(done),
-        Err(fault) => Err(Fault::from(fault)),
-    }
+    Ok(reader.copy_to(out)?)
 }

@@ -1,18 +1,17 @@
 //! Encrypting a whole file.
 
-ghost use Rattle.std.specs.Prelude.{◌≡◌, ◌⊎◌, ◌++◌, Err, None, IfErr};
+ghost use Rattle.std.specs.Prelude.{◌≡◌, ◌⊎◌, ◌++◌, Err, IfErr};
 ghost use Rattle.age_header.specs.Device.{Bytes, Counts, CountsIf, Writes, flow_by, move_by};
 ghost use Rattle.age_header.specs.Header.{Head};
 ghost use Rattle.age_file.specs.Device.{IsQuiet, is_read, is_write};
-ghost use Rattle.age_file.specs.NewFile.{EncryptsGiven, FillsChunk, RefusesFirst, SealsRest, TookWhileEncrypting, gathering_by};
-ghost use Rattle.age_stream.specs.Counts as stream;
+ghost use Rattle.age_file.specs.NewFile.{EncryptsGiven, FillsChunk, RefusesFirst, TookWhileEncrypting, gathering_by};
 
 use crate::fault::Fault;
 use crate::limits::{Fresh, Limits};
-use crate::new_header::{header_for, header_text};
+use crate::new_header::text_for;
 use age_header::{DeviceFault, Header, Sink, Source, write_all, write_header};
 use age_recipient::Recipient;
-use age_stream::{ChunkBuf, ChunkSealer, Done, StreamFault, StreamWriter};
+use age_stream::{ChunkBuf, ChunkSealer, Done, StreamWriter};
 use std::alloc::Global;
 
 /// Writes the age file (C2SP `age.md`) of a plaintext, which is all bytes left in the source, for
@@ -69,42 +68,20 @@ pub fn encrypt<S: Source, W: Sink>(
         (gathering_by recipients.now (λ r k. wraps r k) (λ r. the_labels r) fresh.now.file_key)
         (flow_by S.to_come S.gave plain.old plain.new) (move_by W.taken out.old out.new)) }
 {
-    let header = header_for(alloc, recipients, &fresh.file_key, limits)?;
-    let mut front = header_text(alloc, &header)?;
+    let mut front = text_for(alloc, recipients, &fresh.file_key, limits)?;
     front.extend_from_slice(&fresh.nonce)?;
     let buf = ChunkBuf::new(alloc)?;
     let mut sealer = ChunkSealer::new(&fresh.file_key, &fresh.nonce, limits.max_chunks(), buf);
-    let is_open = match sealer.fill(plain) {
-        Ok(is_open) => is_open,
-        Err(_) => return Err(Fault::Read),
+    let Ok(is_open) = sealer.fill(plain) else {
+        return Err(Fault::Read);
     };
     let Ok(()) = write_all(out, front.as_slice()) else {
         return Err(Fault::Write);
     };
-    match seal_rest(sealer, is_open, plain, out) {
-        Ok(done) => Ok(done),
-        Err(fault) => Err(Fault::from(fault)),
-    }
-}
-
-/// Seals what the sealer holds and, if the source is open, all that is left in it.
-fn seal_rest<S: Source, W: Sink>(
-    sealer: ChunkSealer,
-    is_open: bool,
-    plain: &mut S,
-    out: &mut W,
-) -> Result<Done, StreamFault>
-    requires { sealer.fault ≡ None }
-    ensures seals { SealsRest sealer is_open (flow_by S.to_come S.gave plain.old plain.new)
-        (move_by W.taken out.old out.new) result }
-    ensures reads { CountsIf stream.is_read (S.failed plain.old) (S.failed plain.new) result }
-    ensures writes { CountsIf stream.is_write (W.failed out.old) (W.failed out.new) result }
-{
-    let writer = StreamWriter::over(out, sealer);
     if is_open {
-        return writer.seal_from(plain);
+        return Ok(StreamWriter::over(out, sealer).seal_from(plain)?);
     }
-    writer.finish()
+    Ok(sealer.finish(out)?)
 }
 
 /// Writes a header and then the nonce of its payload, 16 bytes.

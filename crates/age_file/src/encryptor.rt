@@ -58,14 +58,12 @@ impl Encryptor {
             (gathering_by recipients.now (λ r k. wraps r k) (λ r. the_labels r)
             fresh.now.file_key)) }
     {
-        match header_for(alloc, recipients, &fresh.file_key, limits) {
-            Ok(header) => Ok(Encryptor {
-                header,
-                fresh: *fresh,
-                limits: *limits,
-            }),
-            Err(fault) => Err(fault),
-        }
+        let header = header_for(alloc, recipients, &fresh.file_key, limits)?;
+        Ok(Encryptor {
+            header,
+            fresh: *fresh,
+            limits: *limits,
+        })
     }
 
     /// Like `start`, but returns the sink with the fault.

@@ -1,73 +1,90 @@
 //! The errors of whole files.
 
+ghost use Rattle.std.specs.Prelude.{Some};
+ghost use Rattle.age_file.specs.Texts.{fault_text};
+
 use age_recipient::StanzaFault;
-use thiserror::Error;
+use std::error::Error;
+use std::fmt;
 
 /// Why a file was not written, or a plaintext not read. Chunks and recipients are counted from 0,
 /// header lines from 1. The program prints these texts.
-#[derive(Clone, Copy, Debug, Drop, PartialEq, Eq, Error)]
+#[derive(Clone, Copy, Debug, Drop, PartialEq, Eq)]
 pub enum Fault {
     /// The first bytes are not a prefix of the version line.
-    #[error("not an age file")]
     NotAge,
     /// From this line on the text cannot be a header. The version line is line 1.
-    #[error("bad header line {0}")]
     BadLine(u64),
     /// The input ends within its header.
-    #[error("header is cut short")]
     HeaderTruncated,
     /// The header, read or to be written, is larger than the limit.
-    #[error("header is too large")]
     HeaderTooLarge,
     /// A stanza of type `scrypt` is not the only stanza (C2SP `age.md`, "The scrypt recipient
     /// type").
-    #[error("a passphrase stanza must stand alone")]
     MixedPassphrase,
     /// No stanza is of the type of any identity.
-    #[error("no key fits this file")]
     NoMatch,
     /// There are stanzas of an identity's type, but none of them opens: the passphrase or key is
     /// wrong.
-    #[error("wrong passphrase or key")]
     WrongKey,
     /// A stanza of an identity's type is malformed.
-    #[error("malformed stanza: {0}")]
     Malformed(StanzaFault),
     /// The header's MAC is not that of its stanzas under the file key.
-    #[error("header check failed")]
     BadMac,
     /// Fewer than 16 bytes, the payload's nonce, follow the header.
-    #[error("payload nonce is cut short")]
     NonceTruncated,
     /// This sealed chunk, the last, is shorter than a tag, 16 bytes.
-    #[error("chunk {0} is cut short")]
     ChunkShort(u128),
     /// This chunk, the last and not the first, has an empty plaintext.
-    #[error("chunk {0} is empty")]
     EmptyFinal(u128),
     /// No plaintext seals to this chunk at its number: its tag is wrong.
-    #[error("chunk {0} is damaged")]
     BadChunk(u128),
     /// The payload, read or to be written, has more chunks than the limit.
-    #[error("too many chunks")]
     TooManyChunks,
     /// A read of the source failed.
-    #[error("read failed")]
     Read,
     /// A write to the sink failed.
-    #[error("write failed")]
     Write,
     /// An allocation was refused, or a caller's recipient or identity returned out of memory.
-    #[error("out of memory")]
     OutOfMemory,
     /// The recipients returned no stanza.
-    #[error("no recipients")]
     NoRecipients,
     /// The recipient of this index refused, with this code.
-    #[error("recipient {0} refused: {1}")]
     Refused(usize, u32),
     /// The labels of the recipient of this index, 1 or more, do not go together with those of
     /// recipient 0.
-    #[error("recipient {0} does not go with recipient 0")]
     IncompatibleRecipients(usize),
 }
+
+impl fmt::Display for Fault {
+    ghost output = { λ fault. Some (fault_text fault) };
+
+    fn fmt<W: fmt::Write>(&self, f: &mut fmt::Formatter<W>) -> fmt::Result {
+        match self {
+            Fault::NotAge => f.write_str("not an age file"),
+            Fault::BadLine(line) => write!(f, "bad header line {line}"),
+            Fault::HeaderTruncated => f.write_str("header is cut short"),
+            Fault::HeaderTooLarge => f.write_str("header is too large"),
+            Fault::MixedPassphrase => f.write_str("a passphrase stanza must stand alone"),
+            Fault::NoMatch => f.write_str("no key fits this file"),
+            Fault::WrongKey => f.write_str("wrong passphrase or key"),
+            Fault::Malformed(part) => write!(f, "malformed stanza: {part}"),
+            Fault::BadMac => f.write_str("header check failed"),
+            Fault::NonceTruncated => f.write_str("payload nonce is cut short"),
+            Fault::ChunkShort(chunk) => write!(f, "chunk {chunk} is cut short"),
+            Fault::EmptyFinal(chunk) => write!(f, "chunk {chunk} is empty"),
+            Fault::BadChunk(chunk) => write!(f, "chunk {chunk} is damaged"),
+            Fault::TooManyChunks => f.write_str("too many chunks"),
+            Fault::Read => f.write_str("read failed"),
+            Fault::Write => f.write_str("write failed"),
+            Fault::OutOfMemory => f.write_str("out of memory"),
+            Fault::NoRecipients => f.write_str("no recipients"),
+            Fault::Refused(index, code) => write!(f, "recipient {index} refused: {code}"),
+            Fault::IncompatibleRecipients(index) => {
+                write!(f, "recipient {index} does not go with recipient 0")
+            }
+        }
+    }
+}
+
+impl Error for Fault {}

@@ -1,8 +1,6 @@
 //! Conversions of the errors of headers, keys and payloads to `Fault`.
 
 ghost use Rattle.std.specs.Prelude.{◌≡◌};
-ghost use Rattle.age_file.specs.Device.{IsNoDeviceFault};
-ghost use Rattle.age_file.specs.Verdict.{header_fault, unlock_fault};
 
 use crate::fault::Fault;
 use age_header::HeaderFault;
@@ -10,30 +8,35 @@ use age_recipient::UnlockFault;
 use age_stream::StreamFault;
 use std::alloc::AllocError;
 
-/// The `Fault` of a header's error.
-pub(crate) fn header_fault(fault: HeaderFault) -> Fault
-    ensures { result ≡ header_fault fault }
-{
-    match fault {
-        HeaderFault::NotAge => Fault::NotAge,
-        HeaderFault::BadLine(line) => Fault::BadLine(line),
-        HeaderFault::Truncated => Fault::HeaderTruncated,
-        HeaderFault::TooLarge => Fault::HeaderTooLarge,
-        HeaderFault::Read => Fault::Read,
-        HeaderFault::Memory => Fault::OutOfMemory,
+impl From<HeaderFault> for Fault {
+    ghost use Rattle.age_file.specs.Verdict.{header_fault};
+
+    ghost from_gives = { λ header fault. fault ≡ header_fault header };
+
+    fn from(fault: HeaderFault) -> Fault {
+        match fault {
+            HeaderFault::NotAge => Fault::NotAge,
+            HeaderFault::BadLine(line) => Fault::BadLine(line),
+            HeaderFault::Truncated => Fault::HeaderTruncated,
+            HeaderFault::TooLarge => Fault::HeaderTooLarge,
+            HeaderFault::Read => Fault::Read,
+            HeaderFault::Memory => Fault::OutOfMemory,
+        }
     }
 }
 
-/// The `Fault` of an error in finding the file key.
-pub(crate) fn unlock_fault(fault: UnlockFault) -> Fault
-    ensures name { result ≡ unlock_fault fault }
-    ensures no_device { IsNoDeviceFault result }
-{
-    match fault {
-        UnlockFault::NoMatch => Fault::NoMatch,
-        UnlockFault::WrongKey => Fault::WrongKey,
-        UnlockFault::Malformed(stanza) => Fault::Malformed(stanza),
-        UnlockFault::Memory => Fault::OutOfMemory,
+impl From<UnlockFault> for Fault {
+    ghost use Rattle.age_file.specs.Verdict.{unlock_fault};
+
+    ghost from_gives = { λ unlock fault. fault ≡ unlock_fault unlock };
+
+    fn from(fault: UnlockFault) -> Fault {
+        match fault {
+            UnlockFault::NoMatch => Fault::NoMatch,
+            UnlockFault::WrongKey => Fault::WrongKey,
+            UnlockFault::Malformed(stanza) => Fault::Malformed(stanza),
+            UnlockFault::Memory => Fault::OutOfMemory,
+        }
     }
 }
 

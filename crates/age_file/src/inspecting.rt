@@ -6,7 +6,6 @@ ghost use Rattle.age_file.specs.Device.{is_read};
 ghost use Rattle.age_file.specs.Inspect.{Inspects, ReadsFront};
 
 use crate::fault::Fault;
-use crate::fault_conversions::header_fault;
 use crate::limits::Limits;
 use age_header::{Header, HeaderReader, Source};
 use std::alloc::Global;
@@ -26,8 +25,5 @@ pub fn inspect<S: Source>(alloc: Global, input: &mut S, limits: &Limits) -> Resu
     ensures most { IfErr result
         (ReadsFront limits.now (flow_by S.to_come S.gave input.old input.new)) }
 {
-    match HeaderReader::new(limits.max_header()).read_from(alloc, input) {
-        Ok(header) => Ok(header),
-        Err(fault) => Err(header_fault(fault)),
-    }
+    Ok(HeaderReader::new(limits.max_header()).read_from(alloc, input)?)
 }

@@ -1,13 +1,13 @@
 //! The header of a new file.
 
-ghost use Rattle.std.specs.Prelude.{◌≡◌, ◌≤◌, Some, None, map, IfOk, IfErr};
+ghost use Rattle.std.specs.Prelude.{◌≡◌, Some, None, map, IfOk, IfErr};
 ghost use Rattle.std.specs.List.{AllZip};
 ghost use Rattle.age_header.specs.Device.{Bytes};
 ghost use Rattle.age_header.specs.Header.{Head};
 ghost use Rattle.age_header.specs.Mac.{header_mac};
 ghost use Rattle.age_recipient.specs.Labels.{MayLabel};
 ghost use Rattle.age_recipient.specs.Wrap.{WrapsAs};
-ghost use Rattle.age_file.specs.NewFile.{FailsHeading, Gathers, IsHeading, WrapsAll, gathering_from, gathering_by};
+ghost use Rattle.age_file.specs.NewFile.{FailsHeading, Gathers, IsHeading, IsNewHeader, WrapsAll, gathering_from, gathering_by};
 
 use crate::fault::Fault;
 use crate::limits::Limits;
@@ -36,10 +36,7 @@ pub fn header_for(
     ensures err { IfErr result (FailsHeading limits.now key.now
         (gathering_by recipients.now (λ r k. wraps r k) (λ r. the_labels r) key.now)) }
 {
-    let stanzas = match gather_stanzas(alloc, recipients, key) {
-        Ok(stanzas) => stanzas,
-        Err(fault) => return Err(fault),
-    };
+    let stanzas = gather_stanzas(alloc, recipients, key)?;
     if stanzas.is_empty() {
         return Err(Fault::NoRecipients);
     }
@@ -65,6 +62,22 @@ pub fn header_text(alloc: Global, header: &Header) -> Result<Vec<u8>, AllocError
         Ok(()) => Ok(text.into_vec()),
         Err(_) => Err(AllocError),
     }
+}
+
+/// The text of the header that `header_for` makes.
+pub(crate) fn text_for(
+    alloc: Global,
+    recipients: &[Box<dyn Recipient>],
+    key: &FileKey,
+    limits: &Limits,
+) -> Result<Vec<u8>, Fault>
+    ensures ok { IfOk result (λ text. IsNewHeader limits.now key.now
+        (gathering_by recipients.now (λ r k. wraps r k) (λ r. the_labels r) key.now) text.items) }
+    ensures err { IfErr result (FailsHeading limits.now key.now
+        (gathering_by recipients.now (λ r k. wraps r k) (λ r. the_labels r) key.now)) }
+{
+    let header = header_for(alloc, recipients, key, limits)?;
+    Ok(header_text(alloc, &header)?)
 }
 
 /// The stanzas of the recipients, in order, if the recipients go together.

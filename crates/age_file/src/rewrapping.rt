@@ -11,7 +11,7 @@ use crate::copying::{BUFFER_SIZE, copy_all};
 use crate::fault::Fault;
 use crate::inspecting::inspect;
 use crate::limits::Limits;
-use crate::new_header::{header_for, header_text};
+use crate::new_header::text_for;
 use crate::unlocking::unlock_header;
 use age_header::{Sink, Source, write_all};
 use age_recipient::{Identity, Recipient};
@@ -53,19 +53,9 @@ pub fn rewrap<S: Source, W: Sink>(
     ensures took { IfErr result (TookWhileRewrapping limits.now
         (flow_by S.to_come S.gave input.old input.new) (move_by W.taken out.old out.new)) }
 {
-    let header = match inspect(alloc, input, limits) {
-        Ok(header) => header,
-        Err(fault) => return Err(fault),
-    };
-    let key = match unlock_header(alloc, identities, &header) {
-        Ok(key) => key,
-        Err(fault) => return Err(fault),
-    };
-    let new = match header_for(alloc, recipients, &key, limits) {
-        Ok(new) => new,
-        Err(fault) => return Err(fault),
-    };
-    let text = header_text(alloc, &new)?;
+    let header = inspect(alloc, input, limits)?;
+    let key = unlock_header(alloc, identities, &header)?;
+    let text = text_for(alloc, recipients, &key, limits)?;
     let mut buf = vec![in alloc; 0u8; BUFFER_SIZE]?;
     let Ok(()) = write_all(out, text.as_slice()) else {
         return Err(Fault::Write);

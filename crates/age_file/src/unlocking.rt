@@ -11,7 +11,6 @@ ghost use Rattle.age_file.specs.Device.{IsNoDeviceFault};
 ghost use Rattle.age_file.specs.Verdict.{MayLackMemory, answers_by, found_key, header_key, unlock_fault};
 
 use crate::fault::Fault;
-use crate::fault_conversions::unlock_fault;
 use age_header::{Header, Stanza, mac_of};
 use age_recipient::{FileKey, Identity, SCRYPT_TYPE, UnlockFault, unlock};
 use std::alloc::Global;
@@ -83,10 +82,7 @@ fn tested(
     ensures memory { result ≡ Err Fault.OutOfMemory
         → (chosen ≡ Err UnlockFault.Memory) ⊎ ((k : FileKey) × (chosen ≡ Ok k)) }
 {
-    let key = match chosen {
-        Ok(key) => key,
-        Err(fault) => return Err(unlock_fault(fault)),
-    };
+    let key = chosen?;
     let mac = mac_of(alloc, &key.0, header.stanzas())?;
     let is_right = *header.mac() == mac;
     Ok((key, is_right))

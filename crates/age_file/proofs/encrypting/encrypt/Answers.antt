@@ -1,102 +1,88 @@
-use Rattle.age_file.proofs.Common.{◌≡◌, ◌++◌, rules, Ok, Err, inr, seen_by, gave_none, gave_some, of_any, some_none, OutOfMemory, Read, stream_fault}
-use Rattle.age_file.proofs.EncryptLemmas.{encrypts_begun, encrypts_payload, encrypts_unmade, encrypts_unread, filled, made, read_late, sealed_filled, takes_begun, takes_none, takes_payload, unfilled}
+use Rattle.age_file.proofs.Common.{◌≡◌, ◌++◌, rules, Ok, Err, inr, gave_some, stream_fault}
+use Rattle.age_file.proofs.EncryptLemmas.{encrypts_begun, encrypts_payload, encrypts_unread, filled, read_late, sealed_ended, sealed_on, takes_begun, takes_payload, unfilled}
 use Rattle.age_file.proofs.encrypting.encrypt.Goals as goal
-
-pub returns-in_err-header-clause-encrypts : goal.returns-in_err-header-clause-encrypts
-returns-in_err-header-clause-encrypts g c =
-    let is : c.from_residual.result ≡ Err c.in_err-header.field-0.0 = search rules in
-    rw is (search (encrypts_unmade, some_none, c.in_err-header.ensures.err))
-
-pub returns-in_err-front-clause-encrypts : goal.returns-in_err-front-clause-encrypts
-returns-in_err-front-clause-encrypts g c =
-    let is : c.from_residual-in_err-front.result ≡ Err OutOfMemory = search rules in
-    rw is (of_any (some_none (seen_by g.S.Source.to_come g.S.Source.gave c.args.plain.now)) (λ plain. tt))
-
-pub returns-in_err-extend_from_slice-clause-encrypts : goal.returns-in_err-extend_from_slice-clause-encrypts
-returns-in_err-extend_from_slice-clause-encrypts g c =
-    let is : c.from_residual-in_err-extend_from_slice.result ≡ Err OutOfMemory = search rules in
-    rw is (of_any (some_none (seen_by g.S.Source.to_come g.S.Source.gave c.args.plain.now)) (λ plain. tt))
-
-pub returns-in_err-buf-clause-encrypts : goal.returns-in_err-buf-clause-encrypts
-returns-in_err-buf-clause-encrypts g c =
-    let is : c.from_residual-in_err-buf.result ≡ Err OutOfMemory = search rules in
-    rw is (of_any (some_none (seen_by g.S.Source.to_come g.S.Source.gave c.args.plain.now)) (λ plain. tt))
-
-pub returns-in-Err-clause-encrypts : goal.returns-in-Err-clause-encrypts
-returns-in-Err-clause-encrypts g c =
-    encrypts_unread (unfilled c.fill.new.self c.in-Err.field-0 c.new-sealer.ensures c.in-Err.ensures.fills)
-    c.in_ok-header.ensures.ok
 
 pub returns-in_default-clause-encrypts : goal.returns-in_default-clause-encrypts
 returns-in_default-clause-encrypts g c =
-    let fills = filled c.new-sealer.ensures c.max_chunks.ensures.value c.in-Ok.ensures.fills in
-    let m = made c.in_ok-header.ensures.ok c.in_ok-front.ensures in
+    encrypts_unread c.args.fresh.now c.in_ok-front.ensures.ok (g.W.Sink.taken c.args.out.now)
+    (unfilled c.fill.new.self c.in_default.field-0 c.new-sealer.ensures c.in_default.ensures.fills)
+
+pub returns-in_default-write_all-clause-encrypts : goal.returns-in_default-write_all-clause-encrypts
+returns-in_default-write_all-clause-encrypts g c =
+    let all = filled c.new-sealer.ensures c.max_chunks.ensures.value c.in-Ok.ensures.fills in
     let front : c.as_slice.result.now ≡ c.in_ok-front.front.items ++ c.args.fresh.now.nonce = search rules in
-    encrypts_begun (gave_some fills.1) m (rw front at c.in_default.ensures.text)
+    encrypts_begun c.args.fresh.now c.in_ok-front.ensures.ok _ (gave_some all.1)
+    (rw front at c.in_default-write_all.ensures.text)
 
-pub returns-in_err-header-clause-took : goal.returns-in_err-header-clause-took
-returns-in_err-header-clause-took g c =
-    let is : c.from_residual.result ≡ Err c.in_err-header.field-0.0 = search rules in
-    rw is (search (takes_none, c.in_err-header.ensures.err))
-
-pub returns-in_err-front-clause-took : goal.returns-in_err-front-clause-took
-returns-in_err-front-clause-took g c =
-    let is : c.from_residual-in_err-front.result ≡ Err OutOfMemory = search rules in
-    rw is (gave_none)
-
-pub returns-in_err-extend_from_slice-clause-took : goal.returns-in_err-extend_from_slice-clause-took
-returns-in_err-extend_from_slice-clause-took g c =
-    let is : c.from_residual-in_err-extend_from_slice.result ≡ Err OutOfMemory = search rules in
-    rw is (gave_none)
-
-pub returns-in_err-buf-clause-took : goal.returns-in_err-buf-clause-took
-returns-in_err-buf-clause-took g c =
-    let is : c.from_residual-in_err-buf.result ≡ Err OutOfMemory = search rules in
-    rw is (gave_none)
-
-pub returns-in_default-clause-took : goal.returns-in_default-clause-took
-returns-in_default-clause-took g c =
-    let fills = filled c.new-sealer.ensures c.max_chunks.ensures.value c.in-Ok.ensures.fills in
-    let m = made c.in_ok-header.ensures.ok c.in_ok-front.ensures in
+pub returns-in_default-write_all-clause-took : goal.returns-in_default-write_all-clause-took
+returns-in_default-write_all-clause-took g c =
+    let all = filled c.new-sealer.ensures c.max_chunks.ensures.value c.in-Ok.ensures.fills in
     let front : c.as_slice.result.now ≡ c.in_ok-front.front.items ++ c.args.fresh.now.nonce = search rules in
-    takes_begun m (rw front at c.in_default.ensures.text) fills
+    takes_begun c.args.fresh.now c.in_ok-front.ensures.ok _ (rw front at c.in_default-write_all.ensures.text) all
 
-pub returns-in-Ok-seal_rest-clause-encrypts : goal.returns-in-Ok-seal_rest-clause-encrypts
-returns-in-Ok-seal_rest-clause-encrypts g c =
-    let fills = filled c.new-sealer.ensures c.max_chunks.ensures.value c.in-Ok.ensures.fills in
-    let m = made c.in_ok-header.ensures.ok c.in_ok-front.ensures in
+pub returns-then-is_open-clause-encrypts : goal.returns-then-is_open-clause-encrypts
+returns-then-is_open-clause-encrypts g c =
+    let all = rw c.if-is_open.true at (filled c.new-sealer.ensures c.max_chunks.ensures.value c.in-Ok.ensures.fills) in
     let front : c.as_slice.result.now ≡ c.in_ok-front.front.items ++ c.args.fresh.now.nonce = search rules in
-    let seals = sealed_filled (seen_by g.S.Source.to_come g.S.Source.gave c.seal_rest.new.plain)
-    (g.W.Sink.taken c.write_all.new.out) (g.W.Sink.taken c.seal_rest.new.out) (Ok c.in-Ok-seal_rest.done)
-    c.max_chunks.ensures.range.chunks_low fills c.in-Ok-seal_rest.ensures.seals in
-    encrypts_payload (Ok c.in-Ok-seal_rest.done) c.args.fresh.now (g.W.Sink.taken c.args.out.now)
-    (g.W.Sink.taken c.write_all.new.out) (g.W.Sink.taken c.seal_rest.new.out) m
-    (rw front at c.in-Ok-write_all.ensures.text) (search rules) seals
+    encrypts_payload c.args.fresh.now c.in_ok-front.ensures.ok (Ok c.in_ok-seal_from.field-0)
+    (g.W.Sink.taken c.args.out.now) (g.W.Sink.taken c.write_all.new.out) _ (search rules)
+    (rw front at c.in-Ok-write_all.ensures.text) (sealed_on g.W.Sink.taken _ _ _ c.seal_from.new.self.0 _
+    (Ok c.in_ok-seal_from.field-0) (search rules) c.over.ensures.unchanged c.over.ensures.sealer all
+    c.in_ok-seal_from.ensures.seals)
+
+pub returns-in_err-seal_from-clause-encrypts : goal.returns-in_err-seal_from-clause-encrypts
+returns-in_err-seal_from-clause-encrypts g c =
+    let is : c.from_residual-in_err-seal_from.result ≡ Err (stream_fault c.in_err-seal_from.field-0.0) = search rules in
+    let all = rw c.if-is_open.true at (filled c.new-sealer.ensures c.max_chunks.ensures.value c.in-Ok.ensures.fills) in
+    let front : c.as_slice.result.now ≡ c.in_ok-front.front.items ++ c.args.fresh.now.nonce = search rules in
+    rw is (encrypts_payload c.args.fresh.now c.in_ok-front.ensures.ok (Err c.in_err-seal_from.field-0.0)
+    (g.W.Sink.taken c.args.out.now) (g.W.Sink.taken c.write_all.new.out) _ (search rules)
+    (rw front at c.in-Ok-write_all.ensures.text) (sealed_on g.W.Sink.taken _ _ _ c.seal_from.new.self.0 _
+    (Err c.in_err-seal_from.field-0.0) (search rules) c.over.ensures.unchanged c.over.ensures.sealer all
+    c.in_err-seal_from.ensures.seals))
+
+pub returns-in_err-seal_from-clause-spared : goal.returns-in_err-seal_from-clause-spared
+returns-in_err-seal_from-clause-spared g c = λ read.
+    let all = rw c.if-is_open.true at (filled c.new-sealer.ensures c.max_chunks.ensures.value c.in-Ok.ensures.fills) in
+    inr (read_late _ (g.W.Sink.taken c.over.result.out.now) (g.W.Sink.taken c.seal_from.new.self.0)
+    c.in_err-seal_from.field-0.0 c.over.ensures.sealer all c.in_err-seal_from.ensures.seals)
+
+pub returns-in_err-seal_from-clause-took : goal.returns-in_err-seal_from-clause-took
+returns-in_err-seal_from-clause-took g c =
+    let is : c.from_residual-in_err-seal_from.result ≡ Err (stream_fault c.in_err-seal_from.field-0.0) = search rules in
+    let all = rw c.if-is_open.true at (filled c.new-sealer.ensures c.max_chunks.ensures.value c.in-Ok.ensures.fills) in
+    let front : c.as_slice.result.now ≡ c.in_ok-front.front.items ++ c.args.fresh.now.nonce = search rules in
+    rw is (takes_payload c.args.fresh.now c.in_ok-front.ensures.ok c.in_err-seal_from.field-0.0
+    (g.W.Sink.taken c.args.out.now) (g.W.Sink.taken c.write_all.new.out) _ (search rules)
+    (rw front at c.in-Ok-write_all.ensures.text) (sealed_on g.W.Sink.taken _ _ _ c.seal_from.new.self.0 _
+    (Err c.in_err-seal_from.field-0.0) (search rules) c.over.ensures.unchanged c.over.ensures.sealer all
+    c.in_err-seal_from.ensures.seals))
 
 pub returns-clause-encrypts : goal.returns-clause-encrypts
 returns-clause-encrypts g c =
-    let fills = filled c.new-sealer.ensures c.max_chunks.ensures.value c.in-Ok.ensures.fills in
-    let m = made c.in_ok-header.ensures.ok c.in_ok-front.ensures in
+    let all = rw c.if-is_open.false at (filled c.new-sealer.ensures c.max_chunks.ensures.value c.in-Ok.ensures.fills) in
     let front : c.as_slice.result.now ≡ c.in_ok-front.front.items ++ c.args.fresh.now.nonce = search rules in
-    let seals = sealed_filled (seen_by g.S.Source.to_come g.S.Source.gave c.seal_rest.new.plain)
-    (g.W.Sink.taken c.write_all.new.out) (g.W.Sink.taken c.seal_rest.new.out) (Err c.in-Err-seal_rest.fault)
-    c.max_chunks.ensures.range.chunks_low fills c.in-Err-seal_rest.ensures.seals in
-    rw c.from.ensures (encrypts_payload (Err c.in-Err-seal_rest.fault) c.args.fresh.now
-    (g.W.Sink.taken c.args.out.now) (g.W.Sink.taken c.write_all.new.out) (g.W.Sink.taken c.seal_rest.new.out) m
-    (rw front at c.in-Ok-write_all.ensures.text) (search rules) seals)
+    encrypts_payload c.args.fresh.now c.in_ok-front.ensures.ok (Ok c.in_ok-finish.field-0)
+    (g.W.Sink.taken c.args.out.now) (g.W.Sink.taken c.write_all.new.out) _ (search rules)
+    (rw front at c.in-Ok-write_all.ensures.text) (sealed_ended _ _ (Ok c.in_ok-finish.field-0)
+    c.max_chunks.ensures.range.chunks_low all c.in_ok-finish.ensures.text)
 
-pub returns-clause-spared : goal.returns-clause-spared
-returns-clause-spared g c = λ read.
-    let fills = filled c.new-sealer.ensures c.max_chunks.ensures.value c.in-Ok.ensures.fills in
-    let late : stream_fault c.in-Err-seal_rest.fault ≡ Read = cc in
-    inr (search (read_late, fills, c.in-Err-seal_rest.ensures.seals, late))
-
-pub returns-clause-took : goal.returns-clause-took
-returns-clause-took g c =
-    let fills = filled c.new-sealer.ensures c.max_chunks.ensures.value c.in-Ok.ensures.fills in
-    let m = made c.in_ok-header.ensures.ok c.in_ok-front.ensures in
+pub returns-in_err-finish-clause-encrypts : goal.returns-in_err-finish-clause-encrypts
+returns-in_err-finish-clause-encrypts g c =
+    let is : c.from_residual-in_err-finish.result ≡ Err (stream_fault c.in_err-finish.field-0.0) = search rules in
+    let all = rw c.if-is_open.false at (filled c.new-sealer.ensures c.max_chunks.ensures.value c.in-Ok.ensures.fills) in
     let front : c.as_slice.result.now ≡ c.in_ok-front.front.items ++ c.args.fresh.now.nonce = search rules in
-    let seals = sealed_filled (seen_by g.S.Source.to_come g.S.Source.gave c.seal_rest.new.plain)
-    (g.W.Sink.taken c.write_all.new.out) (g.W.Sink.taken c.seal_rest.new.out) (Err c.in-Err-seal_rest.fault)
-    c.max_chunks.ensures.range.chunks_low fills c.in-Err-seal_rest.ensures.seals in
-    rw c.from.ensures (search (takes_payload, m, seals, rules, rw front at c.in-Ok-write_all.ensures.text))
+    rw is (encrypts_payload c.args.fresh.now c.in_ok-front.ensures.ok (Err c.in_err-finish.field-0.0)
+    (g.W.Sink.taken c.args.out.now) (g.W.Sink.taken c.write_all.new.out) _ (search rules)
+    (rw front at c.in-Ok-write_all.ensures.text) (sealed_ended _ _ (Err c.in_err-finish.field-0.0)
+    c.max_chunks.ensures.range.chunks_low all c.in_err-finish.ensures.text))
+
+pub returns-in_err-finish-clause-took : goal.returns-in_err-finish-clause-took
+returns-in_err-finish-clause-took g c =
+    let is : c.from_residual-in_err-finish.result ≡ Err (stream_fault c.in_err-finish.field-0.0) = search rules in
+    let all = rw c.if-is_open.false at (filled c.new-sealer.ensures c.max_chunks.ensures.value c.in-Ok.ensures.fills) in
+    let front : c.as_slice.result.now ≡ c.in_ok-front.front.items ++ c.args.fresh.now.nonce = search rules in
+    rw is (takes_payload c.args.fresh.now c.in_ok-front.ensures.ok c.in_err-finish.field-0.0
+    (g.W.Sink.taken c.args.out.now) (g.W.Sink.taken c.write_all.new.out) _ (search rules)
+    (rw front at c.in-Ok-write_all.ensures.text) (sealed_ended _ _ (Err c.in_err-finish.field-0.0)
+    c.max_chunks.ensures.range.chunks_low all c.in_err-finish.ensures.text))

@@ -1,5 +1,5 @@
 use Rattle.age_file.proofs.Common.{◌≡◌, rules, Err}
-use Rattle.age_file.proofs.IncompatibleLemmas.{refused_first}
+use Rattle.age_file.proofs.GatheredLemmas.{refused_first}
 use Rattle.age_file.proofs.new_header.gather_stanzas.Goals as goal
 
 pub returns-in_err-stanzas : goal.returns-in_err-stanzas

@@ -1,8 +1,8 @@
-use Rattle.age_file.proofs.IncompatibleLemmas.{collects, collects_all}
+use Rattle.age_file.proofs.GatheredLemmas.{collects, collects_all}
 use Rattle.age_file.proofs.new_header.labels_of_all.Goals as goal
 
 pub loop-recipient-init : goal.loop-recipient-init
-loop-recipient-init g c = rw c.new-all.ensures.items tt
+loop-recipient-init g c = rw c.new-all.ensures.items (λ rest h. h)
 
 pub loop-recipient-preserved : goal.loop-recipient-preserved
 loop-recipient-preserved g c =
