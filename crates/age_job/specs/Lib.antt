@@ -3,3 +3,4 @@ pub mod Mode
 pub mod Names
 pub mod Passphrase
 pub mod Secret
+pub mod Texts

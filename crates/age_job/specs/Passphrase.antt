@@ -2,27 +2,19 @@
 use Rattle.std.specs.Prelude.{ℕ, ◌-◌, ◌≡◌, ◌<◌, Bool, false, List, [], ◌∷◌, length, take, if◌then◌else◌, nat_eq, slice_index_or}
 use Rattle.std.specs.List.{ends_with, starts_with}
 
--- the code of LF
-abbrev pub line_feed : ℕ
-line_feed = 10
-
--- the code of CR
-abbrev pub carriage_return : ℕ
-carriage_return = 13
-
--- the bytes without one LF at their end
+-- the bytes without one LF at their end, whose code is 10
 abbrev pub passphrase_of : (bytes : List ℕ) → List ℕ
 passphrase_of bytes =
-    if nat_eq (slice_index_or bytes (length bytes - 1) 0) line_feed
+    if nat_eq (slice_index_or bytes (length bytes - 1) 0) 10
     then take (length bytes - 1) bytes else bytes
 
 -- whether bytes begin with a byte-order mark: U+FEFF in UTF-8, ef bb bf in hexadecimal digits
 abbrev pub begins_with_mark : (bytes : List ℕ) → Bool
 begins_with_mark bytes = starts_with nat_eq bytes (239 ∷ 187 ∷ 191 ∷ [])
 
--- whether bytes end in CR
+-- whether bytes end in CR, whose code is 13
 abbrev pub ends_in_return : (bytes : List ℕ) → Bool
-ends_in_return bytes = ends_with nat_eq bytes (carriage_return ∷ [])
+ends_in_return bytes = ends_with nat_eq bytes (13 ∷ [])
 
 -- A passphrase for a new file. It is not empty, and whoever types it can open the file: it does not
 -- begin with the mark that an editor writes before a text, nor end in half of a line end CR LF.

@@ -14,8 +14,7 @@ IsSecretOf None (Some name) more (Keys keys) =
     (0 < vec_len keys) × (vec_len keys ≤ 1 + length more)
 IsSecretOf pass key more secret = ⊥
 
--- a secret for a new file: its passphrase is not empty, does not begin with a byte-order mark, and
--- does not end in CR
+-- a secret for a new file
 abbrev pub IsNewSecret : Secret → Type 0
 IsNewSecret (Passphrase bytes) = IsNewPassphrase bytes.items
 IsNewSecret (Keys keys) = ⊤

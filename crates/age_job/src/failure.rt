@@ -2,7 +2,7 @@
 
 use crate::fault::Fault;
 use crate::file_names::{Bytes, Name, Quoted, Role};
-use crate::files::{MAX_SMALL, NamedFile, ReadFile};
+use crate::files::{Held, MAX_SMALL, NamedFile, ReadFile};
 use crate::secret::Ends;
 use std::alloc::{AllocError, AllocFailed};
 use std::fmt::Write;
@@ -164,29 +164,37 @@ pub struct Tried<'r, 'a>(pub(crate) &'r [ReadFile<'a>]);
 
 impl fmt::Display for Tried<'_, '_> {
     fn fmt<W: fmt::Write>(&self, f: &mut fmt::Formatter<W>) -> fmt::Result {
-        let mut before = " ";
+        let mut is_first = true;
         for file in self.0 {
-            let NamedFile { role, name } = file.named;
-            match file.held {
-                Some(held) if matches!(role, Role::Passphrase | Role::Key) => {
-                    let (words, name) = (role.words(), Quoted(Name(name)));
-                    let len = Bytes(u128::from(held.len));
-                    write!(f, "{before}{words} {name} ({len}")?;
-                    let ends = match held.ends {
-                        Some(ends) => ends.words(),
-                        None => "",
-                    };
-                    if !ends.is_empty() {
-                        write!(f, "; the passphrase {ends}")?;
-                    }
-                    f.write_str(")")?;
-                    before = ", ";
-                }
-                _ => {}
+            if let Some(held) = file.held
+                && matches!(file.named.role, Role::Passphrase | Role::Key)
+            {
+                f.write_str(if is_first { " " } else { ", " })?;
+                write_tried(file.named, held, f)?;
+                is_first = false;
             }
         }
         Ok(())
     }
+}
+
+/// Writes the name of a file that was tried, and what it held.
+fn write_tried<W: fmt::Write>(
+    named: NamedFile<'_>,
+    held: Held,
+    f: &mut fmt::Formatter<W>,
+) -> fmt::Result {
+    let (words, name) = (named.role.words(), Quoted(Name(named.name)));
+    let len = Bytes(u128::from(held.len));
+    write!(f, "{words} {name} ({len}")?;
+    let ends = match held.ends {
+        Some(ends) => ends.words(),
+        None => "",
+    };
+    if !ends.is_empty() {
+        write!(f, "; the passphrase {ends}")?;
+    }
+    f.write_str(")")
 }
 
 /// Writes a system's reason without the number of the error.

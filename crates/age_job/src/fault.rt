@@ -1,5 +1,8 @@
 //! Why a file of a job was refused or could not be used.
 
+ghost use Rattle.std.specs.Prelude.{Some};
+ghost use Rattle.age_job.specs.Texts.{fault_text};
+
 use crate::file_names::{Name, Role};
 use std::alloc::{AllocError, AllocFailed};
 use std::fmt;
@@ -58,6 +61,8 @@ impl<T: Drop> From<AllocFailed<T>> for Fault<'_> {
 }
 
 impl fmt::Display for Fault<'_> {
+    ghost output = { λ fault. Some (fault_text fault) };
+
     fn fmt<W: fmt::Write>(&self, f: &mut fmt::Formatter<W>) -> fmt::Result {
         match self {
             Fault::Read => f.write_str("read failed"),

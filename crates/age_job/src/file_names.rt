@@ -3,6 +3,7 @@
 ghost use Rattle.std.specs.Prelude.{◌≡◌, Some, false};
 ghost use Rattle.std.specs.Fmt.{WritesOnOk};
 ghost use Rattle.age_job.specs.Names.{directs_writing, escaped_name, escaped_char, needs_quotes, quoted_name};
+ghost use Rattle.age_job.specs.Texts.{role_text, role_words};
 
 use std::fmt;
 use std::fmt::Write;
@@ -21,7 +22,9 @@ pub enum Role {
 
 impl Role {
     /// Returns the name of the role, without an article.
-    pub fn words(self) -> &'static str {
+    pub fn words(self) -> &'static str
+        ensures { result.now ≡ role_words self }
+    {
         match self {
             Role::Input => "IN",
             Role::Passphrase => "passphrase file",
@@ -35,6 +38,8 @@ impl Role {
 }
 
 impl fmt::Display for Role {
+    ghost output = { λ role. Some (role_text role) };
+
     fn fmt<W: fmt::Write>(&self, f: &mut fmt::Formatter<W>) -> fmt::Result {
         if *self != Role::Input {
             f.write_str("the ")?;

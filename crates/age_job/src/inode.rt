@@ -48,18 +48,12 @@ impl Inode {
 
     /// The file that this name refers to, through links too, unless the system refuses to say.
     pub(crate) fn at<F: Files>(rt: &F, name: &str) -> io::Result<Inode> {
-        match fs::metadata(rt, name) {
-            Ok(found) => Ok(Inode::of(&found)),
-            Err(reason) => Err(reason),
-        }
+        Ok(Inode::of(&fs::metadata(rt, name)?))
     }
 
     /// An open file, unless the system refuses to say.
     pub(crate) fn of_open<F: OpenFile>(file: &F) -> io::Result<Inode> {
-        match file.metadata() {
-            Ok(found) => Ok(Inode::of(&found)),
-            Err(reason) => Err(reason),
-        }
+        Ok(Inode::of(&file.metadata()?))
     }
 
     /// Whether both are the same file.
