@@ -1,5 +1,9 @@
 -- What the values of options make of a job's fields.
-use Rattle.age_args.proofs.Common.{◌≡◌, ◌∙◌, ℕ, ◌+◌, ◌<◌, ◌≤◌, Bool, true, false, List, [], ◌∷◌, ◌++◌, length, map, take, get_or, Bor, Option, Some, None, Result, Ok, Err, IfSome, codes, option_map, unwrap_or, arith, ap, sym, refl, String, Global, option_map_or, bytes_eq, ParsesBool, ParsesUnsigned, string_bytes, get_or-map, map_push, length-map, take_more, bytes_eq-Decides, IsUnsignedIn, ReadsOne, Text, is_some, IsBetween, NamesInput, Command, Range, number_of}
+use Rattle.age_args.proofs.Common.{◌≡◌, ◌∙◌, ℕ, ◌+◌, ◌<◌, ◌≤◌, Bool, true, false, List, [], ◌∷◌, ◌++◌, length, map, take, get_or, Bor, Option, Some, None, Result, Ok, Err, IfSome, codes, option_map, unwrap_or, arith, ap, sym, refl, String, Global, option_map_or, bytes_eq, ParsesBool, ParsesUnsigned, string_bytes, get_or-map, map_push, length-map, take_more, bytes_eq-Decides, IsUnsignedIn, ReadsOne, Text, is_some, IsBetween, NamesInput, Command, Range}
+use Rattle.std.specs.Str.Parse.{digits_value, without_leading_plus}
+
+abbrev number_of : Text → ℕ
+number_of text = digits_value 10 (without_leading_plus text)
 
 pub copies_take : (xs : List (Bor Text)) {i : ℕ} (d : Bor Text) (old : List (String Global))
     {new : List (String Global)}

@@ -376,7 +376,7 @@ is_help s word name none e =
     one : {b : Bool} → (b || false) ≡ true → b ≡ true
     one e = grind arith
 
-pair_same : {a b : Text} {x y : List Row} → ◌≡◌ {A = Option (Text × List Row)} (Some (a, x)) (Some (b, y)) → (a ≡ b)
+pub pair_same : {a b : Text} {x y : List Row} → ◌≡◌ {A = Option (Text × List Row)} (Some (a, x)) (Some (b, y)) → (a ≡ b)
     × (x ≡ y)
 pair_same {a} {b} {x} {y} e =
     let same : ◌≡◌ {A = Text × List Row} (a, x) (b, y) = cc in

@@ -1,5 +1,5 @@
 -- What the words of a command line name.
-use Rattle.age_args.proofs.Common.{◌≡◌, ◌∙◌, ◌⊎◌, inl, inr, ap, refl, sym, subst, true, codes, arith, length, map, get_or, Bor, List, [], ◌∷◌, Option, Some, Result, Ok, Err, option_map, bytes_eq, bytes_eq-Decides, App, HasKind, HasMatchesOf, IsAmong, kind_of, Row, Text, app_of, fault_of, subcommand_name_of, subcommand_of, subcommand_rows_of, Error, DisplayHelp, InvalidSubcommand, ArgMatches, agep, AsksForHelp, Becomes, IsJobOf, JobOf, Reads, name_of, Job, Memory, Refused}
+use Rattle.age_args.proofs.Common.{◌≡◌, ◌∙◌, ◌⊎◌, inl, inr, ap, refl, sym, subst, true, codes, arith, length, map, get_or, Bor, List, [], ◌∷◌, Some, Result, Ok, Err, option_map, bytes_eq, bytes_eq-Decides, App, HasKind, HasMatchesOf, IsAmong, kind_of, Row, Text, app_of, fault_of, subcommand_name_of, subcommand_of, subcommand_rows_of, Error, DisplayHelp, InvalidSubcommand, ArgMatches, agep, AsksForHelp, Becomes, JobOf, Reads, name_of, Job, Memory, Refused}
 use Rattle.std.specs.Result.{IsErrAnd}
 use Rattle.clap.specs.Words.{is_simple, is_simple_and_free}
 use Rattle.clap.proofs.OnLiterals.{clap_on_literals}
@@ -61,8 +61,7 @@ help_read (Err (Refused error)) asks h = elim (rw help_fault at h) [
 pub made : {words : List Text} {name : Text} {rows : List Row} {job : Job} → Named words name rows
     → name ≡ name_of job.command → JobOf rows job
     → Reads words (Ok job)
-made {job} n is of =
-    (n.faultless, subst (λ (o : Option (Text × List Row)). IsJobOf o job) (sym n.is) (is, of))
+made {rows = rows} n is of = (n.faultless, (rows, n.is ∙ ap (λ (name : Text). Some (name, rows)) is, of))
 
 pub refusal : (words : List Text) (command : Command) (error : Error) (result : Result Job ArgsFault)
     → app_of command ≡ agep

@@ -26,21 +26,18 @@ long_flag name = record (new_rule name) { long = Some name; action = Some SetTru
 abbrev pub flag : (s : ℕ) (name : Text) → Rule
 flag s name = record (long_flag name) { short = Some s }
 
--- may be given several times
-abbrev pub several : Rule → Rule
-several rule = record rule { action = Some Append }
-
--- must be given
 abbrev pub required : Rule → Rule
 required rule = record rule { required = true }
 
--- takes numbers of this range only
 abbrev pub number : (least most : ℕ) → Rule → Rule
 number least most rule = record rule { parser = Some (Unsigned least most) }
 
--- has this value if it is not given
 abbrev pub default : (value : Text) → Rule → Rule
 default value rule = record rule { defaults = value ∷ [] }
+
+-- an option that may be given several times
+abbrev pub several : Rule → Rule
+several rule = record rule { action = Some Append }
 
 abbrev pub pass : Rule
 pass = option (letter (codes "p")) (codes "passphrase")
@@ -48,19 +45,11 @@ pass = option (letter (codes "p")) (codes "passphrase")
 abbrev pub key : Rule
 key = several (option (letter (codes "k")) (codes "key"))
 
-abbrev pub new_pass : Rule
-new_pass = option (letter (codes "P")) (codes "new-pass")
-
-abbrev pub new_key : Rule
-new_key = several (option (letter (codes "K")) (codes "new-key"))
-
 abbrev pub work : Rule
-work = default (codes "18")
-    (number 1 30 (option (letter (codes "w")) (codes "work")))
+work = default (codes "18") (number 1 30 (option (letter (codes "w")) (codes "work")))
 
 abbrev pub max_work : Rule
-max_work = default (codes "22")
-    (number 1 30 (option (letter (codes "m")) (codes "max-work")))
+max_work = default (codes "22") (number 1 30 (option (letter (codes "m")) (codes "max-work")))
 
 abbrev pub max_header : Rule
 max_header = default (codes "65536")
@@ -68,21 +57,6 @@ max_header = default (codes "65536")
 
 abbrev pub seed : Rule
 seed = default (codes "/dev/urandom") (option (letter (codes "s")) (codes "seed"))
-
-abbrev pub output : Rule
-output = option (letter (codes "o")) (codes "output")
-
-abbrev pub no_clobber : Rule
-no_clobber = flag (letter (codes "n")) (codes "no-clobber")
-
-abbrev pub atomic : Rule
-atomic = long_flag (codes "atomic")
-
-abbrev pub raw : Rule
-raw = flag (letter (codes "r")) (codes "raw")
-
-abbrev pub file_key : Rule
-file_key = option (letter (codes "f")) (codes "file-key")
 
 abbrev pub verbose : Rule
 verbose = flag (letter (codes "v")) (codes "verbose")
@@ -105,7 +79,8 @@ command name rules = record (new_shape name) { rules = rules }
 
 -- the options of the commands that write OUT
 abbrev pub writing : List Rule
-writing = output ∷ no_clobber ∷ atomic ∷ []
+writing = option (letter (codes "o")) (codes "output")
+    ∷ flag (letter (codes "n")) (codes "no-clobber") ∷ long_flag (codes "atomic") ∷ []
 
 -- the options of the commands that unlock a file
 abbrev pub opening : List Rule
@@ -119,30 +94,25 @@ abbrev pub decrypt : Shape
 decrypt = command (codes "decrypt") (opening ++ input ∷ [])
 
 abbrev pub inspect : Shape
-inspect = command (codes "inspect") (raw ∷ file_key ∷ max_header ∷ verbose ∷ input ∷ [])
+inspect = command (codes "inspect") (flag (letter (codes "r")) (codes "raw")
+    ∷ option (letter (codes "f")) (codes "file-key") ∷ max_header ∷ verbose ∷ input ∷ [])
 
 abbrev pub range : Shape
 range = command (codes "range")
     (opening ++ offset (codes "at") ∷ offset (codes "len") ∷ required input ∷ [])
 
 abbrev pub rewrap : Shape
-rewrap = command (codes "rewrap")
-    (opening ++ new_pass ∷ new_key ∷ work ∷ seed ∷ input ∷ [])
+rewrap = command (codes "rewrap") (opening ++ option (letter (codes "P")) (codes "new-pass")
+    ∷ several (option (letter (codes "K")) (codes "new-key")) ∷ work ∷ seed ∷ input ∷ [])
 
 abbrev pub salvage : Shape
 salvage = command (codes "salvage") (opening ++ input ∷ [])
 
--- the program without its commands
-abbrev pub bare : App
-bare = record {
-  top = record (new_shape (codes "agep")) { has_version = true; propagate_version = true };
-  subs = [];
-}
-
 -- the program with its commands, of which one is required; each has the program's version
 abbrev pub agep : App
 agep = record {
-  top = record bare.top { is_leaf = false; subcommand_required = true };
+  top = record (new_shape (codes "agep"))
+      { has_version = true; propagate_version = true; is_leaf = false; subcommand_required = true };
   subs = encrypt ∷ decrypt ∷ inspect ∷ range ∷ rewrap ∷ salvage ∷ [];
 }
 

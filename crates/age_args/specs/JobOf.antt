@@ -1,12 +1,12 @@
 -- The job of a command with its options.
-use Rattle.std.specs.Prelude.{◌≡◌, ◌≢◌, ◌⊎◌, ◌∷◌, ℕ, Bool, true, false, not, List, [], Option, Some, None, Result, Ok, Err, codes, drop, map, option_map, unwrap_or, IfSome, ⊤}
+use Rattle.std.specs.Prelude.{◌≡◌, ◌≢◌, ◌⊎◌, ◌∷◌, ℕ, Bool, true, false, not, List, [], Some, None, Result, Ok, Err, codes, drop, map, option_map, unwrap_or, IfSome, ⊤}
 use Rattle.std.specs.List.{list_any}
 use Rattle.std.specs.Option.{option_map_or}
 use Rattle.std.specs.Str.{bytes_eq}
 use Rattle.std.specs.Str.Parse.{digits_value, without_leading_plus}
 use Rattle.std.specs.String.{string_bytes}
 use Rattle.clap.specs.Values.{IsUnsignedIn}
-use Rattle.clap.specs.Words.{IsAmong, Kinds, Row, Text, all_of, fault_of, first_of, kind_of, one_of, subcommand_of}
+use Rattle.clap.specs.Words.{IsAmong, Row, Text, all_of, fault_of, first_of, kind_of, one_of, subcommand_of}
 use Rattle.clap.specs.declared.error.Error.{Error}
 use Rattle.clap.specs.declared.error.kind.ErrorKind.{ErrorKind}
 use Rattle.clap.specs.declared.error.kind.ErrorKind.TheVariants.{DisplayHelp, DisplayVersion, OutOfMemory}
@@ -32,15 +32,11 @@ name_of Salvage = codes "salvage"
 abbrev pub rest_of : (id : Text) (rows : List Row) → List Text
 rest_of id rows = drop 1 (unwrap_or (all_of id rows) [])
 
--- the number that a text spells
-abbrev pub number_of : (text : Text) → ℕ
-number_of text = digits_value 10 (without_leading_plus text)
-
 -- the number of an option, or `default` if the command lacks the option
 abbrev pub number_or : (default : ℕ) (id : Text) (rows : List Row) → ℕ
-number_or default id rows = option_map_or number_of (one_of id rows) default
+number_or default id rows =
+    option_map_or (λ text. digits_value 10 (without_leading_plus text)) (one_of id rows) default
 
--- whether a flag is set
 abbrev pub is_set : (id : Text) (rows : List Row) → Bool
 is_set id rows = option_map_or (λ text. bytes_eq text (codes "true")) (one_of id rows) false
 
@@ -66,30 +62,24 @@ pub record JobOf (rows : List Row) (job : Job) : Type 0 where
   pub len : job.len ≡ number_or 0 (codes "len") rows
   pub verbose : job.verbose ≡ is_set (codes "verbose") rows
 
--- the job of a command line: its command is the one named, with its options
-abbrev pub IsJobOf : (named : Option (Text × List Row)) (job : Job) → Type 0
-IsJobOf None job = ⊥
-IsJobOf (Some (name, rows)) job = (name ≡ name_of job.command) × JobOf rows job
+-- The words make this job: `clap` has no reason to refuse them, and they name its command and its
+-- options.
+abbrev pub Makes : (words : List Text) (job : Job) → Type 0
+Makes words job =
+    (fault_of agep words ≡ []) × ((rows : List Row)
+    × (subcommand_of agep words ≡ Some (name_of job.command, rows)) × JobOf rows job)
 
 -- the words ask for help on `help`
 abbrev pub AsksForHelp : (words : List Text) → Type 0
 AsksForHelp words = (program option : Text) × (words ≡ program ∷ codes "help" ∷ option ∷ [])
     × ((option ≡ codes "--help") ⊎ (option ≡ codes "-h"))
 
--- memory was refused, or `clap` refused the words for one of these reasons
-abbrev pub IsRefusal : (reasons : Kinds) (fault : ArgsFault) → Type 0
-IsRefusal reasons Memory = ⊤
-IsRefusal reasons (Refused error) = IsAmong (kind_of error) reasons
-
--- The result of parsing the words: a job if `clap` has no reason to refuse them, with the command
--- and the options that the words name; else a refusal.
+-- the result of parsing the words: their job; or memory was refused, or `clap` refused the words
+-- for one of its reasons
 abbrev pub Reads : (words : List Text) (result : Result Job ArgsFault) → Type 0
-Reads words (Ok job) = (fault_of agep words ≡ []) × IsJobOf (subcommand_of agep words) job
-Reads words (Err fault) = IsRefusal (fault_of agep words) fault
-
--- the words make this job
-abbrev pub Makes : (words : List Text) (job : Job) → Type 0
-Makes words job = Reads words (Ok job)
+Reads words (Ok job) = Makes words job
+Reads words (Err Memory) = ⊤
+Reads words (Err (Refused error)) = IsAmong (kind_of error) (fault_of agep words)
 
 -- the words name this command, and no file for its input or its output
 abbrev pub IsPiped : (command : Command) (words : List Text) → Type 0
@@ -117,7 +107,6 @@ IsShown error = is_display (kind_of error) ≡ true
 abbrev pub AskForText : (words : List Text) → Type 0
 AskForText words = list_any is_display (fault_of agep words) ≡ true
 
--- the words are wrong
 abbrev pub AreWrong : (words : List Text) → Type 0
 AreWrong words = list_any (λ reason. not (is_display reason)) (fault_of agep words) ≡ true
 

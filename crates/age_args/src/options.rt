@@ -1,5 +1,5 @@
 //! The commands and options that `clap` parses. An option's id is its long name.
-ghost use Rattle.std.specs.Prelude.{◌≡◌, false, IfOk};
+ghost use Rattle.std.specs.Prelude.{◌≡◌, [], codes, false, true, IfOk};
 ghost use Rattle.clap.specs.Simple.{new_shape};
 ghost use Rattle.clap.specs.Words.{app_of, rule_of, shape_of};
 ghost use Rattle.age_args.specs.CommandLine as line;
@@ -92,7 +92,11 @@ pub(crate) fn whole_command<'a>(alloc: Global) -> Result<Command<'a>, AllocError
 
 /// The program, without its commands.
 fn bare_command<'a>(alloc: Global) -> Command<'a>
-    ensures { app_of result ≡ line.bare }
+    ensures { app_of result ≡ record {
+      top = record (new_shape (codes "agep"))
+          { has_version = true; propagate_version = true };
+      subs = [];
+    } }
 {
     Command::new(alloc, "agep")
         .about(ABOUT)
@@ -183,9 +187,10 @@ fn with_output_options<'a>(
     ensures { IfOk result
         (λ more. shape_of more ≡ line.with_rules (shape_of command.entry) line.writing) }
 {
-    let command = with_arg(command, output_option(alloc, output_help))?;
-    let command = with_arg(command, no_clobber_option(alloc))?;
-    with_arg(command, atomic_option(alloc))
+    let output = text_option(alloc, OUTPUT, 'o', "OUT", output_help);
+    let command = with_arg(command, output)?;
+    let command = with_arg(command, flag(alloc, NO_CLOBBER, 'n', NO_CLOBBER_HELP))?;
+    with_arg(command, long_flag(alloc, ATOMIC, ATOMIC_HELP))
 }
 
 fn inspect_command<'a>(alloc: Global) -> Result<Command<'a>, AllocError>
@@ -307,24 +312,6 @@ fn verbose_option<'a>(alloc: Global) -> Arg<'a>
     ensures { IsArg line.verbose result }
 {
     flag(alloc, VERBOSE, 'v', VERBOSE_HELP)
-}
-
-fn output_option<'a>(alloc: Global, help: &'a str) -> Arg<'a>
-    ensures { IsArg line.output result }
-{
-    text_option(alloc, OUTPUT, 'o', "OUT", help)
-}
-
-fn no_clobber_option<'a>(alloc: Global) -> Arg<'a>
-    ensures { IsArg line.no_clobber result }
-{
-    flag(alloc, NO_CLOBBER, 'n', NO_CLOBBER_HELP)
-}
-
-fn atomic_option<'a>(alloc: Global) -> Arg<'a>
-    ensures { IsArg line.atomic result }
-{
-    long_flag(alloc, ATOMIC, ATOMIC_HELP)
 }
 
 fn input_word<'a>(alloc: Global) -> Arg<'a>
