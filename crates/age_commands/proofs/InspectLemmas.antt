@@ -11,12 +11,9 @@ missed_of : (limits : Bounds) (raw : Bool) (key : Option Bytes) (b : Bytes) (sou
     (e : HeaderFault)
     → ReadsHeaderOf b source limits.max_header (Err e)
     → InspectsText limits raw key b (move_of old old) (Err (header_fault e))
-missed_of limits raw key b source old header.NotAge h = (header.NotAge, h, refl, Keeps-refl old)
-missed_of limits raw key b source old (header.BadLine n) h = (header.BadLine n, h, refl, Keeps-refl old)
-missed_of limits raw key b source old header.Truncated h = (header.Truncated, h, refl, Keeps-refl old)
-missed_of limits raw key b source old header.TooLarge h = (header.TooLarge, h, refl, Keeps-refl old)
 missed_of limits raw key b source old header.Read h = Keeps-refl old
 missed_of limits raw key b source old header.Memory h = Keeps-refl old
+missed_of limits raw key b source old e h = (e, h, refl, Keeps-refl old)
 
 missed_from : (limits : Bounds) (raw : Bool) (key : Option Bytes) (from to : Seen) (old : Known) (e : HeaderFault)
     → ReadsHeader (flow from to) limits.max_header (Err e)

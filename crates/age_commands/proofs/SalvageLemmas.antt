@@ -1,8 +1,8 @@
 -- What salvaging comes to from a source that may skip what cannot be read.
-use Rattle.age_commands.proofs.Common.{arith, Some, ◌≡◌, ◌⊎◌, ◌∙◌, [], ap, subst, cond, false, true, Bool, ℕ, Option, None, Result, Ok, Err, OnOk, IfOk, inl, inr, sym, refl, ◌&&◌, ⊤, IfSome, is_some, Consumes-whole, Bytes, CountsIf, Known, Moved, OfGiven, Seen, flow, KnownLosses, is_whole_to, losses_of, Fault, BadChunk, SalvagedFile, Bounds, IsQuiet, is_write, SalvagesFile, is_whole_file, Answering, SalvagesAll, if_whole}
+use Rattle.age_commands.proofs.Common.{arith, ◌≡◌, ◌⊎◌, ◌∙◌, [], ap, subst, cond, false, true, Bool, ℕ, Option, None, Result, Ok, Err, OnOk, IfOk, inl, inr, sym, refl, ◌&&◌, ⊤, IfSome, is_some, Consumes-whole, Bytes, CountsIf, Known, Moved, OfGiven, Seen, flow, KnownLosses, is_whole_to, losses_of, Fault, BadChunk, SalvagedFile, Bounds, IsQuiet, is_write, SalvagesFile, is_whole_file, Answering, SalvagesAll, if_whole}
 use Rattle.std.proofs.lemmas.Bool.Decides.{nat_tests}
 use Rattle.age_stream.specs.declared.salvaged.Saved.{Saved}
-use Rattle.age_stream.specs.declared.salvaged.Saved.TheVariants.{Chunk, LastChunk, Padded, Early, Zeros, Nothing}
+use Rattle.age_stream.specs.declared.salvaged.Saved.TheVariants.{LastChunk}
 use Rattle.age_commands.specs.declared.skipping.Reached.{Reached}
 use Rattle.age_commands.specs.declared.skipping.Reached.TheVariants.{Place, End, Failure}
 use Rattle.age_commands.specs.Skipping.{HasRead, OfRead, come_by, is_end}
@@ -67,13 +67,7 @@ writes_whole old new is_read (Ok s) is h =
 none_lost : (b : Bool) (last : Saved) (lost : ℕ) (early : Option ℕ) → (b && is_whole_to last lost early) ≡ true
     → lost ≡ 0
 none_lost true LastChunk lost None e = grind (arith, nat_tests, e)
-none_lost true LastChunk lost (Some i) e = absurd (cc)
-none_lost true Chunk lost early e = absurd (cc)
-none_lost true (Padded k) lost early e = absurd (cc)
-none_lost true Early lost early e = absurd (cc)
-none_lost true Zeros lost early e = absurd (cc)
-none_lost true Nothing lost early e = absurd (cc)
-none_lost false last lost early e = absurd (cc)
+none_lost b last lost early e = absurd (cc)
 
 pub silent_whole : {L : Type 0} (old mid new : L) (is_read : Bool) (done : Result SalvagedFile Fault)
     {result : Result ⊤ Fault} → result ≡ if_whole is_read done

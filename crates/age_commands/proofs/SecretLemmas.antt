@@ -1,5 +1,5 @@
 -- A list of one recipient or identity, and one that is known by its meaning.
-use Rattle.age_commands.proofs.Common.{◌≡◌, ◌∙◌, ◌+◌, ◌<◌, ◌++◌, [], ◌∷◌, List, ap, get_or, drop, length, map, subst, sym, take, Result, get_or_default, map_push, take_more, ⊤, ℕ, Bytes, Flow, Known, Moved, move_of, StanzaParts, decision_from, SalvagedFile, LossesMoved, Fault, Bounds, SalvagesFile, Answering, Secret, gathering_of, labels_of, recipient_of, wraps_of, Encrypting}
+use Rattle.age_commands.proofs.Common.{◌≡◌, ◌∙◌, ◌+◌, ◌<◌, ◌++◌, [], ◌∷◌, List, ap, get_or, drop, length, map, subst, sym, take, Result, get_or_default, map_push, take_more, ℕ, Bytes, Flow, Known, OfGiven, Seen, flow, move_of, of_any, some_none, StanzaParts, decision_from, Fault, Bounds, Answering, Secret, gathering_of, labels_of, recipient_of, wraps_of, Encrypting}
 use denote.Param.Object.{Made, read_made}
 use denote.Param.Table.{Entry, Table}
 use Rattle.age_header.specs.declared.file_key.FileKey.{FileKey}
@@ -8,9 +8,7 @@ use Rattle.age_recipient.specs.declared.labels.Labels.{Labels}
 use Rattle.age_recipient.specs.declared.unwrapped.Unwrapped.{Unwrapped}
 use Rattle.age_stream.specs.declared.done.Done.{Done}
 use Rattle.age_file.specs.declared.limits.Fresh.{Fresh}
-use Rattle.age_file.specs.Decrypt.{Decrypts}
 use Rattle.age_file.specs.NewFile.{Gathered, Gathering}
-use Rattle.age_file.specs.Rewrap.{Rewraps}
 use Rattle.age_job.specs.declared.secret.Secret.TheVariants.{Passphrase, Keys}
 
 -- a trait object that was just made reads as what it holds
@@ -31,29 +29,15 @@ pub gathering_meant : {w : FileKey → Result (List StanzaParts) ℕ} {l : Label
 gathering_meant (Passphrase pass) work salt wraps labels = rw (wraps, labels)
 gathering_meant (Keys keys) work salt wraps labels = rw (wraps, labels)
 
-pub decrypting_meant : {f g : Answering} (limits : Bounds) {source : Flow} (old new : Known) (r : Result Done Fault)
-    → f ≡ g → Decrypts limits f source (move_of old new) r → Decrypts limits g source (move_of old new) r
-decrypting_meant limits {source} old new r same h =
-    subst (λ (a : Answering). Decrypts limits a source (move_of old new) r) same h
-
-pub salvaging_meant : {f g : Answering} (limits : Bounds) {source : Flow} (sink : Moved) (losses : LossesMoved)
-    (r : Result SalvagedFile Fault) → f ≡ g
-    → SalvagesFile limits f source sink losses r → SalvagesFile limits g source sink losses r
-salvaging_meant limits {source} sink losses r same h =
-    subst (λ (a : Answering). SalvagesFile limits a source sink losses r) same h
+-- what holds of any bytes, where nothing was read
+pub unread : (a : Seen) {P : Bytes → Type 0} → ((b : Bytes) → P b) → OfGiven (flow a a) P
+unread a p = of_any (some_none a) p
 
 pub encrypting_meant : {f g : FileKey → Gathering} {limits : Bounds} {fresh : Fresh} {source : Flow} {old new : Known}
     {r : Result Done Fault} → f ≡ g → Encrypting limits fresh (f fresh.file_key) source (move_of old new) r
     → Encrypting limits fresh (g fresh.file_key) source (move_of old new) r
 encrypting_meant {limits} {fresh} {source} {old} {new} {r} same h =
     subst (λ (f : FileKey → Gathering). Encrypting limits fresh (f fresh.file_key) source (move_of old new) r) same h
-
-pub rewrapping_meant : {f g : Answering} {v w : FileKey → Gathering} (limits : Bounds) {source : Flow} (old new : Known)
-    (r : Result ⊤ Fault) → f ≡ g → v ≡ w
-    → Rewraps limits f v source (move_of old new) r → Rewraps limits g w source (move_of old new) r
-rewrapping_meant {g} {v} limits {source} old new r same gives h =
-    subst (λ (x : FileKey → Gathering). Rewraps limits g x source (move_of old new) r) gives
-    (subst (λ (x : Answering). Rewraps limits x v source (move_of old new) r) same h)
 
 -- what is decided by the remaining keys, after the next one
 pub keys_step : (f : Bytes → Unwrapped) (keys : List Bytes) {i : ℕ} (so_far : Unwrapped) {answer all : Unwrapped}

@@ -17,7 +17,6 @@ check_of None header = check.None
 check_of (Some key) header =
     if bytes_eq header.mac (header_mac key header.stanzas) then check.Good else check.Bad
 
--- the word for a check
 abbrev pub check_name : Check → Bytes
 check_name check.None = codes "none"
 check_name check.Good = codes "good"
@@ -27,7 +26,6 @@ check_name check.Bad = codes "bad"
 abbrev pub padded_decimal : (width n : ℕ) → Bytes
 padded_decimal width n = styled_decimal (format_spec 32 3 0 width (2 ^ 64 - 1)) n
 
--- arguments, each after a space
 abbrev pub spaced_arguments : List Bytes → Bytes
 spaced_arguments args = flat_map (λ arg. 32 ∷ arg) args
 
@@ -52,8 +50,7 @@ last_lines len checked =
     codes "\nheader " ++ (decimal len ++ (codes " bytes\ncheck " ++ (check_name checked
     ++ codes "\n")))
 
--- The table has the version, the number of stanzas, for each its index, the length of its body and
--- its arguments, then the base64 of the MAC, the length of the header, and the result of the check.
+-- the table of a header
 pub record IsTable (header : HeaderParts) (checked : Check) (shown : Bytes) : Type 0 where
   pub characters : Bytes
   pub text : Bytes

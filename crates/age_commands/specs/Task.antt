@@ -56,18 +56,15 @@ Performs job (Encrypt secret seed) from sink lost result =
     × OfKnown from (λ b. EncryptsText (limits_of job) seed.fresh gathered b sink done)
     × IfErr done (RefusesFirst (limits_of job) seed.fresh.file_key gathered)
 Performs job (Decrypt secret) from sink lost result =
-    let answers = answers_of secret job.max_work in
-    (done : Result Done Fault) × (result ≡ without_counts done)
-    × OfKnown from (λ b. DecryptsText (limits_of job) answers b sink done)
+    (done : Result Done Fault) × (result ≡ without_counts done) × OfKnown from
+    (λ b. DecryptsText (limits_of job) (answers_of secret job.max_work) b sink done)
 Performs job (Rewrap one other salt) from sink lost result =
-    let gathered = gathering_of other job.work salt in
-    let answers = answers_of one job.max_work in
-    OfKnown from (λ b. RewrapsText (limits_of job) answers gathered b sink result)
+    OfKnown from (λ b. RewrapsText (limits_of job) (answers_of one job.max_work)
+    (gathering_of other job.work salt) b sink result)
 Performs job (Inspect key) from sink lost result =
     OfKnown from (λ b. InspectsText (limits_of job) job.raw key b sink result)
-Performs job (Salvage secret) from sink lost result =
-    let answers = answers_of secret job.max_work in
-    SalvagesAll (limits_of job) answers job.input from sink lost result
+Performs job (Salvage secret) from sink lost result = SalvagesAll (limits_of job)
+    (answers_of secret job.max_work) job.input from sink lost result
 Performs job (Range secret) from sink lost result =
     (size : Option ℕ) × RangingAny (λ _ _ _. ⊤) (λ found. found) (limits_of job)
     (answers_of secret job.max_work) job.at job.len size sink result

@@ -14,6 +14,7 @@ use std::alloc::Global;
 
 /// Copies the source to the sink with a new header for the recipient of the new secret, if the old
 /// secret opens the old header, as `age_file::rewrap` does.
+#[tactic(auto, using(crate::proofs::SecretLemmas::unread))]
 pub(crate) fn rewrap<S: Source, W: Sink>(
     alloc: Global,
     job: &Job,

@@ -35,6 +35,7 @@ pub enum Task {
 
 /// Performs this task from this input to this sink. `salvage` reports the lost chunks to `report`.
 /// A range reads its input at offsets, the other tasks read it from start to end.
+#[tactic(auto, using(crate::proofs::TaskLemmas::no_memory))]
 pub fn perform_between<R: Read + Seek, W: Sink, L: Report>(
     alloc: Global,
     job: &Job,
@@ -58,33 +59,24 @@ pub fn perform_between<R: Read + Seek, W: Sink, L: Report>(
 {
     match task {
         Task::Encrypt(secret, seed) => {
-            let mut source = ReadSource::new(input);
-            without_counts(encrypt(alloc, job, secret, &seed, &mut source, out))
+            without_counts(encrypt(alloc, job, secret, &seed, &mut ReadSource::new(input), out))
         }
-        Task::Decrypt(secret) => {
-            let Ok(mut source) = file_source(alloc, input) else {
-                return Err(Fault::OutOfMemory);
-            };
-            without_counts(decrypt(alloc, job, secret, &mut source, out))
-        }
-        Task::Rewrap(old, new, salt) => {
-            let Ok(mut source) = file_source(alloc, input) else {
-                return Err(Fault::OutOfMemory);
-            };
-            rewrap(alloc, job, old, new, salt, &mut source, out)
-        }
-        Task::Inspect(file_key) => {
-            let Ok(mut source) = header_source(alloc, input) else {
-                return Err(Fault::OutOfMemory);
-            };
-            inspect(alloc, job, &file_key, &mut source, out)
-        }
-        Task::Range(secret) => {
-            let Ok(mut source) = source_at_offsets(alloc, input) else {
-                return Err(Fault::OutOfMemory);
-            };
-            range_of(alloc, job, secret, &mut source, out)
-        }
+        Task::Decrypt(secret) => match file_source(alloc, input) {
+            Ok(mut source) => without_counts(decrypt(alloc, job, secret, &mut source, out)),
+            Err(_) => Err(Fault::OutOfMemory),
+        },
+        Task::Rewrap(old, new, salt) => match file_source(alloc, input) {
+            Ok(mut source) => rewrap(alloc, job, old, new, salt, &mut source, out),
+            Err(_) => Err(Fault::OutOfMemory),
+        },
+        Task::Inspect(file_key) => match header_source(alloc, input) {
+            Ok(mut source) => inspect(alloc, job, &file_key, &mut source, out),
+            Err(_) => Err(Fault::OutOfMemory),
+        },
+        Task::Range(secret) => match source_at_offsets(alloc, input) {
+            Ok(mut source) => range_of(alloc, job, secret, &mut source, out),
+            Err(_) => Err(Fault::OutOfMemory),
+        },
         Task::Salvage(secret) => {
             salvage_all::<R, W, L, Brand>(alloc, job, secret, input, out, report)
         }

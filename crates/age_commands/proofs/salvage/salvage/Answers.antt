@@ -1,5 +1,5 @@
-use Rattle.age_commands.proofs.Common.{◌≡◌, ◌∷◌, [], rules, Appends-nil, move_by, losses_by, limits_of, of_any, some_none, reports_none}
-use Rattle.age_commands.proofs.SecretLemmas.{answers_meant, made_reads, salvaging_meant}
+use Rattle.age_commands.proofs.Common.{◌≡◌, ◌∷◌, [], rules, Appends-nil, of_any, some_none, reports_none}
+use Rattle.age_commands.proofs.SecretLemmas.{answers_meant, made_reads}
 use Rattle.age_commands.proofs.salvage.salvage.Goals as goal
 use Rattle.age_commands.proofs.salvage.salvage.OwnLists.{own-1, entry-1-1, at-1-1, same-1-1}
 
@@ -7,9 +7,7 @@ pub returns-clause-salvages : goal.returns-clause-salvages
 returns-clause-salvages g c =
     let same = made_reads own-1 entry-1-1 at-1-1 same-1-1 (λ j y. j.1.meaning y) c.into_dyn_box.ensures.1 in
     let one : c.as_slice.result.now ≡ c.into_dyn_box.result ∷ [] = search rules in
-    salvaging_meant (limits_of c.args.job.now) (move_by g.W.Sink.taken c.args.out.now c.salvage.new.out)
-    (losses_by g.L.Losses.lost c.args.losses.now c.salvage.new.losses) c.salvage.result
-    (answers_meant same c.in-Ok.ensures) (rw (one, c.limits_of.ensures) at c.salvage.ensures.salvages)
+    rw (one, c.limits_of.ensures, answers_meant same c.in-Ok.ensures) at c.salvage.ensures.salvages
 
 pub returns-in_default-clause-salvages : goal.returns-in_default-clause-salvages
 returns-in_default-clause-salvages g c = search (of_any, some_none, Appends-nil, reports_none)

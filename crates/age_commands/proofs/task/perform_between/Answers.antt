@@ -1,19 +1,6 @@
-use Rattle.age_commands.proofs.TaskLemmas.{no_memory}
 use Rattle.age_commands.proofs.VerifiedLemmas.{ranges_unseen}
 use Rattle.age_stream.specs.Salvage.{losses_by}
 use Rattle.age_commands.proofs.task.perform_between.Goals as goal
-
-pub returns-in_default-clause-performs : goal.returns-in_default-clause-performs
-returns-in_default-clause-performs g c = search no_memory
-
-pub returns-in_default-file_source-clause-performs : goal.returns-in_default-file_source-clause-performs
-returns-in_default-file_source-clause-performs g c = search no_memory
-
-pub returns-in_default-header_source-clause-performs : goal.returns-in_default-header_source-clause-performs
-returns-in_default-header_source-clause-performs g c = search no_memory
-
-pub returns-in_default-source_at_offsets-clause-performs : goal.returns-in_default-source_at_offsets-clause-performs
-returns-in_default-source_at_offsets-clause-performs g c = search no_memory
 
 pub returns-in-Ok-source_at_offsets-clause-performs : goal.returns-in-Ok-source_at_offsets-clause-performs
 returns-in-Ok-source_at_offsets-clause-performs g c =
