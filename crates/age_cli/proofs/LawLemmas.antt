@@ -1,5 +1,5 @@
 -- What a finished job has written, if input and output are known.
-use Rattle.age_cli.proofs.Common.{◌≡◌, ◌≤◌, ◌⊎◌, ◌∙◌, ◌++◌, ℕ, ap, arith, cond, false, inl, inr, length, refl, subst, sym, true, List, None, Some, Result, Ok, Err, ⊤, ◌↔◌, ◌&&◌, Bool, Option, Bytes, Known, move_of, LossesMoved, Fault, Job, Ends, IsPiped, Makes, Finishes, FinishesWords, word_limits, OfKnown, Performs, SalvagesAll, without_counts}
+use Rattle.age_cli.proofs.Common.{◌≡◌, ◌≤◌, ◌⊎◌, ◌∙◌, ◌++◌, ℕ, ap, arith, cond, false, inl, inr, length, refl, subst, sym, true, List, None, Some, Result, Ok, Err, ⊤, ◌↔◌, ◌&&◌, Bool, Option, Bytes, Known, move_of, LossesMoved, Fault, Job, Ends, IsPiped, Makes, Moved, Runs, RunsOn, word_limits, OfKnown, Performs, SalvagesAll, without_counts}
 use Rattle.std.specs.Io.KnownBytes.{Appends, Keeps}
 use Rattle.age_header.specs.Header.{HeaderParts, StanzaParts}
 use Rattle.age_header.specs.Verdict.{HeaderVerdict}
@@ -17,6 +17,7 @@ use Rattle.age_file.specs.Salvage.{SavesFile, is_whole_file}
 use Rattle.age_file.specs.declared.salvaging.SalvagedFile.{SalvagedFile}
 use Rattle.age_file.specs.Verdict.{Answering, IsVerdict, finding}
 use Rattle.age_file.proofs.SalvageLaws.{saved_exactly, saved_whole}
+use Rattle.age_job.specs.declared.job.Command.{Command}
 use Rattle.age_job.specs.declared.job.Command.TheVariants as command
 use Rattle.age_job.specs.declared.secret.Secret.{Secret}
 use Rattle.age_stream.specs.Ranges.{range_len}
@@ -49,22 +50,18 @@ abbrev pub Gained : (limits : Bounds) (b xs : Bytes) (new : Known) → Type 0
 Gained limits b xs new = (stanzas : List StanzaParts) × (k : FileKey) × (plain : Bytes)
     × AgeFile limits k stanzas plain b × (new ≡ Some (xs ++ plain))
 
-decrypted_whole : OkIsAgeFile → (limits : Bounds) (answers : Answering) (b xs : Bytes) (taken new : Known)
-    (counts : Done)
-    → DecryptsText limits answers b (move_of (Some xs) taken) (Ok counts) → Keeps taken new → Gained limits b xs new
-decrypted_whole law limits answers b xs taken new counts (verdict, judged, (none, bytes, n), appends) keeps =
-    let is_whole = subst (λ f. IsVerdict limits answers b (record { plaintext = verdict.plaintext; fault = f }))
-    none judged in
-    let found = (law limits answers b verdict.plaintext).0 is_whole in
-    (found.0, found.1, verdict.plaintext, found.2, grown xs verdict.plaintext taken new appends keeps)
-
 decrypted : OkIsAgeFile → (limits : Bounds) (answers : Answering) (b xs : Bytes) (taken new : Known)
     (done : Result Done Fault) (work : Result ⊤ Fault)
     → work ≡ without_counts done → OfKnown (Some b) (λ x. DecryptsText limits answers x (move_of (Some xs) taken) done)
     → Ends taken new work (Ok tt) → Gained limits b xs new
 decrypted law limits answers b xs taken new (Err fault) work is d ends = absurd (cc (is, (ended taken new ends).0))
-decrypted law limits answers b xs taken new (Ok counts) work is d ends =
-    decrypted_whole law limits answers b xs taken new counts d.2 (ended taken new ends).1
+decrypted law limits answers b xs taken new (Ok counts) work is
+    (given, one, (verdict, judged, (none, bytes, n), appends)) ends =
+    let is_whole = subst (λ f. IsVerdict limits answers b (record { plaintext = verdict.plaintext; fault = f }))
+    none judged in
+    let found = (law limits answers b verdict.plaintext).0 is_whole in
+    let keeps = (ended taken new ends).1 in
+    (found.0, found.1, verdict.plaintext, found.2, grown xs verdict.plaintext taken new appends keeps)
 
 if_ok : (b : Bool) (fault : Fault) → ◌≡◌ {A = Result ⊤ Fault} (cond b (Ok tt) (Err fault)) (Ok tt) → b ≡ true
 if_ok true fault e = refl
@@ -99,7 +96,7 @@ salvaged law some limits answers b xs taken new input lost work (Ok s, is_read, 
 
 pub done_decrypt : OkIsAgeFile → SomeVerdict → (job : Job) (b xs : Bytes) (new : Known)
     → (job.command ≡ command.Decrypt) ⊎ (job.command ≡ command.Salvage)
-    → Finishes job (Some b) (move_of (Some xs) new) → Gained (limits_of job) b xs new
+    → Runs job (Some b) (move_of (Some xs) new) (Ok tt) → Gained (limits_of job) b xs new
 done_decrypt law some job b xs new one (task.Decrypt secret, is, (taken, work, (lost, (done, same, d)), quiet, ends)) =
     decrypted law (limits_of job) (answers_of secret job.max_work) b xs taken new done work same d ends
 done_decrypt law some job b xs new one (task.Salvage secret, is, (taken, work, (lost, d), quiet, ends)) =
@@ -112,13 +109,6 @@ abbrev pub Made : (limits : Bounds) (plain xs : Bytes) (new : Known) → Type 0
 Made limits plain xs new = (stanzas : List StanzaParts) × (k : FileKey) × (b : Bytes) × AgeFile limits k stanzas plain b
     × (new ≡ Some (xs ++ b))
 
-encrypted_whole : (limits : Bounds) (fresh : Fresh) (gathered : Gathering) (plain xs : Bytes) (taken new : Known)
-    (counts : Done)
-    → EncryptsText limits fresh gathered plain (move_of (Some xs) taken) (Ok counts) → Keeps taken new
-    → Made limits plain xs new
-encrypted_whole limits fresh gathered plain xs taken new counts (gained, file, appends, bytes, n) keeps =
-    (file.stanzas, fresh.file_key, gained, file.file, grown xs gained taken new appends keeps)
-
 encrypted : (limits : Bounds) (fresh : Fresh) (gathered : Gathering) (plain xs : Bytes) (taken new : Known)
     (done : Result Done Fault) (work : Result ⊤ Fault)
     → work ≡ without_counts done
@@ -126,11 +116,12 @@ encrypted : (limits : Bounds) (fresh : Fresh) (gathered : Gathering) (plain xs :
     → Ends taken new work (Ok tt) → Made limits plain xs new
 encrypted limits fresh gathered plain xs taken new (Err fault) work is e ends =
     absurd (cc (is, (ended taken new ends).0))
-encrypted limits fresh gathered plain xs taken new (Ok counts) work is e ends =
-    encrypted_whole limits fresh gathered plain xs taken new counts e.2 (ended taken new ends).1
+encrypted limits fresh gathered plain xs taken new (Ok counts) work is
+    (given, one, (gained, file, appends, bytes, n)) ends =
+    (file.header.stanzas, fresh.file_key, gained, file.file, grown xs gained taken new appends (ended taken new ends).1)
 
 pub done_encrypt : (job : Job) (plain xs : Bytes) (new : Known) → job.command ≡ command.Encrypt
-    → Finishes job (Some plain) (move_of (Some xs) new) → Made (limits_of job) plain xs new
+    → Runs job (Some plain) (move_of (Some xs) new) (Ok tt) → Made (limits_of job) plain xs new
 done_encrypt job plain xs new one (task.Encrypt secret seed, is, (taken, work, (lost, performs), quiet, ends)) =
     let (done, same, e, refused) = performs in
     let gathered = gathering_of secret job.work seed.salt seed.fresh.file_key in
@@ -150,7 +141,7 @@ rewrote limits answers gathered b xs taken new (Ok u) (given, one, (c, is, took)
     (answers, c, is.0, grown xs c taken new took (ended taken new ends).1)
 
 pub done_rewrap : (job : Job) (b xs : Bytes) (new : Known) → job.command ≡ command.Rewrap
-    → Finishes job (Some b) (move_of (Some xs) new) → Rewrote (limits_of job) b xs new
+    → Runs job (Some b) (move_of (Some xs) new) (Ok tt) → Rewrote (limits_of job) b xs new
 done_rewrap job b xs new one (task.Rewrap old other salt, is, (taken, work, (lost, r), quiet, ends)) =
     rewrote (limits_of job) (answers_of old job.max_work) (gathering_of other job.work salt) b xs taken new work r ends
 done_rewrap job b xs new one (task, is, w) = absurd (cc (one, is.0))
@@ -171,7 +162,7 @@ showed limits raw key b xs taken new (Ok u) (given, one, t) ends =
     (t.header, t.text, t.verdict, (key, t.shown, t.is, grown xs t.shown taken new t.holds.1 keeps))
 
 pub done_inspect : (job : Job) (b xs : Bytes) (new : Known) → job.command ≡ command.Inspect
-    → Finishes job (Some b) (move_of (Some xs) new) → Showed (limits_of job) job.raw b xs new
+    → Runs job (Some b) (move_of (Some xs) new) (Ok tt) → Showed (limits_of job) job.raw b xs new
 done_inspect job b xs new one (task.Inspect key, is, (taken, work, (lost, i), quiet, ends)) =
     showed (limits_of job) job.raw key b xs taken new work i ends
 done_inspect job b xs new one (task, is, w) = absurd (cc (one, is.0))
@@ -191,44 +182,17 @@ ranged job secret from xs taken new lost (Ok u) (size, inr o) ends =
     (one.part, omega arith, grown xs one.part taken new one.appends (ended taken new ends).1)
 
 pub done_range : (job : Job) (from : Known) (xs : Bytes) (new : Known) → job.command ≡ command.Range
-    → Finishes job from (move_of (Some xs) new) → GainedAtMost job.len xs new
+    → Runs job from (move_of (Some xs) new) (Ok tt) → GainedAtMost job.len xs new
 done_range job from xs new one (task.Range secret, is, (taken, work, (lost, r), quiet, ends)) =
     ranged job secret from xs taken new lost work r ends
 done_range job from xs new one (task, is, w) = absurd (cc (one, is.0))
 
--- the same from the words
-pub words_decrypt : OkIsAgeFile → SomeVerdict → {F : Type 0} {remaining contents : F → Known} (words : List Bytes)
-    (b xs : Bytes) (new : Known) → IsPiped command.Decrypt words ⊎ IsPiped command.Salvage words
-    → FinishesWords F remaining contents words (Some b) (move_of (Some xs) new) → Gained (word_limits words) b xs new
-words_decrypt law some {F} {remaining} {contents} words b xs new (inl pipe) (job, makes, done) =
-    let p = piped command.Decrypt words job pipe makes in
-    rw p.max_header at
-    (done_decrypt law some job b xs new (inl p.is) (alone F remaining contents job p.input p.output done))
-words_decrypt law some {F} {remaining} {contents} words b xs new (inr pipe) (job, makes, done) =
-    let p = piped command.Salvage words job pipe makes in
-    rw p.max_header at
-    (done_decrypt law some job b xs new (inr p.is) (alone F remaining contents job p.input p.output done))
-
-pub words_encrypt : {F : Type 0} {remaining contents : F → Known} (words : List Bytes) (plain xs : Bytes) (new : Known)
-    → IsPiped command.Encrypt words → FinishesWords F remaining contents words (Some plain) (move_of (Some xs) new)
-    → Made (word_limits words) plain xs new
-words_encrypt {F} {remaining} {contents} words plain xs new pipe (job, makes, done) =
-    let p = piped command.Encrypt words job pipe makes in
-    rw p.max_header at (done_encrypt job plain xs new p.is (alone F remaining contents job p.input p.output done))
-
-pub words_rewrap : {F : Type 0} {remaining contents : F → Known} (words : List Bytes) (b xs : Bytes) (new : Known)
-    → IsPiped command.Rewrap words → FinishesWords F remaining contents words (Some b) (move_of (Some xs) new)
-    → Rewrote (word_limits words) b xs new
-words_rewrap {F} {remaining} {contents} words b xs new pipe (job, makes, done) =
-    let p = piped command.Rewrap words job pipe makes in
-    rw p.max_header at (done_rewrap job b xs new p.is (alone F remaining contents job p.input p.output done))
-
-pub words_inspect : {F : Type 0} {remaining contents : F → Known} (words : List Bytes) (b xs : Bytes) (new : Known)
-    → IsPiped command.Inspect words → FinishesWords F remaining contents words (Some b) (move_of (Some xs) new)
-    → (job : Job) × Makes words job × Showed (word_limits words) job.raw b xs new
-words_inspect {F} {remaining} {contents} words b xs new pipe (job, makes, done) =
-    let p = piped command.Inspect words job pipe makes in (
-      job,
-      makes,
-      rw p.max_header at (done_inspect job b xs new p.is (alone F remaining contents job p.input p.output done)),
-    )
+-- a job of words that name no file
+pub words_job : {F : Type 0} (remaining contents : F → Known) (words : List Bytes) (c : Command) (job : Job)
+    (from : Known) (sink : Moved) (result : Result ⊤ Fault) → IsPiped c words → Makes words job
+    → RunsOn remaining contents job from sink result
+    → (job.command ≡ c) × (limits_of job ≡ word_limits words) × Runs job from sink result
+words_job remaining contents words c job from sink result pipe makes runs =
+    let p = piped c words job pipe makes in
+    let limits : ℕ → Bounds = λ n. record { max_header = n; max_chunks = (word_limits words).max_chunks } in
+    (p.is, ap limits p.max_header, alone remaining contents job p.input p.output runs)

@@ -1,6 +1,6 @@
 //! The lines about chunks that `salvage` lost.
 
-use crate::program::say;
+use crate::messages::say;
 use age_commands::{Report, Unread};
 use age_file::{
     CHUNK_SIZE, Losses, LostChunk, LostRun, Salvaged, SalvagedFile, Saved, TAG_SIZE, join_lost,
@@ -19,6 +19,24 @@ pub(crate) struct LossLines<'a, 'b, E> {
     pub(crate) run: Option<LostRun>,
     /// Whether the line on progress may be shown, which a line printed here replaces.
     pub(crate) is_shown: bool,
+}
+
+/// Prints nothing: only `salvage` loses chunks.
+#[derive(Clone, Copy, Drop)]
+pub(crate) struct NoLines;
+
+impl Losses for NoLines {
+    ghost use Rattle.std.specs.Prelude.{None};
+
+    ghost lost = { λ _. None };
+
+    fn lose(&mut self, _chunk: LostChunk) {}
+}
+
+impl Report for NoLines {
+    fn damaged(&mut self, _saved: &SalvagedFile) {}
+
+    fn unread(&mut self, _unread: &Unread) {}
 }
 
 /// A run of lost chunks. Its text follows `agep: ` on standard error.
@@ -51,7 +69,7 @@ impl fmt::Display for RunLine {
 impl<'a, 'b, E: Write> LossLines<'a, 'b, E> {
     fn print<D: fmt::Display>(&mut self, line: &D) {
         let before = if self.is_shown { ERASE } else { "" };
-        say(
+        let _ = say(
             self.alloc,
             &format_args!("{before}agep: {line}\n"),
             self.err,

@@ -1,13 +1,16 @@
 //! The program, over a reader and two writers.
-ghost use Rattle.std.specs.Prelude.{◌≡◌, ◌≢◌, ◌≤◌, ◌⊎◌, None, IfOk, OnOk};
+ghost use Rattle.std.specs.Prelude.{◌≡◌, ◌≢◌, ◌≤◌, ◌⊎◌, Err, None, Ok, false, codes, IfOk, OnOk};
 ghost use Rattle.age_job.specs.Job.{IsInRange};
-ghost use Rattle.age_args.specs.JobOf.{AreWrong, AskForText};
+ghost use Rattle.age_args.specs.JobOf.{AreWrong, AskForText, Makes};
 ghost use Rattle.age_args.specs.Words.{texts};
-ghost use Rattle.age_cli.specs.Program.{AnswersRefusal, Begins, BeginsWords, Completes, FinishesOn, FinishesWords, IsTaskOf, PerformsOn, UsesStreams};
-ghost use Rattle.age_header.specs.Device.{Stays, move_by};
+ghost use Rattle.age_cli.specs.Program.{AnswersRefusal, IsDevice, IsTaskOf, OfWork, RunsOn, Works};
+ghost use Rattle.age_cli.specs.Told.{Tells, Told};
+ghost use Rattle.age_file.specs.Texts.{fault_text};
+ghost use Rattle.age_header.specs.Device.{Moved, Stays, move_by};
 
 use crate::failure::Failure;
-use crate::lines::LossLines;
+use crate::lines::{LossLines, NoLines};
+use crate::messages::{say, tell};
 use crate::work::{input_name, kept_prefix, perform_to};
 use age_args::{ArgsFault, parse_args};
 use age_commands::{Report, Seed, Task, seed_of};
@@ -16,7 +19,7 @@ use age_job::{
     Command, Job, Lines, Pipe, ReadFiles, SEED_LEN, Shown, Target, Watched, read_encrypt_secrets,
     read_file_key, read_rewrap_secrets, read_secret, refuse_output, shows_progress,
 };
-use std::alloc::{AllocError, Global};
+use std::alloc::Global;
 use std::fmt::Display;
 use std::io::{IsTerminal, Read, Seek, Write};
 use std::rt::{Env, Files};
@@ -60,19 +63,28 @@ pub fn run<
     // was performed from its IN to its OUT. Unless named, these are standard input and standard
     // output. A named one is some value of the file type, not tied to the file opened.
     ensures finishes { result ≡ 0 → AskForText (texts words.now)
-        ⊎ FinishesWords F.File ⟦<F::File as Read>⟧.remaining ⟦<F::File as Write>⟧.contents
-        (texts words.now) (R.remaining input.old)
-        (move_by W.contents out.old out.new) }
+        ⊎ ((job : Job) × Makes (texts words.now) job × RunsOn F.File.remaining F.File.contents job
+        (R.remaining input.old) (move_by W.contents out.old out.new) (Ok tt)) }
     // Status 1: the words ask for a text that could not be written, the output is as it was, or the
-    // words make a job of which, if it names no OUT, a task ended with a fault.
+    // words make a job of which a task ended with a fault.
     ensures begins { result ≡ 1 → AskForText (texts words.now)
         ⊎ (Stays (move_by W.contents out.old out.new)
-        ⊎ BeginsWords F.File ⟦<F::File as Read>⟧.remaining (texts words.now)
-        (R.remaining input.old) (move_by W.contents out.old out.new)) }
+        ⊎ ((job : Job) × Makes (texts words.now) job
+        × ((fault : Fault) × RunsOn F.File.remaining F.File.contents job
+        (R.remaining input.old) (move_by W.contents out.old out.new) (Err fault)))) }
+    // Status 1: the words ask for a text, or `err` got the line of refused memory, or that of the
+    // fault that ended the job of these words.
+    ensures told { let err = move_by E.contents err.old err.new in
+        result ≡ 1 → AskForText (texts words.now)
+        ⊎ (Tells false (codes "out of memory") err
+        ⊎ ((job : Job) × Makes (texts words.now) job × Told F.File.remaining F.File.contents job
+        (R.remaining input.old) (move_by W.contents out.old out.new) err)) }
     // No standard input is read if the words make a job that names IN, and nothing is written to
     // standard output if it names OUT; neither is without a job, but for a text that they ask for.
-    ensures streams { UsesStreams (texts words.now) (input.new ≡ input.old)
-        (out.new ≡ out.old) }
+    ensures streams { (AskForText (texts words.now) × (input.new ≡ input.old))
+        ⊎ (((input.new ≡ input.old) × (out.new ≡ out.old))
+        ⊎ ((job : Job) × Makes (texts words.now) job × (job.input ≢ None → input.new ≡ input.old)
+        × (job.output ≢ None → out.new ≡ out.old))) }
 {
     match parse_args(rt.alloc(), words) {
         Ok(job) => run_job(rt, &job, input, out, err),
@@ -96,27 +108,24 @@ pub fn run_job<
     // of the kind that the options name and some seed. If the contents of both are known, exactly
     // what the library writes was appended. Of the IN of a range nothing is known: the clause
     // bounds the number of bytes written.
-    ensures finishes { result ≡ 0 → FinishesOn F.File ⟦<F::File as Read>⟧.remaining
-        ⟦<F::File as Write>⟧.contents job.now (R.remaining input.old)
-        (move_by W.contents out.old out.new) }
+    ensures finishes { result ≡ 0 → RunsOn F.File.remaining F.File.contents job.now
+        (R.remaining input.old) (move_by W.contents out.old out.new) (Ok tt) }
     // No standard input is read if the job names IN.
     ensures input { job.now.input ≢ None → input.new ≡ input.old }
     // If the job names OUT, nothing is written to standard output.
     ensures output { job.now.output ≢ None → out.new ≡ out.old }
-    // Status 1 without OUT: the output is as it was, or such a task ended with a fault: what the
-    // library says was written with this fault, or with the result after which the flush failed.
-    ensures begins { result ≡ 1 → job.now.output ≡ None
-        → Begins F.File ⟦<F::File as Read>⟧.remaining job.now (R.remaining input.old)
-        (move_by W.contents out.old out.new) }
+    // Status 1: the output is as it was, or such a task ended with a fault: what the library says
+    // was written with this fault, or with the result after which the flush failed.
+    ensures begins { result ≡ 1 → Stays (move_by W.contents out.old out.new)
+        ⊎ ((fault : Fault) × RunsOn F.File.remaining F.File.contents job.now
+        (R.remaining input.old) (move_by W.contents out.old out.new) (Err fault)) }
+    // Status 1, but not of `salvage`: `err` got the line of the fault that ended the job. After a
+    // failed write it has a prefix of that line, and with `--verbose` more may follow the line.
+    ensures told { result ≡ 1 → Told F.File.remaining F.File.contents job.now
+        (R.remaining input.old) (move_by W.contents out.old out.new)
+        (move_by E.contents err.old err.new) }
 {
     let is_shown = shows_progress(rt, job, out, err);
-    let mut lines = LossLines {
-        alloc: rt.alloc(),
-        err,
-        input: input_name(job),
-        run: None,
-        is_shown,
-    };
     let target = Target::of(rt, job);
     let mut work = Work {
         job,
@@ -124,26 +133,34 @@ pub fn run_job<
         read: ReadFiles::new(rt, job),
         is_shown,
     };
-    match perform(rt, &mut work, input, out, &mut lines) {
-        Ok(()) => DONE,
-        Err(failure) => {
-            lines.end();
-            let LossLines { alloc, err, .. } = lines;
-            if is_told(job, &failure) {
-                return FAILED;
-            }
-            let more = if job.verbose { Some(&work.read) } else { None };
-            report(alloc, &failure, more, err)
+    if matches!(job.command, Command::Salvage) {
+        let mut lines = LossLines {
+            alloc: rt.alloc(),
+            err,
+            input: input_name(job),
+            run: None,
+            is_shown,
+        };
+        let Err(failure) = perform(rt, &mut work, input, out, &mut lines) else {
+            return DONE;
+        };
+        lines.end();
+        let LossLines { alloc, err, .. } = lines;
+        if !is_told(&failure) {
+            let _ = tell(alloc, job, &failure, &work.read, err);
         }
+        return FAILED;
     }
+    let Err(failure) = perform(rt, &mut work, input, out, &mut NoLines) else {
+        return DONE;
+    };
+    let _ = tell(rt.alloc(), job, &failure, &work.read, err);
+    FAILED
 }
 
-/// Whether lines on lost chunks were printed instead of the fault.
-fn is_told(job: &Job, failure: &Failure<'_>) -> bool {
-    match failure {
-        Failure::AgeFile(Fault::BadChunk(_), _) => job.command == Command::Salvage,
-        _ => false,
-    }
+/// Whether lines on lost chunks were printed instead of the fault of a `salvage`.
+fn is_told(failure: &Failure<'_>) -> bool {
+    matches!(failure, Failure::AgeFile(Fault::BadChunk(_), _))
 }
 
 /// A job with its files.
@@ -169,9 +186,9 @@ fn perform<'a, F: Files + Clock + AllocGlobal, R: Read, W: Write + IsTerminal, L
 ) -> Result<(), Failure<'a>>
     requires { IsInRange work.old.job.now }
     ensures silent { OnOk result (lines.new ≡ lines.old) }
-    ensures completes { Completes F.File ⟦<F::File as Read>⟧.remaining
-        ⟦<F::File as Write>⟧.contents work.old.job.now (R.remaining input.old)
-        (move_by W.contents out.old out.new) result }
+    ensures completes { let sink = move_by W.contents out.old out.new in
+        OfWork (RunsOn F.File.remaining F.File.contents work.old.job.now
+        (R.remaining input.old) sink) (Stays sink) result }
     ensures input { work.old.job.now.input ≢ None → input.new ≡ input.old }
     ensures output { work.old.job.now.output ≢ None → out.new ≡ out.old }
 {
@@ -238,8 +255,11 @@ fn perform_on<'a, F: Files + AllocGlobal, R: Read + Seek + Drop, W: Write, L: Re
 ) -> Result<(), Failure<'a>>
     requires { IsInRange work.now.job.now }
     ensures silent { OnOk result (lines.new ≡ lines.old) }
-    ensures performs { PerformsOn F.File ⟦<F::File as Write>⟧.contents work.now.job.now task
-        (R.remaining input) (move_by W.contents out.old out.new) result }
+    ensures performs { let sink = move_by W.contents out.old out.new in
+        OfWork (λ done. (target : Moved)
+        × IsDevice (λ (file : F.File × F.File). move_by F.File.contents file.0 file.1)
+        work.now.job.now.output sink target
+        × Works work.now.job.now task (R.remaining input) target done) (Stays sink) result }
     ensures output { work.now.job.now.output ≢ None → out.new ≡ out.old }
 {
     let (job, target) = (work.job, work.target);
@@ -262,48 +282,24 @@ fn perform_on<'a, F: Files + AllocGlobal, R: Read + Seek + Drop, W: Write, L: Re
     }
 }
 
-/// Prints a text on standard error, in one write if it fits into memory. Ignores a failed write.
-pub(crate) fn say<D: Display, E: Write>(alloc: Global, text: &D, err: &mut E) {
-    let mut whole = Vec::new(alloc);
-    let _ = match write!(whole, "{text}") {
-        Ok(()) => err.write_all(whole.as_slice()),
-        Err(_) => write!(err, "{text}"),
-    };
-}
-
-/// Prints the fault and, if `more` has the files that were read, what more is known about it.
-fn report<E: Write>(
-    alloc: Global,
-    failure: &Failure<'_>,
-    more: Option<&ReadFiles<'_>>,
-    err: &mut E,
-) -> u8
-    ensures { result ≡ 1 }
+/// Prints a fault.
+fn fail<E: Write>(alloc: Global, fault: Fault, err: &mut E) -> u8
+    ensures status { result ≡ 1 }
+    ensures told { Tells false (fault_text fault) (move_by E.contents err.old err.new) }
 {
-    say(alloc, &format_args!("agep: {failure}\n"), err);
-    match (failure, more) {
-        (Failure::AgeFile(Fault::WrongKey, Some(detail)), Some(read)) => {
-            let tried = read.tried();
-            say(alloc, &format_args!("agep: {detail}{tried}\n"), err);
-        }
-        (Failure::AgeFile(_, Some(detail)), Some(_)) => {
-            say(alloc, &format_args!("agep: {detail}\n"), err);
-        }
-        (Failure::Job(failure), Some(_)) => {
-            if let Some(detail) = &failure.detail {
-                say(alloc, &format_args!("agep: {detail}\n"), err);
-            }
-        }
-        _ => {}
-    }
+    let _ = say(alloc, &format_args!("agep: {fault}\n"), err);
     FAILED
 }
 
-/// Prints why the command line was refused.
+/// Prints why the command line was refused, in parts if memory is refused for the whole text.
 fn refuse<D: Display, E: Write>(alloc: Global, why: &D, err: &mut E) -> u8
     ensures { result ≡ 2 }
 {
-    say(alloc, why, err);
+    let mut whole = Vec::new(alloc);
+    let _ = match write!(whole, "{why}") {
+        Ok(()) => err.write_all(whole.as_slice()),
+        Err(_) => write!(err, "{why}"),
+    };
     REFUSED
 }
 
@@ -316,6 +312,8 @@ fn answer_refusal<W: Write, E: Write>(
 ) -> u8
     ensures answers { AnswersRefusal fault.now result (out.new ≡ out.old) }
     ensures quiet { result ≡ 0 → err.new ≡ err.old }
+    ensures told { fault.now ≡ ArgsFault.Memory
+        → Tells false (codes "out of memory") (move_by E.contents err.old err.new) }
 {
     match fault {
         ArgsFault::Refused(error) => {
@@ -324,9 +322,9 @@ fn answer_refusal<W: Write, E: Write>(
             }
             match write!(out, "{error}").and_then(|()| out.flush()) {
                 Ok(()) => DONE,
-                Err(_) => report(alloc, &Failure::AgeFile(Fault::Write, None), None, err),
+                Err(_) => fail(alloc, Fault::Write, err),
             }
         }
-        ArgsFault::Memory => report(alloc, &Failure::from(AllocError), None, err),
+        ArgsFault::Memory => fail(alloc, Fault::OutOfMemory, err),
     }
 }
