@@ -32,9 +32,9 @@ pub file_of_one : (limits : Bounds) (fresh : Fresh) {wrapped : Result (List Stan
     → (stanzas : List StanzaParts) × (wrapped ≡ Ok stanzas) × AgeFile limits fresh.file_key stanzas plain file
 file_of_one limits fresh {wrapped} meant plain file done {source} come given =
     let h = of_known _ source plain come given in (
-      h.1.stanzas,
-      gathered_one wrapped meant h.1.stanzas h.1.heading.gives,
-      subst (λ f. AgeFile limits fresh.file_key h.1.stanzas plain f) (sym h.2) h.1.file,
+      h.1.header.stanzas,
+      gathered_one wrapped meant h.1.header.stanzas h.1.header.heading.gives,
+      subst (λ f. AgeFile limits fresh.file_key h.1.header.stanzas plain f) (sym h.2) h.1.file,
     )
 
 -- bytes have one verdict

@@ -40,17 +40,15 @@ pub fn encrypted(
     }
     let mut source = MemSource::new(plain);
     let mut file = MemSink::new(Vec::new(alloc));
-    match encrypt(
+    encrypt(
         alloc,
         &mut source,
         &mut file,
         recipients.as_slice(),
         fresh,
         limits,
-    ) {
-        Ok(_) => Ok(file.into_vec()),
-        Err(fault) => Err(fault),
-    }
+    )?;
+    Ok(file.into_vec())
 }
 
 /// Decrypts a file with one identity.
@@ -80,8 +78,6 @@ pub fn decrypted(
     }
     let mut source = MemSource::new(file);
     let mut text = MemSink::new(Vec::new(alloc));
-    match decrypt(alloc, &mut source, &mut text, identities.as_slice(), limits) {
-        Ok(_) => Ok(text.into_vec()),
-        Err(fault) => Err(fault),
-    }
+    decrypt(alloc, &mut source, &mut text, identities.as_slice(), limits)?;
+    Ok(text.into_vec())
 }
