@@ -28,7 +28,7 @@ pub use Rattle.agefile.specs.Inspect.{GivesStanzas, HeaderOf, Inspected, Inspect
 pub use Rattle.agefile.specs.Payload.{Opened, OpensNext, SealsAs, SealsNext, after_chunk, before_first, may_seal, phase_reading, phase_writing}
 pub use Rattle.agefile.specs.Ranges.{OpensRanges, last_index, piece_at, piece_outcome, plain_of}
 pub use Rattle.agefile.specs.Report.{Refuses, Returns, Steps, report_of}
-pub use Rattle.agefile.specs.Sizes.{chunk_count, file_len, front_size, limits, opened_len, plain_len_at_most, sealed_len}
+pub use Rattle.agefile.specs.Sizes.{IsFront, chunk_count, file_len, front_size, limits, opened_len, plain_len_at_most, sealed_len}
 pub use Rattle.agefile.specs.Unlock.{FindsKey, FindsStart, GivesKey, IsKey, IsStart, Opens, StartsAt, Unlocks, by_file_key, gives_key, start_under, with_len}
 pub use Rattle.agefile.specs.WholeFiles.{Decrypts, Encrypts, GivesFirst, GivesReading, IsNewFile}
 pub use Rattle.agefile.specs.Words.{Answering, BadLine, BadMac, Bytes, Fault, FileKey, Found, Global, HeaderFault, HeaderParts, HeaderTruncated, HeaderVerdict, IsStanza, IsVerdict, MixedPassphrase, NoRecipients, NonceTruncated, NotAge, OutOfMemory, Payload, Reading, Report, StanzaParts, Start, StreamFault, chunk_nonce, chunk_size, chunks, header_fault, header_key, is_end, is_mixed, join_by, line, outcome, parts_of, payload, payload_key, sealed_chunk_size, sealed_text, stream_fault, version_line}

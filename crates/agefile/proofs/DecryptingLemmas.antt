@@ -18,8 +18,7 @@ first_is key i size left piece sized is =
     rw (is, whole, first_cut sealed_chunk_size size left sized) refl
 
 pub first_given : {o p : Result Bytes StreamFault} (n : ℕ) (after text old : Bytes) {new : Bytes} → p ≡ o
-    → GivesText p after (Ok n) → text ≡ take n after → new ≡ text ++ drop n old
-    → GivesFirst o old new (Ok n)
+    → GivesText p after (Ok n) → text ≡ take n after → new ≡ text ++ drop n old → GivesFirst o old new (Ok n)
 first_given n after text old same h is put =
     rw (← same, h.0, length-take-le n after h.1) (refl, rw is at put)
 
@@ -160,10 +159,9 @@ decrypts_opened answers {b} old new {report} {code} len start fault (inr (header
     let fits = reading_fits v old new report code len fault from gives size reported returned in
     inr (Ok start, (header, verdict, is), inr (rw length-drop at room, (v, judged_so, fits)))
 
-pub no_room : (answers : Answering) {b : Bytes} {old : Bytes} {report : Report} (room : ℕ)
-    (start : Start) → FindsStart answers b (Ok start)
-    → room ≡ opened_len (length (drop start.first b)) → report ≡ report_of room None → length old < room
-    → Decrypts answers b old old report 21
+pub no_room : (answers : Answering) {b : Bytes} {old : Bytes} {report : Report} (room : ℕ) (start : Start)
+    → FindsStart answers b (Ok start) → room ≡ opened_len (length (drop start.first b)) → report ≡ report_of room None
+    → length old < room → Decrypts answers b old old report 21
 no_room answers room start (inl memory) is reported more = absurd (cc)
 no_room answers {b} {old} {report} room start (inr at) is reported more =
     let exceeds : Exceeds room old old report 21 =

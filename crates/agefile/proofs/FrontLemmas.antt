@@ -33,8 +33,7 @@ start_behind len n b key le =
 
 -- the first 65,552 bytes of a file have its start
 pub whole_start : (answers : Answering) (b : Bytes) (start : Result Start Fault)
-    → IsStart answers (take front_size b) start
-    → IsStart answers b start
+    → IsStart answers (take front_size b) start → IsStart answers b start
 whole_start answers b start (Err e, verdict, is) = (Err e, whole_verdict b (Err e) verdict, is)
 whole_start answers b start (Ok found, verdict, is) =
     let there = whole_verdict b (Ok found) verdict in
@@ -179,8 +178,7 @@ short_start answers n b s low (Ok found, verdict, is) =
     ]
 
 pub short_fronts : (answers : Answering) (n : ℕ) (b : Bytes) (p q : Payload) (report r : Report) (code : ℕ)
-    → Opens answers b p report 0 → n < report.len
-    → Opens answers (take n b) q r code → code ≢ 17
+    → Opens answers b p report 0 → n < report.len → Opens answers (take n b) q r code → code ≢ 17
     → (code ≡ fault_code HeaderTruncated) ⊎ (code ≡ fault_code NonceTruncated)
 short_fronts answers n b p q report r code first low second other =
     let (s, is, at) = opened_start answers b p report first in

@@ -1,7 +1,8 @@
 -- The header in front of bytes that lie in memory.
-use Rattle.agefile.proofs.Common.{◌≡◌, ◌⊎◌, ℕ, ◌<◌, ◌≤◌, ◌-◌, ◌^◌, List, [], ◌∷◌, ◌++◌, length, length-take, take, map, flat_map, min, ◌∙◌, ap, refl, inl, inr, arith, Some, None, Result, Ok, Err, String, IfOk, take-take, Global, string_bytes, join_by, Bytes, CountsIf, Flow, HeaderFault, Head, HeaderParts, Found, HeaderVerdict, ReadsHeaderOf, one_text, begins_found, reads_known, Fault, OutOfMemory, Inspects, file_result, finding, header_fault, Report, fault_code, Refuses, Returns, report_of, GivesStanzas, HeaderOf, Inspected, InspectsStanzas, arguments_text, limits, front_size}
+use Rattle.agefile.proofs.Common.{◌≡◌, ◌⊎◌, ℕ, ◌<◌, ◌≤◌, ◌-◌, ◌^◌, List, [], ◌∷◌, ◌++◌, length, length-take, take, map, flat_map, min, sym, ◌∙◌, ap, refl, inl, inr, arith, Some, None, Result, Ok, Err, String, IfOk, take-take, Global, string_bytes, join_by, Bytes, CountsIf, Flow, HeaderFault, Head, HeaderParts, Found, HeaderVerdict, ReadsHeaderOf, one_text, begins_found, reads_known, Fault, OutOfMemory, Inspects, file_result, finding, header_fault, Report, fault_code, Refuses, Returns, report_of, GivesStanzas, HeaderOf, Inspected, InspectsStanzas, arguments_text, limits, front_size, IsFront}
 use Rattle.age_header.specs.declared.fault.HeaderFault.TheVariants as header
 use Rattle.age_file.specs.Device.{is_read}
+use Rattle.std.proofs.lemmas.List.Folds.{flat_map-map}
 use Rattle.agefile.specs.declared.inspecting.StanzaSummary.{StanzaSummary}
 use Rattle.agefile.specs.declared.inspecting.Summary.{Summary}
 
@@ -45,13 +46,17 @@ whole_verdict b r h = whole r (take-take limits.max_header front_size b (omega a
     whole (Err header.Read) same h = absurd h
     whole (Err header.Memory) same h = absurd h
 
+pub front_verdict : (b : Bytes) {front : Bytes} (r : Result Found HeaderFault) → IsFront front b
+    → HeaderVerdict front limits.max_header r → HeaderVerdict b limits.max_header r
+front_verdict b r (inl same) h = rw same at h
+front_verdict b r (inr same) h = whole_verdict b r (rw same at h)
+
 -- and its header
-pub found_whole : (b : Bytes) {front : Bytes} (r : Result HeaderParts Fault) → front ≡ take front_size b
-    → HeaderOf front r → HeaderOf b r
-found_whole b (Ok h) same (text, found) = (text, whole_verdict b (Ok (finding text h)) (rw same at found))
-found_whole b (Err fault) same (inl memory) = inl memory
-found_whole b (Err fault) same (inr (reason, found, is)) =
-    inr (reason, whole_verdict b (Err reason) (rw same at found), is)
+pub found_whole : (b : Bytes) {front : Bytes} (r : Result HeaderParts Fault) → IsFront front b → HeaderOf front r
+    → HeaderOf b r
+found_whole b (Ok h) near (text, found) = (text, front_verdict b (Ok (finding text h)) near found)
+found_whole b (Err fault) near (inl memory) = inl memory
+found_whole b (Err fault) near (inr (reason, found, is)) = inr (reason, front_verdict b (Err reason) near found, is)
 
 -- what a caller gets of a header
 pub inspected : (b : Bytes) {h : Bytes} (header : HeaderParts) {old : Summary} {report : Report} {len stanzas : ℕ}
@@ -66,31 +71,19 @@ inspected b {h} header {len} (text, found) none head is count same =
     omega (arith, is, ap length (one_text header.stanzas header.mac h text head front.head)) in
     inr (Ok (finding text header), found, (refl, none, rw (size, count, same) refl))
 
--- a fault is returned, which is this one; or it is that of a refused allocation
-refused_as : {S : Type 0} {old : S} {report : Report} {code : ℕ} {fault : Fault} (other : Fault)
-    → report ≡ report_of 0 (Some fault) → code ≡ fault_code fault → fault ≡ other → Refuses other old old report code
-refused_as other place returned is =
-    record { returned = rw is at returned; reported = rw is at place; same = refl }
-
-refused_up : {S : Type 0} {old new : S} {report : Report} {code : ℕ} → Refuses OutOfMemory old new report code
-    → Returns 17 None old new report code
-refused_up up = record { returned = up.returned; reported = up.reported; same = up.same }
-
-pub inspected_fault : (b : Bytes) {old : Summary} {report : Report} {code : ℕ} (fault : Fault) → HeaderOf b (Err fault)
-    → report ≡ report_of 0 (Some fault) → code ≡ fault_code fault
-    → Inspected b old old report code
-inspected_fault b fault (inl memory) place returned = inl (refused_up (refused_as OutOfMemory place returned memory))
-inspected_fault b fault (inr (reason, found, same)) place returned =
-    inr (Err reason, found, refused_as (header_fault reason) place returned same)
-
-join_map : {X : Type 0} (f : X → Bytes) (xs : List X)
-    → flat_map (λ x. 32 ∷ [] ++ f x) xs ≡ flat_map (λ a. 32 ∷ [] ++ a) (map f xs)
-join_map f [] = refl
-join_map f (x ∷ xs) = ap (λ t. (32 ∷ [] ++ f x) ++ t) (join_map f xs)
+-- a fault is returned, which is that of the header or of a refused allocation
+pub refused_as : {S : Type 0} (b : Bytes) {old : S} {report : Report} {code : ℕ} (fault : Fault)
+    → HeaderOf b (Err fault) → report ≡ report_of 0 (Some fault) → code ≡ fault_code fault
+    → Returns 17 None old old report code ⊎ ((reason : HeaderFault)
+    × HeaderVerdict b limits.max_header (Err reason) × Refuses (header_fault reason) old old report code)
+refused_as b fault (inl is) place returned =
+    inl (record { returned = rw is at returned; reported = rw is at place; same = refl })
+refused_as b fault (inr (reason, found, is)) place returned =
+    inr (reason, found, record { returned = rw is at returned; reported = rw is at place; same = refl })
 
 joined_map : {X : Type 0} (f : X → Bytes) (xs : List X) → join_by f (32 ∷ []) xs ≡ arguments_text (map f xs)
 joined_map f [] = refl
-joined_map f (x ∷ xs) = ap (λ t. f x ++ t) (join_map f xs)
+joined_map f (x ∷ xs) = ap (λ t. f x ++ t) (sym (flat_map-map (λ a. 32 ∷ a) f xs))
 
 pub joined_text : {X E : Type 0} (f : X → Bytes) (xs : List X) {args : List Bytes} (r : Result (String Global) E)
     → map f xs ≡ args
@@ -99,14 +92,6 @@ joined_text f xs (Ok t) same h = h ∙ joined_map f xs ∙ ap arguments_text sam
 joined_text f xs (Err e) same h = tt
 
 -- ---- the stanzas of a header
-
-pub list_fault : (b : Bytes) {before : List StanzaSummary} {old : Bytes} {report : Report} {code : ℕ} (fault : Fault)
-    → HeaderOf b (Err fault) → report ≡ report_of 0 (Some fault)
-    → code ≡ fault_code fault → InspectsStanzas b before before old old report code
-list_fault b fault (inl memory) place returned =
-    inl (refused_up (refused_as OutOfMemory place returned memory), refl)
-list_fault b fault (inr (reason, found, same)) place returned =
-    inr (Err reason, found, (refused_as (header_fault reason) place returned same, refl))
 
 pub list_found : (b : Bytes) (header : HeaderParts) {before after : List StanzaSummary} {old new : Bytes}
     {report : Report} {code : ℕ} → HeaderOf b (Ok header)

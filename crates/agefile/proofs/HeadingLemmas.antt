@@ -17,9 +17,8 @@ mac_none text k fault is (inr (reason, h, same)) =
     inr (Err (in_text (header_fault reason)), (Err reason, h, refl), rw (is, same) refl)
 
 pub mac_early : (text rest front : Bytes) (h : HeaderParts) (k : FileKey) {fault : Fault} → Fronts (probe text) rest h
-    → 0 < length rest
-    → front ≡ take (length (probe text) - length rest) (probe text) → fault ≡ BadLine (lines_in front - 1)
-    → FindsMac text k (Err fault)
+    → 0 < length rest → front ≡ take (length (probe text) - length rest) (probe text)
+    → fault ≡ BadLine (lines_in front - 1) → FindsMac text k (Err fault)
 mac_early text rest front h k f some is count =
     let size : length (probe text) ≡ length f.text + length rest = ap length f.begins ∙ length-append f.text rest in
     let len : length (probe text) - length rest ≡ length f.text = omega (arith, size) in
@@ -33,24 +32,12 @@ mac_early text rest front h k f some is count =
     )
 
 -- the whole probe is the header
-whole_text : (text rest : Bytes) (h : HeaderParts) (s : Result (List StanzaParts) Fault) → Fronts (probe text) rest h
-    → length rest ≡ 0 → s ≡ unless_mixed (Ok h.stanzas) → ReadsAs text s
+pub whole_text : (text rest : Bytes) (h : HeaderParts) (s : Result (List StanzaParts) Fault)
+    → Fronts (probe text) rest h → length rest ≡ 0 → s ≡ unless_mixed (Ok h.stanzas) → ReadsAs text s
 whole_text text rest h s f none is =
     let size : length (probe text) ≡ length f.text + length rest = ap length f.begins ∙ length-append f.text rest in
     let whole = le-ltb (length f.text) (length (probe text)) (omega (arith, size, none)) in
     (Ok (finding f.text h), f.verdict, rw (is, whole) refl)
-
-pub mac_mixed : (text rest : Bytes) (h : HeaderParts) (k : FileKey) → Fronts (probe text) rest h → length rest ≡ 0
-    → is_mixed h.stanzas ≡ true → FindsMac text k (Err MixedPassphrase)
-mac_mixed text rest h k f none mixed =
-    (inr (Err MixedPassphrase, whole_text text rest h (Err MixedPassphrase) f none (rw mixed refl), refl))
-
-pub mac_made : (text rest : Bytes) {mac : Bytes} (h : HeaderParts) (k : FileKey)
-    → Fronts (probe text) rest h → length rest ≡ 0
-    → is_mixed h.stanzas ≡ false → mac ≡ header_mac k.0 h.stanzas
-    → FindsMac text k (Ok mac)
-mac_made text rest h k f none mixed is =
-    inr (Ok h.stanzas, whole_text text rest h (Ok h.stanzas) f none (rw mixed refl), ap Ok is)
 
 -- ---- the header
 

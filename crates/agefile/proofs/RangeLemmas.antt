@@ -1,7 +1,8 @@
 -- The pieces of a payload by their places in the file.
 use Rattle.agefile.proofs.Common.{◌≡◌, refl, ℕ, [], ◌++◌, ◌+◌, ◌-◌, ◌*◌, ◌/◌, ◌%◌, ◌<◌, length, take, drop, nat_le, sym, ◌∙◌, ap, arith, true, Bool, Some, Ok, length-drop, length-take, drop-drop, take_all, take_min, Bytes, length-sealed_text, opened_text-sealed_text, pieces, chunk_nonce, outcome, chunk_size, sealed_chunk_size, outcome_opens, Ranges, limits, piece_outcome, last_index, piece_at, plain_of}
 use Rattle.age_stream.specs.Slice.{IsSlice, last_outcome, opening, plain_len}
-use Rattle.age_stream.proofs.JudgesLastLemmas.{last_is, piece_count, some_or_none}
+use Rattle.age_stream.proofs.JudgesLastLemmas.{last_is}
+use Rattle.age_stream.proofs.LoadLemmas.{piece_count, some_or_none}
 use Rattle.age_stream.proofs.SliceLemmas.{opening_at, plain_count, slice_on}
 
 -- how many bytes are left from the first sealed chunk on
@@ -47,8 +48,7 @@ len_there r b text size h =
     omega arith
 
 pub slice_there : (r : Ranges) (b text : Bytes) (at : ℕ) → length b ≡ r.first + r.sealed_len
-    → at < plain_of r.sealed_len
-    → piece_outcome r (at / chunk_size) (piece_at r b (at / chunk_size)) ≡ Ok text
+    → at < plain_of r.sealed_len → piece_outcome r (at / chunk_size) (piece_at r b (at / chunk_size)) ≡ Ok text
     → (at % chunk_size < length text) × IsSlice r.key (drop r.first b) at (drop (at % chunk_size) text)
 slice_there r b text at size within h =
     let rest : Bytes = drop r.first b in

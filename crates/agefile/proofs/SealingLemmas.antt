@@ -49,9 +49,8 @@ last_fills key plain out at done number r size last =
 
 pub seals_end : {key plain left room : Bytes} (out mid : Bytes) {new : Bytes} (at done number : ℕ)
     → IsSealedTo key plain out at done number → length out ≡ length plain + 16 * chunk_count (length plain)
-    → left ≡ drop at plain → room ≡ drop done out → length left ≤ chunk_size
-    → SealsFirst key number left room mid → new ≡ take done out ++ mid
-    → new ≡ concat (sealed_chunks_from key 0 (chunks plain))
+    → left ≡ drop at plain → room ≡ drop done out → length left ≤ chunk_size → SealsFirst key number left room mid
+    → new ≡ take done out ++ mid → new ≡ concat (sealed_chunks_from key 0 (chunks plain))
 seals_end {key} {plain} {left} {room} out mid at done number r size left_is room_is last is joined =
     let fills = last_fills key plain out at done number r size (rw left_is at last) in
     let skip : ℕ = min (length left) chunk_size + 16 in
@@ -98,8 +97,7 @@ seals_more {key} {plain} {left} {room} out mid {new} at done number r left_is ro
 
 -- how long the file is
 pub file_size : (k : FileKey) (header nonce plain : Bytes) (size : ℕ) → length nonce ≡ 16 → length header < 2 ^ 62
-    → length plain < 2 ^ 63
-    → size ≡ min (file_len (length header) (length plain)) (2 ^ 64 - 1)
+    → length plain < 2 ^ 63 → size ≡ min (file_len (length header) (length plain)) (2 ^ 64 - 1)
     → size ≡ length (header ++ payload k nonce plain)
 file_size k header nonce plain size len short low is = omega (arith, is, short, low, size_of k header nonce plain len)
 

@@ -1,8 +1,8 @@
 -- Finding a file key, and where the chunks begin, from what the parts return; and the verdict, by the file key.
-use Rattle.agefile.proofs.Common.{◌≡◌, ◌≢◌, ◌⊎◌, ℕ, ◌+◌, ◌-◌, [], ◌++◌, length, take, drop, sym, ◌∙◌, ap, refl, arith, inl, inr, length-append, Some, Result, Ok, Err, Bool, true, false, cond, ◌<◌, ◌≤◌, length-drop, Bytes, Flow, HeaderFault, HeaderParts, ReadsHeaderOf, Found, HeaderVerdict, reads_known, FileKey, Reading, stop, Fault, OutOfMemory, BadMac, MixedPassphrase, NonceTruncated, Inspects, Answering, IsVerdict, header_fault, reading_after, parts_of, reading_under, header_key, if_right, finding, err_err, Report, code_of, HeaderOf, limits, front_size, Refuses, report_of, FindsKey, FindsStart, GivesKey, IsKey, IsStart, Opens, StartsAt, Unlocks, by_file_key, start_under, with_len, bytes_eq, header_mac, is_mixed, cases_lt, le-ltb, lt-ltb, payload_key, begins_found, Payload, Start}
+use Rattle.agefile.proofs.Common.{◌≡◌, ◌≢◌, ◌⊎◌, ℕ, ◌+◌, ◌-◌, [], ◌++◌, length, take, drop, sym, ◌∙◌, ap, refl, arith, inl, inr, length-append, Some, Result, Ok, Err, Bool, true, false, cond, ◌<◌, ◌≤◌, length-drop, Bytes, Flow, HeaderFault, HeaderParts, ReadsHeaderOf, Found, HeaderVerdict, reads_known, FileKey, Reading, stop, Fault, OutOfMemory, BadMac, MixedPassphrase, NonceTruncated, Inspects, Answering, IsVerdict, header_fault, reading_after, parts_of, reading_under, header_key, if_right, finding, err_err, Report, code_of, HeaderOf, limits, IsFront, Refuses, report_of, FindsKey, FindsStart, GivesKey, IsKey, IsStart, Opens, StartsAt, Unlocks, by_file_key, start_under, with_len, bytes_eq, header_mac, is_mixed, cases_lt, le-ltb, lt-ltb, payload_key, begins_found, Payload, Start}
 use Rattle.age_file.proofs.FileLemmas.{tested_key, one_verdict}
 use Rattle.agefile.specs.declared.unlocking.Unlocked.{Unlocked}
-use Rattle.agefile.proofs.HeaderLemmas.{whole_verdict}
+use Rattle.agefile.proofs.HeaderLemmas.{front_verdict}
 use Rattle.age_recipient.specs.declared.choice.UnlockFault.{UnlockFault}
 use Rattle.age_recipient.specs.Choice.{choice}
 use Rattle.agefile.proofs.RunLemmas.{some_code}
@@ -76,11 +76,11 @@ key_found answers {b} rest {h} k f (inr is) =
 
 -- the first 65,552 bytes of a file have its file key
 pub whole_unlocks : (answers : Answering) (b : Bytes) {front old new : Bytes} {report : Report} {code : ℕ}
-    (key : Result Unlocked Fault) → front ≡ take front_size b
+    (key : Result Unlocked Fault) → IsFront front b
     → FindsKey answers front key → GivesKey key old new report code → Unlocks answers b old new report code
-whole_unlocks answers b key same (inl memory) gives = (key, inl memory, gives)
-whole_unlocks answers b key same (inr (header, verdict, is)) gives =
-    (key, inr (header, whole_verdict b header (rw same at verdict), is), gives)
+whole_unlocks answers b key near (inl memory) gives = (key, inl memory, gives)
+whole_unlocks answers b key near (inr (header, verdict, is)) gives =
+    (key, inr (header, front_verdict b header near verdict, is), gives)
 
 -- ---- the verdict, by the file key
 
@@ -106,8 +106,7 @@ pub refusal : {S : Type 0} {old new : S} {report : Report} {code : ℕ} (fault :
 refusal fault v refuses is = rw is (refl, sym refuses.returned, refuses.reported)
 
 pub unlocking_refused : (answers : Answering) (b old new : Bytes) (report : Report) (code : ℕ) (v : Reading Fault)
-    → Unlocks answers b old new report code
-    → IsVerdict limits answers b v → code ≢ 0 → code ≢ 17
+    → Unlocks answers b old new report code → IsVerdict limits answers b v → code ≢ 0 → code ≢ 17
     → (v.plaintext ≡ []) × (code_of v.fault ≡ code) × (report ≡ report_of 0 v.fault)
 unlocking_refused answers b old new report code v (Ok found, is, gives) h some other = absurd (some gives.0)
 unlocking_refused answers b old new report code v (Err fault, inl memory, gives) h some other =
@@ -136,8 +135,7 @@ key_again answers p k e = go (is_mixed p.stanzas) (choice (answers p.stanzas)) e
     go false (Ok j) e = rw (same_key (bytes_eq p.mac (header_mac j.0 p.stanzas)) j k e) at e
 
 pub opens_unlocked : (answers : Answering) (b old new : Bytes) (report : Report) (v : Reading Fault)
-    → Unlocks answers b old new report 0 → IsVerdict limits answers b v
-    → IsVerdict limits (by_file_key new) b v
+    → Unlocks answers b old new report 0 → IsVerdict limits answers b v → IsVerdict limits (by_file_key new) b v
 opens_unlocked answers b old new report v (Err fault, is, gives) h = absurd (some_code fault (sym gives.returned))
 opens_unlocked answers b old new report v (Ok found, finds, gives) h =
     let f = found_key answers b found finds in

@@ -13,9 +13,8 @@ IsVerdictFrom b v (Err fault) = v ≡ stop fault
 IsVerdictFrom b v (Ok start) =
     v ≡ with_file_fault (reading_from start.key limits.max_chunks 0 (drop start.first b))
 
-under_from : (b : Bytes) (n : ℕ) (v : Reading Fault) (key : Result FileKey Fault) → v
-    ≡ reading_under limits (drop n b) key
-    → IsVerdictFrom b v (start_under n (drop n b) key)
+under_from : (b : Bytes) (n : ℕ) (v : Reading Fault) (key : Result FileKey Fault)
+    → v ≡ reading_under limits (drop n b) key → IsVerdictFrom b v (start_under n (drop n b) key)
 under_from b n v (Err fault) is = is
 under_from b n v (Ok k) is = cut (nat_lt (length (drop n b)) 16) is
   where
@@ -39,8 +38,7 @@ verdict_from answers b start v (Ok found, verdict, is) h =
 -- ---- the laws
 
 pub opening_refused : (answers : Answering) (b : Bytes) (p : Payload) (report : Report) (code : ℕ) (v : Reading Fault)
-    → Opens answers (take front_size b) p report code
-    → IsVerdict limits answers b v → code ≢ 0 → code ≢ 17
+    → Opens answers (take front_size b) p report code → IsVerdict limits answers b v → code ≢ 0 → code ≢ 17
     → (v.plaintext ≡ []) × (code_of v.fault ≡ code) × (report ≡ report_of 0 v.fault)
 opening_refused answers b p report code v opens h some other =
     let (start, is, gives) = found_start answers (take front_size b) p report code opens other in
@@ -80,9 +78,8 @@ opened_range answers b r report (Ok start, inr is, inr (le, returned, new, place
 
 -- a fault of the opening is the verdict's
 pub refused_range : (answers : Answering) (b : Bytes) (r : Ranges) (report : Report) (code : ℕ) (v : Reading Fault)
-    → OpensRanges answers (take front_size b) (length b) r report code
-    → IsVerdict limits answers b v → code ≢ 0 → code ≢ 17
-    → (v.plaintext ≡ []) × (code_of v.fault ≡ code) × (report ≡ report_of 0 v.fault)
+    → OpensRanges answers (take front_size b) (length b) r report code → IsVerdict limits answers b v → code ≢ 0
+    → code ≢ 17 → (v.plaintext ≡ []) × (code_of v.fault ≡ code) × (report ≡ report_of 0 v.fault)
 refused_range answers b r report code v (Err fault, inl memory, opens) h some other =
     let is : fault ≡ OutOfMemory = cc in
     absurd (other (rw is at opens.returned))

@@ -45,8 +45,7 @@ text_given s ss text {part} {old} {new} {report} {code} one whole is cut gives =
 -- ---- a caller's own arguments
 
 pub own_given : {s : StanzaParts} {args body old new : Bytes} {report : Report} {code : ℕ} → IsUtf8 args
-    → s.args ≡ words args → s.body ≡ body → GivesText s old new report code
-    → GivesOwn args body old new report code
+    → s.args ≡ words args → s.body ≡ body → GivesText s old new report code → GivesOwn args body old new report code
 own_given utf8 same_args same_body (inl up) = inl up
 own_given utf8 same_args same_body (inr (text, is, gives)) =
     rw (← same_args, ← same_body) (inr (inr ((utf8, is.arguments), inr (text, is, gives))))

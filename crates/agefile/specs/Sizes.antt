@@ -1,6 +1,6 @@
 -- The limits of every call, and the lengths of files and plaintexts.
-use Rattle.std.specs.Prelude.{◌+◌, ◌-◌, ◌*◌, ◌/◌, ◌%◌, ◌^◌}
-use Rattle.agefile.specs.Words.{ℕ, nonce_size, tag_size, chunk_size, sealed_chunk_size, Bounds, default_max_header}
+use Rattle.std.specs.Prelude.{◌≡◌, ◌⊎◌, ◌+◌, ◌-◌, ◌*◌, ◌/◌, ◌%◌, ◌^◌}
+use Rattle.agefile.specs.Words.{ℕ, take, Bytes, nonce_size, tag_size, chunk_size, sealed_chunk_size, Bounds, default_max_header}
 
 -- a header of 65,536 bytes, and 2^64 - 1 chunks
 abbrev pub limits : Bounds
@@ -9,6 +9,10 @@ limits = record { max_header = default_max_header; max_chunks = 2 ^ 64 - 1 }
 -- the longest header, and the nonce after it: this many bytes suffice to open any file
 abbrev pub front_size : ℕ
 front_size = limits.max_header + nonce_size
+
+-- a file from its beginning: the whole of it, or as many bytes as suffice
+abbrev pub IsFront : (front file : Bytes) → Type 0
+IsFront front file = (front ≡ file) ⊎ (front ≡ take front_size file)
 
 -- the number of chunks of a plaintext of n bytes
 abbrev pub chunk_count : ℕ → ℕ

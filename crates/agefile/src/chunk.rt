@@ -6,9 +6,9 @@ ghost use Rattle.agefile.specs.Payload.{OpensAs, SealsAs, has_text, is_chunk_len
 ghost use Rattle.agefile.specs.Codes.{ok};
 ghost use Rattle.agefile.specs.Sizes.{limits};
 
-use crate::code::{OK, fault_code};
+use crate::code::OK;
 use crate::limits::MAX_CHUNKS;
-use crate::report::Report;
+use crate::report::{Report, report_fault};
 use age_file::Fault;
 use age_stream::{SEALED_CHUNK_SIZE, TAG_SIZE, open_chunk, seal_chunk};
 
@@ -30,11 +30,7 @@ pub(crate) fn open_as(
             *report = Report::of_len(text as u64);
             OK
         }
-        Err(fault) => {
-            let fault = Fault::from(fault);
-            *report = Report::of_fault(0, fault);
-            fault_code(fault)
-        }
+        Err(fault) => report_fault(0, Fault::from(fault), report),
     }
 }
 
@@ -52,8 +48,7 @@ pub(crate) fn seal_as(
     ensures within { result ≡ ok → number < limits.max_chunks }
 {
     if number as u128 >= MAX_CHUNKS {
-        *report = Report::of_fault(0, Fault::TooManyChunks);
-        return fault_code(Fault::TooManyChunks);
+        return report_fault(0, Fault::TooManyChunks, report);
     }
     seal_chunk(key, number as u128, last, chunk);
     *report = Report::of_len(chunk.len() as u64);

@@ -7,12 +7,12 @@ ghost use Rattle.agefile.specs.WholeFiles.{Decrypts, GivesFirst, GivesReading};
 ghost use Rattle.agefile.specs.Sizes.{limits, opened_len};
 ghost use Rattle.agefile.specs.Unlock.{by_file_key};
 
-use crate::code::{OK, OUT_OF_MEMORY, TOO_SMALL, fault_code};
+use crate::code::{OK, OUT_OF_MEMORY, TOO_SMALL};
 use crate::giving::give_up;
 use crate::heading::refuse;
 use crate::limits::MAX_CHUNKS;
 use crate::opening::start_under;
-use crate::report::Report;
+use crate::report::{Report, report_fault};
 use crate::sizes::opened_len;
 use age_file::Fault;
 use age_stream::{SEALED_CHUNK_SIZE, StreamFault, open_chunk};
@@ -59,11 +59,7 @@ pub extern "C" fn agefile_decrypt(
     let mut chunk = chunk;
     let (len, fault) = open_pieces(&start.key, sealed, chunk.as_mut_slice(), out);
     match fault {
-        Some(fault) => {
-            let fault = Fault::from(fault);
-            *report = Report::of_fault(len as u64, fault);
-            fault_code(fault)
-        }
+        Some(fault) => report_fault(len as u64, Fault::from(fault), report),
         None => {
             *report = Report::of_len(len as u64);
             OK

@@ -8,12 +8,12 @@ ghost use Rattle.age_kdf.specs.Bytes.{Bytes};
 ghost use Rattle.agefile.specs.Heading.{BeginsFile, FindsMac, GivesHeader, MakesHeader, heading, in_text, lines_in, probe};
 ghost use Rattle.agefile.specs.Report.{Refuses};
 
-use crate::code::{OK, OUT_OF_MEMORY, fault_code};
+use crate::code::{OK, OUT_OF_MEMORY};
 use crate::giving::{give_up, give_whole};
 use crate::limits::limits;
 use crate::payload::Payload;
 use crate::phase::WRITING;
-use crate::report::Report;
+use crate::report::{Report, report_fault};
 use age_file::{Fault, FileKey, MemSource, inspect, is_mixed, mac_of};
 use age_header::base64_no_pad;
 use age_stream::payload_key;
@@ -85,8 +85,7 @@ pub(crate) fn refuse(fault: Fault, out: &mut [u8], report: &mut Report) -> u32
 {
     // The proof sees here that the buffer is unchanged.
     let _ = out;
-    *report = Report::of_fault(0, fault);
-    fault_code(fault)
+    report_fault(0, fault, report)
 }
 
 /// The header for a text of stanzas, with its MAC under a file key.

@@ -1,14 +1,14 @@
 //! Reading a file's header.
 
-ghost use Rattle.std.specs.Prelude.{◌≡◌, take, IfOk};
+ghost use Rattle.std.specs.Prelude.{◌≡◌, IfOk};
 ghost use Rattle.std.specs.String.{string_bytes};
 ghost use Rattle.age_kdf.specs.Bytes.{Bytes};
 ghost use Rattle.agefile.specs.Inspect.{HeaderOf, Inspected, arguments_text, stanza_summary};
-ghost use Rattle.agefile.specs.Sizes.{front_size};
+ghost use Rattle.agefile.specs.Sizes.{IsFront};
 
-use crate::code::{OK, fault_code};
+use crate::code::OK;
 use crate::limits::limits;
-use crate::report::Report;
+use crate::report::{Report, report_fault};
 use age_file::{Fault, Header, MemSource, Stanza, inspect};
 use std::alloc::{AllocError, Global};
 
@@ -50,10 +50,9 @@ pub extern "C" fn agefile_inspect(
     report: &mut Report,
 ) -> u32
     // Writes the length of the header, the number of its stanzas and its MAC, by the header
-    // verdict; or returns its fault, or 17, and leaves `summary` unchanged.
-    ensures front { Inspected front.now summary.old summary.new report.new result }
-    // The first 65,552 bytes suffice: the same holds for the whole file.
-    ensures file { (b : Bytes) → front.now ≡ take front_size b
+    // verdict; or returns its fault, or 17, and leaves `summary` unchanged. The first 65,552 bytes
+    // of the file suffice.
+    ensures front { (b : Bytes) → IsFront front.now b
         → Inspected b summary.old summary.new report.new result }
 {
     match header_of(alloc, front) {
@@ -66,10 +65,7 @@ pub extern "C" fn agefile_inspect(
             };
             OK
         }
-        Err(fault) => {
-            *report = Report::of_fault(0, fault);
-            fault_code(fault)
-        }
+        Err(fault) => report_fault(0, fault, report),
     }
 }
 
@@ -94,8 +90,7 @@ pub(crate) fn joined(alloc: Global, stanza: &Stanza) -> Result<String, AllocErro
 
 /// The header at the start of a file.
 pub(crate) fn header_of(alloc: Global, front: &[u8]) -> Result<Header, Fault>
-    ensures front { HeaderOf front.now result }
-    ensures file { (b : Bytes) → front.now ≡ take front_size b → HeaderOf b result }
+    ensures { (b : Bytes) → IsFront front.now b → HeaderOf b result }
 {
     inspect(alloc, &mut MemSource::new(front), &limits())
 }

@@ -52,6 +52,7 @@ pub fn steps_write()
 
 /// Salvaging a payload in steps returns what `age_stream::salvage_payload` writes of it: the texts
 /// of its parts, in order, and for each what was saved.
+#[tactic(auto, using(crate::proofs::SalvageLemmas::run_saves))]
 pub fn steps_save()
     ensures { (key rest : Bytes) (given : List Given)
         → SavesRun (before_first key phase_reading) (pieces rest) given

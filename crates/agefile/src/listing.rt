@@ -1,15 +1,15 @@
 //! Listing all stanzas of a file's header in one call.
 
-ghost use Rattle.std.specs.Prelude.{◌≡◌, ◌⊎◌, ◌++◌, map, take, IfOk, OnOk};
+ghost use Rattle.std.specs.Prelude.{◌≡◌, ◌⊎◌, ◌++◌, map, IfOk, OnOk};
 ghost use Rattle.age_kdf.specs.Bytes.{Bytes};
 ghost use Rattle.agefile.specs.Inspect.{GivesList, GivesStanzas, InspectsStanzas, arguments_text, list_text, stanza_summary};
-ghost use Rattle.agefile.specs.Sizes.{front_size};
+ghost use Rattle.agefile.specs.Sizes.{IsFront};
 ghost use Rattle.agefile.specs.Codes.{out_of_memory};
 ghost use Rattle.agefile.specs.Report.{Returns};
 
-use crate::code::{OK, OUT_OF_MEMORY, TOO_SMALL, fault_code};
+use crate::code::{OK, OUT_OF_MEMORY, TOO_SMALL};
 use crate::inspecting::{StanzaSummary, header_of, joined, stanza_summary};
-use crate::report::Report;
+use crate::report::{Report, report_fault};
 use age_file::Stanza;
 use std::alloc::{AllocError, Global};
 
@@ -33,19 +33,13 @@ pub extern "C" fn agefile_stanzas(
     // Writes the sizes of all stanzas of the header verdict, and in one text for each its
     // arguments, joined by single spaces, and its body. If the array or the buffer is too small,
     // returns 21 and leaves both unchanged. On 0 and 21 the report has the length of the text and
-    // the number of stanzas.
-    ensures front { InspectsStanzas front.now stanzas.old stanzas.new text.old text.new
-        report.new result }
-    // The first 65,552 bytes suffice: the same holds for the whole file.
-    ensures file { (b : Bytes) → front.now ≡ take front_size b
+    // the number of stanzas. The first 65,552 bytes of the file suffice.
+    ensures front { (b : Bytes) → IsFront front.now b
         → InspectsStanzas b stanzas.old stanzas.new text.old text.new report.new result }
 {
     match header_of(alloc, front) {
         Ok(header) => list(alloc, header.stanzas(), stanzas, text, report),
-        Err(fault) => {
-            *report = Report::of_fault(0, fault);
-            fault_code(fault)
-        }
+        Err(fault) => report_fault(0, fault, report),
     }
 }
 

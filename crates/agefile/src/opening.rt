@@ -3,10 +3,10 @@
 ghost use Rattle.std.specs.Prelude.{◌≡◌};
 ghost use Rattle.agefile.specs.Unlock.{FindsStart, Opens, StartsAt, by_file_key};
 
-use crate::code::{OK, fault_code};
+use crate::code::OK;
 use crate::payload::Payload;
 use crate::phase::READING;
-use crate::report::Report;
+use crate::report::{Report, report_fault};
 use crate::start::{Start, start_for};
 use age_file::{Fault, FileKey, Identity, Stanza, Unwrapped};
 use std::alloc::{AllocError, Global};
@@ -81,8 +81,7 @@ fn start_at(start: Result<Start, Fault>, payload: &mut Payload, report: &mut Rep
         }
         Err(fault) => {
             *payload = Payload::closed();
-            *report = Report::of_fault(0, fault);
-            fault_code(fault)
+            report_fault(0, fault, report)
         }
     }
 }

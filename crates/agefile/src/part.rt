@@ -3,10 +3,10 @@
 ghost use Rattle.std.specs.Prelude.{◌≡◌, ◌<◌};
 ghost use Rattle.agefile.specs.Part.{OpensNext, SealsNext, TakesPart, closed_part, may_take, payload_of, with_payload};
 
-use crate::code::{OK, OUT_OF_ORDER, fault_code};
+use crate::code::{OK, OUT_OF_ORDER};
 use crate::payload::{Payload, agefile_open_next, agefile_seal_next};
 use crate::phase::{CLOSED, ENDED, READING, WRITING};
-use crate::report::Report;
+use crate::report::{Report, report_fault};
 use age_file::Fault;
 
 /// Some chunks of a payload, from the next one on, in the caller's memory. Its bytes may be any.
@@ -97,8 +97,7 @@ pub extern "C" fn agefile_take_part(
         return OUT_OF_ORDER;
     }
     if count > u64::MAX - payload.number {
-        *report = Report::of_fault(0, Fault::TooManyChunks);
-        return fault_code(Fault::TooManyChunks);
+        return report_fault(0, Fault::TooManyChunks, report);
     }
     let key = payload.key;
     *part = Part {

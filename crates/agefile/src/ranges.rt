@@ -9,10 +9,10 @@ ghost use Rattle.agefile.specs.Ranges.{GivesFrom, OpensAt, OpensRanges, Verified
 ghost use Rattle.agefile.specs.Report.{Returns, report_of};
 ghost use Rattle.agefile.specs.Codes.{ok, out_of_order};
 
-use crate::code::{OK, OUT_OF_ORDER, fault_code};
+use crate::code::{OK, OUT_OF_ORDER};
 use crate::limits::MAX_CHUNKS;
 use crate::opening::start_under;
-use crate::report::Report;
+use crate::report::{Report, report_fault};
 use crate::start::Start;
 use age_file::Fault;
 use age_stream::{CHUNK_SIZE, SEALED_CHUNK_SIZE, TAG_SIZE, open_chunk};
@@ -104,8 +104,7 @@ fn open_at(
         Ok(start) => start,
         Err(fault) => {
             *ranges = Ranges::closed();
-            *report = Report::of_fault(0, fault);
-            return fault_code(fault);
+            return report_fault(0, fault, report);
         }
     };
     if file_len < start.first {
@@ -168,11 +167,7 @@ pub extern "C" fn agefile_ranges_last(
             report.len = plain_of(sealed_len);
             OK
         }
-        Err(fault) => {
-            let fault = Fault::from(fault);
-            *report = Report::of_fault(0, fault);
-            fault_code(fault)
-        }
+        Err(fault) => report_fault(0, Fault::from(fault), report),
     }
 }
 
@@ -238,11 +233,7 @@ pub extern "C" fn agefile_ranges_chunk(
             report.len = text as u64 - report.place;
             OK
         }
-        Err(fault) => {
-            let fault = Fault::from(fault);
-            *report = Report::of_fault(0, fault);
-            fault_code(fault)
-        }
+        Err(fault) => report_fault(0, Fault::from(fault), report),
     }
 }
 

@@ -1,9 +1,10 @@
 //! What a call reports beside its code.
 
 ghost use Rattle.std.specs.Prelude.{◌≡◌, Some, None};
+ghost use Rattle.agefile.specs.Codes.{fault_code};
 ghost use Rattle.agefile.specs.Report.{report_of};
 
-use crate::code::{fault_detail, fault_place};
+use crate::code::{fault_code, fault_detail, fault_place};
 use age_file::Fault;
 
 /// What a call reports beside its code. Each call sets all fields.
@@ -31,15 +32,17 @@ impl Report {
             detail: 0,
         }
     }
+}
 
-    /// The report of a call with a fault, after this many bytes.
-    pub(crate) fn of_fault(len: u64, fault: Fault) -> Report
-        ensures { result ≡ report_of len (Some fault) }
-    {
-        Report {
-            len,
-            place: fault_place(fault),
-            detail: fault_detail(fault),
-        }
-    }
+/// Reports a fault after this many bytes, and returns its code.
+pub(crate) fn report_fault(len: u64, fault: Fault, report: &mut Report) -> u32
+    ensures reported { report.new ≡ report_of len (Some fault) }
+    ensures returned { result ≡ fault_code fault }
+{
+    *report = Report {
+        len,
+        place: fault_place(fault),
+        detail: fault_detail(fault),
+    };
+    fault_code(fault)
 }

@@ -6,10 +6,10 @@ ghost use Rattle.agefile.specs.Codes.{ok};
 ghost use Rattle.agefile.specs.Salvage.{SavesAs, SavesNext, saved_number};
 ghost use Rattle.agefile.specs.Sizes.{limits};
 
-use crate::code::{OK, OUT_OF_ORDER, fault_code};
+use crate::code::{OK, OUT_OF_ORDER};
 use crate::limits::MAX_CHUNKS;
 use crate::payload::{Payload, go_on};
-use crate::report::Report;
+use crate::report::{Report, report_fault};
 use age_file::Fault;
 use age_stream::{Saved, TAG_SIZE, save_piece};
 
@@ -50,8 +50,7 @@ fn save_as(key: &[u8; 32], number: u64, last: bool, chunk: &mut [u8], report: &m
     ensures within { result ≡ ok → number < limits.max_chunks }
 {
     if number as u128 >= MAX_CHUNKS {
-        *report = Report::of_fault(0, Fault::TooManyChunks);
-        return fault_code(Fault::TooManyChunks);
+        return report_fault(0, Fault::TooManyChunks, report);
     }
     let len = chunk.len();
     let saved = save_piece(key, number as u128, last, chunk, len);

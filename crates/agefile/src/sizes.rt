@@ -68,6 +68,7 @@ pub(crate) fn opened_len(sealed: u64) -> u64
 
 /// Returns the length of the file of a plaintext of this length with a header of this length,
 /// saturating at the largest `u64`.
+#[tactic(auto, using(crate::proofs::HeadingLemmas::size_of))]
 #[unsafe(no_mangle)]
 pub extern "C" fn agefile_file_len(header_len: u64, plain_len: u64) -> u64
     // The result saturates at the largest u64.

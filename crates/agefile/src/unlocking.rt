@@ -1,19 +1,19 @@
 //! From a header and a secret to the file key.
 
-ghost use Rattle.std.specs.Prelude.{◌≡◌, IfNone, IfSome, map, take};
+ghost use Rattle.std.specs.Prelude.{◌≡◌, IfNone, IfSome, map};
 ghost use Rattle.age_kdf.specs.Bytes.{Bytes};
 ghost use Rattle.age_recipient.specs.KeyedHolders.{key_unwraps};
 ghost use Rattle.age_recipient.specs.PassphraseHolders.{WorkFits, pass_unwraps};
 ghost use Rattle.agefile.specs.Codes.{bad_work_factor};
 ghost use Rattle.agefile.specs.Giving.{one_answer};
-ghost use Rattle.agefile.specs.Sizes.{front_size};
+ghost use Rattle.agefile.specs.Sizes.{IsFront};
 ghost use Rattle.agefile.specs.Report.{Returns};
 ghost use Rattle.agefile.specs.Unlock.{FindsKey, GivesKey, Unlocks};
 
-use crate::code::{OK, WORK_FACTOR, fault_code};
+use crate::code::{OK, WORK_FACTOR};
 use crate::giving::give_up;
 use crate::limits::limits;
-use crate::report::Report;
+use crate::report::{Report, report_fault};
 use age_file::{
     Fault, FileKey, Identity, KeyIdentity, MemSource, PassError, PassIdentity, inspect,
     unlock_header,
@@ -47,12 +47,8 @@ pub extern "C" fn agefile_unlock_passphrase(
 ) -> u32
     // On 0 `file_key` is the file key that the secret chooses, the header's MAC was verified under
     // it, and the report has the header's length. Otherwise returns the first fault up to the MAC,
-    // or 17, and leaves `file_key` unchanged.
-    ensures fit { WorkFits max_work
-        → Unlocks (one_answer (pass_unwraps (record { pass = pass.now; max = max_work }))) front.now
-        file_key.old file_key.new report.new result }
-    // The first 65,552 bytes suffice: the same holds for the whole file.
-    ensures file { (b : Bytes) → front.now ≡ take front_size b → WorkFits max_work
+    // or 17, and leaves `file_key` unchanged. The first 65,552 bytes of the file suffice.
+    ensures fit { (b : Bytes) → IsFront front.now b → WorkFits max_work
         → Unlocks (one_answer (pass_unwraps (record { pass = pass.now; max = max_work }))) b
         file_key.old file_key.new report.new result }
     // If the maximum is not 1 to 30, returns 22 and leaves `file_key` unchanged.
@@ -82,11 +78,8 @@ pub extern "C" fn agefile_unlock_key(
 ) -> u32
     // On 0 `file_key` is the file key that the secret chooses, the header's MAC was verified under
     // it, and the report has the header's length. Otherwise returns the first fault up to the MAC,
-    // or 17, and leaves `file_key` unchanged.
-    ensures front { Unlocks (one_answer (key_unwraps key.now)) front.now file_key.old file_key.new
-        report.new result }
-    // The first 65,552 bytes suffice: the same holds for the whole file.
-    ensures file { (b : Bytes) → front.now ≡ take front_size b
+    // or 17, and leaves `file_key` unchanged. The first 65,552 bytes of the file suffice.
+    ensures front { (b : Bytes) → IsFront front.now b
         → Unlocks (one_answer (key_unwraps key.now)) b file_key.old file_key.new report.new result }
 {
     give_key(key_for_key(alloc, front, key), file_key, report)
@@ -103,10 +96,7 @@ fn give_key(key: Result<Unlocked, Fault>, file_key: &mut [u8; 16], report: &mut 
             *file_key = key;
             OK
         }
-        Err(fault) => {
-            *report = Report::of_fault(0, fault);
-            fault_code(fault)
-        }
+        Err(fault) => report_fault(0, fault, report),
     }
 }
 

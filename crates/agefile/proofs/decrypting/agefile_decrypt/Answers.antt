@@ -19,7 +19,7 @@ returns-in-Some c =
     decrypts_opened (by_file_key c.args.file_key.now) c.args.out.now c.open_pieces-len.new.out
     c.open_pieces-len.result.0 c.in-Ok.start (Some c.in-Some.fault) c.in-Ok.ensures (rw c.split_at.ensures.back at room)
     (rw (c.in-Some.is, c.split_at.ensures.back) at c.open_pieces-len.ensures) c.open_pieces-len.auto.out
-    (rw c.from-fault.ensures at c.of_fault.ensures) (rw c.from-fault.ensures at c.fault_code.ensures)
+    (rw c.from.ensures at c.report_fault.ensures.reported) (rw c.from.ensures at c.report_fault.ensures.returned)
 
 pub returns : goal.returns
 returns c =

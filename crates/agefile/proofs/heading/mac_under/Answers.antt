@@ -1,6 +1,6 @@
-use Rattle.agefile.proofs.Common.{◌≡◌, ◌-◌, length, take, ◌∙◌, ap, subst, sym, arith, Some, BadLine}
+use Rattle.agefile.proofs.Common.{◌≡◌, ◌-◌, length, take, ◌∙◌, ap, subst, sym, refl, arith, inr, Ok, Err, Some, BadLine, MixedPassphrase}
 use Rattle.agefile.proofs.HeaderLemmas.{header_found}
-use Rattle.agefile.proofs.HeadingLemmas.{mac_early, mac_made, mac_mixed, mac_none}
+use Rattle.agefile.proofs.HeadingLemmas.{mac_early, mac_none, whole_text}
 use Rattle.agefile.proofs.UnlockLemmas.{fronts}
 use Rattle.agefile.proofs.heading.mac_under.Goals as goal
 
@@ -25,7 +25,7 @@ returns-then-is_mixed c stanzas is =
     (rw c.limits.ensures at c.in-Ok.ensures.verdict) in
     let mixed = rw c.stanzas.ensures.value at (sym c.is_mixed.ensures ∙ c.if-is_mixed.true) in
     let none : length c.rest-rest.result.now ≡ 0 = omega (arith, c.if-rest-gt0.false) in
-    search (mac_mixed, f, none, mixed)
+    inr (Err MixedPassphrase, whole_text stanzas _ c.in-Ok.header (Err MixedPassphrase) f none (rw mixed refl), refl)
 
 pub returns-in-Ok-mac_of : goal.returns-in-Ok-mac_of
 returns-in-Ok-mac_of c stanzas is =
@@ -34,4 +34,8 @@ returns-in-Ok-mac_of c stanzas is =
     let mixed = rw c.stanzas.ensures.value at (sym c.is_mixed.ensures ∙ c.if-is_mixed.false) in
     let mac = rw c.stanzas-2.ensures.value at c.in-Ok-mac_of.ensures in
     let none : length c.rest-rest.result.now ≡ 0 = omega (arith, c.if-rest-gt0.false) in
-    search (mac_made, f, none, mixed, mac)
+    inr (
+      Ok c.in-Ok.header.stanzas,
+      whole_text stanzas _ c.in-Ok.header (Ok c.in-Ok.header.stanzas) f none (rw mixed refl),
+      ap Ok mac,
+    )
