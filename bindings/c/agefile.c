@@ -62,112 +62,69 @@ static const agefile_stanza_summary nothing;
 #define REPORT agefile_report *report
 
 /* generated: functions */
-FUNCTION(uint64_t, sealed_len,
-         (uint64_t plain_len),
-         {},
-         (plain_len))
-FUNCTION(uint64_t, plain_len_at_most,
-         (uint64_t file_len),
-         {},
-         (file_len))
-FUNCTION(uint64_t, file_len,
-         (uint64_t header_len, uint64_t plain_len),
-         {},
-         (header_len, plain_len))
-FUNCTION(uint32_t, version,
-         (void),
-         {},
-         ())
-FUNCTION(uint32_t, inspect,
-         (IN(front), agefile_summary *summary, REPORT),
-         { CHECK(front) },
-         (front, front_len, summary, report))
-FUNCTION(uint32_t, stanzas,
-         (IN(front), agefile_stanza_summary *stanzas, size_t stanzas_len, OUT(text), REPORT),
-         { CHECK(front) CHECK(stanzas) CHECK(text) },
-         (front, front_len, stanzas, stanzas_len, text, text_len, report))
-FUNCTION(uint32_t, unlock_passphrase,
-         (IN(front), IN(pass), uint8_t max_work, uint8_t file_key[16], REPORT),
-         { CHECK(front) CHECK(pass) },
-         (front, front_len, pass, pass_len, max_work, file_key, report))
-FUNCTION(uint32_t, unlock_key,
-         (IN(front), const uint8_t key[32], uint8_t file_key[16], REPORT),
-         { CHECK(front) },
-         (front, front_len, key, file_key, report))
-FUNCTION(uint32_t, wrap_passphrase,
-         (const uint8_t file_key[16], IN(pass), uint8_t work, const uint8_t salt[16], OUT(out),
+FUNCTION(uint64_t, sealed_len, (uint64_t plain_len),
+         {}, (plain_len))
+FUNCTION(uint64_t, plain_len_at_most, (uint64_t file_len),
+         {}, (file_len))
+FUNCTION(uint64_t, file_len, (uint64_t header_len, uint64_t plain_len),
+         {}, (header_len, plain_len))
+FUNCTION(uint32_t, version, (void),
+         {}, ())
+FUNCTION(uint32_t, inspect, (IN(front), agefile_summary *summary, REPORT),
+         { CHECK(front) }, (front, front_len, summary, report))
+FUNCTION(uint32_t, stanzas, (IN(front), agefile_stanza_summary *stanzas, size_t stanzas_len,
+          OUT(text), REPORT),
+         { CHECK(front) CHECK(stanzas) CHECK(text) }, (front, front_len, stanzas, stanzas_len, text,
+          text_len, report))
+FUNCTION(uint32_t, unlock_passphrase, (IN(front), IN(pass), uint8_t max_work, uint8_t file_key[16],
           REPORT),
-         { CHECK(pass) CHECK(out) },
-         (file_key, pass, pass_len, work, salt, out, out_len, report))
-FUNCTION(uint32_t, wrap_key,
-         (const uint8_t file_key[16], const uint8_t key[32], const uint8_t salt[16], OUT(out),
+         { CHECK(front) CHECK(pass) }, (front, front_len, pass, pass_len, max_work, file_key,
+          report))
+FUNCTION(uint32_t, unlock_key, (IN(front), const uint8_t key[32], uint8_t file_key[16], REPORT),
+         { CHECK(front) }, (front, front_len, key, file_key, report))
+FUNCTION(uint32_t, wrap_passphrase, (const uint8_t file_key[16], IN(pass), uint8_t work,
+          const uint8_t salt[16], OUT(out), REPORT),
+         { CHECK(pass) CHECK(out) }, (file_key, pass, pass_len, work, salt, out, out_len, report))
+FUNCTION(uint32_t, wrap_key, (const uint8_t file_key[16], const uint8_t key[32],
+          const uint8_t salt[16], OUT(out), REPORT),
+         { CHECK(out) }, (file_key, key, salt, out, out_len, report))
+FUNCTION(uint32_t, wrap, (IN(args), IN(body), OUT(out), REPORT),
+         { CHECK(args) CHECK(body) CHECK(out) }, (args, args_len, body, body_len, out, out_len,
+          report))
+FUNCTION(uint32_t, header, (IN(stanzas), const uint8_t file_key[16], OUT(out), REPORT),
+         { CHECK(stanzas) CHECK(out) }, (stanzas, stanzas_len, file_key, out, out_len, report))
+FUNCTION(uint32_t, begin, (IN(stanzas), const uint8_t file_key[16], const uint8_t nonce[16],
+          OUT(out), agefile_payload *payload, REPORT),
+         { CLOSE(payload) CHECK(stanzas) CHECK(out) }, (stanzas, stanzas_len, file_key, nonce, out,
+          out_len, payload, report))
+FUNCTION(uint32_t, open, (IN(front), const uint8_t file_key[16], agefile_payload *payload, REPORT),
+         { CLOSE(payload) CHECK(front) }, (front, front_len, file_key, payload, report))
+FUNCTION(uint32_t, open_next, (agefile_payload *payload, OUT(chunk), bool last, REPORT),
+         { CHECK(chunk) }, (payload, chunk, chunk_len, last, report))
+FUNCTION(uint32_t, seal_next, (agefile_payload *payload, OUT(chunk), bool last, REPORT),
+         { CHECK(chunk) }, (payload, chunk, chunk_len, last, report))
+FUNCTION(uint32_t, take_part, (agefile_payload *payload, uint64_t count, agefile_part *part,
           REPORT),
-         { CHECK(out) },
-         (file_key, key, salt, out, out_len, report))
-FUNCTION(uint32_t, wrap,
-         (IN(args), IN(body), OUT(out), REPORT),
-         { CHECK(args) CHECK(body) CHECK(out) },
-         (args, args_len, body, body_len, out, out_len, report))
-FUNCTION(uint32_t, header,
-         (IN(stanzas), const uint8_t file_key[16], OUT(out), REPORT),
-         { CHECK(stanzas) CHECK(out) },
-         (stanzas, stanzas_len, file_key, out, out_len, report))
-FUNCTION(uint32_t, begin,
-         (IN(stanzas), const uint8_t file_key[16], const uint8_t nonce[16], OUT(out),
-          agefile_payload *payload, REPORT),
-         { CLOSE(payload) CHECK(stanzas) CHECK(out) },
-         (stanzas, stanzas_len, file_key, nonce, out, out_len, payload, report))
-FUNCTION(uint32_t, open,
-         (IN(front), const uint8_t file_key[16], agefile_payload *payload, REPORT),
-         { CLOSE(payload) CHECK(front) },
-         (front, front_len, file_key, payload, report))
-FUNCTION(uint32_t, open_next,
-         (agefile_payload *payload, OUT(chunk), bool last, REPORT),
-         { CHECK(chunk) },
-         (payload, chunk, chunk_len, last, report))
-FUNCTION(uint32_t, seal_next,
-         (agefile_payload *payload, OUT(chunk), bool last, REPORT),
-         { CHECK(chunk) },
-         (payload, chunk, chunk_len, last, report))
-FUNCTION(uint32_t, take_part,
-         (agefile_payload *payload, uint64_t count, agefile_part *part, REPORT),
-         {},
-         (payload, count, part, report))
-FUNCTION(uint32_t, part_open_next,
-         (agefile_part *part, OUT(chunk), REPORT),
-         { CHECK(chunk) },
-         (part, chunk, chunk_len, report))
-FUNCTION(uint32_t, part_seal_next,
-         (agefile_part *part, OUT(chunk), REPORT),
-         { CHECK(chunk) },
-         (part, chunk, chunk_len, report))
-FUNCTION(uint32_t, salvage_next,
-         (agefile_payload *payload, OUT(chunk), bool last, REPORT),
-         { CHECK(chunk) },
-         (payload, chunk, chunk_len, last, report))
-FUNCTION(uint32_t, ranges_open,
-         (IN(front), uint64_t file_len, const uint8_t file_key[16], agefile_ranges *ranges, REPORT),
-         { CLOSE(ranges) CHECK(front) },
-         (front, front_len, file_len, file_key, ranges, report))
-FUNCTION(uint32_t, ranges_last,
-         (agefile_ranges *ranges, OUT(chunk), REPORT),
-         { CHECK(chunk) },
-         (ranges, chunk, chunk_len, report))
-FUNCTION(uint32_t, ranges_locate,
-         (const agefile_ranges *ranges, uint64_t at, REPORT),
-         {},
-         (ranges, at, report))
-FUNCTION(uint32_t, ranges_chunk,
-         (const agefile_ranges *ranges, uint64_t at, OUT(chunk), REPORT),
-         { CHECK(chunk) },
-         (ranges, at, chunk, chunk_len, report))
-FUNCTION(uint32_t, decrypt,
-         (IN(file), const uint8_t file_key[16], OUT(out), REPORT),
-         { CHECK(file) CHECK(out) },
-         (file, file_len, file_key, out, out_len, report))
-FUNCTION(uint32_t, encrypt,
-         (IN(plain), IN(stanzas), const uint8_t file_key[16], const uint8_t nonce[16], OUT(out),
-          REPORT),
-         { CHECK(plain) CHECK(stanzas) CHECK(out) },
-         (plain, plain_len, stanzas, stanzas_len, file_key, nonce, out, out_len, report))
+         {}, (payload, count, part, report))
+FUNCTION(uint32_t, part_open_next, (agefile_part *part, OUT(chunk), REPORT),
+         { CHECK(chunk) }, (part, chunk, chunk_len, report))
+FUNCTION(uint32_t, part_seal_next, (agefile_part *part, OUT(chunk), REPORT),
+         { CHECK(chunk) }, (part, chunk, chunk_len, report))
+FUNCTION(uint32_t, salvage_next, (agefile_payload *payload, OUT(chunk), bool last, REPORT),
+         { CHECK(chunk) }, (payload, chunk, chunk_len, last, report))
+FUNCTION(uint32_t, ranges_open, (IN(front), uint64_t file_len, const uint8_t file_key[16],
+          agefile_ranges *ranges, REPORT),
+         { CLOSE(ranges) CHECK(front) }, (front, front_len, file_len, file_key, ranges, report))
+FUNCTION(uint32_t, ranges_last, (agefile_ranges *ranges, OUT(chunk), REPORT),
+         { CHECK(chunk) }, (ranges, chunk, chunk_len, report))
+FUNCTION(uint32_t, ranges_locate, (const agefile_ranges *ranges, uint64_t at, REPORT),
+         {}, (ranges, at, report))
+FUNCTION(uint32_t, ranges_chunk, (const agefile_ranges *ranges, uint64_t at, OUT(chunk), REPORT),
+         { CHECK(chunk) }, (ranges, at, chunk, chunk_len, report))
+FUNCTION(uint32_t, decrypt, (IN(file), const uint8_t file_key[16], OUT(out), REPORT),
+         { CHECK(file) CHECK(out) }, (file, file_len, file_key, out, out_len, report))
+FUNCTION(uint32_t, encrypt, (IN(plain), IN(stanzas), const uint8_t file_key[16],
+          const uint8_t nonce[16], OUT(out), REPORT),
+         { CHECK(plain) CHECK(stanzas) CHECK(out) }, (plain, plain_len, stanzas, stanzas_len,
+          file_key, nonce, out, out_len, report))
 /* end of functions */

@@ -90,10 +90,10 @@ def _parameter_in_c(v):
     return declared + f"[{v.count}]" * bool(v.count) + f", size_t {v.name}_len" * v.has_length
 
 
-def _lines(text):
-    """A list, wrapped after commas to at most 100 columns."""
-    joined = text.replace(" ", "\0").replace(",\0", ", ")
-    lines = textwrap.wrap(joined, 100, initial_indent=" " * 9, subsequent_indent=" " * 10, break_long_words=False)
+def _lines(parts, first, rest):
+    """A list, wrapped between its parts to at most 100 columns."""
+    joined = ", ".join(part.replace(" ", "\0") for part in parts)
+    lines = textwrap.wrap(joined, 100, initial_indent=first, subsequent_indent=rest, break_long_words=False)
     return [line.replace("\0", " ") for line in lines]
 
 
@@ -103,9 +103,10 @@ def _row(export, fields):
     if checks:
         checks = [f"CLOSE({name})" for name in _opened(export, fields)] + checks
     parameters = ", ".join(map(_parameter_in_c, export.parameters)) or "void"
-    lines = [f"FUNCTION({IN_C[export.result]}, {export.name},", *_lines(f"({parameters}),")]
-    lines.append(" " * 9 + (f"{{ {' '.join(checks)} }}," if checks else "{},"))
-    return "\n".join(lines + _lines(f"({', '.join(_names(export.parameters))}))")) + "\n"
+    first = f"FUNCTION({IN_C[export.result]}, {export.name}, ({parameters}),"
+    second = f"{{ {' '.join(checks)} }}, ".replace("{  }", "{}") + f"({', '.join(_names(export.parameters))}))"
+    lines = _lines(first.split(", "), "", " " * 10) + _lines(second.split(", "), " " * 9, " " * 10)
+    return "\n".join(lines) + "\n"
 
 
 def _function_in_rust(export):
@@ -115,6 +116,28 @@ def _function_in_rust(export):
         parameters.append(f"{v.name}: {f'*{v.access} ' * bool(v.access)}{kind}" + f", {v.name}_len: usize" * v.has_length)
     feature = '    #[cfg(feature = "parallel")]\n' * any(v.kind == "Part" for v in export.parameters)
     return f"{feature}    fn agefile_{export.name}({', '.join(parameters)}) -> {export.result};\n"
+
+
+def _safe_in_rust(export):
+    """The function with slices for pointers. A struct or an array that it only writes is made, and returned."""
+    taken, passed, made = [], [], ""
+    for place, v in enumerate(export.parameters[:-1]):
+        kind = f"[{v.kind}; {v.count}]" if v.count else v.kind
+        if v.has_length:
+            passed += [f"{v.name}.as_{'mut_' * (v.access == 'mut')}ptr()", f"{v.name}.len()"]
+        elif v.access == "mut" and place > 0:
+            passed, made = [*passed, f"&mut {v.name}"], kind
+            continue
+        else:
+            passed.append(v.name)
+        reference = {"const": "&", "mut": "&mut ", "": ""}[v.access]
+        taken.append(f"{v.name}: {reference}{f'[{v.kind}]' if v.has_length else kind}")
+    called, result = f"call!(agefile_{export.name}({', '.join(passed)}))", f"({made}, Report)" if made else "Report"
+    if made:
+        name = passed[-1].removeprefix("&mut ")
+        called = f"let mut {name} = Default::default(); let report = {called}?; Ok(({name}, report))"
+    feature = '    #[cfg(feature = "parallel")]\n' * any(v.kind == "Part" for v in export.parameters)
+    return f"{feature}    pub fn {export.name}({', '.join(taken)}) -> Result<{result}, Error> {{ {called} }}\n"
 
 
 def _struct_in_rust(name, fields):
@@ -134,9 +157,9 @@ def _parameter_in_python(v):
 
 
 def _struct_in_python(name, fields):
-    kinds = [f'        ("{v.name}", {IN_PYTHON[v.kind]}{f" * {v.count}" * bool(v.count)}),\n' for v in fields]
-    types = [f"    {v.name}: {'Any' if v.count else 'int'}\n" for v in fields]
-    return f"class {name}(ctypes.Structure):\n    _fields_ = [\n{''.join(kinds)}    ]\n{''.join(types)}"
+    rows = [f'("{v.name}", {IN_PYTHON[v.kind]}{f" * {v.count}" * bool(v.count)})' for v in fields]
+    rows[-1] += "]"
+    return "\n".join([f"class {name}(ctypes.Structure):", *_lines(rows, "    _fields_ = [", " " * 16), ""])
 
 
 def _layout(name, fields):
@@ -177,6 +200,7 @@ def texts(root):
     return {
         "functions": "".join(_row(e, fields) for e in every),
         "functions of the library": "".join(map(_function_in_rust, every)),
+        "safe functions of the library": "".join(map(_safe_in_rust, called)),
         "structs of the library": "\n".join(_struct_in_rust(name, fields[name]) for name in fields),
         "signatures": "".join(f'    "{e.name}": ({", ".join(map(_parameter_in_python, e.parameters))}),\n' for e in called),
         "structs": "\n\n" + "\n\n".join(_struct_in_python(name, fields[name]) for name in fields) + "\n\n",

@@ -46,7 +46,13 @@ def _source(root, name):
 
 def _variants(root, source):
     """Each variant of an enum of faults: its comment, its text, its name."""
-    return re.findall(r'((?: +///.*\n)*) +#\[error\("(.*)"\)\]\n +(\w+)', _source(root, source))
+    enum, shown = _source(root, source).split("impl fmt::Display for ", 1)
+    texts = re.findall(r'Fault::(\w+)(?:\(([\w, ]+)\))? => [^"]*"(.*)"', shown)
+    for name, places, text in texts:
+        comment = re.search(rf"((?: +///.*\n)*) +{name}\b.*,\n", enum)[1]
+        for number, place in enumerate(places.split(", ")):
+            text = text.replace(f"{{{place}}}", f"{{{number}}}")
+        yield comment, text, name
 
 
 def _numbers(root, kind):
@@ -70,7 +76,7 @@ def own(root):
 
 def faults(root):
     """All codes in order: those of files and those of the library."""
-    numbers, variants, code = _numbers(root, "Fault"), _variants(root, FAULT), _source(root, CODE)
+    numbers, variants, code = _numbers(root, "Fault"), list(_variants(root, FAULT)), _source(root, CODE)
     if other := set(numbers) ^ {name for _, _, name in variants}:
         sys.exit(f"{', '.join(sorted(other))}: not in both fault.rt and fault_code of code.rt")
     bodies = re.findall(r"^pub\(crate\) fn fault_(place|detail)\b(.*?)^}", code, re.M | re.S)
@@ -102,8 +108,7 @@ def texts(root):
         "codes": f"enum agefile_code {{\n{members}\n}};\n",
         "messages": lines(lambda f: f'    case AGEFILE_{f.constant}: return "{f.message}";\n'),
         "details": lines(lambda p: f'    case {p.code}: return "{p.text}";\n', details),
-        "code members": lines(lambda f: f"    {f.constant} = {f.code}\n"),
-        "code messages": lines(lambda f: f'    Code.{f.constant}: "{f.shown(f.held)}",\n'),
+        "code members": lines(lambda f: f'    {f.constant} = {f.code}, "{f.shown(f.held)}"\n'),
         "code details": lines(lambda p: f'    {p.code}: "{p.text}",\n', details),
         "variants of errors": lines(lambda f: f"{f.comment}    {f.name}{holds[f.held][0]},\n" * (f not in own_codes), rust),
         "codes of errors": lines(lambda f: f"            {f.code} => Error::{f.name}{holds[f.held][1]},\n", rust),

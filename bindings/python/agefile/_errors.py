@@ -10,68 +10,43 @@ from typing import Any
 class Code(enum.IntEnum):
     """The codes of the C library. None is ever reused."""
 
+    _text: str
+
+    def __new__(cls, code: int, text: str = "") -> Code:
+        self = int.__new__(cls, code)
+        self._value_, self._text = code, text
+        return self
+
     # generated: code members
-    OK = 0
-    NOT_AGE = 1
-    BAD_LINE = 2
-    HEADER_TRUNCATED = 3
-    HEADER_TOO_LARGE = 4
-    MIXED_PASSPHRASE = 5
-    NO_MATCH = 6
-    WRONG_KEY = 7
-    MALFORMED = 8
-    BAD_MAC = 9
-    NONCE_TRUNCATED = 10
-    CHUNK_SHORT = 11
-    EMPTY_FINAL = 12
-    BAD_CHUNK = 13
-    TOO_MANY_CHUNKS = 14
-    READ = 15
-    WRITE = 16
-    OUT_OF_MEMORY = 17
-    NO_RECIPIENTS = 18
-    REFUSED = 19
-    INCOMPATIBLE_RECIPIENTS = 20
-    TOO_SMALL = 21
-    WORK_FACTOR = 22
-    OUT_OF_ORDER = 23
-    NULL_POINTER = 24
-    BAD_ARGUMENTS = 25
-    EMPTY_PASSPHRASE = 26
+    OK = 0, "no fault"
+    NOT_AGE = 1, "not an age file"
+    BAD_LINE = 2, "bad header line {place}"
+    HEADER_TRUNCATED = 3, "header is cut short"
+    HEADER_TOO_LARGE = 4, "header is too large"
+    MIXED_PASSPHRASE = 5, "a passphrase stanza must stand alone"
+    NO_MATCH = 6, "no key fits this file"
+    WRONG_KEY = 7, "wrong passphrase or key"
+    MALFORMED = 8, "malformed stanza: {part}"
+    BAD_MAC = 9, "header check failed"
+    NONCE_TRUNCATED = 10, "payload nonce is cut short"
+    CHUNK_SHORT = 11, "chunk {place} is cut short"
+    EMPTY_FINAL = 12, "chunk {place} is empty"
+    BAD_CHUNK = 13, "chunk {place} is damaged"
+    TOO_MANY_CHUNKS = 14, "too many chunks"
+    READ = 15, "read failed"
+    WRITE = 16, "write failed"
+    OUT_OF_MEMORY = 17, "out of memory"
+    NO_RECIPIENTS = 18, "no recipients"
+    REFUSED = 19, "recipient refused"
+    INCOMPATIBLE_RECIPIENTS = 20, "recipient does not go with recipient 0"
+    TOO_SMALL = 21, "buffer is too small"
+    WORK_FACTOR = 22, "work factor must be 1 to 30"
+    OUT_OF_ORDER = 23, "no such offset, a chunk of another length, or a call out of order"
+    NULL_POINTER = 24, "null pointer with a length"
+    BAD_ARGUMENTS = 25, "stanza arguments must be visible ASCII, one space apart"
+    EMPTY_PASSPHRASE = 26, "passphrase is empty"
     # end of code members
 
-
-_MESSAGES = {
-    # generated: code messages
-    Code.OK: "no fault",
-    Code.NOT_AGE: "not an age file",
-    Code.BAD_LINE: "bad header line {place}",
-    Code.HEADER_TRUNCATED: "header is cut short",
-    Code.HEADER_TOO_LARGE: "header is too large",
-    Code.MIXED_PASSPHRASE: "a passphrase stanza must stand alone",
-    Code.NO_MATCH: "no key fits this file",
-    Code.WRONG_KEY: "wrong passphrase or key",
-    Code.MALFORMED: "malformed stanza: {part}",
-    Code.BAD_MAC: "header check failed",
-    Code.NONCE_TRUNCATED: "payload nonce is cut short",
-    Code.CHUNK_SHORT: "chunk {place} is cut short",
-    Code.EMPTY_FINAL: "chunk {place} is empty",
-    Code.BAD_CHUNK: "chunk {place} is damaged",
-    Code.TOO_MANY_CHUNKS: "too many chunks",
-    Code.READ: "read failed",
-    Code.WRITE: "write failed",
-    Code.OUT_OF_MEMORY: "out of memory",
-    Code.NO_RECIPIENTS: "no recipients",
-    Code.REFUSED: "recipient refused",
-    Code.INCOMPATIBLE_RECIPIENTS: "recipient does not go with recipient 0",
-    Code.TOO_SMALL: "buffer is too small",
-    Code.WORK_FACTOR: "work factor must be 1 to 30",
-    Code.OUT_OF_ORDER: "no such offset, a chunk of another length, or a call out of order",
-    Code.NULL_POINTER: "null pointer with a length",
-    Code.BAD_ARGUMENTS: "stanza arguments must be visible ASCII, one space apart",
-    Code.EMPTY_PASSPHRASE: "passphrase is empty",
-    # end of code messages
-}
 
 _DETAILS = {
     # generated: code details
@@ -115,7 +90,7 @@ def chunk_hint(code: int, place: int, left: int | None) -> str | None:
 
 
 def _text(code: int, place: int, detail: int) -> str:
-    return _MESSAGES[Code(code)].format(place=place, part=_DETAILS.get(detail, "other"))
+    return Code(code)._text.format(place=place, part=_DETAILS.get(detail, "other"))
 
 
 class AgeError(Exception):
@@ -131,18 +106,10 @@ class AgeError(Exception):
     """
 
     def __init__(
-        self,
-        code: int,
-        place: int = 0,
-        detail: int = 0,
-        filename: Any = None,
-        hint: str | None = None,
+        self, code: int, place: int = 0, detail: int = 0, filename: Any = None, hint: str | None = None
     ) -> None:
         super().__init__(_text(code, place, detail))
-        self.code = Code(code)
-        self.place = place
-        self.detail = detail
-        self.filename = filename
+        self.code, self.place, self.detail, self.filename = Code(code), place, detail, filename
         self.hint = hint or _HINTS.get(self.code, "").format(place=place) or None
         if sys.version_info >= (3, 11) and self.hint:
             self.add_note(self.hint)

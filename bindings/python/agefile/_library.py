@@ -30,77 +30,28 @@ address = ctypes.c_void_p
 
 
 class Summary(ctypes.Structure):
-    _fields_ = [
-        ("header_len", number),
-        ("stanzas", number),
-        ("mac", byte * 32),
-    ]
-    header_len: int
-    stanzas: int
-    mac: Any
+    _fields_ = [("header_len", number), ("stanzas", number), ("mac", byte * 32)]
 
 
 class StanzaSummary(ctypes.Structure):
-    _fields_ = [
-        ("args", number),
-        ("args_len", number),
-        ("body_len", number),
-    ]
-    args: int
-    args_len: int
-    body_len: int
+    _fields_ = [("args", number), ("args_len", number), ("body_len", number)]
 
 
 class Part(ctypes.Structure):
-    _fields_ = [
-        ("key", byte * 32),
-        ("number", number),
-        ("left", number),
-        ("state", number),
-        ("spare", number),
-    ]
-    key: Any
-    number: int
-    left: int
-    state: int
-    spare: int
+    _fields_ = [("key", byte * 32), ("number", number), ("left", number), ("state", number),
+                ("spare", number)]
 
 
 class Payload(ctypes.Structure):
-    _fields_ = [
-        ("key", byte * 32),
-        ("number", number),
-        ("state", number),
-        ("spare", number * 2),
-    ]
-    key: Any
-    number: int
-    state: int
-    spare: Any
+    _fields_ = [("key", byte * 32), ("number", number), ("state", number), ("spare", number * 2)]
 
 
 class Ranges(ctypes.Structure):
-    _fields_ = [
-        ("key", byte * 32),
-        ("first", number),
-        ("sealed_len", number),
-        ("state", number),
-    ]
-    key: Any
-    first: int
-    sealed_len: int
-    state: int
+    _fields_ = [("key", byte * 32), ("first", number), ("sealed_len", number), ("state", number)]
 
 
 class Report(ctypes.Structure):
-    _fields_ = [
-        ("len", number),
-        ("place", number),
-        ("detail", number),
-    ]
-    len: int
-    place: int
-    detail: int
+    _fields_ = [("len", number), ("place", number), ("detail", number)]
 
 
 # end of structs
@@ -193,7 +144,7 @@ def for_chunks(name: str, struct: ctypes.Structure) -> Callable[..., int]:
             left = arguments[1] if name == "open_next" and arguments[2] else None
             hint = chunk_hint(code, report.place, left)
             raise AgeError.of(code, report.place, report.detail, hint)
-        return report.len
+        return report.len  # type: ignore[no-any-return]
 
     return call_step
 
@@ -201,21 +152,10 @@ def for_chunks(name: str, struct: ctypes.Structure) -> Callable[..., int]:
 class _PyBuffer(ctypes.Structure):
     """CPython's Py_buffer."""
 
-    _fields_ = [
-        ("buf", address),
-        ("obj", address),
-        ("len", ctypes.c_ssize_t),
-        ("itemsize", ctypes.c_ssize_t),
-        ("readonly", ctypes.c_int),
-        ("ndim", ctypes.c_int),
-        ("format", ctypes.c_char_p),
-        ("shape", address),
-        ("strides", address),
-        ("suboffsets", address),
-        ("internal", address),
-    ]
-    buf: int
-    len: int
+    _fields_ = [("buf", address), ("obj", address), ("len", ctypes.c_ssize_t),
+                ("itemsize", ctypes.c_ssize_t), ("readonly", ctypes.c_int), ("ndim", ctypes.c_int),
+                ("format", ctypes.c_char_p), ("shape", address), ("strides", address),
+                ("suboffsets", address), ("internal", address)]
 
 
 _get_buffer = ctypes.pythonapi.PyObject_GetBuffer
@@ -238,7 +178,7 @@ class Bytes:
     def __enter__(self) -> Bytes:
         _get_buffer(self._data, ctypes.byref(self._view), self._flags)
         self.address = self._view.buf or 0
-        self.len = self._view.len
+        self.len: int = self._view.len
         return self
 
     def __exit__(self, *_: object) -> None:

@@ -146,136 +146,37 @@ pub fn random<const N: usize>() -> io::Result<[u8; N]> {
     Ok(bytes)
 }
 
-pub fn inspect(front: &[u8]) -> Result<Summary, Error> {
-    let mut summary = Summary::default();
-    call!(agefile_inspect(front.as_ptr(), front.len(), &mut summary))?;
-    Ok(summary)
+#[rustfmt::skip]
+mod safe {
+    use super::*;
+
+    // generated: safe functions of the library
+    pub fn inspect(front: &[u8]) -> Result<(Summary, Report), Error> { let mut summary = Default::default(); let report = call!(agefile_inspect(front.as_ptr(), front.len(), &mut summary))?; Ok((summary, report)) }
+    pub fn stanzas(front: &[u8], stanzas: &mut [StanzaSummary], text: &mut [u8]) -> Result<Report, Error> { call!(agefile_stanzas(front.as_ptr(), front.len(), stanzas.as_mut_ptr(), stanzas.len(), text.as_mut_ptr(), text.len())) }
+    pub fn unlock_passphrase(front: &[u8], pass: &[u8], max_work: u8) -> Result<([u8; 16], Report), Error> { let mut file_key = Default::default(); let report = call!(agefile_unlock_passphrase(front.as_ptr(), front.len(), pass.as_ptr(), pass.len(), max_work, &mut file_key))?; Ok((file_key, report)) }
+    pub fn unlock_key(front: &[u8], key: &[u8; 32]) -> Result<([u8; 16], Report), Error> { let mut file_key = Default::default(); let report = call!(agefile_unlock_key(front.as_ptr(), front.len(), key, &mut file_key))?; Ok((file_key, report)) }
+    pub fn wrap_passphrase(file_key: &[u8; 16], pass: &[u8], work: u8, salt: &[u8; 16], out: &mut [u8]) -> Result<Report, Error> { call!(agefile_wrap_passphrase(file_key, pass.as_ptr(), pass.len(), work, salt, out.as_mut_ptr(), out.len())) }
+    pub fn wrap_key(file_key: &[u8; 16], key: &[u8; 32], salt: &[u8; 16], out: &mut [u8]) -> Result<Report, Error> { call!(agefile_wrap_key(file_key, key, salt, out.as_mut_ptr(), out.len())) }
+    pub fn wrap(args: &[u8], body: &[u8], out: &mut [u8]) -> Result<Report, Error> { call!(agefile_wrap(args.as_ptr(), args.len(), body.as_ptr(), body.len(), out.as_mut_ptr(), out.len())) }
+    pub fn header(stanzas: &[u8], file_key: &[u8; 16], out: &mut [u8]) -> Result<Report, Error> { call!(agefile_header(stanzas.as_ptr(), stanzas.len(), file_key, out.as_mut_ptr(), out.len())) }
+    pub fn begin(stanzas: &[u8], file_key: &[u8; 16], nonce: &[u8; 16], out: &mut [u8]) -> Result<(Payload, Report), Error> { let mut payload = Default::default(); let report = call!(agefile_begin(stanzas.as_ptr(), stanzas.len(), file_key, nonce, out.as_mut_ptr(), out.len(), &mut payload))?; Ok((payload, report)) }
+    pub fn open(front: &[u8], file_key: &[u8; 16]) -> Result<(Payload, Report), Error> { let mut payload = Default::default(); let report = call!(agefile_open(front.as_ptr(), front.len(), file_key, &mut payload))?; Ok((payload, report)) }
+    pub fn open_next(payload: &mut Payload, chunk: &mut [u8], last: bool) -> Result<Report, Error> { call!(agefile_open_next(payload, chunk.as_mut_ptr(), chunk.len(), last)) }
+    pub fn seal_next(payload: &mut Payload, chunk: &mut [u8], last: bool) -> Result<Report, Error> { call!(agefile_seal_next(payload, chunk.as_mut_ptr(), chunk.len(), last)) }
+    #[cfg(feature = "parallel")]
+    pub fn take_part(payload: &mut Payload, count: u64) -> Result<(Part, Report), Error> { let mut part = Default::default(); let report = call!(agefile_take_part(payload, count, &mut part))?; Ok((part, report)) }
+    #[cfg(feature = "parallel")]
+    pub fn part_open_next(part: &mut Part, chunk: &mut [u8]) -> Result<Report, Error> { call!(agefile_part_open_next(part, chunk.as_mut_ptr(), chunk.len())) }
+    #[cfg(feature = "parallel")]
+    pub fn part_seal_next(part: &mut Part, chunk: &mut [u8]) -> Result<Report, Error> { call!(agefile_part_seal_next(part, chunk.as_mut_ptr(), chunk.len())) }
+    pub fn salvage_next(payload: &mut Payload, chunk: &mut [u8], last: bool) -> Result<Report, Error> { call!(agefile_salvage_next(payload, chunk.as_mut_ptr(), chunk.len(), last)) }
+    pub fn ranges_open(front: &[u8], file_len: u64, file_key: &[u8; 16]) -> Result<(Ranges, Report), Error> { let mut ranges = Default::default(); let report = call!(agefile_ranges_open(front.as_ptr(), front.len(), file_len, file_key, &mut ranges))?; Ok((ranges, report)) }
+    pub fn ranges_last(ranges: &mut Ranges, chunk: &mut [u8]) -> Result<Report, Error> { call!(agefile_ranges_last(ranges, chunk.as_mut_ptr(), chunk.len())) }
+    pub fn ranges_locate(ranges: &Ranges, at: u64) -> Result<Report, Error> { call!(agefile_ranges_locate(ranges, at)) }
+    pub fn ranges_chunk(ranges: &Ranges, at: u64, chunk: &mut [u8]) -> Result<Report, Error> { call!(agefile_ranges_chunk(ranges, at, chunk.as_mut_ptr(), chunk.len())) }
+    pub fn decrypt(file: &[u8], file_key: &[u8; 16], out: &mut [u8]) -> Result<Report, Error> { call!(agefile_decrypt(file.as_ptr(), file.len(), file_key, out.as_mut_ptr(), out.len())) }
+    pub fn encrypt(plain: &[u8], stanzas: &[u8], file_key: &[u8; 16], nonce: &[u8; 16], out: &mut [u8]) -> Result<Report, Error> { call!(agefile_encrypt(plain.as_ptr(), plain.len(), stanzas.as_ptr(), stanzas.len(), file_key, nonce, out.as_mut_ptr(), out.len())) }
+    // end of safe functions of the library
 }
 
-pub fn stanzas(front: &[u8], sizes: &mut [StanzaSummary], text: &mut [u8]) -> Result<Report, Error> {
-    call!(agefile_stanzas(front.as_ptr(), front.len(), sizes.as_mut_ptr(), sizes.len(), text.as_mut_ptr(), text.len()))
-}
-
-pub fn unlock_passphrase(front: &[u8], pass: &[u8], max_work: u8) -> Result<[u8; 16], Error> {
-    let mut file_key = [0; 16];
-    call!(agefile_unlock_passphrase(front.as_ptr(), front.len(), pass.as_ptr(), pass.len(), max_work, &mut file_key))?;
-    Ok(file_key)
-}
-
-pub fn unlock_key(front: &[u8], key: &[u8; 32]) -> Result<[u8; 16], Error> {
-    let mut file_key = [0; 16];
-    call!(agefile_unlock_key(front.as_ptr(), front.len(), key, &mut file_key))?;
-    Ok(file_key)
-}
-
-pub fn wrap_passphrase(
-    file_key: &[u8; 16],
-    pass: &[u8],
-    work: u8,
-    salt: &[u8; 16],
-    out: &mut [u8],
-) -> Result<Report, Error> {
-    call!(agefile_wrap_passphrase(file_key, pass.as_ptr(), pass.len(), work, salt, out.as_mut_ptr(), out.len()))
-}
-
-pub fn wrap_key(file_key: &[u8; 16], key: &[u8; 32], salt: &[u8; 16], out: &mut [u8]) -> Result<Report, Error> {
-    call!(agefile_wrap_key(file_key, key, salt, out.as_mut_ptr(), out.len()))
-}
-
-pub fn wrap(args: &[u8], body: &[u8], out: &mut [u8]) -> Result<Report, Error> {
-    call!(agefile_wrap(args.as_ptr(), args.len(), body.as_ptr(), body.len(), out.as_mut_ptr(), out.len()))
-}
-
-pub fn header(stanzas: &[u8], file_key: &[u8; 16], out: &mut [u8]) -> Result<Report, Error> {
-    call!(agefile_header(stanzas.as_ptr(), stanzas.len(), file_key, out.as_mut_ptr(), out.len()))
-}
-
-pub fn begin(stanzas: &[u8], file_key: &[u8; 16], nonce: &[u8; 16], out: &mut [u8]) -> Result<(Payload, usize), Error> {
-    let mut payload = Payload::default();
-    let report = call!(agefile_begin(
-        stanzas.as_ptr(),
-        stanzas.len(),
-        file_key,
-        nonce,
-        out.as_mut_ptr(),
-        out.len(),
-        &mut payload,
-    ))?;
-    Ok((payload, report.len as usize))
-}
-
-pub fn open(front: &[u8], file_key: &[u8; 16]) -> Result<(Payload, usize), Error> {
-    let mut payload = Payload::default();
-    let report = call!(agefile_open(front.as_ptr(), front.len(), file_key, &mut payload))?;
-    Ok((payload, report.len as usize))
-}
-
-pub fn open_next(payload: &mut Payload, chunk: &mut [u8], last: bool) -> Result<usize, Error> {
-    call!(agefile_open_next(payload, chunk.as_mut_ptr(), chunk.len(), last)).map(|report| report.len as usize)
-}
-
-pub fn seal_next(payload: &mut Payload, chunk: &mut [u8], last: bool) -> Result<usize, Error> {
-    call!(agefile_seal_next(payload, chunk.as_mut_ptr(), chunk.len(), last)).map(|report| report.len as usize)
-}
-
-#[cfg(feature = "parallel")]
-pub fn take_part(payload: &mut Payload, chunks: u64) -> Result<Part, Error> {
-    let mut part = Part::default();
-    call!(agefile_take_part(payload, chunks, &mut part))?;
-    Ok(part)
-}
-
-#[cfg(feature = "parallel")]
-pub fn part_open_next(part: &mut Part, chunk: &mut [u8]) -> Result<usize, Error> {
-    call!(agefile_part_open_next(part, chunk.as_mut_ptr(), chunk.len())).map(|report| report.len as usize)
-}
-
-#[cfg(feature = "parallel")]
-pub fn part_seal_next(part: &mut Part, chunk: &mut [u8]) -> Result<usize, Error> {
-    call!(agefile_part_seal_next(part, chunk.as_mut_ptr(), chunk.len())).map(|report| report.len as usize)
-}
-
-pub fn salvage_next(payload: &mut Payload, chunk: &mut [u8], last: bool) -> Result<Report, Error> {
-    call!(agefile_salvage_next(payload, chunk.as_mut_ptr(), chunk.len(), last))
-}
-
-pub fn ranges_open(front: &[u8], file_len: u64, file_key: &[u8; 16]) -> Result<(Ranges, Report), Error> {
-    let mut ranges = Ranges::default();
-    let report = call!(agefile_ranges_open(front.as_ptr(), front.len(), file_len, file_key, &mut ranges))?;
-    Ok((ranges, report))
-}
-
-pub fn ranges_last(ranges: &mut Ranges, chunk: &mut [u8]) -> Result<Report, Error> {
-    call!(agefile_ranges_last(ranges, chunk.as_mut_ptr(), chunk.len()))
-}
-
-pub fn ranges_locate(ranges: &Ranges, at: u64) -> Result<Report, Error> {
-    call!(agefile_ranges_locate(ranges, at))
-}
-
-pub fn ranges_chunk(ranges: &Ranges, at: u64, chunk: &mut [u8]) -> Result<Report, Error> {
-    call!(agefile_ranges_chunk(ranges, at, chunk.as_mut_ptr(), chunk.len()))
-}
-
-pub fn decrypt(file: &[u8], file_key: &[u8; 16], out: &mut [u8]) -> Result<Report, Error> {
-    call!(agefile_decrypt(file.as_ptr(), file.len(), file_key, out.as_mut_ptr(), out.len()))
-}
-
-pub fn encrypt(
-    plain: &[u8],
-    stanzas: &[u8],
-    file_key: &[u8; 16],
-    nonce: &[u8; 16],
-    out: &mut [u8],
-) -> Result<Report, Error> {
-    call!(agefile_encrypt(
-        plain.as_ptr(),
-        plain.len(),
-        stanzas.as_ptr(),
-        stanzas.len(),
-        file_key,
-        nonce,
-        out.as_mut_ptr(),
-        out.len(),
-    ))
-}
+pub use safe::*;
