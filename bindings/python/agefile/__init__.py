@@ -31,29 +31,9 @@ from ._whole import copy, decrypt, encrypt, inspect, rewrap, rewrap_copy
 from ._writer import Writer
 
 __all__ = [
-    "__version__",
-    "AgeChangedError",
-    "AgeError",
-    "AgeMemoryError",
-    "Code",
-    "Header",
-    "Identity",
-    "Key",
-    "LostChunks",
-    "Passphrase",
-    "Reader",
-    "Recipient",
-    "Salvaged",
-    "Stanza",
-    "Writer",
-    "copy",
-    "decrypt",
-    "encrypt",
-    "inspect",
-    "library_version",
-    "open",
-    "rewrap",
-    "rewrap_copy",
+    "__version__", "AgeChangedError", "AgeError", "AgeMemoryError", "Code", "Header", "Identity",
+    "Key", "LostChunks", "Passphrase", "Reader", "Recipient", "Salvaged", "Stanza", "Writer",
+    "copy", "decrypt", "encrypt", "inspect", "library_version", "open", "rewrap", "rewrap_copy",
     "salvage",
 ]
 

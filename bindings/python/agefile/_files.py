@@ -4,7 +4,7 @@ from __future__ import annotations
 
 import codecs
 import io
-from typing import Any, Literal, overload
+from typing import Any, Literal, Optional, overload
 
 from ._paths import check_atomic
 from ._reader import Reader, open_reader
@@ -15,65 +15,29 @@ _ReadBytes = Literal["rb", "br"]
 _ReadText = Literal["r", "rt", "tr"]
 _WriteBytes = Literal["wb", "bw", "xb", "bx"]
 _WriteText = Literal["w", "wt", "tw", "x", "xt", "tx"]
+_Word = Optional[str]
 
 
 @overload
 def open(file: Any, mode: _ReadBytes = "rb", *, identities: Identities) -> Reader: ...
 @overload
-def open(
-    file: Any,
-    mode: _ReadText,
-    *,
-    identities: Identities,
-    encoding: str | None = None,
-    errors: str | None = None,
-    newline: str | None = None,
-) -> io.TextIOWrapper: ...
+def open(file: Any, mode: _ReadText, *, identities: Identities, encoding: _Word = None,
+         errors: _Word = None, newline: _Word = None) -> io.TextIOWrapper: ...
 @overload
-def open(
-    file: Any, mode: _WriteBytes, *, recipients: Recipients, atomic: bool = False
-) -> Writer: ...
+def open(file: Any, mode: _WriteBytes, *, recipients: Recipients, atomic: bool = False) -> Writer: ...
 @overload
-def open(
-    file: Any,
-    mode: _WriteText,
-    *,
-    recipients: Recipients,
-    encoding: str | None = None,
-    errors: str | None = None,
-    newline: str | None = None,
-    atomic: bool = False,
-) -> io.TextIOWrapper: ...
+def open(file: Any, mode: _WriteText, *, recipients: Recipients, encoding: _Word = None,
+         errors: _Word = None, newline: _Word = None, atomic: bool = False) -> io.TextIOWrapper: ...
 @overload
-def open(
-    file: Any,
-    mode: str,
-    *,
-    identities: Identities,
-    encoding: str | None = None,
-    errors: str | None = None,
-    newline: str | None = None,
-) -> Any: ...
+def open(file: Any, mode: str, *, identities: Identities, encoding: _Word = None,
+         errors: _Word = None, newline: _Word = None) -> Any: ...
 @overload
+def open(file: Any, mode: str, *, recipients: Recipients, encoding: _Word = None,
+         errors: _Word = None, newline: _Word = None, atomic: bool = False) -> Any: ...
 def open(
-    file: Any,
-    mode: str,
-    *,
-    recipients: Recipients,
-    encoding: str | None = None,
-    errors: str | None = None,
-    newline: str | None = None,
-    atomic: bool = False,
-) -> Any: ...
-def open(
-    file: Any,
-    mode: str = "rb",
-    *,
-    identities: Identities | None = None,
-    recipients: Recipients | None = None,
-    encoding: str | None = None,
-    errors: str | None = None,
-    newline: str | None = None,
+    file: Any, mode: str = "rb", *,
+    identities: Identities | None = None, recipients: Recipients | None = None,
+    encoding: str | None = None, errors: str | None = None, newline: str | None = None,
     atomic: bool = False,
 ) -> Any:
     """Opens an age file, as the built-in `open` opens a file.
@@ -119,9 +83,7 @@ def open(
     return _text(TextWriter, writer, mode, words)
 
 
-def _text(
-    kind: type[io.TextIOWrapper], file: Any, mode: str, words: dict[str, Any]
-) -> io.TextIOWrapper:
+def _text(kind: type[io.TextIOWrapper], file: Any, mode: str, words: dict[str, Any]) -> io.TextIOWrapper:
     text = kind(file, **words)
     text.mode = mode  # type: ignore[misc]
     return text

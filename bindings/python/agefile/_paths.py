@@ -5,7 +5,6 @@ from __future__ import annotations
 import contextlib
 import errno
 import fcntl
-import functools
 import io
 import itertools
 import operator
@@ -132,7 +131,7 @@ class Replacement(io.FileIO):
             raise ValueError(f"only a regular file is replaced, which {path!r} is not")
         self._folder = os.path.dirname(self._target)
         try:
-            self._open_beside(functools.partial(os.open, mode=permissions))
+            self._open_beside(permissions)
         except OSError as error:
             error.filename = path
             raise
@@ -142,18 +141,23 @@ class Replacement(io.FileIO):
                 os.fchown(self.fileno(), found.st_uid, found.st_gid)
             os.fchmod(self.fileno(), stat.S_IMODE(found.st_mode))
 
-    def _open_beside(self, opener: Any) -> None:
+    def _open_beside(self, permissions: int) -> None:
+        def locked(path: str, flags: int) -> int:
+            descriptor = os.open(path, flags, mode=permissions)
+            with contextlib.suppress(OSError):
+                # Waits only for a process that is about to remove it.
+                fcntl.flock(descriptor, fcntl.LOCK_EX)
+            if not _has_path(descriptor, path):
+                os.close(descriptor)
+                raise FileExistsError
+            return descriptor
+
         for number in itertools.count():
             self._beside = os.path.join(self._folder, beside(self._target, number))
             _remove_unlocked(self._beside)
             with contextlib.suppress(FileExistsError):
-                super().__init__(self._beside, "xb", opener=opener)
-                with contextlib.suppress(OSError):
-                    # Waits only for a process that is about to remove it.
-                    fcntl.flock(self.fileno(), fcntl.LOCK_EX)
-                if _has_path(self.fileno(), self._beside):
-                    return
-                super().close()
+                super().__init__(self._beside, "xb", opener=locked)
+                return
 
     def replace_old(self) -> None:
         """Syncs the file, moves it to the path, and syncs the directory."""

@@ -5,6 +5,7 @@ from __future__ import annotations
 import collections
 import concurrent.futures
 import ctypes
+import io
 import operator
 import os
 from collections.abc import Iterator
@@ -12,7 +13,7 @@ from typing import Any, BinaryIO
 
 from . import _library as lib
 from ._errors import AgeError, Code
-from ._secrets import Header, Identities, Recipients, new_header, read_header, stanzas_text, unlock
+from ._secrets import Header, Identities, Recipients, read_header, stanzas_text, unlock
 from ._sources import read_into, read_some, readinto_of, write_all
 
 # How many chunks one thread seals or opens at a time.
@@ -52,10 +53,15 @@ class Front:
         at = self.bytes.find(b"\n---")
         return at >= 0 and self.bytes.find(b"\n", at + 1) >= 0
 
-    def nonce(self, header: Header) -> None:
-        """Reads until the nonce is complete too, or the source has ended."""
-        while len(self.bytes) < header.length + lib.NONCE and self.more():
+    def unlock(self, identities: Identities) -> tuple[bytes, bytes]:
+        """Reads until the nonce is complete too, or the source has ended. Returns the text of the
+        header, and its file key."""
+        length = self.header().length
+        text = bytes(self.bytes[:length])
+        file_key = unlock(text, identities)
+        while len(self.bytes) < len(text) + lib.NONCE and self.more():
             pass
+        return text, file_key
 
 
 def begin(recipients: Recipients) -> tuple[bytes, lib.Payload]:
@@ -82,9 +88,7 @@ def open_payload(front: bytes, file_key: bytes) -> tuple[int, lib.Payload]:
 def open_source(source: BinaryIO, identities: Identities) -> tuple[bytes, lib.Payload]:
     """Unlocks a source. Returns the bytes of its chunks read so far, and the payload for reading."""
     front = Front(source)
-    header = front.header()
-    file_key = unlock(bytes(front.bytes[: header.length]), identities)
-    front.nonce(header)
+    _, file_key = front.unlock(identities)
     at, payload = open_payload(bytes(front.bytes), file_key)
     return bytes(front.bytes[at:]), payload
 
@@ -169,26 +173,6 @@ def _read_batch(step: _Step, source: BinaryIO, room: Chunk) -> int:
     return total
 
 
-class _Joined:
-    """A source of the chunks of the batch that was read last, with which the source ended."""
-
-    def __init__(self, step: _Step, room: Chunk, length: int) -> None:
-        whole = [room.view[at : at + step.take] for at in range(0, len(room.room), lib.SEALED_CHUNK)]
-        self._pieces = collections.deque(whole[: length // step.take])
-        if length % step.take:
-            self._pieces.append(whole[length // step.take][: length % step.take])
-
-    def readinto(self, out: memoryview) -> int:
-        if not self._pieces:
-            return 0
-        piece = self._pieces[0][: len(out)]
-        out[: len(piece)] = piece
-        self._pieces[0] = self._pieces[0][len(piece) :]
-        if not self._pieces[0]:
-            self._pieces.popleft()
-        return len(piece)
-
-
 def on_threads(step: _Step, payload: lib.Payload, source: BinaryIO, sink: Any, threads: int) -> int:
     """Does the same on several threads. For each thread two batches of chunks are in memory."""
     total, waiting = 0, collections.deque[tuple[_Batch, Any]]()
@@ -225,8 +209,9 @@ def on_threads(step: _Step, payload: lib.Payload, source: BinaryIO, sink: Any, t
         finally:
             for _, future in waiting:
                 future.cancel()
-    rest: Any = _Joined(step, room, length)
-    return total + one_by_one(step, payload, rest, sink)
+    # The chunks of the batch that was read last, with which the source ended.
+    whole = [room.view[at : at + step.take] for at in range(0, len(room.room), lib.SEALED_CHUNK)]
+    return total + one_by_one(step, payload, io.BytesIO(b"".join(whole)[:length]), sink)
 
 
 def thread_count(threads: int) -> int:
@@ -257,16 +242,3 @@ class Behind:
         out[:count] = self._first[self._at : self._at + count]
         self._at += count
         return count
-
-
-def rewrapped(front: Front, identities: Identities, recipients: Recipients) -> tuple[bytes, int]:
-    """A new header for the file key of an old one, and the length of the old one."""
-    header = front.header()
-    file_key = unlock(bytes(front.bytes[: header.length]), identities)
-    verify(bytes(front.bytes[: header.length]), file_key)
-    return new_header(recipients, file_key), header.length
-
-
-def verify(header: bytes, file_key: bytes) -> None:
-    """Raises an error if the header's MAC is not the one under this file key."""
-    open_payload(header + bytes(lib.NONCE), file_key)

@@ -15,7 +15,7 @@ from . import _library as lib
 from ._errors import AgeChangedError, AgeError, Code, chunk_hint
 from ._paths import is_open, name_of, named, opened, raw_of, with_name
 from ._payload import Chunk, Front
-from ._secrets import Identities, unlock
+from ._secrets import Identities
 from ._sources import flat, read_into
 
 _Result = TypeVar("_Result")
@@ -81,11 +81,8 @@ class _Chunks:
     @staticmethod
     def unlocked(source: _Source, identities: Identities) -> lib.Ranges:
         """Unlocks a source. Reads only its header and nonce."""
-        front = Front(_FromStart(source))
-        header = front.header()
-        file_key = unlock(bytes(front.bytes[: header.length]), identities)
-        front.nonce(header)
-        ranges = lib.Ranges()
+        front, ranges = Front(_FromStart(source)), lib.Ranges()
+        _, file_key = front.unlock(identities)
         with lib.Bytes(bytes(front.bytes)) as text, lib.Bytes(file_key) as key:
             lib.check("ranges_open", *text.pair, source.length, key.address, ctypes.byref(ranges))
         return ranges
@@ -149,7 +146,7 @@ class _Plaintext(io.RawIOBase):
 
     def readinto(self, room: Any) -> int:
         """Fills the room, or the part of it up to the end of a chunk."""
-        self._check_open()
+        self.readable()
         most = lib.TEXT_CHUNK - self.position % lib.TEXT_CHUNK
         with flat(room) as view, view[: most if len(view) <= lib.TEXT_CHUNK else None] as part:
             # A traceback must not keep a view of memory that is not Python's.
@@ -159,7 +156,7 @@ class _Plaintext(io.RawIOBase):
         return count
 
     def readall(self) -> bytes:
-        self._check_open()
+        self.readable()
         out = lib.fresh_bytes(max(self.chunks.length - self.position, 0))
         with lib.Bytes(out) as memory:
             view = lib.view_of(memory, out)
@@ -168,7 +165,7 @@ class _Plaintext(io.RawIOBase):
         return out if count == len(out) else out[:count]
 
     def seek(self, offset: int, whence: int = os.SEEK_SET) -> int:
-        self._check_open()
+        self.readable()
         starts = {os.SEEK_SET: 0, os.SEEK_CUR: self.position, os.SEEK_END: self.chunks.length}
         if whence not in starts:
             raise ValueError(f"unknown whence: {whence}")
@@ -178,24 +175,19 @@ class _Plaintext(io.RawIOBase):
         return self.position
 
     def tell(self) -> int:
-        self._check_open()
+        self.readable()
         return self.position
 
     def readable(self) -> bool:
-        self._check_open()
+        if self.closed:
+            raise ValueError("I/O operation on closed file")
         return True
 
-    def seekable(self) -> bool:
-        self._check_open()
-        return True
+    seekable = readable
 
     def close(self) -> None:
         super().close()
         self.chunks.source.close()
-
-    def _check_open(self) -> None:
-        if self.closed:
-            raise ValueError("I/O operation on closed file")
 
 
 class Reader(io.BufferedIOBase):

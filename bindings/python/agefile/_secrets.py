@@ -71,7 +71,7 @@ class _Secret:
 
     def wrap(self, file_key: bytes) -> list[Stanza]:
         """Returns the stanza that holds this file key."""
-        return list(read_header(_sealed_header(self._text(file_key), file_key)).stanzas)
+        return list(read_header(header_of(self._text(file_key), file_key)).stanzas)
 
     def _text(self, file_key: bytes) -> bytes:
         raise NotImplementedError
@@ -248,14 +248,10 @@ def stanzas_text(recipients: Recipients, file_key: bytes) -> bytes:
     return b"".join(texts)
 
 
-def _sealed_header(text: bytes, file_key: bytes) -> bytes:
+def header_of(text: bytes, file_key: bytes) -> bytes:
+    """The header of this text of stanzas."""
     with lib.Bytes(text) as stanzas, lib.Bytes(file_key) as key:
         return _text_of("header", *stanzas.pair, key.address, room=len(text) + 128)
-
-
-def new_header(recipients: Recipients, file_key: bytes) -> bytes:
-    """The header that wraps this file key for the recipients."""
-    return _sealed_header(stanzas_text(recipients, file_key), file_key)
 
 
 def read_header(front: bytes) -> Header:

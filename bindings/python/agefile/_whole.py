@@ -10,8 +10,8 @@ from typing import Any, BinaryIO, cast
 from . import _library as lib
 from ._errors import AgeError, Code
 from ._paths import check_atomic, reading, writing
-from ._payload import OPENING, SEALING, Behind, Chunk, Front, begin, open_payload, open_source, rewrapped, run, thread_count
-from ._secrets import Header, Identities, Recipients, read_header, unlock
+from ._payload import OPENING, SEALING, Behind, Chunk, Front, begin, open_payload, open_source, run, thread_count
+from ._secrets import Header, Identities, Recipients, header_of, read_header, stanzas_text, unlock
 from ._sources import Counted, Progress, flat, read_into, write_all
 
 
@@ -142,10 +142,13 @@ def rewrap_copy(
     with reading(source) as file:
         below: Any = file if progress is None else Counted(file, progress)
         front = Front(below)
-        header, old = rewrapped(front, identities, recipients)
+        old, file_key = front.unlock(identities)
+        # This verifies the MAC of the old header, and wants a nonce.
+        open_payload(old + bytes(lib.NONCE), file_key)
+        header = header_of(stanzas_text(recipients, file_key), file_key)
         with writing(sink, file, atomic=atomic) as out:
             write_all(out, header)
-            write_all(out, front.bytes[old:])
+            write_all(out, front.bytes[len(old) :])
             room = memoryview(bytearray(lib.TEXT_CHUNK))
             while length := read_into(below, room):
                 write_all(out, room[:length])

@@ -72,16 +72,10 @@ class AgeFileSystem(AbstractFileSystem):  # type: ignore[misc]
     cachable = False
 
     def __init__(
-        self,
-        *,
-        fs: AbstractFileSystem | None = None,
-        identities: Identities | None = None,
-        recipients: Recipients | None = None,
-        target_protocol: str = "file",
-        target_options: dict[str, Any] | None = None,
-        fo: Any = "",
-        atomic: bool = False,
-        **options: Any,
+        self, *, fs: AbstractFileSystem | None = None,
+        identities: Identities | None = None, recipients: Recipients | None = None,
+        target_protocol: str = "file", target_options: dict[str, Any] | None = None,
+        fo: Any = "", atomic: bool = False, **options: Any,
     ) -> None:
         _refuse_unknown(options, _OF_SYSTEMS + " use_listings_cache")
         super().__init__(**options)
@@ -213,9 +207,11 @@ class AgeFileSystem(AbstractFileSystem):  # type: ignore[misc]
     def invalidate_cache(self, path: str | None = None) -> None:
         if path is None:
             self._keys.clear()
+            self.fs.invalidate_cache()
         else:
-            self._keys.pop(self._strip_protocol(path), None)
-        self.fs.invalidate_cache(path)
+            name = self._strip_protocol(path)
+            self._keys.pop(name, None)
+            self.fs.invalidate_cache(name)
 
     def __reduce__(self) -> tuple[Any, ...]:
         words = {"identities": self._identities, "recipients": self._recipients, "fo": self._target}
@@ -270,9 +266,7 @@ class _Beside(io.RawIOBase):
                     self._fs.rm_file(self._name)
 
 
-def _restore(
-    fs: AbstractFileSystem, words: dict[str, Any], keys: dict[str, tuple[str, bytes]], token: str
-) -> AgeFileSystem:
+def _restore(fs: Any, words: Any, keys: dict[str, tuple[str, bytes]], token: str) -> AgeFileSystem:
     found = AgeFileSystem(fs=fs, **words)
     found._keys.update(keys)
     found._token = token
