@@ -2,6 +2,7 @@
 
 import concurrent.futures
 import functools
+import io
 import os
 import sys
 import tempfile
@@ -15,7 +16,9 @@ ROOT = os.path.join(os.path.dirname(os.path.abspath(__file__)), "../../..")
 sys.path.append(os.path.join(ROOT, "tests"))
 from messages import message, pattern
 
-__all__ = ["AGEP", "KEY", "ROOT", "SEALED", "TEXT", "InFolder", "damaged", "in_threads", "in_time", "message", "pattern", "text"]
+__all__ = [
+    "AGEP", "KEY", "ROOT", "SEALED", "TEXT", "InFolder", "broken", "copied", "damaged", "error_of", "fault_of", "in_child", "in_threads", "in_time", "message", "pattern", "text",
+]
 
 AGEP = os.path.join(ROOT, "crates/agep/out/agep")
 KEY = Key(bytes(range(32)))
@@ -33,6 +36,13 @@ def damaged(file, *chunks):
     for chunk in chunks:
         found[first + chunk * SEALED + 5] ^= 1
     return bytes(found)
+
+
+def copied(data, **words):
+    """What `copy` makes of these bytes."""
+    out = io.BytesIO()
+    agefile.copy(io.BytesIO(data), out, **words)
+    return out.getvalue()
 
 
 def in_threads(work, count=4):
@@ -61,6 +71,38 @@ def in_time(work, seconds=20):
     return found[0]
 
 
+def in_child(work):
+    """The status of a forked child that ends with the result of the function, or with 1 if it raises."""
+    child = os.fork()
+    if child == 0:
+        status = 1
+        try:
+            status = work() or 0
+        finally:
+            os._exit(status)
+    return os.waitpid(child, 0)[1]
+
+
+def broken(file, data):
+    """Writes to a file whose `with` statement then raises."""
+    with unittest.TestCase().assertRaises(KeyError), file as opened:
+        opened.write(data)
+        raise KeyError
+
+
+def error_of(call, kind=AgeError):
+    """The error that the call raises."""
+    with unittest.TestCase().assertRaises(kind) as caught:
+        call()
+    return caught.exception
+
+
+def fault_of(call, kind=AgeError):
+    """The code and the place of this error."""
+    error = error_of(call, kind)
+    return error.code, error.place
+
+
 class InFolder(unittest.TestCase):
     """A test with its own folder, where it makes files."""
 
@@ -78,14 +120,21 @@ class InFolder(unittest.TestCase):
             file.write(data)
         return name
 
+    def written(self, data, name, mode="wb", **words):
+        """Writes a new file with this plaintext."""
+        with agefile.open(name, mode, **{"recipients": KEY, **words}) as file:
+            file.write(data)
+
+    def read(self, file, mode="rb", **words):
+        """The plaintext of a file."""
+        with agefile.open(file, mode, **{"identities": KEY, **words}) as opened:
+            return opened.read()
+
     def got(self, name):
         with open(name, "rb") as file:
             return file.read()
 
     def refused(self, name):
         """The code with which the file is refused, as a whole and by ranges."""
-        with open(name, "rb") as file, self.assertRaises(AgeError) as caught:
-            agefile.decrypt(file.read(), identities=KEY)
-        with self.assertRaises(AgeError):
-            agefile.open(name, identities=KEY)
-        return caught.exception.code
+        self.assertRaises(AgeError, agefile.open, name, identities=KEY)
+        return error_of(lambda: agefile.decrypt(self.got(name), identities=KEY)).code

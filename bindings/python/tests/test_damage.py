@@ -18,7 +18,7 @@ from unittest import mock
 
 import agefile
 from agefile import AgeError, Code
-from support import KEY, SEALED, TEXT, InFolder, damaged, text
+from support import KEY, SEALED, TEXT, InFolder, damaged, error_of, fault_of, text
 
 try:
     import numpy
@@ -207,18 +207,15 @@ class Ways(unittest.TestCase):
             with agefile.open(io.BytesIO(file), identities=KEY) as whole:
                 self.assertEqual(read(whole), plain, name)
             for chunk in range(4):
-                with self.subTest(f"{name}: chunk {chunk}"), self.assertRaises(AgeError) as caught:
-                    read(agefile.open(io.BytesIO(damaged(file, chunk)), identities=KEY))
-                self.assertEqual(caught.exception.place, chunk)
+                with self.subTest(f"{name}: chunk {chunk}"):
+                    self.assertEqual(error_of(lambda: read(agefile.open(io.BytesIO(damaged(file, chunk)), identities=KEY))).place, chunk)
 
     def test_text_mode(self):
         for chunk in range(4):
             source = io.BytesIO(damaged(agefile.encrypt(words(), recipients=KEY), chunk))
             with agefile.open(source, "r", identities=KEY) as file:
                 for _ in range(2):
-                    with self.assertRaises(AgeError) as caught:
-                        file.read()
-                    self.assertEqual(caught.exception.place, chunk)
+                    self.assertEqual(error_of(file.read).place, chunk)
 
 
 class Positions(unittest.TestCase):
@@ -276,9 +273,7 @@ class Positions(unittest.TestCase):
             self.assertEqual(file.tell(), at if kind == "peek" else end)
             return False
         for _ in range(2):
-            with self.assertRaises(AgeError) as caught:
-                self.call(file, kind, size)
-            self.assertEqual((caught.exception.code, caught.exception.place), (Code.BAD_CHUNK, bad))
+            self.assertEqual(fault_of(lambda: self.call(file, kind, size)), (Code.BAD_CHUNK, bad))
             self.assertEqual(file.tell(), at)
         return True
 
@@ -286,8 +281,7 @@ class Positions(unittest.TestCase):
         file = agefile.open(io.BytesIO(self.file), identities=KEY)
         file.seek(7)
         for hint in (-1, None, 1 << 30):
-            with self.assertRaises(AgeError):
-                file.readlines(hint)
+            self.assertRaises(AgeError, file.readlines, hint)
             self.assertEqual(file.tell(), 7)
         self.assertEqual(b"".join(file.readlines(1000)), self.PLAIN[7 : self.PLAIN.index(b"\n", 1006) + 1])
 
@@ -373,13 +367,9 @@ class EachChunk(unittest.TestCase):
             file = damaged(self.file, chunk)
             for threads in (1, 2, 4):
                 with self.subTest(f"chunk {chunk}, {threads} threads"), mock.patch("os.cpu_count", return_value=4):
-                    with self.assertRaises(AgeError) as caught:
-                        agefile.decrypt(file, identities=KEY, threads=threads)
-                    self.assertEqual((caught.exception.code, caught.exception.place), (Code.BAD_CHUNK, chunk))
+                    self.assertEqual(fault_of(lambda: agefile.decrypt(file, identities=KEY, threads=threads)), (Code.BAD_CHUNK, chunk))
                     out = io.BytesIO()
-                    with self.assertRaises(AgeError) as caught:
-                        agefile.copy(io.BytesIO(file), out, identities=KEY, threads=threads)
-                    self.assertEqual((caught.exception.code, caught.exception.place), (Code.BAD_CHUNK, chunk))
+                    self.assertEqual(fault_of(lambda: agefile.copy(io.BytesIO(file), out, identities=KEY, threads=threads)), (Code.BAD_CHUNK, chunk))
                     self.assertEqual(out.getvalue() == self.plain[: chunk * TEXT], True)
 
     def test_by_ranges(self):
@@ -394,18 +384,14 @@ class EachChunk(unittest.TestCase):
                         self.assertEqual(file.read(100), self.plain[chunk * TEXT :][:100])
                         before = chunk
                         continue
-                    with self.assertRaises(AgeError) as caught:
-                        file.read(100)
-                    self.assertEqual(caught.exception.place, bad)
+                    self.assertEqual(error_of(lambda: file.read(100)).place, bad)
                     if before is not None:
                         for each in (file, file.raw):
                             each.seek(before * TEXT + 200)
                             self.assertEqual(each.read(1000), self.plain[before * TEXT + 200 :][:1000])
 
     def test_the_last_chunk(self):
-        with self.assertRaises(AgeError) as caught:
-            agefile.open(io.BytesIO(damaged(self.file, 49)), identities=KEY)
-        self.assertEqual(caught.exception.place, 49)
+        self.assertEqual(error_of(lambda: agefile.open(io.BytesIO(damaged(self.file, 49)), identities=KEY)).place, 49)
 
 
 class Below(InFolder):
@@ -420,9 +406,7 @@ class Below(InFolder):
                 file.seek(0)
                 self.assertEqual(file.read(TEXT), plain[:TEXT])
                 file.seek(at)
-                with self.assertRaises(agefile.AgeChangedError) as caught:
-                    file.read(1)
-                self.assertEqual((caught.exception.code, caught.exception.place), (Code.CHUNK_SHORT, at // TEXT))
+                self.assertEqual(fault_of(lambda: file.read(1), agefile.AgeChangedError), (Code.CHUNK_SHORT, at // TEXT))
                 file.seek(4 * TEXT - 10)
                 self.assertEqual(file.read(10), plain[4 * TEXT - 10 : 4 * TEXT])
 
@@ -433,9 +417,7 @@ class Below(InFolder):
                 more.write(bytes(100000))
             self.assertEqual(file.read(), plain)
             pickled = pickle.dumps(file)
-        with self.assertRaises(agefile.AgeChangedError) as caught:
-            pickle.loads(pickled)
-        self.assertIn("has grown", str(caught.exception))
+        self.assertIn("has grown", str(error_of(lambda: pickle.loads(pickled), agefile.AgeChangedError)))
         self.assertEqual(self.refused("a.age"), Code.BAD_CHUNK)
 
     def test_short_preadv(self):
@@ -467,7 +449,3 @@ class Below(InFolder):
                     self.assertEqual(file.tell(), at)
                 below.works = True
                 self.assertEqual(file.read(size), plain[at:][:size] if size > 0 else plain)
-
-
-if __name__ == "__main__":
-    unittest.main()

@@ -3,6 +3,7 @@ variable AGEFILE_DASK_ROWS is the number of rows; 42,000,000 make a gigabyte."""
 
 import os
 import pickle
+import shutil
 import sys
 import tempfile
 import unittest
@@ -102,8 +103,7 @@ class Tables(unittest.TestCase):
 
         with mock.patch.object(_reader._Source, "read_at", counting):
             blocks[3].compute(scheduler="synchronous")
-        with open(self.name, "rb") as file:
-            first = agefile.inspect(file.read(1000)).length + 16
+        first = agefile.inspect(self.name).length + 16
         chunks = {(offset - first) // SEALED for offset in offsets}
         # From both ends of its block it searches the end of a line, in pieces of 64 KiB.
         own = set(range(3 * 16 - 1, 4 * 16 + 2))
@@ -114,16 +114,10 @@ class Tables(unittest.TestCase):
         """Damage fails only the task of its block, with the number of its chunk."""
         damaged = self.name + ".damaged.age"
         self.addCleanup(os.remove, damaged)
-        with open(self.name, "rb") as file, open(damaged, "wb") as copy:
-            at = agefile.inspect(file.read(1000)).length + 16 + 40 * SEALED
-            file.seek(0)
-            while piece := file.read(1 << 20):
-                copy.write(piece)
+        shutil.copy(self.name, damaged)
         with open(damaged, "r+b") as file:
-            file.seek(at)
-            byte = file.read(1)
-            file.seek(at)
-            file.write(bytes((byte[0] ^ 1,)))
+            at = agefile.inspect(damaged).length + 16 + 40 * SEALED
+            os.pwrite(file.fileno(), bytes(byte ^ 1 for byte in os.pread(file.fileno(), 1, at)), at)
         blocks = dask_sum.table(damaged, SECRET, BLOCK).to_delayed()
         failures = {index: failure_of(lambda: block.compute(scheduler="synchronous")) for index, block in enumerate(blocks[:8])}
         # A block of 1 MiB has 16 chunks: chunk 40 is in block 2.
@@ -146,7 +140,3 @@ class Tables(unittest.TestCase):
         self.assertEqual(int(found["number"]), ROWS * (ROWS - 1) // 2)
         with open(log, encoding="ascii") as file:
             self.assertEqual(file.read(), f"{os.getpid()}\n")
-
-
-if __name__ == "__main__":
-    unittest.main()

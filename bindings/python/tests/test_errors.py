@@ -12,7 +12,7 @@ import zipfile
 
 import agefile
 from agefile import AgeError, Code, Key, Passphrase
-from support import AGEP, KEY, InFolder, damaged, text
+from support import AGEP, KEY, InFolder, damaged, error_of, text
 
 SCRYPT = "age-encryption.org/v1\n-> scrypt {} {}\n{}\n--- {}\n"
 
@@ -122,10 +122,4 @@ class Hints(InFolder):
     def test_changed_while_open(self):
         with agefile.open(self.made(text(200000)), identities=KEY) as file:
             os.truncate("a.age", 100000)
-            with self.assertRaises(agefile.AgeChangedError) as caught:
-                file.read()
-        self.assertIsNone(caught.exception.hint)
-
-
-if __name__ == "__main__":
-    unittest.main()
+            self.assertIsNone(error_of(file.read, agefile.AgeChangedError).hint)

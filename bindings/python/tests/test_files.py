@@ -24,7 +24,7 @@ from unittest import mock
 
 import agefile
 from agefile import AgeError, Code, Key, Passphrase
-from support import KEY, InFolder, damaged, in_threads, message, text
+from support import KEY, InFolder, damaged, error_of, in_threads, message, text
 
 
 class PathThatWrites:
@@ -121,9 +121,7 @@ class Reading(InFolder):
         """The text of an error and its `filename` name the file."""
         plain = text(300000)
         self.put(damaged(self.got(self.made(plain)), 2))
-        with self.assertRaises(AgeError) as caught, agefile.open("a.age", identities=KEY) as file:
-            file.read()
-        self.assertEqual(str(caught.exception), f"{message('BadChunk', 2)}: 'a.age'")
+        self.assertEqual(str(error_of(lambda: self.read("a.age"))), f"{message('BadChunk', 2)}: 'a.age'")
         secret, path = Key(bytes(32)), pathlib.Path("a.age")
         for name, code, call in (
             ("a.age", Code.BAD_CHUNK, lambda: agefile.open("a.age", "r", identities=KEY, encoding="latin-1").read()),
@@ -136,25 +134,20 @@ class Reading(InFolder):
             (None, Code.WRONG_KEY, lambda: agefile.decrypt(self.got("a.age"), identities=secret)),
             (None, Code.WRONG_KEY, lambda: agefile.open(io.BytesIO(self.got("a.age")), identities=secret)),
         ):
-            with self.subTest(name), self.assertRaises(AgeError) as caught:
-                call()
-            self.assertEqual((caught.exception.filename, caught.exception.code), (name, code))
-            for other in (caught.exception, pickle.loads(pickle.dumps(caught.exception))):
+            error = error_of(call)
+            self.assertEqual((error.filename, error.code), (name, code))
+            for other in (error, pickle.loads(pickle.dumps(error))):
                 self.assertEqual(str(other).endswith(f": {name!r}"), name is not None)
         with agefile.open(self.made(plain), identities=KEY) as file:
             os.truncate("a.age", 200000)
-            with self.assertRaises(agefile.AgeChangedError) as caught:
-                file.read()
-        self.assertEqual(str(caught.exception), f"the file was cut while it was open: {message('ChunkShort', 3)}: 'a.age'")
+            error = error_of(file.read, agefile.AgeChangedError)
+        self.assertEqual(str(error), f"the file was cut while it was open: {message('ChunkShort', 3)}: 'a.age'")
 
     def test_cut_before(self):
-        with open(self.made(text(200000)), "rb") as whole:
-            file = whole.read()
+        file = self.got(self.made(text(200000)))
         length = agefile.inspect(file).length
         for cut, code in ((length, Code.NONCE_TRUNCATED), (length + 16, Code.CHUNK_SHORT), (length + 16 + 65552, Code.BAD_CHUNK)):
-            with open("cut.age", "wb") as cut_file:
-                cut_file.write(file[:cut])
-            self.assertEqual(self.refused("cut.age"), code)
+            self.assertEqual(self.refused(self.put(file[:cut], "cut.age")), code)
 
     def test_words_that_are_refused(self):
         name = self.made(b"text")
@@ -167,16 +160,16 @@ class Reading(InFolder):
         self.assertRaises(FileNotFoundError, agefile.open, "absent", identities=KEY)
         with agefile.open(name, identities=KEY) as file:
             self.assertRaises(ValueError, file.seek, 0, 7)
+            self.assertRaises(ValueError, file.raw.seek, 0, 7)
             self.assertRaises(ValueError, file.seek, -1)
             self.assertRaises(io.UnsupportedOperation, file.write, b"")
-        for call in (file.read, file.tell, lambda: file.seek(0), file.readable, lambda: file.peek(1)):
+        for call in (file.read, file.tell, lambda: file.seek(0), file.readable, lambda: file.peek(1), lambda: file.raw.read(1)):
             self.assertRaises(ValueError, call)
 
     def test_pickles(self):
         plain = text(300000)
         secret = Passphrase("x", work=2)
-        with agefile.open("p.age", "wb", recipients=secret) as file:
-            file.write(plain)
+        self.written(plain, "p.age", recipients=secret)
         for opener in ("p.age", functools.partial(open, "p.age", "rb")):
             with agefile.open(opener, identities=secret) as file:
                 file.seek(70000)
@@ -218,8 +211,7 @@ class Reading(InFolder):
         with warnings.catch_warnings():
             warnings.simplefilter("ignore", ResourceWarning)
             for _ in range(20):
-                with self.assertRaises(AgeError):
-                    agefile.open(name, identities=Key(bytes(32)))
+                self.assertRaises(AgeError, agefile.open, name, identities=Key(bytes(32)))
                 for mode in ("rb", "r"):
                     file = agefile.open(name, mode, identities=KEY)
                     file.readline()
@@ -308,10 +300,8 @@ class Reading(InFolder):
                 for _ in range(20):
                     with agefile.open("a.age", identities=KEY) as other:
                         found = []
-                        with self.assertRaises(AgeError):
-                            found.extend(iter(other.__next__, None))
-                        with self.assertRaises(AgeError):
-                            list(other)
+                        self.assertRaises(AgeError, found.extend, iter(other.__next__, None))
+                        self.assertRaises(AgeError, list, other)
                         self.assertEqual((other.tell(), other.raw.chunks.errors), (1000 * before, {}))
 
             def read_on():
@@ -349,8 +339,7 @@ class Reading(InFolder):
                 return found
 
             file._buffer = mock.Mock(wraps=buffer, read=read)
-            with self.assertRaisesRegex(AgeError, message("BadChunk", 1)):
-                file.read(100000)
+            self.assertRaisesRegex(AgeError, message("BadChunk", 1), file.read, 100000)
             thread.join()
 
     def test_fork(self):
@@ -360,7 +349,7 @@ class Reading(InFolder):
             self.assertEqual(file.read(70000), plain[:70000])
             child = os.fork()
             if child == 0:
-                os._exit(0 if b"".join(iter(lambda: file.read(100000), b"")) == plain[70000:] else 1)
+                os._exit(b"".join(iter(lambda: file.read(100000), b"")) != plain[70000:])
             self.assertEqual(b"".join(iter(lambda: file.read(65536), b"")), plain[70000:])
             self.assertEqual(os.waitpid(child, 0)[1], 0)
 
@@ -374,7 +363,6 @@ class Reading(InFolder):
                         self.assertEqual(first.read(70000), plain[at : at + 70000])
                         self.assertEqual(second.read(70000), plain[at : at + 70000])
                 self.assertFalse(below.closed)
-
 
     def test_descriptors_that_forked_readers_share(self):
         """A file object of the system is read at offsets, so its position does not matter."""
@@ -401,25 +389,21 @@ class Reading(InFolder):
         return below
 
     def read_in_child(self, file, plain, number):
-        status = 1
+        choose, status = random.Random(number), 1
         try:
-            choose, wrong = random.Random(number), 0
-            for _ in range(200):
-                at = choose.randrange(len(plain))
-                file.seek(at)
-                wrong += file.read(1000) != plain[at : at + 1000]
-            status = min(wrong, 1)
+            places = [choose.randrange(len(plain)) for _ in range(200)]
+            status = any((file.seek(at), file.read(1000))[1] != plain[at : at + 1000] for at in places)
         finally:
             os._exit(status)
 
     def test_a_file_that_gives_other_bytes_than_its_descriptor(self):
         with gzip.open("a.gz", "wb") as file:
             file.write(agefile.encrypt(text(200000), recipients=KEY))
-        with gzip.open("a.gz") as below, agefile.open(below, identities=KEY) as file:
-            self.assertEqual(file.read(), text(200000))
+        with gzip.open("a.gz") as below:
+            self.assertEqual(self.read(below), text(200000))
         below = io.BytesIO(agefile.encrypt(text(200000), recipients=KEY))
-        with open("a.gz", "rb") as below.file, agefile.open(below, identities=KEY) as file:
-            self.assertEqual(file.read(), text(200000))
+        with open("a.gz", "rb") as below.file:
+            self.assertEqual(self.read(below), text(200000))
 
     def test_a_source_whose_seek_returns_nothing(self):
         class Remote:
@@ -447,22 +431,19 @@ class Reading(InFolder):
             ("opener", lambda: functools.partial(open, "a.age", "rb")),
         ):
             with self.subTest(kind):
-                with agefile.open(make(), identities=KEY) as file:
-                    self.assertEqual(file.read(), plain)
+                self.assertEqual(self.read(make()), plain)
                 self.assertEqual(agefile.copy(make(), "plain", identities=KEY), len(plain))
                 self.assertEqual(self.got("plain"), plain)
                 agefile.rewrap_copy(make(), "new.age", identities=KEY, recipients=Key(bytes(32)))
                 self.assertEqual(agefile.decrypt(self.got("new.age"), identities=Key(bytes(32))), plain)
                 if kind in ("str", "path", "descriptor"):
                     self.assertEqual(agefile.inspect(make()), agefile.inspect(self.got("a.age")))
-        with FileWithPath("a.age") as below, agefile.open(below, identities=KEY) as file:
-            self.assertEqual(file.read(), plain)
+        with FileWithPath("a.age") as below:
+            self.assertEqual(self.read(below), plain)
         with open("both.age", "w+b") as below:
             below.write(agefile.encrypt(b"not flushed", recipients=KEY))
-            with agefile.open(below, identities=KEY) as file:
-                self.assertEqual(file.read(), b"not flushed")
-        with agefile.open(PathThatWrites(), "wb", recipients=KEY) as file:
-            file.write(plain)
+            self.assertEqual(self.read(below), b"not flushed")
+        self.written(plain, PathThatWrites())
         self.assertEqual(agefile.decrypt(self.got("path.age"), identities=KEY), plain)
         self.assertEqual(agefile.copy("plain", os.open("b.age", os.O_WRONLY | os.O_CREAT), recipients=KEY), len(plain))
         self.assertEqual(agefile.decrypt(self.got("b.age"), identities=KEY), plain)
@@ -501,8 +482,7 @@ class Reading(InFolder):
                 with self.subTest(wrong), self.assertRaisesRegex(TypeError, words):
                     call()
         for wrong in (None, 5.0, io.BytesIO(), [1]):
-            with self.assertRaisesRegex(TypeError, "bytes-like"):
-                agefile.inspect(wrong)
+            self.assertRaisesRegex(TypeError, "bytes-like", agefile.inspect, wrong)
         with open(self.made(b""), encoding="utf-8") as wrong, self.assertRaisesRegex(TypeError, "binary"):
             agefile.open(wrong, identities=KEY)
 
@@ -566,7 +546,3 @@ class Types(InFolder):
         found = re.findall(r"^typed.py:(\d+): error: .*\[(.*)\]$", done.stdout, re.MULTILINE)
         expected = [(str(number), line.partition("  # ")[2]) for number, line in enumerate(TYPED.split("\n"), 1) if "  # " in line]
         self.assertEqual(found, expected, done.stdout)
-
-
-if __name__ == "__main__":
-    unittest.main()

@@ -33,7 +33,7 @@ except ImportError:
     zarr = None
 
 from agefile import AgeError, Code, Key, Passphrase, Stanza
-from support import KEY, TEXT, InFolder, damaged, message, text
+from support import KEY, TEXT, InFolder, broken, damaged, error_of, message, text
 
 
 class Counted:
@@ -96,12 +96,14 @@ class Lists(InSystem):
 
     def test_size_of_one_file(self):
         self.assertEqual(self.system.info(self.path("a.csv.age"))["size"], 1000)
-        self.assertEqual(self.system.size("age://" + self.path("a.csv.age")), 1000)
+        row = self.system.fs.info(self.path("a.csv.age"))
+        with mock.patch.object(type(self.system.fs), "info", return_value=row):
+            self.assertEqual(self.system.size("age://" + self.path("a.csv.age")), 1000)
+        self.assertEqual(row, self.system.fs.info(self.path("a.csv.age")), "it may be a row of its cache")
         self.assertEqual(self.system.info(self.path("sub"))["type"], "directory")
         self.assertEqual(self.identity.asked, 1)
-        with self.assertRaises(AgeError) as caught:
-            self.system.info(self.path("README.txt"))
-        self.assertEqual((caught.exception.code, caught.exception.filename), (Code.NOT_AGE, self.path("README.txt")))
+        error = error_of(lambda: self.system.info(self.path("README.txt")))
+        self.assertEqual((error.code, error.filename), (Code.NOT_AGE, self.path("README.txt")))
         self.assertRaises(FileNotFoundError, self.system.info, self.path("absent"))
 
 
@@ -118,11 +120,9 @@ class Reads(InSystem):
         begin = plain.index(b"\n", 1000) + 1
         self.assertEqual(system.read_block(path, 1000, 70000, b"\n"), plain[begin : plain.index(b"\n", 71000) + 1])
         self.assertEqual(system.read_block(path, len(plain) - 100, None), plain[-100:])
-        with system.open(path, "r", encoding="ascii") as file:
-            self.assertEqual(file.readline(), "0\n")
-        for words in ({}, {"encoding": None}):
+        for words, encoding in ({"encoding": "ascii"}, "ascii"), ({}, "utf-8"), ({"encoding": None}, "utf-8"):
             with system.open(path, "r", **words) as file:
-                self.assertEqual((file.encoding, file.readline()), ("utf-8", "0\n"))
+                self.assertEqual((file.encoding, file.readline()), (encoding, "0\n"))
         system.get(path, self.path("plain"))
         self.assertEqual(self.got("plain"), plain)
         self.assertEqual(self.identity.asked, 1)
@@ -134,9 +134,7 @@ class Reads(InSystem):
         for begin, end in ((0, 100), (10, 2 * TEXT), (2 * TEXT - 1, 2 * TEXT), (3 * TEXT, 5 * TEXT), (4 * TEXT - 1, 4 * TEXT + 1)):
             self.assertEqual(self.system.cat_file(path, begin, end), plain[begin:end])
         for begin, end in ((0, 2 * TEXT + 1), (3 * TEXT - 1, 3 * TEXT), (None, None), (2 * TEXT, 2 * TEXT + 1)):
-            with self.assertRaises(AgeError) as caught:
-                self.system.cat_file(path, begin, end)
-            self.assertEqual(str(caught.exception), f"{message('BadChunk', 2)}: {path!r}")
+            self.assertEqual(str(error_of(lambda: self.system.cat_file(path, begin, end))), f"{message('BadChunk', 2)}: {path!r}")
 
 
 class Keys(InSystem):
@@ -153,6 +151,7 @@ class Keys(InSystem):
         self.assertEqual(self.asked_for(lambda: self.system.cat_file(path)), (first, 1))
         self.assertEqual(self.asked_for(lambda: self.system.cat_file(path)), (first, 0))
         again = pickle.loads(pickle.dumps(self.system))
+        self.assertEqual((again.cat_file(path), again._identities[0].asked), (first, self.identity.asked))
         for name, change in (
             ("of the same length", lambda: self.new("a.age", other)),
             ("of another length", lambda: self.new("a.age", other + b"more")),
@@ -174,9 +173,7 @@ class Keys(InSystem):
         new = agefile.rewrap(self.got("a.age"), identities=KEY, recipients=Key(bytes(32)))
         self.assertEqual(len(new), len(self.got("a.age")))
         self.put(new)
-        with self.assertRaises(AgeError) as caught:
-            self.system.cat_file(path)
-        self.assertEqual(caught.exception.code, Code.WRONG_KEY)
+        self.assertEqual(error_of(lambda: self.system.cat_file(path)).code, Code.WRONG_KEY)
 
     def test_a_file_system_that_says_nothing_of_a_file(self):
         """If the file system below reports no state, a fault makes the file be unlocked again."""
@@ -190,15 +187,15 @@ class Keys(InSystem):
     def test_invalidate_cache(self):
         path, other = self.new("a.age", b"text"), self.new("b.age", b"text")
         self.system.cat([path, other])
-        self.system.invalidate_cache(path)
+        self.system.invalidate_cache("age://" + path)
         self.assertEqual(self.asked_for(lambda: self.system.cat_file(other)), (b"text", 0))
         self.assertEqual(self.asked_for(lambda: self.system.cat_file(path)), (b"text", 1))
         self.system.invalidate_cache()
         self.assertEqual(self.asked_for(lambda: self.system.cat_file(other)), (b"text", 1))
         with mock.patch.object(self.system.fs, "invalidate_cache") as below:
-            self.system.invalidate_cache(path)
+            self.system.invalidate_cache("age://" + path)
             self.system.invalidate_cache()
-        self.assertEqual([call.args for call in below.call_args_list], [(path,), (None,)])
+        self.assertEqual([call.args for call in below.call_args_list], [(path,), ()])
 
     def test_a_key_of_the_state(self):
         """`ukey`, by which Dask and the caches of fsspec identify a file, changes with each
@@ -218,7 +215,8 @@ class Keys(InSystem):
         path, other = self.new("a.age", b"one", KEY), Key(bytes(32))
         first, second = (fsspec.filesystem("age", identities=key) for key in (KEY, other))
         self.assertEqual(first.cat_file(path), b"one")
-        self.assertRaises(AgeError, second.cat_file, path)
+        for system in second, fsspec.filesystem("age", recipients=KEY):
+            self.assertRaises(AgeError, system.cat_file, path)
         with self.assertRaises(AgeError), fsspec.open("age://" + path, identities=other) as file:
             file.read()
         self.assertFalse(type(first).cachable or first == second or hash(first) == hash(second))
@@ -226,20 +224,22 @@ class Keys(InSystem):
             system = fsspec.filesystem("age", identities=key, recipients=key)
             system.pipe_file(self.path(name), name.encode())
             self.assertEqual((agefile.decrypt(self.got(name), identities=key), system.cat_file(self.path(name))), (name.encode(),) * 2)
-        tokens = [fsspec.get_fs_token_paths("age://" + path, storage_options={"identities": key})[1] for key in (KEY, other, KEY)]
-        self.assertEqual((tokens[0] == tokens[1], tokens[0]), (False, tokens[2]))
+        rows = {"identities": KEY}, {"identities": other}, {"recipients": KEY}, {"atomic": True, "identities": KEY}, {"fo": path, "identities": KEY}
+        tokens = [fsspec.get_fs_token_paths("age://" + path, storage_options=dict(row))[1] for row in (*rows, rows[0])]
+        self.assertEqual((len(set(tokens)), tokens[0]), (len(rows), tokens[-1]))
         again = pickle.loads(pickle.dumps(first))
         self.assertEqual((again, again._fs_token, again.cat_file(path)), (first, first._fs_token, b"one"))
+        self.assertEqual(pickle.loads(pickle.dumps(fsspec.filesystem("age", fo=path, identities=KEY))).cat_file(""), b"one")
         self.assertNotEqual(self.system, fsspec.filesystem("age", identities=[Counted()]))
+        self.assertEqual(self.system, pickle.loads(pickle.dumps(self.system)))
         for key in (KEY, Passphrase("word")):
             self.assertEqual(pickle.loads(pickle.dumps(key)).__dask_tokenize__(), key.__dask_tokenize__())
 
     def test_a_wrong_key_is_not_kept(self):
         path = self.new("a.age", b"text", Key(bytes(32)))
         for _ in range(2):
-            with self.assertRaises(AgeError) as caught:
-                self.system.cat_file(path)
-            self.assertEqual((caught.exception.code, caught.exception.filename), (Code.WRONG_KEY, path))
+            error = error_of(lambda: self.system.cat_file(path))
+            self.assertEqual((error.code, error.filename), (Code.WRONG_KEY, path))
 
 
 class Chains(InSystem):
@@ -369,9 +369,7 @@ class Writes(InSystem):
         for mode, data, is_kept in (("wb", b"text", True), ("w", "text", True), ("wb", text(100000), False), ("w", "x" * 100000, False)):
             self.new("a.age", b"old")
             before = self.got("a.age")
-            with self.assertRaises(KeyError), self.system.open(path, mode) as file:
-                file.write(data)
-                raise KeyError
+            broken(self.system.open(path, mode), data)
             self.assertEqual(self.got("a.age") == before, is_kept)
             if not is_kept:
                 self.assertRaises(AgeError, self.system.cat_file, path)
@@ -396,7 +394,7 @@ class Writes(InSystem):
         words = {"identities": self.identity, "recipients": self.identity}
         for system, name in (
             (fsspec.filesystem("age", fs=fsspec.filesystem("simplecache", fs=local), **words), path),
-            (fsspec.filesystem("age", fs=DirFileSystem(self.folder, local), **words), "a.age"),
+            (fsspec.filesystem("age", fs=DirFileSystem(os.path.dirname(self.folder), local), **words), os.path.basename(self.folder) + "/a.age"),
         ):
             self.assertRaises(shutil.SameFileError, system.get, name, path)
             self.assertRaises(shutil.SameFileError, system.put, path, name)
@@ -420,9 +418,23 @@ class Writes(InSystem):
         for name in "mkdir makedirs rmdir rm rm_file created modified exists isfile isdir du ukey cp_file mv".split():
             paths = ("/old", "/new")[: 1 + (name in ("cp_file", "mv"))]
             with self.subTest(name), mock.patch.object(type(self.system.fs), name) as below:
-                found = getattr(self.system, name)(*(f"age://{path}" for path in paths), acl="private")
-                self.assertIs(found, below.return_value if len(paths) == 1 else None)
-                below.assert_called_once_with(*paths, acl="private")
+                more = (7,) * (len(paths) == 1)
+                found = getattr(self.system, name)(*(f"age://{path}" for path in paths), *more, acl="private")
+                self.assertIs(found, below.return_value if more else None)
+                below.assert_called_once_with(*paths, *more, acl="private")
+        system, parent = self.system, fsspec.AbstractFileSystem
+        for kind, name, call, asked in (
+            (type(system.fs), "ls", lambda: system.ls("age:///old", refresh=True), mock.call("/old", detail=True, refresh=True)),
+            (type(system), "open", lambda: system.touch("age:///old", recipients=KEY), mock.call("age:///old", "wb", recipients=KEY)),
+            (parent, "get_file", lambda: system.get_file("age:///old", "new", callback=1), mock.call("age:///old", "new", callback=1)),
+            (parent, "put_file", lambda: system.put_file("old", "age:///new", callback=1), mock.call("old", "age:///new", callback=1)),
+        ):
+            with self.subTest(name), mock.patch.object(kind, name) as below:
+                call()
+                self.assertEqual(below.mock_calls[0], asked)
+        with mock.patch.object(system.fs, "open", wraps=system.fs.open) as below:
+            system.cat_file(self.new("a.age", b"text"))
+        below.assert_called_once_with(self.path("a.age"), "rb", cache_type="none")
 
     def systems(self):
         """File systems with a path: over local files, over these behind another class, and over
@@ -463,6 +475,11 @@ class Writes(InSystem):
         self.assertEqual(self.system.cat_file(self.path("deep/er/a.age")), b"text")
         self.system.rm(self.path("deep"), recursive=True)
         self.assertFalse(os.path.exists("deep"))
+        for atomic in (False, True):
+            system = fsspec.filesystem("age", target_options={"auto_mkdir": True}, identities=KEY, recipients=KEY, atomic=atomic)
+            system.pipe_file(self.path("deep/er/a.age"), b"text")
+            self.assertEqual(system.cat_file(self.path("deep/er/a.age")), b"text")
+            system.rm(self.path("deep"), recursive=True)
 
     def test_atomic(self):
         """For a call and for the file system: the old file stays until the new one is complete."""
@@ -472,23 +489,19 @@ class Writes(InSystem):
                 with self.subTest(f"{type(system.fs).__name__} {words}"):
                     system.pipe_file(path, b"old")
                     for mode, data in (("wb", text(200000)), ("w", "x" * 200000)):
-                        with contextlib.suppress(KeyError), used.open(path, mode, **words) as file:
-                            file.write(data)
-                            raise KeyError
-                        with self.assertWarnsRegex(RuntimeWarning, "was not written"), contextlib.suppress(KeyError):
-                            with contextlib.closing(used.open(path, mode, **words)) as file:
-                                file.write(data)
-                                raise KeyError
+                        broken(used.open(path, mode, **words), data)
+                        with self.assertWarnsRegex(RuntimeWarning, "was not written"):
+                            broken(contextlib.closing(used.open(path, mode, **words)), data)
                     self.assertEqual(system.cat_file(path), b"old")
                     with used.open(path, "wb", **words) as file:
                         file.write(text(200000))
                         self.assertEqual(system.cat_file(path), b"old")
+                        used.pipe_file(path, b"other", **words)
+                        self.assertEqual(system.cat_file(path), b"other")
                     self.assertEqual(system.cat_file(path), text(200000))
                     self.assertRaises(FileExistsError, used.open, path, "xb", **words)
                     self.assertEqual(system.ls(os.path.dirname(path), detail=False), [system._strip_protocol(path)])
-            with contextlib.suppress(KeyError), by_default.open(path, "wb", atomic=False) as file:
-                file.write(text(200000))
-                raise KeyError
+            broken(by_default.open(path, "wb", atomic=False), text(200000))
             self.assertRaises(AgeError, system.cat_file, path)
             system.rm(path)
 
@@ -504,21 +517,28 @@ class Writes(InSystem):
             with mock.patch.object(what, name, fails), self.assertRaises(OSError), system.open("a.age", "wb") as file:
                 file.write(text(200000))
             self.assertEqual((self.got("a.age"), os.listdir()), (old, ["a.age"]), name)
+        file = system.open("a.age", "wb")
+        file.flush()
+        (new,) = {*os.listdir()} - {"a.age"}
+        child = os.fork()
+        if child == 0:
+            file.abort()
+            os._exit(0)
+        os.waitpid(child, 0)
+        os.remove(new)
+        file.abort()
+        self.assertEqual((self.got("a.age"), os.listdir()), (old, ["a.age"]))
 
     def test_open_files_of_fsspec(self):
         """An OpenFile does not tell its file about an exception."""
         path, words = self.path("a.age"), {"identities": self.identity, "recipients": self.identity}
         for mode, data in (("wb", text(200000)), ("w", "x" * 200000)):
-            with self.assertWarnsRegex(RuntimeWarning, "KeyError was handled"), self.assertRaises(KeyError):
-                with fsspec.open("age://" + path, mode, **words) as file:
-                    file.write(data)
-                    raise KeyError
+            with self.assertWarnsRegex(RuntimeWarning, "KeyError was handled"):
+                broken(fsspec.open("age://" + path, mode, **words), data)
             self.assertRaises(AgeError, self.system.cat_file, path)
             old = self.got(self.new("a.age", b"old"))
-            with self.assertWarnsRegex(RuntimeWarning, "was not written: .*KeyError"), self.assertRaises(KeyError):
-                with fsspec.open("age://" + path, mode, **words) as file:
-                    file.write(data[:60000])
-                    raise KeyError
+            with self.assertWarnsRegex(RuntimeWarning, "was not written: .*KeyError"):
+                broken(fsspec.open("age://" + path, mode, **words), data[:60000])
             self.assertEqual(self.got("a.age"), old)
             with self.assertWarnsRegex(RuntimeWarning, "it was not closed"):
                 fsspec.open("age://" + path, mode, **words).open().write(data)
@@ -531,8 +551,7 @@ class Writes(InSystem):
     def test_unknown_words(self):
         path = self.new("a.age", b"old")
         for words in ({"passphrase": "x"}, {"identity": KEY}, {"atomic": True, "key": KEY}):
-            with self.assertRaisesRegex(TypeError, "identities or recipients"):
-                fsspec.filesystem("age", **words)
+            self.assertRaisesRegex(TypeError, "identities or recipients", fsspec.filesystem, "age", **words)
         for mode, words in (("rb", {"atomic": True}), ("r", {"identities": KEY}), ("wb", {"identities": KEY}), ("w", {"word": 1})):
             self.assertRaises(TypeError, self.system.open, path, mode, **words)
         for words in ({"block_size": 100}, {"cache_type": "none"}, {"cache_options": {}}, {"size": 3}, {"autocommit": True}):
@@ -589,9 +608,7 @@ class Writes(InSystem):
         for atomic in (False, True):
             system = fsspec.filesystem("age", identities=KEY, recipients=KEY, atomic=atomic)
             again = pickle.loads(pickle.dumps(system))
-            with contextlib.suppress(KeyError), again.open(path, "wb") as file:
-                file.write(text(200000))
-                raise KeyError
+            broken(again.open(path, "wb"), text(200000))
             self.assertEqual(again.cat_file(path) if atomic else self.refused("a.age"), b"new" if atomic else Code.BAD_CHUNK)
             with again.open(path, "wb") as file:
                 file.write(b"new")
@@ -606,7 +623,3 @@ class Writes(InSystem):
         self.assertRaises(TypeError, reader.open, path, "wb")
         self.assertRaises(LookupError, self.system.open, path, "w", encoding="bogus")
         self.assertEqual(self.system.cat_file(path), b"old")
-
-
-if __name__ == "__main__":
-    unittest.main()

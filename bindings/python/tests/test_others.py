@@ -15,7 +15,7 @@ from unittest import mock
 
 import agefile
 from agefile import AgeError, Key, Passphrase, Stanza
-from support import AGEP, KEY, ROOT, InFolder, message, pattern, text
+from support import AGEP, KEY, ROOT, InFolder, copied, message, pattern, text
 
 import reference
 
@@ -28,11 +28,6 @@ PASSPHRASE = b"correct horse"
 
 def ways_to_open(secret):
     """Every way to read a file in memory with this package."""
-    def copy(file, threads):
-        out = io.BytesIO()
-        agefile.copy(io.BytesIO(file), out, identities=secret, threads=threads)
-        return out.getvalue()
-
     def ranges(file):
         with agefile.open(io.BytesIO(file), identities=secret) as opened:
             begins = range(0, opened.length, 50000)
@@ -40,17 +35,12 @@ def ways_to_open(secret):
         return b"".join(found[at] for at in begins)
 
     yield from (lambda file, n=n: agefile.decrypt(file, identities=secret, threads=n) for n in (1, 3))
-    yield from (lambda file, n=n: copy(file, n) for n in (1, 3))
+    yield from (lambda file, n=n: copied(file, identities=secret, threads=n) for n in (1, 3))
     yield ranges
 
 
 def ways_to_make(recipients):
     """Every way to make a file in memory with this package."""
-    def copy(plain, threads):
-        out = io.BytesIO()
-        agefile.copy(io.BytesIO(plain), out, recipients=recipients, threads=threads)
-        return out.getvalue()
-
     def writer(plain):
         out = io.BytesIO()
         with agefile.open(out, "wb", recipients=recipients) as file:
@@ -59,7 +49,7 @@ def ways_to_make(recipients):
         return out.getvalue()
 
     yield from (lambda plain, n=n: agefile.encrypt(plain, recipients=recipients, threads=n) for n in (1, 3))
-    yield from (lambda plain, n=n: copy(plain, n) for n in (1, 3))
+    yield from (lambda plain, n=n: copied(plain, recipients=recipients, threads=n) for n in (1, 3))
     yield writer
     yield lambda plain: agefile.rewrap(agefile.encrypt(plain, recipients=Key(bytes(32))), identities=Key(bytes(32)), recipients=recipients)
 
@@ -268,20 +258,17 @@ class Programs(InFolder):
         """The work factors of new files, and the largest one in files that it opens."""
         one, two = (Passphrase.from_file(io.BytesIO(b"word"), work=work, max_work=1) for work in (1, 2))
         self.assertEqual(agefile.inspect(agefile.encrypt(b"", recipients=one)).stanzas[0].args[2], "1")
-        with self.assertRaisesRegex(AgeError, pattern("Malformed", "WorkFactorTooHigh")):
-            agefile.decrypt(agefile.encrypt(b"", recipients=two), identities=one)
+        self.assertRaisesRegex(AgeError, pattern("Malformed", "WorkFactorTooHigh"), agefile.decrypt, agefile.encrypt(b"", recipients=two), identities=one)
 
     def test_key_files(self):
         self.put(bytes(range(32)), "key")
         for file in ("key", os.open("key", os.O_RDONLY), io.BytesIO(bytes(range(32)))):
             self.assertEqual(agefile.decrypt(agefile.encrypt(b"text", recipients=KEY), identities=Key.from_file(file)), b"text")
         for wrong, found in ((bytes(31), "has 31"), (bytes(33), "has more"), (b"00" * 32, "has more"), (b"", "has 0")):
-            with self.assertRaisesRegex(ValueError, f"32 raw bytes, not hexadecimal; this one {found}"):
-                Key.from_file(self.put(wrong, "wrong"))
+            self.assertRaisesRegex(ValueError, f"32 raw bytes, not hexadecimal; this one {found}", Key.from_file, self.put(wrong, "wrong"))
         self.assertRaises(FileNotFoundError, Key.from_file, "absent")
         for text in ("00" * 32, ""):
-            with self.assertRaisesRegex(TypeError, "bytes.fromhex.*Key.from_file"):
-                Key(text)
+            self.assertRaisesRegex(TypeError, "bytes.fromhex.*Key.from_file", Key, text)
 
     @unittest.skipUnless(os.path.exists(AGEP), "agep is not built")
     def test_rewrapped_for_agep(self):
@@ -307,7 +294,3 @@ class Programs(InFolder):
                     self.assertEqual(self.got("back"), text(size))
                     os.remove("back")
             os.remove("made")
-
-
-if __name__ == "__main__":
-    unittest.main()

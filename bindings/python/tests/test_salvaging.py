@@ -11,7 +11,7 @@ import unittest
 
 import agefile
 from agefile import AgeError, Code, Key, LostChunks
-from support import KEY, SEALED, TEXT, InFolder, damaged, in_time, text
+from support import KEY, SEALED, TEXT, InFolder, damaged, error_of, in_time, text
 
 import fixture
 import test_salvage
@@ -216,8 +216,7 @@ class FailedReads(unittest.TestCase):
         bad = [(FRONT + 2 * SEALED) // 512 + 9]
         for disk in (Disk(self.file, bad, can_seek=False), ReadOnly(Disk(self.file, bad, can_seek=False))):
             out = io.BytesIO()
-            with self.assertRaisesRegex(OSError, "Input/output error"):
-                agefile.salvage(disk, out, identities=KEY)
+            self.assertRaisesRegex(OSError, "Input/output error", agefile.salvage, disk, out, identities=KEY)
             self.assertTrue(out.getvalue() == self.plain[: 2 * TEXT])
 
     def test_no_end(self):
@@ -268,9 +267,8 @@ class Arguments(InFolder):
         name = self.made(text(2 * TEXT))
         for words in ({"identities": Key(bytes(32))}, {"identities": Key(bytes(32)), "atomic": True}):
             self.put(b"old", "out")
-            with self.assertRaises(AgeError) as caught:
-                agefile.salvage(name, "out", **words)
-            self.assertEqual((caught.exception.code, caught.exception.filename, self.got("out")), (Code.WRONG_KEY, name, b"old"))
+            error = error_of(lambda: agefile.salvage(name, "out", **words))
+            self.assertEqual((error.code, error.filename, self.got("out")), (Code.WRONG_KEY, name, b"old"))
         disk = Disk(self.got(name), [(FRONT + SEALED) // 512 + 9], can_seek=False)
         self.assertRaises(OSError, agefile.salvage, disk, "out", identities=KEY, atomic=True)
         self.assertEqual((self.got("out"), sorted(os.listdir())), (b"old", ["a.age", "out"]))
@@ -302,7 +300,3 @@ class Arguments(InFolder):
         self.assertEqual(repr(report), "Salvaged(length=65537, chunks=2, "
                          "lost=(LostChunks(chunks=range(0, 1), offset=0, length=65536, unread=False),), early=None, trailing=0, cut=False, whole=False)")
         self.assertEqual(pickle.loads(pickle.dumps(report)), report)
-
-
-if __name__ == "__main__":
-    unittest.main()

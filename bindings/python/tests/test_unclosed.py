@@ -324,7 +324,3 @@ class Wrapped(InFolder):
                 self.assertIsInstance(file.raw.handled[0], KeyError)
                 getattr(file, end)()
                 self.assertEqual(file.raw.handled, (None, None))
-
-
-if __name__ == "__main__":
-    unittest.main()

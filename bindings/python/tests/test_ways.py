@@ -394,7 +394,3 @@ class Ways(InFolder):
             found, _ = self.outcome(lambda: by_gzip(mode), gzip.decompress, write, "with", "raise")
             halves += isinstance(found, int)
         self.assertGreater(halves, len(WAYS) * 9 // 10)
-
-
-if __name__ == "__main__":
-    unittest.main()

@@ -5,6 +5,7 @@ import asyncio
 import concurrent.futures
 import contextlib
 import errno
+import fcntl
 import gc
 import gzip
 import io
@@ -22,7 +23,7 @@ from unittest import mock
 import agefile
 from agefile import AgeError, Key, Passphrase
 from agefile._writer import _Sealer
-from support import KEY, InFolder, damaged, in_threads, message, text
+from support import KEY, InFolder, broken, damaged, error_of, in_child, in_threads, message, text
 
 
 class Writing(InFolder):
@@ -33,8 +34,7 @@ class Writing(InFolder):
                     for at in range(0, length, piece):
                         file.write(memoryview(text(length))[at : at + piece])
                     self.assertEqual(file.tell(), length)
-                with open("w.age", "rb") as whole:
-                    self.assertEqual(agefile.decrypt(whole.read(), identities=KEY), text(length))
+                self.assertEqual(agefile.decrypt(self.got("w.age"), identities=KEY), text(length))
 
     def test_only_a_closed_file_is_whole(self):
         for length in (0, 10, 65536, 200000):
@@ -44,15 +44,11 @@ class Writing(InFolder):
             self.refused("o.age")
             file.close()
             file.close()
-            with agefile.open("o.age", identities=KEY) as whole:
-                self.assertEqual(whole.read(), text(length))
+            self.assertEqual(self.read("o.age"), text(length))
 
     def test_a_body_that_raises(self):
         for mode, data in (("wb", text(200000)), ("wb", b""), ("w", "text" * 100000)):
-            with self.assertRaises(KeyError):
-                with agefile.open("e.age", mode, recipients=KEY) as file:
-                    file.write(data)
-                    raise KeyError
+            broken(file := agefile.open("e.age", mode, recipients=KEY), data)
             self.assertTrue(file.closed)
             self.refused("e.age")
 
@@ -73,8 +69,7 @@ class Writing(InFolder):
     def test_marks_of_the_byte_order(self):
         for encoding in ("utf-16", "UTF32", "utf-16-le", "utf-8-sig"):
             with agefile.open("m.age", "w", recipients=KEY, encoding=encoding) as file:
-                file.write("one\n")
-                file.write("two\n")
+                file.write("one\n"), file.write("two\n")
             self.assertEqual(agefile.decrypt(self.got("m.age"), identities=KEY), "one\ntwo\n".encode(encoding))
 
     @unittest.skipIf(sys.version_info < (3, 10), "Python 3.9 has no such encoding")
@@ -148,9 +143,7 @@ class Writing(InFolder):
             opened.append(open("o.age", "wb"))
             return opened[-1]
 
-        with self.assertRaises(KeyError), agefile.open(opener, "wb", recipients=KEY) as file:
-            file.write(b"text")
-            raise KeyError
+        broken(agefile.open(opener, "wb", recipients=KEY), b"text")
         self.assertEqual(opened, [])
         with agefile.open(opener, "w", recipients=KEY) as file:
             file.write("text")
@@ -284,22 +277,16 @@ class Writing(InFolder):
         """A write that the buffer would accept, and lose, is refused, too."""
         for mode, data in (("wb", b"text"), ("w", "text" * 5000)):
             file = agefile.open("f.age", mode, recipients=KEY)
-            child = os.fork()
-            if child == 0:
-                try:
-                    file.write(data)
-                except OSError:
-                    os._exit(0)
-                os._exit(1)
-            self.assertEqual(os.waitpid(child, 0)[1], 0)
+            self.assertEqual(in_child(lambda: self.assertRaises(OSError, file.write, data)), 0)
             file.write(data)
             file.close()
             self.assertEqual(len(agefile.decrypt(self.got("f.age"), identities=KEY)), len(data))
 
     def test_flush_reaches_the_file(self):
-        """`flush` also flushes the buffer of the caller's sink."""
+        """`flush` also flushes the buffer of the caller's sink, and `write` does not."""
         with open("s.age", "wb", 1 << 20) as below, agefile.open(below, "wb", recipients=KEY) as file:
             file.write(text(200000))
+            self.assertEqual(os.path.getsize("s.age"), 0)
             file.flush()
             self.assertGreater(os.path.getsize("s.age"), 3 * 65552)
 
@@ -320,19 +307,15 @@ class Writing(InFolder):
     def test_lines_and_encodings(self):
         """Newlines are those requested, and text is UTF-8 whatever the locale."""
         for newline, expected in ((None, b"a\nb\n"), ("", b"a\nb\n"), ("\n", b"a\nb\n"), ("\r\n", b"a\r\nb\r\n")):
-            with agefile.open("l.age", "w", recipients=KEY, newline=newline) as file:
-                file.write("a\nb\n")
+            self.written("a\nb\n", "l.age", "w", newline=newline)
             self.assertEqual(agefile.decrypt(self.got("l.age"), identities=KEY), expected)
         self.made(b"a\r\nb\r\n", "l.age")
         for newline, expected in ((None, "a\nb\n"), ("", "a\r\nb\r\n"), ("\n", "a\r\nb\r\n")):
-            with agefile.open("l.age", "r", identities=KEY, newline=newline) as file:
-                self.assertEqual(file.read(), expected)
-        with agefile.open("l.age", "w", recipients=KEY, encoding="ascii", errors="replace") as file:
-            file.write("\u00fc")
+            self.assertEqual(self.read("l.age", "r", newline=newline), expected)
+        self.written("\u00fc", "l.age", "w", encoding="ascii", errors="replace")
         self.assertEqual(agefile.decrypt(self.got("l.age"), identities=KEY), b"?")
         self.made(b"\xff", "l.age")
-        with agefile.open("l.age", "r", identities=KEY, errors="ignore") as file:
-            self.assertEqual(file.read(), "")
+        self.assertEqual(self.read("l.age", "r", errors="ignore"), "")
         code = "import agefile, sys; key = agefile.Key(bytes(range(32)))\n"
         code += "with agefile.open('u.age', 'w', recipients=key) as file: file.write('\\u00fcber')\n"
         code += "with agefile.open('u.age', 'r', identities=key) as file: assert file.read() == '\\u00fcber'"
@@ -384,9 +367,8 @@ class Writing(InFolder):
                 lambda: agefile.rewrap_copy("a.age", "old", identities=KEY, recipients=KEY, atomic=atomic),
             ):
                 self.put(b"old", "old")
-                with mock.patch(what, side_effect=error), self.assertRaises(OSError) as caught:
-                    call()
-                self.assertIs(caught.exception, error)
+                with mock.patch(what, side_effect=error):
+                    self.assertIs(error_of(call, OSError), error)
                 self.assertEqual((self.got("old") == b"old", sorted(os.listdir())), (atomic, ["a.age", "old"]))
 
     def test_progress(self):
@@ -410,7 +392,7 @@ class Writing(InFolder):
                         counts, totals = zip(*seen)
                         self.assertEqual((list(counts), counts[-1]), (sorted(set(counts)), len(source)))
                         self.assertEqual(set(totals), {None if kind is Plain else len(source) or None})
-                        self.assertLessEqual(len(seen), len(source) // 65536 + 2)
+                        self.assertIn(len(seen), range(len(source) // 70000 if threads == 1 else 1, len(source) // 65536 + 3))
         with open("source", "rb") as source:
             source.seek(-10, os.SEEK_END)
             agefile.copy(source, io.BytesIO(), recipients=KEY, progress=lambda *found: self.assertEqual(found, (10, 10)))
@@ -427,30 +409,27 @@ class Writing(InFolder):
         before."""
         for mode, data in (("wb", text(200000)), ("wb", b""), ("w", "text" * 100000)):
             self.put(b"old", "o.age")
-            os.chmod("o.age", 0o640)
+            os.chmod("o.age", 0o2640)
             with agefile.open("o.age", mode, recipients=KEY, atomic=True) as file:
                 file.write(data)
                 file.flush()
                 self.assertEqual((self.got("o.age"), len(os.listdir())), (b"old", 2))
             self.assertEqual(os.listdir(), ["o.age"])
-            self.assertEqual(os.stat("o.age").st_mode & 0o777, 0o640)
-            with agefile.open("o.age", mode.replace("w", "r"), identities=KEY) as file:
-                self.assertEqual(file.read(), data)
+            self.assertEqual(os.stat("o.age").st_mode & 0o7777, 0o2640)
+            self.assertEqual(self.read("o.age", mode.replace("w", "r")), data)
 
     @unittest.skipIf(os.geteuid() != 0, "only root gives files away")
     def test_atomic_and_the_owner(self):
         self.put(b"old", "o.age")
         os.chown("o.age", 1234, 5678)
-        with agefile.open("o.age", "wb", recipients=KEY, atomic=True):
-            pass
+        self.written(b"", "o.age", atomic=True)
         found = os.stat("o.age")
         self.assertEqual((found.st_uid, found.st_gid), (1234, 5678))
         # As in a container that does not map the owner: the mode stays.
         for mode in (0o600, 0o664):
             os.chmod("o.age", mode)
             with mock.patch("os.fchown", side_effect=OSError(errno.EINVAL, "no such owner")):
-                with agefile.open("o.age", "wb", recipients=KEY, atomic=True) as file:
-                    file.write(b"text")
+                self.written(b"text", "o.age", atomic=True)
             self.assertEqual(agefile.decrypt(self.got("o.age"), identities=KEY), b"text")
             self.assertEqual(os.stat("o.age").st_mode & 0o777, mode)
 
@@ -489,8 +468,7 @@ class Writing(InFolder):
 
     def test_atomic_and_other_files(self):
         self.addCleanup(os.umask, os.umask(0o027))
-        with agefile.open("n.age", "wb", recipients=KEY, atomic=True) as file:
-            pass
+        self.written(b"", "n.age", atomic=True)
         self.put(b"", "like")
         self.assertEqual(os.stat("n.age").st_mode, os.stat("like").st_mode)
         self.assertRaises(FileExistsError, agefile.open, "n.age", "xb", recipients=KEY, atomic=True)
@@ -499,27 +477,29 @@ class Writing(InFolder):
         self.assertRaises(FileExistsError, file.close)
         self.assertEqual(self.got("x.age"), b"other")
         os.symlink("n.age", "link")
-        with agefile.open("link", "wb", recipients=KEY, atomic=True) as file:
-            file.write(b"text")
+        self.written(b"text", "link", atomic=True)
         self.assertTrue(os.path.islink("link"))
         self.assertEqual(agefile.decrypt(self.got("n.age"), identities=KEY), b"text")
-        self.assertRaises(ValueError, agefile.open, os.devnull, "wb", recipients=KEY, atomic=True)
+        os.symlink("loop", "loop")
+        for wrong, error in (os.devnull, ValueError), ("loop", OSError):
+            self.assertRaises(error, agefile.open, wrong, "wb", recipients=KEY, atomic=True)
         for wrong in (io.BytesIO(), 1, lambda: io.BytesIO()):
             self.assertRaises(TypeError, agefile.open, wrong, "wb", recipients=KEY, atomic=True)
         self.assertRaises(TypeError, agefile.open, "n.age", "rb", identities=KEY, atomic=True)
-        self.assertEqual(sorted(os.listdir()), ["like", "link", "n.age", "x.age"])
+        self.assertEqual(sorted(os.listdir()), ["like", "link", "loop", "n.age", "x.age"])
 
     def test_what_a_killed_process_left(self):
         """It is named after the file, and the next writer that replaces the file removes it, unless
         its process is still running."""
         self.put(b"old", "o.age")
-        for count in (1, 1):
-            child = os.fork()
-            if child == 0:
-                file = agefile.open("o.age", "wb", recipients=KEY, atomic=True)
-                file.write(text(200000))
-                os.kill(os.getpid(), signal.SIGKILL)
-            os.waitpid(child, 0)
+
+        def killed():
+            file = agefile.open("o.age", "wb", recipients=KEY, atomic=True)
+            file.write(text(200000))
+            os.kill(os.getpid(), signal.SIGKILL)
+
+        for _ in range(2):
+            in_child(killed)
             self.assertEqual((self.got("o.age"), sorted(os.listdir())), (b"old", [".agefile-o.age-0", "o.age"]))
         with agefile.open("o.age", "wb", recipients=KEY, atomic=True) as file:
             with agefile.open("o.age", "wb", recipients=KEY, atomic=True) as other:
@@ -528,8 +508,7 @@ class Writing(InFolder):
             file.write(b"text")
         self.assertEqual((agefile.decrypt(self.got("o.age"), identities=KEY), os.listdir()), (b"text", ["o.age"]))
         for name in ("ü" * 127, "a" * 255):
-            with agefile.open(name, "wb", recipients=KEY, atomic=True) as file:
-                file.write(b"text")
+            self.written(b"text", name, atomic=True)
             self.assertEqual(agefile.decrypt(self.got(name), identities=KEY), b"text")
 
     def test_what_stands_beside(self):
@@ -537,13 +516,33 @@ class Writing(InFolder):
         self.put(b"mine", "mine")
         os.symlink("mine", ".agefile-o.age-0")
         os.mkfifo(".agefile-o.age-1")
-        with agefile.open("o.age", "wb", recipients=KEY, atomic=True) as file:
-            file.write(b"text")
+        self.written(b"text", "o.age", atomic=True)
         self.assertEqual(agefile.decrypt(self.got("o.age"), identities=KEY), b"text")
         self.assertEqual((self.got("mine"), os.readlink(".agefile-o.age-0")), (b"mine", "mine"))
-        with self.assertRaises(FileNotFoundError) as caught:
-            agefile.open("absent/o.age", "wb", recipients=KEY, atomic=True)
-        self.assertEqual(caught.exception.filename, "absent/o.age")
+        self.assertEqual(error_of(lambda: agefile.open("absent/o.age", "wb", recipients=KEY, atomic=True), FileNotFoundError).filename, "absent/o.age")
+
+    def test_races_beside(self):
+        """A file that another process removes before it is locked is made again. One that takes the place of a
+        file left behind stays. Some file systems have no locks."""
+        flock, descriptors = fcntl.flock, len(os.listdir("/proc/self/fd"))
+
+        def race(descriptor, operation):
+            path = os.readlink(f"/proc/self/fd/{descriptor}")
+            if path.endswith("-0"):
+                os.unlink(path)
+                if operation & fcntl.LOCK_NB:
+                    self.put(b"other", path)
+            flock(descriptor, operation)
+
+        for lock, left in (race, []), (race, [".agefile-o.age-0"]), (mock.Mock(side_effect=OSError(errno.ENOLCK, "")), [".agefile-o.age-0"]):
+            for name in left:
+                self.put(b"other", name)
+            with mock.patch("fcntl.flock", lock), agefile.open("o.age", "wb", recipients=KEY, atomic=True) as file:
+                file.write(b"text")
+            self.assertEqual(agefile.decrypt(self.got("o.age"), identities=KEY), b"text")
+            self.assertEqual(sorted(os.listdir()), [*left, "o.age"])
+            self.assertEqual([self.got(name) for name in left], [b"other"] * len(left))
+            self.assertEqual(len(os.listdir("/proc/self/fd")), descriptors)
 
     def test_the_order_of_syncs(self):
         """The new file is synced before it replaces the old one, and the folder after that."""
@@ -558,8 +557,7 @@ class Writing(InFolder):
             noted.append("replace")
 
         with mock.patch("os.fsync", note_sync), mock.patch("os.replace", note_replace):
-            with agefile.open("o.age", "wb", recipients=KEY, atomic=True) as file:
-                file.write(b"text")
+            self.written(b"text", "o.age", atomic=True)
         self.assertEqual(noted, [".agefile-o.age-0", "replace", os.path.basename(os.getcwd())])
 
     def test_atomic_and_fork(self):
@@ -567,11 +565,7 @@ class Writing(InFolder):
         self.put(b"old", "o.age")
         file = agefile.open("o.age", "wb", recipients=KEY, atomic=True)
         file.write(text(100000))
-        child = os.fork()
-        if child == 0:
-            file.close()
-            os._exit(0)
-        os.waitpid(child, 0)
+        in_child(file.close)
         self.assertEqual((self.got("o.age"), len(os.listdir())), (b"old", 2))
         file.close()
         self.assertEqual(agefile.decrypt(self.got("o.age"), identities=KEY), text(100000))
@@ -582,20 +576,10 @@ class Writing(InFolder):
             file = agefile.open("f.age", mode, recipients=KEY)
             file.write(data)
             file.flush()
-            child = os.fork()
-            if child == 0:
-                try:
-                    file.write(data)
-                    file.flush()
-                except OSError:
-                    file.close()
-                    os._exit(0)
-                os._exit(1)
-            self.assertEqual(os.waitpid(child, 0)[1], 0)
+            self.assertEqual(in_child(lambda: self.assertRaises(OSError, lambda: (file.write(data), file.flush())) or file.close()), 0)
             file.write(data)
             file.close()
-            with agefile.open("f.age", mode.replace("w", "r"), identities=KEY) as whole:
-                self.assertEqual(whole.read(), data + data)
+            self.assertEqual(self.read("f.age", mode.replace("w", "r")), data + data)
 
     def test_fork_and_a_sink_with_a_buffer(self):
         """A child that closes the file does not write its parent's buffer."""
@@ -679,8 +663,7 @@ class Writing(InFolder):
         for call in (lambda: file.write(text(100000)), file.close):
             self.assertRaisesRegex(OSError, "an earlier write failed", call)
         self.assertTrue(file.closed)
-        with self.assertRaises(AgeError):
-            agefile.decrypt(full.taken, identities=KEY)
+        self.assertRaises(AgeError, agefile.decrypt, full.taken, identities=KEY)
         with self.assertRaisesRegex(OSError, "an earlier write failed"):
             with agefile.open(Full(100000), "w", recipients=KEY) as file, contextlib.suppress(OSError):
                 file.write("text" * 75000)
@@ -690,14 +673,9 @@ class Writing(InFolder):
             self.assertTrue(file.writable() and not file.readable() and not file.seekable())
         self.assertRaises(FileExistsError, agefile.open, "x.age", "x", recipients=KEY)
         self.assertRaises(ValueError, file.write, b"")
-        with self.assertRaises(AgeError):
-            agefile.open("none.age", "wb", recipients=[])
+        self.assertRaises(AgeError, agefile.open, "none.age", "wb", recipients=[])
         below = io.BytesIO()
         with agefile.open(below, "wb", recipients=KEY) as file:
             file.write(b"text")
         self.assertFalse(below.closed)
         self.assertEqual(agefile.decrypt(below.getvalue(), identities=KEY), b"text")
-
-
-if __name__ == "__main__":
-    unittest.main()

@@ -112,7 +112,3 @@ class WithAge(unittest.TestCase):
         for text in (public[:-1] + ("q" if public[-1] != "q" else "p"), public[:-1], secret, "age1", public.swapcase()[:10] + public[10:]):
             self.assertRaises(ValueError, x25519.X25519Recipient, text)
         self.assertRaises(ValueError, x25519.X25519Identity, public)
-
-
-if __name__ == "__main__":
-    unittest.main()
