@@ -1,6 +1,6 @@
 //! Headers and their stanzas.
 
-use crate::ffi::{self, StanzaSummary};
+use crate::ffi::{self, Report, StanzaSummary};
 use crate::{Error, FileKey, Identity, Recipient};
 
 /// An entry of a header, which holds the file key for a recipient. [`Recipient`] has an example.
@@ -51,7 +51,7 @@ impl Header {
 /// Reads the header of a file. `front` is any beginning of the file that contains it. Does not
 /// verify its MAC.
 pub fn inspect(front: &[u8]) -> Result<Header, Error> {
-    let summary = ffi::inspect(front)?;
+    let (summary, _) = ffi::inspect(front)?;
     let text = front[..summary.header_len as usize].to_vec();
     let mut sizes = vec![StanzaSummary::default(); summary.stanzas as usize];
     let mut room = vec![0; text.len()];
@@ -71,22 +71,22 @@ pub fn inspect(front: &[u8]) -> Result<Header, Error> {
 }
 
 /// Returns what a call writes to a buffer of this size.
-pub(crate) fn written(room: usize, call: impl FnOnce(&mut [u8]) -> Result<usize, Error>) -> Result<Vec<u8>, Error> {
+pub(crate) fn written(room: usize, call: impl FnOnce(&mut [u8]) -> Result<Report, Error>) -> Result<Vec<u8>, Error> {
     let mut out = vec![0; room];
-    let len = call(&mut out)?;
-    out.truncate(len);
+    let report = call(&mut out)?;
+    out.truncate(report.len as usize);
     Ok(out)
 }
 
 /// The text of a stanza in a header.
 fn stanza_text(stanza: &Stanza) -> Result<Vec<u8>, Error> {
-    if stanza.args.iter().any(|arg| arg.is_empty() || arg.contains(' ')) {
+    if stanza.args.iter().any(|arg| arg.contains(' ')) {
         return Err(Error::BadArguments);
     }
     let args = stanza.args.join(" ");
     // Each 48 bytes of a body are a line of 65.
     let room = args.len() + stanza.body.len() / 48 * 65 + 80;
-    written(room, |out| Ok(ffi::wrap(args.as_bytes(), &stanza.body, out)?.len as usize))
+    written(room, |out| ffi::wrap(args.as_bytes(), &stanza.body, out))
 }
 
 /// The text of the stanzas into which the recipients wrap a file key, in order.
@@ -102,7 +102,7 @@ pub(crate) fn stanzas_text(recipients: &[&dyn Recipient], file_key: &FileKey) ->
 
 /// The header for a text of stanzas, under a file key.
 pub(crate) fn header_of(stanzas: &[u8], file_key: &FileKey) -> Result<Vec<u8>, Error> {
-    written(stanzas.len() + 128, |out| Ok(ffi::header(stanzas, &file_key.0, out)?.len as usize))
+    written(stanzas.len() + 128, |out| ffi::header(stanzas, &file_key.0, out))
 }
 
 /// The file key that the first matching identity finds.

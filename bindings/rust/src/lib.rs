@@ -32,6 +32,17 @@
 //! over it. Memory is not wiped, and constant time is not promised.
 #![warn(missing_docs, missing_debug_implementations)]
 
+/// Implements `Debug` with the type's name and these fields alone.
+macro_rules! show {
+    ($name:ident $(<$of:ident>)? { $($field:ident),* }) => {
+        impl$(<$of>)? std::fmt::Debug for $name$(<$of>)? {
+            fn fmt(&self, f: &mut std::fmt::Formatter<'_>) -> std::fmt::Result {
+                f.debug_struct(stringify!($name))$(.field(stringify!($field), &self.$field))*.finish_non_exhaustive()
+            }
+        }
+    };
+}
+
 mod error;
 mod ffi;
 mod front;

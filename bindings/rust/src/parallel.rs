@@ -29,8 +29,8 @@ pub fn encrypt(plain: &[u8], recipients: &[&dyn Recipient], threads: usize) -> i
     let stanzas = stanzas_text(recipients, &file_key)?;
     let header_len = header_of(&stanzas, &file_key)?.len() as u64;
     let mut out = vec![0; ffi::file_len(header_len, plain.len() as u64) as usize];
-    let (mut payload, front) = ffi::begin(&stanzas, &file_key.0, &nonce, &mut out)?;
-    let sealed = &mut out[front..];
+    let (mut payload, begun) = ffi::begin(&stanzas, &file_key.0, &nonce, &mut out)?;
+    let sealed = &mut out[begun.len as usize..];
     let (plain, sealed) =
         in_parts(&mut payload, plain, TEXT_CHUNK, sealed, SEALED_CHUNK, threads, |part, text, chunk| {
             chunk[..TEXT_CHUNK].copy_from_slice(text);
@@ -45,8 +45,8 @@ pub fn encrypt(plain: &[u8], recipients: &[&dyn Recipient], threads: usize) -> i
 pub fn decrypt(file: &[u8], identities: &[&dyn Identity], threads: usize) -> Result<Vec<u8>, Error> {
     let header = inspect(file)?;
     let file_key = unlock(&header, identities)?;
-    let (mut payload, front) = ffi::open(file, &file_key.0)?;
-    debug_assert_eq!(front, header.text().len() + NONCE);
+    let (mut payload, _) = ffi::open(file, &file_key.0)?;
+    let front = header.text().len() + NONCE;
     let mut out = vec![0; text_len(file.len() - front)];
     let (sealed, text) =
         in_parts(&mut payload, &file[front..], SEALED_CHUNK, &mut out, TEXT_CHUNK, threads, |part, chunk, text| {
@@ -56,7 +56,7 @@ pub fn decrypt(file: &[u8], identities: &[&dyn Identity], threads: usize) -> Res
             Ok(())
         })?;
     let mut last = sealed.to_vec();
-    let len = ffi::open_next(&mut payload, &mut last, true)?;
+    let len = ffi::open_next(&mut payload, &mut last, true)?.len as usize;
     text[..len].copy_from_slice(&last[..len]);
     Ok(out)
 }
@@ -79,7 +79,7 @@ fn in_parts<'a, 'b>(
     let each = chunks.div_ceil(threads.max(1)).max(1);
     let mut parts = Vec::new();
     for (input, output) in input.chunks(each * take).zip(output.chunks_mut(each * give)) {
-        parts.push((ffi::take_part(payload, (input.len() / take) as u64)?, input, output));
+        parts.push((ffi::take_part(payload, (input.len() / take) as u64)?.0, input, output));
     }
     let others = parts.len().saturating_sub(1);
     let queue = Mutex::new(parts.into_iter().enumerate());

@@ -1,6 +1,5 @@
 //! Reading any part of a plaintext.
 
-use std::fmt;
 use std::io::{self, Read, Seek, SeekFrom};
 use std::ops::Range;
 
@@ -134,8 +133,4 @@ impl<R: Read + Seek> Seek for RangeReader<R> {
     }
 }
 
-impl<R> fmt::Debug for RangeReader<R> {
-    fn fmt(&self, f: &mut fmt::Formatter<'_>) -> fmt::Result {
-        f.debug_struct("RangeReader").field("len", &self.len).field("position", &self.position).finish_non_exhaustive()
-    }
-}
+show!(RangeReader<R> { len, position });

@@ -47,9 +47,9 @@ impl<R: Read> Opening<R> {
 
     /// Returns the reader of the plaintext, or an error unless [`Opening::read`] has returned `Ok`.
     pub fn finish(self) -> Result<Reader<R>, Error> {
-        let (payload, begin) = ffi::open(&self.front.bytes, &self.front.file_key()?.0)?;
+        let (payload, begun) = ffi::open(&self.front.bytes, &self.front.file_key()?.0)?;
         let mut ahead = io::Cursor::new(self.front.bytes);
-        ahead.set_position(begin as u64);
+        ahead.set_position(begun.len);
         let buf = vec![0; SEALED_CHUNK + 1].into_boxed_slice();
         let (source, text, fault) = (self.source, 0..0, None);
         Ok(Reader { source, payload, ahead, buf, sealed: 0, first: 0, text, has_ended: false, fault })
@@ -130,7 +130,7 @@ impl<R: Read> Reader<R> {
         let len = self.sealed.min(SEALED_CHUNK);
         let is_last = self.sealed == len;
         match ffi::open_next(&mut self.payload, &mut self.buf[..len], is_last) {
-            Ok(text) => self.text = 0..text,
+            Ok(report) => self.text = 0..report.len as usize,
             Err(fault) => {
                 self.fault = Some(fault);
                 return Err(fault.into());
@@ -170,8 +170,4 @@ impl<R: Read> BufRead for Reader<R> {
     }
 }
 
-impl<R> fmt::Debug for Reader<R> {
-    fn fmt(&self, f: &mut fmt::Formatter<'_>) -> fmt::Result {
-        f.debug_struct("Reader").field("fault", &self.fault).finish_non_exhaustive()
-    }
-}
+show!(Reader<R> { fault });

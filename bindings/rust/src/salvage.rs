@@ -107,9 +107,9 @@ pub fn salvage(source: impl Read + Seek, mut sink: impl Write, identities: &[&dy
     let mut source = Skipping::new(source);
     let mut front = Front::default();
     front.read(&mut source, identities)?;
-    let (mut payload, begin) = ffi::open(&front.bytes, &front.file_key()?.0)?;
-    source.first = Some(source.at - (front.bytes.len() - begin) as u64);
-    let mut source = front.bytes[begin..].chain(source);
+    let (mut payload, begun) = ffi::open(&front.bytes, &front.file_key()?.0)?;
+    source.first = Some(source.at - (front.bytes.len() as u64 - begun.len));
+    let mut source = front.bytes[begun.len as usize..].chain(source);
     let (mut saved, mut buf, mut have) = (Salvaged::default(), vec![0; SEALED_CHUNK + 1], 0);
     loop {
         // A byte after a chunk shows that it is not the last.

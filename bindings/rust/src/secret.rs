@@ -1,11 +1,10 @@
 //! Recipients and identities.
 
-use std::fmt;
 use std::fs::File;
 use std::io::{self, Read};
 use std::path::Path;
 
-use crate::ffi;
+use crate::ffi::{self, Report};
 use crate::header::{header_of, inspect, written, Header, Stanza};
 use crate::Error;
 
@@ -181,9 +180,9 @@ fn fresh_salt() -> Result<[u8; 16], Error> {
 }
 
 /// The result of unlocking, where no match is not an error.
-fn found(result: Result<[u8; 16], Error>) -> Result<Option<FileKey>, Error> {
+fn found(result: Result<([u8; 16], Report), Error>) -> Result<Option<FileKey>, Error> {
     match result {
-        Ok(file_key) => Ok(Some(FileKey(file_key))),
+        Ok((file_key, _)) => Ok(Some(FileKey(file_key))),
         Err(Error::NoMatch) => Ok(None),
         Err(error) => Err(error),
     }
@@ -195,9 +194,7 @@ impl Recipient for Passphrase {
             return Err(Error::UntypedPassphrase);
         }
         let salt = fresh_salt()?;
-        let text = written(STANZA_ROOM, |out| {
-            Ok(ffi::wrap_passphrase(&file_key.0, &self.text, self.work, &salt, out)?.len as usize)
-        })?;
+        let text = written(STANZA_ROOM, |out| ffi::wrap_passphrase(&file_key.0, &self.text, self.work, &salt, out))?;
         stanza_of(&text, file_key)
     }
 }
@@ -211,7 +208,7 @@ impl Identity for Passphrase {
 impl Recipient for Key {
     fn wrap(&self, file_key: &FileKey) -> Result<Vec<Stanza>, Error> {
         let salt = fresh_salt()?;
-        let text = written(STANZA_ROOM, |out| Ok(ffi::wrap_key(&file_key.0, &self.0, &salt, out)?.len as usize))?;
+        let text = written(STANZA_ROOM, |out| ffi::wrap_key(&file_key.0, &self.0, &salt, out))?;
         stanza_of(&text, file_key)
     }
 }
@@ -222,15 +219,6 @@ impl Identity for Key {
     }
 }
 
-/// Implements `Debug` with the type's name alone.
-macro_rules! hide {
-    ($($name:ident),*) => {$(
-        impl fmt::Debug for $name {
-            fn fmt(&self, f: &mut fmt::Formatter<'_>) -> fmt::Result {
-                f.debug_struct(stringify!($name)).finish_non_exhaustive()
-            }
-        }
-    )*};
-}
-
-hide!(FileKey, Passphrase, Key);
+show!(FileKey {});
+show!(Passphrase {});
+show!(Key {});

@@ -34,8 +34,7 @@ pub fn decrypt(file: &[u8], identities: &[&dyn Identity]) -> Result<Vec<u8>, Err
     let file_key = unlock(&header, identities)?;
     let sealed = file.len().saturating_sub(header.text().len() + NONCE);
     let mut out = vec![0; text_len(sealed)];
-    let report = ffi::decrypt(file, &file_key.0, &mut out)?;
-    out.truncate(report.len as usize);
+    ffi::decrypt(file, &file_key.0, &mut out)?;
     Ok(out)
 }
 

@@ -42,8 +42,8 @@ impl<W: Write> Writer<W> {
         let (file_key, nonce) = (FileKey(ffi::random()?), ffi::random()?);
         let stanzas = stanzas_text(recipients, &file_key)?;
         let mut front = vec![0; stanzas.len() + 256];
-        let (payload, len) = ffi::begin(&stanzas, &file_key.0, &nonce, &mut front)?;
-        sink.write_all(&front[..len])?;
+        let (payload, begun) = ffi::begin(&stanzas, &file_key.0, &nonce, &mut front)?;
+        sink.write_all(&front[..begun.len as usize])?;
         let buf = vec![0; SEALED_CHUNK].into_boxed_slice();
         Ok(Writer { sink, payload, buf, len: 0, has_failed: false })
     }
@@ -54,7 +54,7 @@ impl<W: Write> Writer<W> {
             return Err(Error::Incomplete.into());
         }
         self.has_failed = true;
-        let sealed = ffi::seal_next(&mut self.payload, &mut self.buf[..self.len + TAG], is_last)?;
+        let sealed = ffi::seal_next(&mut self.payload, &mut self.buf[..self.len + TAG], is_last)?.len as usize;
         self.sink.write_all(&self.buf[..sealed])?;
         self.len = 0;
         self.has_failed = false;
@@ -77,7 +77,7 @@ impl<W: Write> Write for Writer<W> {
             return Ok(0);
         }
         // A full chunk waits for the byte after it: it may be the last one.
-        if self.len == TEXT_CHUNK || self.has_failed {
+        if self.len == TEXT_CHUNK {
             self.put_chunk(false)?;
         }
         let count = text.len().min(TEXT_CHUNK - self.len);
@@ -92,11 +92,7 @@ impl<W: Write> Write for Writer<W> {
     }
 }
 
-impl<W> fmt::Debug for Writer<W> {
-    fn fmt(&self, f: &mut fmt::Formatter<'_>) -> fmt::Result {
-        f.debug_struct("Writer").field("has_failed", &self.has_failed).finish_non_exhaustive()
-    }
-}
+show!(Writer<W> { has_failed });
 
 /// The error of a file that could not be completed, with its sink.
 ///
@@ -129,11 +125,7 @@ impl<W> FinishError<W> {
     }
 }
 
-impl<W> fmt::Debug for FinishError<W> {
-    fn fmt(&self, f: &mut fmt::Formatter<'_>) -> fmt::Result {
-        f.debug_struct("FinishError").field("error", &self.error).finish_non_exhaustive()
-    }
-}
+show!(FinishError<W> { error });
 
 impl<W> fmt::Display for FinishError<W> {
     fn fmt(&self, f: &mut fmt::Formatter<'_>) -> fmt::Result {
