@@ -21,36 +21,53 @@ fn passphrase() -> Passphrase {
     Passphrase::new("correct horse").with_work(3).with_max_work(12)
 }
 
-/// A source that gives at most so many bytes at once.
-struct Few<'a>(&'a [u8], usize);
+/// A source that a function reads.
+struct By<F>(F);
 
-impl Read for Few<'_> {
+impl<F: FnMut(&mut [u8]) -> io::Result<usize>> Read for By<F> {
     fn read(&mut self, out: &mut [u8]) -> io::Result<usize> {
-        let n = out.len().min(self.1);
-        self.0.read(&mut out[..n])
+        (self.0)(out)
     }
 }
 
-/// A source that would block before each read that succeeds, after the quick ones.
-struct Slow<'a> {
-    bytes: &'a [u8],
-    waits: bool,
-    quick: usize,
-    at_a_time: usize,
+/// A source that gives at most so many bytes at once.
+fn few(mut bytes: &[u8], most: usize) -> impl Read + '_ {
+    By(move |out: &mut [u8]| {
+        let n = out.len().min(most);
+        bytes.read(&mut out[..n])
+    })
 }
 
-impl Read for Slow<'_> {
-    fn read(&mut self, out: &mut [u8]) -> io::Result<usize> {
-        let n = out.len().min(self.at_a_time);
-        if self.quick > 0 {
-            self.quick -= 1;
-            return self.bytes.read(&mut out[..n]);
+/// A source whose reads fail.
+fn failing(kind: ErrorKind) -> impl Read {
+    By(move |_: &mut [u8]| Err(kind.into()))
+}
+
+/// A source that fails before each read that succeeds, after the quick ones.
+fn slow(mut source: impl Read, mut quick: usize, kind: ErrorKind) -> impl Read {
+    let mut waits = false;
+    By(move |out: &mut [u8]| {
+        waits = !waits && quick == 0;
+        quick = quick.saturating_sub(1);
+        match waits {
+            true => Err(kind.into()),
+            false => source.read(out),
         }
-        self.waits = !self.waits;
-        if self.waits {
-            return Err(ErrorKind::WouldBlock.into());
+    })
+}
+
+/// Reads to the end, in pieces. Returns the text, and how often a read would block.
+fn read_slowly(reader: &mut impl Read) -> (Vec<u8>, usize) {
+    let (mut back, mut buf, mut blocked) = (Vec::new(), [0; 7000], 0);
+    loop {
+        match reader.read(&mut buf) {
+            Ok(0) => return (back, blocked),
+            Ok(count) => back.extend_from_slice(&buf[..count]),
+            Err(error) => {
+                assert_eq!(error.kind(), ErrorKind::WouldBlock);
+                blocked += 1;
+            }
         }
-        self.bytes.read(&mut out[..n])
     }
 }
 
@@ -58,6 +75,7 @@ fn streamed(plain: &[u8], recipient: &dyn Recipient, piece: usize) -> Vec<u8> {
     let mut writer = Writer::new(Vec::new(), &[recipient]).unwrap();
     for piece in plain.chunks(piece) {
         writer.write_all(piece).unwrap();
+        assert_eq!(writer.write(b"").unwrap(), 0);
     }
     writer.finish().unwrap()
 }
@@ -76,6 +94,7 @@ fn lines_of_a_file() {
     while let Ok(text) = reader.fill_buf() {
         assert!(!text.is_empty());
         verified.extend(text);
+        reader.consume(1);
         reader.consume(usize::MAX);
     }
     assert_eq!(verified, plain[..196608]);
@@ -97,7 +116,7 @@ fn streams_and_whole_files_are_the_same_format() {
             let file = streamed(&plain, &key(), piece);
             assert_eq!(decrypt(&file, &[&key()]).unwrap(), plain);
             let mut back = Vec::new();
-            Reader::new(Few(&file, piece), &[&key()]).unwrap().read_to_end(&mut back).unwrap();
+            Reader::new(few(&file, piece), &[&key()]).unwrap().read_to_end(&mut back).unwrap();
             assert_eq!(back, plain);
         }
     }
@@ -149,10 +168,12 @@ fn great_header_is_listed_in_a_tenth_of_a_second() {
 #[test]
 fn great_header_may_come_in_single_bytes() {
     let stanzas = [b"-> a ", &[b'x'; 16000][..], b"\n\n"].concat().repeat(4);
-    let header = [b"age-encryption.org/v1\n", &stanzas[..], b"--- "].concat();
+    let header = [b"age-encryption.org/v1\n", &stanzas[..], b"--- ", &[b'A'; 43][..], b"\n"].concat();
     let began = processor_time();
-    let failed = Reader::new(Few(&header, 1), &[&key()]).unwrap_err();
+    let failed = Reader::new(few(&header[..header.len() - 44], 1), &[&key()]).unwrap_err();
     assert_eq!(fault(failed), Error::HeaderTruncated);
+    let source = slow(few(&header, 1), header.len(), ErrorKind::WouldBlock);
+    assert_eq!(fault(Reader::new(source, &[&key()]).unwrap_err()), Error::NoMatch);
     let taken = processor_time() - began;
     assert!(taken < 1_000_000_000, "{taken} ns");
 }
@@ -164,7 +185,7 @@ fn ranges_are_slices() {
         // Whatever its position, the whole source is the file.
         file.set_position(7);
         let mut reader = RangeReader::new(file, &[&key()]).unwrap();
-        assert_eq!((reader.len(), reader.is_empty()), (plain.len() as u64, plain.is_empty()));
+        assert_eq!(reader.len(), plain.len() as u64);
         for at in [0, 1, 65535, 65536, 131071, 199999, 300000] {
             let mut back = Vec::new();
             reader.seek(SeekFrom::Start(at as u64)).unwrap();
@@ -172,7 +193,10 @@ fn ranges_are_slices() {
             assert_eq!(back, plain[at.min(plain.len())..(at + 70000).min(plain.len())]);
         }
         assert_eq!(reader.seek(SeekFrom::End(0)).unwrap(), plain.len() as u64);
-        assert_eq!(reader.seek(SeekFrom::End(-1 - plain.len() as i64)).unwrap_err().kind(), ErrorKind::InvalidInput);
+        assert_eq!(reader.is_empty(), plain.is_empty());
+        for before in [SeekFrom::End(-1 - plain.len() as i64), SeekFrom::Current(i64::MIN)] {
+            assert_eq!(reader.seek(before).unwrap_err().kind(), ErrorKind::InvalidInput);
+        }
         for _ in 1..3 {
             reader.seek(SeekFrom::Current(5)).unwrap();
             assert_eq!(reader.read(&mut [0; 10]).unwrap(), 0);
@@ -250,10 +274,13 @@ fn faults_have_their_place_and_their_kind() {
 
 #[test]
 fn read_of_no_bytes_returns_none_after_a_fault() {
-    let file = encrypt(b"text", &[&key()]).unwrap();
-    let mut reader = Reader::new(&file[..file.len() - 1], &[&key()]).unwrap();
+    let mut file = encrypt(&text(70000), &[&key()]).unwrap();
+    let first = inspect(&file).unwrap().text().len() + 16;
+    file[first] ^= 1;
+    let mut reader = Reader::new(&file[..], &[&key()]).unwrap();
     assert_eq!(fault(reader.read(&mut [0; 9]).unwrap_err()), Error::BadChunk(0));
     assert_eq!(reader.read(&mut []).unwrap(), 0);
+    assert_eq!(RangeReader::new(Cursor::new(file), &[&key()]).unwrap().read(&mut []).unwrap(), 0);
 }
 
 #[test]
@@ -296,6 +323,8 @@ fn passphrase_files_are_those_of_the_program() {
     let most = [b'a'; 65_536];
     opens(&most, &most);
     assert_eq!(read(&[b'a'; 65_537]).unwrap_err().kind(), ErrorKind::InvalidInput);
+    std::fs::File::create(&path).unwrap().set_len(1 << 40).unwrap();
+    assert_eq!(Passphrase::from_file(&path).unwrap_err().kind(), ErrorKind::InvalidInput);
     std::fs::remove_file(&path).unwrap();
     assert_eq!(Passphrase::from_file(&path).unwrap_err().kind(), ErrorKind::NotFound);
 }
@@ -311,23 +340,14 @@ impl Identity for Counting<'_> {
 }
 
 /// Opens a source that would block now and then, and returns its text and how often it would block.
-fn opened_slowly(source: Slow, identity: &dyn Identity) -> (Vec<u8>, usize) {
-    let (mut opening, mut back, mut buf, mut blocked) = (Opening::new(source), Vec::new(), [0; 7000], 0);
-    let mut wait = |error: io::Error| {
-        assert_eq!(error.kind(), ErrorKind::WouldBlock);
-        blocked += 1;
-    };
+fn opened_slowly(source: impl Read, identity: &dyn Identity) -> (Vec<u8>, usize) {
+    let (mut opening, mut waited) = (Opening::new(source), 0);
     while let Err(error) = opening.read(&[identity]) {
-        wait(error);
+        assert_eq!(error.kind(), ErrorKind::WouldBlock);
+        waited += 1;
     }
-    let mut reader = opening.finish().unwrap();
-    loop {
-        match reader.read(&mut buf) {
-            Ok(0) => return (back, blocked),
-            Ok(n) => back.extend_from_slice(&buf[..n]),
-            Err(error) => wait(error),
-        }
-    }
+    let (back, blocked) = read_slowly(&mut opening.finish().unwrap());
+    (back, waited + blocked)
 }
 
 #[test]
@@ -338,21 +358,10 @@ fn source_that_would_block_can_go_on() {
         let plain = text(len);
         let file = encrypt(&plain, &[&passphrase()]).unwrap();
         let asked = Cell::new(0);
-        let (back, blocked) = opened_slowly(Slow { bytes: &file, waits: false, quick, at_a_time }, &Counting(&asked));
+        let source = slow(few(&file, at_a_time), quick, ErrorKind::WouldBlock);
+        let (back, blocked) = opened_slowly(source, &Counting(&asked));
         assert!(back == plain && blocked > 5, "{len} bytes after {quick} quick reads");
         assert_eq!(asked.get(), 1);
-    }
-}
-
-/// A source that gives its front at once, and then would block before each byte of its payload.
-struct Trickle<'a>(&'a [u8], Slow<'a>);
-
-impl Read for Trickle<'_> {
-    fn read(&mut self, out: &mut [u8]) -> io::Result<usize> {
-        match self.0 {
-            [] => self.1.read(out),
-            _ => self.0.read(out),
-        }
     }
 }
 
@@ -361,36 +370,14 @@ fn each_byte_of_a_chunk_may_come_alone() {
     let plain = text(70000);
     let file = encrypt(&plain, &[&key()]).unwrap();
     let (front, payload) = file.split_at(inspect(&file).unwrap().text().len() + 16);
-    let slow = Slow { bytes: payload, waits: false, quick: 0, at_a_time: 1 };
-    let mut reader = Reader::new(Trickle(front, slow), &[&key()]).unwrap();
-    let (mut back, mut buf) = (Vec::new(), [0; 7000]);
-    loop {
-        match reader.read(&mut buf) {
-            Ok(0) => break,
-            Ok(count) => back.extend_from_slice(&buf[..count]),
-            Err(error) => assert_eq!(error.kind(), ErrorKind::WouldBlock),
-        }
-    }
-    assert_eq!(back, plain);
-}
-
-/// A source that is interrupted before each read.
-struct Interrupted<'a>(&'a [u8], bool);
-
-impl Read for Interrupted<'_> {
-    fn read(&mut self, out: &mut [u8]) -> io::Result<usize> {
-        self.1 = !self.1;
-        match self.1 {
-            true => Err(ErrorKind::Interrupted.into()),
-            false => self.0.read(out),
-        }
-    }
+    let source = front.chain(slow(few(payload, 1), 0, ErrorKind::WouldBlock));
+    assert_eq!(read_slowly(&mut Reader::new(source, &[&key()]).unwrap()).0, plain);
 }
 
 #[test]
 fn interrupted_source_is_read_again() {
     let file = encrypt(&text(70000), &[&key()]).unwrap();
-    let mut reader = Reader::new(Interrupted(&file, false), &[&key()]).unwrap();
+    let mut reader = Reader::new(slow(&file[..], 0, ErrorKind::Interrupted), &[&key()]).unwrap();
     let mut all = vec![0; 80000];
     assert_eq!((reader.read(&mut all).unwrap(), reader.read(&mut all[65536..]).unwrap()), (65536, 70000 - 65536));
     assert_eq!(all[..70000], text(70000));
@@ -405,31 +392,21 @@ fn opening_goes_on_with_another_key() {
     let mut back = Vec::new();
     opening.finish().unwrap().read_to_end(&mut back).unwrap();
     assert_eq!(back, b"text");
+    let (header, rest) = file.split_at(inspect(&file).unwrap().text().len());
+    let mut opening = Opening::new(header.chain(slow(few(rest, 16), 0, ErrorKind::WouldBlock)));
+    assert_eq!(fault(opening.read(&[&Key::new([8; 32])]).unwrap_err()), Error::WrongKey);
+    assert_eq!(opening.read(&[&key()]).unwrap_err().kind(), ErrorKind::WouldBlock);
+    opening.read(&[]).unwrap();
     let mut opening = Opening::new(&file[..]);
     assert_eq!(fault(opening.read(&[&Key::new([8; 32])]).unwrap_err()), Error::WrongKey);
     assert_eq!(opening.finish().unwrap_err(), Error::NoMatch);
     assert_eq!(Opening::new(&file[..]).finish().unwrap_err(), Error::NoMatch);
 }
 
-/// A source that gives a text in two pieces, and would block behind them.
-struct Pieces<'a>(&'a [u8], &'a [u8]);
-
-impl Read for Pieces<'_> {
-    fn read(&mut self, out: &mut [u8]) -> io::Result<usize> {
-        if self.0.is_empty() {
-            self.0 = std::mem::take(&mut self.1);
-        }
-        match self.0 {
-            [] => Err(ErrorKind::WouldBlock.into()),
-            _ => self.0.read(out),
-        }
-    }
-}
-
 /// A text that comes in two pieces, of which the second is read to its end, has this error before more is read.
 fn is_refused_at_once(text: &[u8], cut: usize, identities: &[&dyn Identity], error: Error) {
     let (first, second) = text.split_at(cut);
-    let failed = Reader::new(Pieces(first, second), identities).unwrap_err();
+    let failed = Reader::new(first.chain(second).chain(failing(ErrorKind::WouldBlock)), identities).unwrap_err();
     assert_ne!(failed.kind(), ErrorKind::WouldBlock, "{error}: waits after {cut} of {} bytes", text.len());
     assert_eq!(fault(failed), error);
 }
@@ -553,20 +530,9 @@ fn sink_that_takes_nothing_or_fails_to_flush() {
     assert_eq!((error.kind(), sink.flushed), (ErrorKind::TimedOut, sink.bytes.len()));
     let mut room = [0; 180];
     let failed = Writer::new(&mut room[..], &[&key()]).unwrap().finish().unwrap_err();
-    let text = failed.to_string();
-    assert_eq!(io::Error::from(failed).to_string(), text);
-}
-
-/// A source that fails after these bytes.
-struct Failing<'a>(&'a [u8]);
-
-impl Read for Failing<'_> {
-    fn read(&mut self, out: &mut [u8]) -> io::Result<usize> {
-        match self.0 {
-            [] => Err(ErrorKind::TimedOut.into()),
-            _ => self.0.read(out),
-        }
-    }
+    let (text, kind) = (failed.to_string(), failed.error().kind());
+    let error = io::Error::from(failed);
+    assert_eq!((error.to_string(), error.kind()), (text, kind));
 }
 
 #[test]
@@ -577,14 +543,16 @@ fn copy_under_a_new_header_is_what_rewrap_makes() {
         let header_len = inspect(&old).unwrap().text().len();
         for at_a_time in [1, 1000, usize::MAX] {
             let mut sink = Sink { at_a_time, ..Sink::default() };
-            rewrap_copy(Interrupted(&old, false), &mut sink, &[&key()], &[&other, &key()]).unwrap();
+            rewrap_copy(slow(&old[..], 0, ErrorKind::Interrupted), &mut sink, &[&key()], &[&other, &key()]).unwrap();
             assert_eq!((sink.flushes, sink.flushed), (1, sink.bytes.len()));
             assert_eq!(decrypt(&sink.bytes, &[&other]).unwrap(), plain);
             let new_len = inspect(&sink.bytes).unwrap().text().len();
             assert!(sink.bytes[new_len..] == old[header_len..]);
         }
         let mut cut = Vec::new();
-        let failed = rewrap_copy(Failing(&old[..old.len() - 1]), &mut cut, &[&key()], &[&other]).unwrap_err();
+        let failed =
+            rewrap_copy(old[..old.len() - 1].chain(failing(ErrorKind::TimedOut)), &mut cut, &[&key()], &[&other])
+                .unwrap_err();
         assert_eq!(failed.kind(), ErrorKind::TimedOut);
         assert!(decrypt(&cut, &[&other]).is_err());
     }
@@ -680,11 +648,17 @@ impl Identity for Plain {
 fn usual_work_factors_are_18_and_at_most_22() {
     let header = inspect(&encrypt(b"", &[&Passphrase::new("x")]).unwrap()).unwrap();
     assert_eq!(header.stanzas()[0].args[2], "18");
+    let path = std::env::temp_dir().join(format!("usual.{}", std::process::id()));
+    std::fs::write(&path, "x").unwrap();
+    let of_file = Passphrase::from_file(&path).unwrap();
+    std::fs::remove_file(&path).unwrap();
     // The length of the body is looked at after the work factor, and before scrypt.
     let accepted = |work: u8| {
         let stanza = format!("-> scrypt AAAAAAAAAAAAAAAAAAAAAA {work}\n{}\n", "A".repeat(42));
         let file = format!("age-encryption.org/v1\n{stanza}--- {}\n", "A".repeat(43));
-        decrypt(file.as_bytes(), &[&Passphrase::new("x")])
+        let found = decrypt(file.as_bytes(), &[&Passphrase::new("x")]);
+        assert_eq!(decrypt(file.as_bytes(), &[&of_file]), found);
+        found
     };
     assert_eq!(accepted(22), Err(Error::Malformed(Part::BodyLength)));
     assert_eq!(accepted(23), Err(Error::Malformed(Part::WorkFactorTooHigh)));
@@ -708,32 +682,41 @@ fn callers_own_recipients_and_identities() {
     assert_eq!(decrypt(&file, &[&Wrong]), Err(Error::BadMac));
     let alone = encrypt(b"", &[&passphrase()]).unwrap();
     let (stanzas, mac) = alone.split_at(inspect(&alone).unwrap().text().len() - 48);
-    let mixed = [stanzas, b"-> other\n\n", mac].concat();
-    assert_eq!(decrypt(&mixed, &[&Plain]), Err(Error::MixedPassphrase));
-    for name in ["", "a b", "ü", "a\n"] {
-        struct Named<'a>(&'a str);
-        impl Recipient for Named<'_> {
-            fn wrap(&self, _: &FileKey) -> Result<Vec<Stanza>, Error> {
-                Ok(vec![Stanza { args: vec![self.0.into()], body: vec![] }])
-            }
-        }
-        assert_eq!(fault(encrypt(b"", &[&Named(name)]).unwrap_err()), Error::BadArguments);
+    let (first, stanza) = stanzas.split_at(22);
+    for mixed in [[stanzas, b"-> other\n\n", mac].concat(), [first, b"-> other\n\n", stanza, mac].concat()] {
+        assert_eq!(decrypt(&mixed, &[&Plain]), Err(Error::MixedPassphrase));
     }
+    struct Named<'a>(&'a [&'a str]);
+    impl Recipient for Named<'_> {
+        fn wrap(&self, _: &FileKey) -> Result<Vec<Stanza>, Error> {
+            Ok(vec![Stanza { args: self.0.iter().map(|arg| arg.to_string()).collect(), body: vec![] }])
+        }
+    }
+    for args in [&[""][..], &["a b"], &["ü"], &["a\n"], &["a", ""]] {
+        assert_eq!(fault(encrypt(b"", &[&Named(args)]).unwrap_err()), Error::BadArguments);
+    }
+    let long = "x".repeat(500);
+    let file = encrypt(b"", &[&Named(&[&long, &long])]).unwrap();
+    assert_eq!(inspect(&file).unwrap().stanzas()[0].args, [long.clone(), long]);
 }
 
 #[test]
 fn no_secret_is_printed() {
-    let file = encrypt(b"text", &[&key()]).unwrap();
+    let file = encrypt(&[7; 64], &[&key()]).unwrap();
     let mut opening = Opening::new(&file[..]);
     opening.read(&[&key()]).unwrap();
+    let mut reader = Reader::new(&file[..], &[&key()]).unwrap();
+    let mut ranges = RangeReader::new(Cursor::new(&file), &[&key()]).unwrap();
+    let mut writer = Writer::new(Vec::new(), &[&key()]).unwrap();
+    reader.read_exact(&mut [0]).unwrap();
+    ranges.read_exact(&mut [0]).unwrap();
+    writer.write_all(&[7; 64]).unwrap();
     let shown = [
         format!("{opening:?}").replace(&file.len().to_string(), "all"),
         format!("{:?}", key()),
         format!("{:?}", passphrase()),
         format!("{:?}", FileKey([7; 16])),
-        format!("{:?}", Reader::new(&file[..], &[&key()]).unwrap()),
-        format!("{:?}", RangeReader::new(Cursor::new(&file), &[&key()]).unwrap()),
-        format!("{:?}", Writer::new(Vec::new(), &[&key()]).unwrap()),
+        format!("{reader:?} {ranges:?} {writer:?}"),
     ];
     for text in shown {
         assert!(!text.contains('7') && !text.contains("horse"), "{text}");

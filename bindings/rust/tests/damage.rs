@@ -7,11 +7,8 @@ use std::fs::{self, File};
 use std::io::{self, BufRead, BufReader, Cursor, ErrorKind, Read, Seek, SeekFrom, Write};
 use std::path::PathBuf;
 
-use agefile::{decrypt, encrypt, inspect, Error, RangeReader, Reader};
-use common::{fault, key, text};
-
-const TEXT: usize = 65536;
-const SEALED: usize = 65552;
+use agefile::{decrypt, Error, RangeReader, Reader};
+use common::{fault, key, sealed, text, SEALED, TEXT};
 
 /// A file with a fault: how many bytes of its plaintext come before it, and what is found by whoever reads in
 /// order, and by whoever opens the last chunk first.
@@ -21,13 +18,6 @@ struct Case {
     good: usize,
     error: Error,
     last: Option<Error>,
-}
-
-/// The age file of these bytes, and where its chunks begin.
-fn sealed(plain: &[u8]) -> (Vec<u8>, usize) {
-    let file = encrypt(plain, &[&key()]).unwrap();
-    let front = inspect(&file).unwrap().text().len() + 16;
-    (file, front)
 }
 
 /// The first, a byte in the middle and the last byte of each chunk changed.
@@ -86,54 +76,39 @@ fn too_long(plain: &[u8]) -> impl Iterator<Item = Case> {
 /// Each way to ask a reader for the rest of the plaintext: what came, and how it ended.
 type Way = fn(&mut dyn Read, usize) -> (Vec<u8>, io::Result<()>);
 
+fn came_by(read: impl FnOnce(&mut Vec<u8>) -> io::Result<()>) -> (Vec<u8>, io::Result<()>) {
+    let mut came = Vec::new();
+    let result = read(&mut came);
+    (came, result)
+}
+
 /// Reads on, so many bytes at once, until nothing comes.
 fn by_read(reader: &mut dyn Read, piece: usize) -> (Vec<u8>, io::Result<()>) {
-    let (mut came, mut buf) = (Vec::new(), vec![0; piece]);
-    loop {
-        match reader.read(&mut buf) {
-            Ok(0) => return (came, Ok(())),
-            Ok(count) => came.extend_from_slice(&buf[..count]),
-            Err(error) => return (came, Err(error)),
+    let mut buf = vec![0; piece];
+    came_by(|came| loop {
+        match reader.read(&mut buf)? {
+            0 => return Ok(()),
+            count => came.extend_from_slice(&buf[..count]),
         }
-    }
+    })
 }
 
 /// The same by lines of a buffered reader. A line that has no end is lost with the error.
 fn by_lines(reader: &mut dyn Read) -> (Vec<u8>, io::Result<()>) {
-    let mut came = Vec::new();
-    for line in BufReader::new(reader).split(b'\n') {
-        match line {
-            Ok(line) => came.extend([&line[..], b"\n"].concat()),
-            Err(error) => return (came, Err(error)),
-        }
-    }
-    (came, Ok(()))
+    let mut lines = BufReader::new(reader).split(b'\n');
+    came_by(|came| lines.try_for_each(|line| line.map(|line| came.extend([&line[..], b"\n"].concat()))))
 }
 
 const WAYS: [(&str, Way); 7] = [
     ("read", |reader, _| by_read(reader, 7000)),
     ("read of more than a chunk", |reader, _| by_read(reader, 100_000)),
-    ("read_to_end", |reader, _| {
-        let mut came = Vec::new();
-        let result = reader.read_to_end(&mut came);
-        (came, result.map(|_| ()))
-    }),
+    ("read_to_end", |reader, _| came_by(|came| reader.read_to_end(came).map(drop))),
     ("bytes", |reader, _| {
-        let mut came = Vec::new();
-        let result = BufReader::new(reader).bytes().try_for_each(|byte| byte.map(|byte| came.push(byte)));
-        (came, result)
+        came_by(|came| BufReader::new(reader).bytes().try_for_each(|byte| byte.map(|it| came.push(it))))
     }),
-    ("copy", |reader, _| {
-        let mut came = Vec::new();
-        let result = io::copy(reader, &mut came);
-        (came, result.map(|_| ()))
-    }),
+    ("copy", |reader, _| came_by(|came| io::copy(reader, came).map(drop))),
     ("BufReader", |reader, _| by_read(&mut BufReader::with_capacity(100, reader), 60)),
-    ("take", |reader, len| {
-        let mut came = Vec::new();
-        let result = reader.take(len as u64).read_to_end(&mut came);
-        (came, result.map(|_| ()))
-    }),
+    ("take", |reader, len| came_by(|came| reader.take(len as u64).read_to_end(came).map(drop))),
 ];
 
 /// Compares what each way of reading makes of a reader that ends so.

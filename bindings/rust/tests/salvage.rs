@@ -8,11 +8,9 @@ use std::fs::File;
 use std::io::{self, Cursor, Error, ErrorKind, Read, Seek, SeekFrom, Write};
 use std::ops::Range;
 
-use agefile::{encrypt, inspect, salvage, Key, Salvaged};
-use common::{fault, key, text};
+use agefile::{encrypt, salvage, Key, Salvaged};
+use common::{fault, key, sealed, text, SEALED, TEXT};
 
-const TEXT: usize = 65536;
-const SEALED: usize = 65552;
 const CHUNKS: usize = 5;
 
 fn saved(source: impl Read + Seek) -> io::Result<(Vec<u8>, Salvaged)> {
@@ -23,8 +21,7 @@ fn saved(source: impl Read + Seek) -> io::Result<(Vec<u8>, Salvaged)> {
 /// A plaintext of five chunks, its file, and the offset of its first chunk.
 fn file() -> (Vec<u8>, Vec<u8>, usize) {
     let plain = text(4 * TEXT + 1000);
-    let file = encrypt(&plain, &[&key()]).unwrap();
-    let front = inspect(&file).unwrap().text().len() + 16;
+    let (file, front) = sealed(&plain);
     (plain, file, front)
 }
 

@@ -5,12 +5,22 @@ use std::io;
 
 use agefile::{Error, Key};
 
+pub const TEXT: usize = 65536;
+pub const SEALED: usize = 65552;
+
 pub fn key() -> Key {
     Key::new([7; 32])
 }
 
 pub fn text(len: usize) -> Vec<u8> {
     (0..len).map(|i| (i * 7 + i / 251) as u8).collect()
+}
+
+/// The age file of these bytes, and where its chunks begin.
+pub fn sealed(plain: &[u8]) -> (Vec<u8>, usize) {
+    let file = agefile::encrypt(plain, &[&key()]).unwrap();
+    let front = agefile::inspect(&file).unwrap().text().len() + 16;
+    (file, front)
 }
 
 pub fn fault(error: io::Error) -> Error {
