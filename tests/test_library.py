@@ -114,7 +114,9 @@ def older():
     (work() / "older.h").write_text("#include <cpuid.h>\n#define __get_cpuid(...) 0\n")
     (work() / "older_cc").write_text(f'#!/bin/sh\nexec cc -include {work()}/older.h "$@"\n')
     (work() / "older_cc").chmod(0o755)
-    run(ROOT / "install", "--library", work() / "older", env=os.environ | {"CC": str(work() / "older_cc")}, status=0)
+    (work() / "temporary").mkdir()
+    variables = {"CC": str(work() / "older_cc"), "TMPDIR": str(work() / "temporary")}
+    run(ROOT / "install", "--library", "older", cwd=work(), umask=0o077, env=os.environ | variables, status=0)
     return work() / "older/lib/libagefile.a"
 
 
@@ -167,8 +169,9 @@ class Installing(unittest.TestCase):
             "644 include/agefile.h", "644 include/other.h", "644 lib/libagefile.a", f"lib/libagefile.so -> {SONAME}", f"755 lib/{SONAME}",
             "644 lib/pkgconfig/agefile.pc",
         ])
-        for folder in ("lib", "lib/pkgconfig"):
-            self.assertEqual((prefix() / folder).stat().st_mode & 0o777, 0o755, folder)
+        for folder in (prefix() / "lib", prefix() / "lib/pkgconfig", older().parents[1]):
+            self.assertEqual(folder.stat().st_mode & 0o777, 0o755, folder)
+        self.assertEqual(list((work() / "temporary").iterdir()), [])
         self.assertEqual((prefix() / "include/agefile.h").read_bytes(), HEADER.read_bytes())
 
     def test_versions(self):
@@ -454,9 +457,6 @@ class Calls(unittest.TestCase):
         for name in ("buffers", "steps"):
             self.each_test(built(name, "-O1"), f"{name} by qemu", ("qemu-x86_64", "-cpu", "Nehalem"))
 
-    def test_refused_allocations(self):
-        self.by_both_builds("refuse", *REFUSING)
-
     def test_headers_of_age(self):
         """The stanzas of files of age are listed as the lines of their headers."""
         for path in sorted((ROOT / "tests/data").glob("*.age")):
@@ -480,7 +480,8 @@ class Calls(unittest.TestCase):
             self.each_test(built(name, "-O1", library=(second / "libagefile.a",)), f"{name}, second compiler")
 
     def test_random_calls(self):
-        """Calls with each pointer null, and random calls, agree with a model of the library in Python."""
+        """Calls with each pointer null or each allocation refused, and random calls, agree with a model of the
+        library in Python."""
         for title, library in both_builds().items():
             with self.subTest(title):
                 driver = built("driver", *sanitizers(), *REFUSING, f"-I{texts()}", library=library)

@@ -22,6 +22,14 @@ static int failed;
         }                                                             \
     } while (0)
 
+// Checks the code of a call, and the fields of `report`.
+#define RETURNS(call, code, len, place, detail)               \
+    do {                                                      \
+        unset_report();                                       \
+        CHECK((call) == (code));                              \
+        CHECK(has_fields(len, place, detail));                \
+    } while (0)
+
 // A test, and the name by which an argument selects it.
 typedef struct named_test {
     const char *name;
@@ -39,17 +47,18 @@ static inline int run_test(const named_test *tests, size_t count, int argc, char
     return failed != 0;
 }
 
-// A report filled with a byte that no call leaves in it.
-static inline agefile_report unset_report(void)
+// The report of this thread's last call.
+static __thread agefile_report report;
+
+// Fills it with a byte that no call leaves in it.
+static inline void unset_report(void)
 {
-    agefile_report report;
     memset(&report, 0xEE, sizeof report);
-    return report;
 }
 
-static inline bool has_fields(const agefile_report *report, uint64_t len, uint64_t place, uint64_t detail)
+static inline bool has_fields(uint64_t len, uint64_t place, uint64_t detail)
 {
-    return report->len == len && report->place == place && report->detail == detail;
+    return report.len == len && report.place == place && report.detail == detail;
 }
 
 // Memory of exactly this size between two pages without access, at the end of its own pages or,
@@ -68,10 +77,13 @@ static inline uint8_t *room(size_t len)
     return map + 2 * page + (getenv("AT_START") == NULL ? own - len : 0);
 }
 
-static inline void release(uint8_t *bytes)
+// Before a variable of this memory, or of a struct that begins with it: released at the block's end.
+#define OWNED __attribute__((cleanup(release)))
+
+static inline void release(void *variable)
 {
     size_t all;
-    uint8_t *map = bytes - (uintptr_t)bytes % page - 2 * page;
+    uint8_t *bytes = *(uint8_t **)variable, *map = bytes - (uintptr_t)bytes % page - 2 * page;
     memcpy(&all, map, sizeof all);
     munmap(map, all);
 }
@@ -125,45 +137,42 @@ typedef struct made_file {
 
 static inline made_file made(size_t len)
 {
-    uint8_t *text = text_of(len);
     size_t most = agefile_sealed_len(len);
-    uint8_t *out = room(most);
-    agefile_report report = unset_report();
+    OWNED uint8_t *text = text_of(len), *out = room(most);
+    unset_report();
     agefile_summary summary;
     CHECK(agefile_encrypt_key(text, len, key, seed, out, most, &report) == AGEFILE_OK);
     made_file file = {copy_of(out, report.len), report.len, 0};
     CHECK(agefile_inspect(file.bytes, file.len, &summary, &report) == AGEFILE_OK);
     file.front = summary.header_len + 16;
-    release(text);
-    release(out);
     return file;
 }
 
 // Opens a payload with the key in both steps; returns the code of the step that fails.
-static inline uint32_t open_with(const uint8_t *file, size_t len, const uint8_t *with, agefile_payload *payload, agefile_report *report)
+static inline uint32_t open_with(const uint8_t *file, size_t len, const uint8_t *with, agefile_payload *payload)
 {
     uint8_t file_key[16];
     memset(payload, 0, sizeof *payload);
-    uint32_t code = agefile_unlock_key(file, len, with, file_key, report);
-    return code == AGEFILE_OK ? agefile_open(file, len, file_key, payload, report) : code;
+    uint32_t code = agefile_unlock_key(file, len, with, file_key, &report);
+    return code == AGEFILE_OK ? agefile_open(file, len, file_key, payload, &report) : code;
 }
 
 // Begins a file for the key, whose stanza and nonce are those of the seed.
-static inline uint32_t begin_with(uint8_t *out, size_t len, agefile_payload *payload, agefile_report *report)
+static inline uint32_t begin_with(uint8_t *out, size_t len, agefile_payload *payload)
 {
     uint8_t stanza[AGEFILE_STANZA_ROOM];
-    uint32_t code = agefile_wrap_key(seed, key, seed + 32, stanza, sizeof stanza, report);
+    uint32_t code = agefile_wrap_key(seed, key, seed + 32, stanza, sizeof stanza, &report);
     CHECK(code == AGEFILE_OK);
-    return agefile_begin(stanza, report->len, seed, seed + 16, out, len, payload, report);
+    return agefile_begin(stanza, report.len, seed, seed + 16, out, len, payload, &report);
 }
 
 // Opens ranges with the key.
-static inline uint32_t ranges_with(const uint8_t *file, size_t len, uint64_t file_len, agefile_ranges *ranges, agefile_report *report)
+static inline uint32_t ranges_with(const uint8_t *file, size_t len, uint64_t file_len, agefile_ranges *ranges)
 {
     uint8_t file_key[16];
     memset(ranges, 0, sizeof *ranges);
-    uint32_t code = agefile_unlock_key(file, len, key, file_key, report);
-    return code == AGEFILE_OK ? agefile_ranges_open(file, len, file_len, file_key, ranges, report) : code;
+    uint32_t code = agefile_unlock_key(file, len, key, file_key, &report);
+    return code == AGEFILE_OK ? agefile_ranges_open(file, len, file_len, file_key, ranges, &report) : code;
 }
 
 static inline size_t front_of(size_t file_len)

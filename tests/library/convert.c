@@ -15,7 +15,6 @@ static uint8_t secret[1024], fresh[48];
 static size_t secret_len;
 static uint8_t factor = 18;
 static bool is_keyed;
-static agefile_report report;
 
 static size_t read_file(const char *name, uint8_t *bytes, size_t room)
 {

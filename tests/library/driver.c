@@ -6,9 +6,9 @@
 // A request, in the byte order of the machine: the index of the call in Header.functions of
 // header.py, flags, and the number of arguments, one byte each; then for each argument its kind and
 // its shift, one byte each, a number of 8 bytes, and for a buffer that many bytes. The answer: the
-// result, 8 bytes; one byte, 1 if the call left unchanged what it must not change, else 0; the
+// result, 8 bytes; one byte, 1 if the call left unchanged what it must not change, else 0; how many
+// allocations were refused, and after how many of them the call was out of memory, 8 bytes each; the
 // report; the bytes of all buffers.
-#include "allocations.h"
 #include <agefile.h>
 #include <pthread.h>
 #include <stdio.h>
@@ -32,6 +32,42 @@ struct call {
     uint8_t index, flags, count;
     struct argument arguments[most_arguments];
 };
+
+void *__real_malloc(size_t size);
+void *__real_realloc(void *old, size_t size);
+void __real_free(void *old);
+
+// For this thread: allocations since the call began, the one to be refused, and blocks not yet
+// freed.
+static __thread long allocations, refused, live;
+static __thread bool is_counting;
+
+static bool is_refused(void)
+{
+    return is_counting && ++allocations == refused;
+}
+
+void *__wrap_malloc(size_t size)
+{
+    if (is_refused())
+        return NULL;
+    live += is_counting;
+    return __real_malloc(size);
+}
+
+void *__wrap_realloc(void *old, size_t size)
+{
+    if (is_refused())
+        return NULL;
+    live += is_counting && old == NULL;
+    return __real_realloc(old, size);
+}
+
+void __wrap_free(void *old)
+{
+    live -= is_counting && old != NULL;
+    __real_free(old);
+}
 
 // The memory of one call.
 struct memory {
@@ -128,7 +164,7 @@ static bool is_kept(const struct memory *memory, const struct call *call)
 struct turn {
     const struct call *call;
     struct memory memory;
-    uint64_t result;
+    uint64_t result, refusals, out_of_memory;
     bool is_well;
 };
 
@@ -153,7 +189,7 @@ static bool is_same_turn(const struct turn *a, const struct turn *b)
 
 // Makes the call with each allocation refused in turn, until none is. Returns whether each run was
 // out of memory, or managed with less memory and gave the usual result.
-static bool refuses_each(const struct turn *usual)
+static bool refuses_each(struct turn *usual)
 {
     const struct call *call = usual->call;
     for (long number = 1;; number++) {
@@ -170,6 +206,8 @@ static bool refuses_each(const struct turn *usual)
             fprintf(stderr, "driver: allocation %ld of call %d: code %d, %ld blocks left\n", number, call->index, (int)turn.result, live);
         if (!is_well || !was_refused)
             return is_well;
+        usual->refusals++;
+        usual->out_of_memory += is_out;
     }
 }
 
@@ -238,6 +276,8 @@ int main(void)
         uint8_t is_well = turn.is_well && (!(call.flags & REFUSING) || refuses_each(&turn)) && (!(call.flags & THREADS) || agrees_on_threads(&turn));
         put(&turn.result, sizeof turn.result);
         put(&is_well, 1);
+        put(&turn.refusals, sizeof turn.refusals);
+        put(&turn.out_of_memory, sizeof turn.out_of_memory);
         put(turn.memory.pointers[call.count], sizeof(agefile_report));
         for (int i = 0; i < call.count; i++) {
             if (call.arguments[i].kind == BUFFER)

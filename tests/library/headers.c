@@ -9,7 +9,6 @@ enum { most = 1 << 17, most_stanzas = 10911 };
 static uint8_t header[most], text[most], expected[most];
 static size_t header_len, expected_len, count;
 static agefile_stanza_summary stanzas[most_stanzas + 1], sizes_of[most_stanzas + 1];
-static agefile_report report;
 
 static void add(const void *bytes, size_t len)
 {
@@ -75,37 +74,12 @@ static void reset(void)
 {
     memset(text, 0xEE, sizeof text);
     memset(stanzas, 0xEE, sizeof stanzas);
-    report = unset_report();
+    unset_report();
 }
 
 static bool are_unset(size_t stanza, size_t at)
 {
     return are_all(text + at, sizeof text - at, 0xEE) && are_all((const uint8_t *)(stanzas + stanza), sizeof stanzas - stanza * sizeof *stanzas, 0xEE);
-}
-
-static void lists(void)
-{
-    static const char *const args[] = {"X", "kind of one", "~!\" #", "X25519 TEiF0ypqr+bpvcqXNyCVJpL7OuwPdVwPL7KQEbFDOCc"};
-    static const size_t lens[] = {0, 1, 2, 3, 32, 47, 48, 49, 95, 96, 97, 500};
-    enum { arg_count = sizeof args / sizeof *args, len_count = sizeof lens / sizeof *lens };
-    uint8_t *body = text_of(600);
-    for (size_t i = 0; i < 200; i++) {
-        begin();
-        for (size_t n = 0; n <= i % 9; n++)
-            add_stanza(args[(i + n * 3) % arg_count], body + (i * 7 + n) % 100, lens[(i * 5 + n * 11) % len_count]);
-        end();
-        for (size_t more = 0; more < 2; more++) {
-            reset();
-            CHECK(agefile_stanzas(header, header_len + 20 * more, stanzas, count + more, text, expected_len + more, &report) == AGEFILE_OK);
-            CHECK(is_same_list() && are_unset(count, expected_len));
-        }
-        for (size_t less = 1; less < 4; less++) {
-            reset();
-            CHECK(agefile_stanzas(header, header_len, stanzas, count - less % 2, text, expected_len - less / 2, &report) == AGEFILE_TOO_SMALL);
-            CHECK(has_fields(&report, expected_len, count, 0) && are_unset(0, 0));
-        }
-    }
-    release(body);
 }
 
 // Each beginning of the file that contains the header gives the same result, and each shorter one
@@ -123,49 +97,11 @@ static void fronts(void)
         uint32_t expected_code = len < end_of_header ? AGEFILE_HEADER_TRUNCATED : AGEFILE_OK;
         reset();
         CHECK(agefile_stanzas(header, len, stanzas, 3, text, sizeof text, &report) == expected_code);
-        CHECK(expected_code == AGEFILE_OK ? is_same_list() : has_fields(&report, 0, 0, 0) && are_unset(0, 0));
+        CHECK(expected_code == AGEFILE_OK ? is_same_list() : has_fields(0, 0, 0) && are_unset(0, 0));
         CHECK(agefile_inspect(header, len, len == end_of_header ? &first : &summary, &report) == expected_code);
         CHECK(len <= end_of_header || memcmp(&first, &summary, sizeof first) == 0);
     }
     CHECK(first.header_len == end_of_header && first.stanzas == 2 && are_all(first.mac, 32, 0));
-}
-
-// The stanzas that wrap writes, and the header of these stanzas: the lines must be the ones here.
-static void made_of_stanzas(void)
-{
-    static const uint8_t file_key[17] = "sixteen bytes...";
-    static uint8_t lines[most], out[most];
-    static const char *const args[] = {"X", "kind of one", "~!\" #"};
-    static const size_t lens[] = {0, 1, 47, 48, 49, 96, 500};
-    uint8_t *body = text_of(500);
-    begin();
-    size_t lines_len = 0;
-    for (size_t i = 0; i < 21; i++) {
-        size_t before = header_len, len = lens[i % 7];
-        add_stanza(args[i % 3], body, len);
-        report = unset_report();
-        CHECK(agefile_wrap((const uint8_t *)args[i % 3], strlen(args[i % 3]), body, len, lines + lines_len, header_len - before, &report) == AGEFILE_OK);
-        CHECK(has_fields(&report, header_len - before, 0, 0) && are_equal(lines + lines_len, header + before, report.len));
-        memset(out, 0xEE, sizeof out);
-        CHECK(agefile_wrap((const uint8_t *)args[i % 3], strlen(args[i % 3]), body, len, out, header_len - before - 1, &report) == AGEFILE_TOO_SMALL);
-        CHECK(has_fields(&report, header_len - before, 0, 0) && are_all(out, sizeof out, 0xEE));
-        lines_len += header_len - before;
-    }
-    for (size_t size = header_len + 47; size < header_len + 50; size++) {
-        memset(out, 0xEE, sizeof out);
-        report = unset_report();
-        bool fits = size >= header_len + 48;
-        CHECK(agefile_header(lines, lines_len, file_key, out, size, &report) == (fits ? AGEFILE_OK : AGEFILE_TOO_SMALL));
-        CHECK(has_fields(&report, header_len + 48, 0, 0) && are_all(out + (fits ? header_len + 48 : 0), 100, 0xEE));
-        CHECK(!fits || (are_equal(out, header, header_len) && are_equal(out + header_len, (const uint8_t *)"--- ", 4)));
-    }
-    CHECK(agefile_header(lines, lines_len, file_key, out, sizeof out, &report) == AGEFILE_OK);
-    size_t len = report.len;
-    agefile_payload payload;
-    memset(out + len, 0, 16);
-    CHECK(agefile_open(out, len + 16, file_key, &payload, &report) == AGEFILE_OK && has_fields(&report, len + 16, 0, 0));
-    CHECK(agefile_open(out, len + 16, key, &payload, &report) == AGEFILE_BAD_MAC && payload.state == AGEFILE_CLOSED);
-    release(body);
 }
 
 // Texts that are not stanzas, no stanza, one stanza too many, and arguments with bytes that are not
@@ -198,36 +134,18 @@ static void refused_stanzas(void)
     static const char *const no_words[] = {"", " ", "a ", " a", "a  b", "a\n", "\t", "\x7f", "a\xc3\xa4", "\xff"};
     for (size_t i = 0; i < sizeof rows / sizeof *rows; i++) {
         memset(out, 0xEE, sizeof out);
-        report = unset_report();
+        unset_report();
         CHECK(agefile_header((const uint8_t *)rows[i].text, strlen(rows[i].text), file_key, out, sizeof out, &report) == rows[i].code);
-        CHECK(rows[i].code == AGEFILE_OK || (has_fields(&report, 0, rows[i].place, 0) && are_all(out, sizeof out, 0xEE)));
+        CHECK(rows[i].code == AGEFILE_OK || (has_fields(0, rows[i].place, 0) && are_all(out, sizeof out, 0xEE)));
     }
     for (size_t i = 0; i < sizeof no_words / sizeof *no_words; i++) {
-        report = unset_report();
-        CHECK(agefile_wrap((const uint8_t *)no_words[i], strlen(no_words[i]), pass, 5, out, sizeof out, &report) == AGEFILE_BAD_ARGUMENTS);
-        CHECK(has_fields(&report, 0, 0, 0));
+        RETURNS(agefile_wrap((const uint8_t *)no_words[i], strlen(no_words[i]), pass, 5, out, sizeof out, &report), AGEFILE_BAD_ARGUMENTS, 0, 0, 0);
     }
     for (size_t i = 0; i < most / 6; i++)
         memcpy(lines + 6 * i, "-> x\n\n", 6);
     static uint8_t whole[most];
     CHECK(agefile_header(lines, 6 * (size_t)most_stanzas, file_key, whole, most, &report) == AGEFILE_OK && report.len == 65536);
-    CHECK(agefile_header(lines, 6 * (size_t)(most_stanzas + 1), file_key, whole, most, &report) == AGEFILE_HEADER_TOO_LARGE);
-    CHECK(has_fields(&report, 0, 0, 0));
-}
-
-static void no_header(void)
-{
-    reset();
-    CHECK(agefile_stanzas(pass, pass_len, stanzas, 3, text, sizeof text, &report) == AGEFILE_NOT_AGE && has_fields(&report, 0, 0, 0));
-    begin();
-    add_stanza("X", pass, 5);
-    add("bad\n", 4);
-    CHECK(agefile_stanzas(header, header_len, stanzas, 3, text, sizeof text, &report) == AGEFILE_BAD_LINE && has_fields(&report, 0, 4, 0));
-    header_len -= 4;
-    CHECK(agefile_stanzas(header, header_len, stanzas, 3, text, sizeof text, &report) == AGEFILE_HEADER_TRUNCATED && has_fields(&report, 0, 0, 0));
-    memset(header + header_len, '-', most - header_len);
-    CHECK(agefile_stanzas(header, AGEFILE_FRONT, stanzas, 3, text, sizeof text, &report) == AGEFILE_HEADER_TOO_LARGE);
-    CHECK(has_fields(&report, 0, 0, 0) && are_unset(0, 0));
+    RETURNS(agefile_header(lines, 6 * (size_t)(most_stanzas + 1), file_key, whole, most, &report), AGEFILE_HEADER_TOO_LARGE, 0, 0, 0);
 }
 
 // The first 16 bytes of the seed are the file key. Unlocking returns the same codes as opening, and
@@ -236,22 +154,22 @@ static void unlocks(void)
 {
     static const uint8_t factors[] = {1, work, 30, 0, 31};
     uint8_t file_key[17], kept[17];
-    made_file file = made(100);
+    OWNED made_file file = made(100);
     size_t header_end = file.front - 16;
     memset(kept, 0xEE, sizeof kept);
     for (size_t at = 0; at <= file.len; at++) {
         agefile_payload payload;
         memset(file_key, 0xEE, sizeof file_key);
-        report = unset_report();
+        unset_report();
         uint32_t code = agefile_unlock_key(file.bytes, at, key, file_key, &report);
-        CHECK(code == (at < header_end ? AGEFILE_HEADER_TRUNCATED : AGEFILE_OK) && has_fields(&report, code == AGEFILE_OK ? header_end : 0, 0, 0));
+        CHECK(code == (at < header_end ? AGEFILE_HEADER_TRUNCATED : AGEFILE_OK) && has_fields(code == AGEFILE_OK ? header_end : 0, 0, 0));
         CHECK(are_equal(file_key, code == AGEFILE_OK ? seed : kept, 16) && file_key[16] == 0xEE);
         uint32_t other = agefile_open(file.bytes, at, seed, &payload, &report);
         CHECK(other == (at >= header_end && at < file.front ? AGEFILE_NONCE_TRUNCATED : code));
-        CHECK(has_fields(&report, other == AGEFILE_OK ? file.front : 0, 0, 0));
+        CHECK(has_fields(other == AGEFILE_OK ? file.front : 0, 0, 0));
     }
     for (size_t at = 0; at < header_end; at++) {
-        agefile_report opening = unset_report();
+        agefile_report opening = {1, 1, 1};
         agefile_payload payload;
         memset(file_key, 0xEE, sizeof file_key);
         file.bytes[at] ^= 1;
@@ -267,14 +185,13 @@ static void unlocks(void)
     for (size_t i = 0; i < sizeof factors; i++) {
         static const uint32_t codes[] = {AGEFILE_MALFORMED, AGEFILE_OK, AGEFILE_OK, AGEFILE_WORK_FACTOR, AGEFILE_WORK_FACTOR};
         memset(file_key, 0xEE, sizeof file_key);
-        report = unset_report();
+        unset_report();
         CHECK(agefile_unlock_passphrase(text, len, pass, pass_len, factors[i], file_key, &report) == codes[i]);
-        CHECK(has_fields(&report, codes[i] == AGEFILE_OK ? 149 : 0, 0, codes[i] == AGEFILE_MALFORMED ? 4 : 0));
+        CHECK(has_fields(codes[i] == AGEFILE_OK ? 149 : 0, 0, codes[i] == AGEFILE_MALFORMED ? 4 : 0));
         CHECK(are_equal(file_key, codes[i] == AGEFILE_OK ? seed : kept, 16) && file_key[16] == 0xEE);
     }
     CHECK(agefile_unlock_passphrase(text, len, pass, 4, work, file_key, &report) == AGEFILE_WRONG_KEY);
     CHECK(agefile_unlock_key(text, len, key, file_key, &report) == AGEFILE_NO_MATCH);
-    release(file.bytes);
 }
 
 // The header with the most stanzas, of 6 bytes each.
@@ -308,11 +225,8 @@ static int print_stanzas(void)
 }
 
 static const named_test tests[] = {
-    {"stanzas and their bodies, in buffers of their size, and one too small", lists},
     {"each front that holds the header", fronts},
-    {"stanzas that wrap writes, and their header", made_of_stanzas},
     {"texts that are no stanzas, and arguments that are no words", refused_stanzas},
-    {"what is no header", no_header},
     {"from a secret to the file key", unlocks},
     {"10,911 stanzas, in less than a tenth of a second", most_of_all},
 };

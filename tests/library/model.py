@@ -221,17 +221,9 @@ class Struct:
         struct.pack_into(f"<32s{len(self.names)}Q", self.data, 0, self.key, *(getattr(self, name) for name in self.names))
 
 
-def payload_of(data):
-    return Struct(data, ("number", "state"))
-
-
-def part_of(data):
-    return Struct(data, ("number", "left", "state"))
-
-
-def ranges_of(data):
-    return Struct(data, ("first", "sealed_len", "state"))
-
+payload_of = functools.partial(Struct, names=("number", "state"))
+part_of = functools.partial(Struct, names=("number", "left", "state"))
+ranges_of = functools.partial(Struct, names=("first", "sealed_len", "state"))
 
 # ---- The calls
 
@@ -342,12 +334,8 @@ def next_of_payload(data, chunk, is_last, state):
     return done
 
 
-def open_next(payload, chunk, is_last):
-    return next_of_payload(payload, chunk, is_last, READING)
-
-
-def seal_next(payload, chunk, is_last):
-    return next_of_payload(payload, chunk, is_last, WRITING)
+open_next = functools.partial(next_of_payload, state=READING)
+seal_next = functools.partial(next_of_payload, state=WRITING)
 
 
 def take_part(data, count, part):
@@ -374,14 +362,8 @@ def next_of_part(data, chunk, state):
     return done
 
 
-def part_open_next(part, chunk):
-    return next_of_part(part, chunk, READING)
-
-
-def part_seal_next(part, chunk):
-    return next_of_part(part, chunk, WRITING)
-
-
+part_open_next = functools.partial(next_of_part, state=READING)
+part_seal_next = functools.partial(next_of_part, state=WRITING)
 SAVED_CHUNK, SAVED_LAST, SAVED_EARLY, SAVED_ZEROS, SAVED_NONE, SAVED_PADDED = range(1, 7)
 
 
@@ -507,32 +489,24 @@ def encrypt(plain, text, file_key, nonce, out):
     return given(out, made + b"".join(sealed))
 
 
-def by_a_secret(unlock, file, *secret, out):
+def by_a_secret(unlock, file, *secret_and_out):
+    *secret, out = secret_and_out
     file_key = bytearray(16)
     unlock(file, *secret, file_key)
     return decrypt(file, file_key, out)
 
 
-def decrypt_passphrase(file, passphrase, most, out):
-    return by_a_secret(unlock_passphrase, file, passphrase, most, out=out)
-
-
-def decrypt_key(file, key, out):
-    return by_a_secret(unlock_key, file, key, out=out)
-
-
-def for_a_secret(wrap, plain, *secret, seed, out):
+def for_a_secret(wrap, plain, *secret_and_out):
+    *secret, seed, out = secret_and_out
     text = bytearray(200)
     _, (length, _, _) = wrap(seed[:16], *secret, seed[32:], text)
     return encrypt(plain, text[:length], seed[:16], seed[16:32], out)
 
 
-def encrypt_passphrase(plain, passphrase, work, seed, out):
-    return for_a_secret(wrap_passphrase, plain, passphrase, work, seed=seed, out=out)
-
-
-def encrypt_key(plain, key, seed, out):
-    return for_a_secret(wrap_key, plain, key, seed=seed, out=out)
+decrypt_passphrase = functools.partial(by_a_secret, unlock_passphrase)
+decrypt_key = functools.partial(by_a_secret, unlock_key)
+encrypt_passphrase = functools.partial(for_a_secret, wrap_passphrase)
+encrypt_key = functools.partial(for_a_secret, wrap_key)
 
 
 def sealed_length(plain):

@@ -6,9 +6,9 @@ usage: tests/library/random_calls.py DRIVER [COUNT [SEED]]
 DRIVER is tests/library/driver.c, built with the library and the calls of header.py. First, each pointer that
 a length follows is null, with length 0 and with another length. Then files, headers, structs, lengths and
 numbers are right or wrong in many ways; structs come from earlier calls, or are random. Each buffer lies at
-the end or at the start of its pages, shifted by up to 15 bytes. Some calls are made with each allocation
-refused in turn, some on eight threads at once. Prints how many calls returned each code. If the results
-differ, it prints the call, and the status is 1.
+the end or at the start of its pages, shifted by up to 15 bytes. Some calls are made on eight threads at once,
+some with each allocation refused in turn, and last so a successful call of each function. Prints how many
+calls returned each code. If the results differ, it prints the call, and the status is 1.
 """
 
 import collections
@@ -64,7 +64,8 @@ class Driver:
         return data
 
     def call(self, name, flags, arguments, shifts):
-        """The result, whether the driver found no error, the report, and the buffers after the call."""
+        """The result, whether the driver found no error, the report, the buffers after the call, and how many
+        allocations were refused and made the call be out of memory."""
         parts = [bytes((INDEX[name], flags, len(arguments)))]
         for argument, shift in zip(arguments, shifts):
             if isinstance(argument, int):
@@ -75,9 +76,9 @@ class Driver:
                 parts += [struct.pack("<BBQ", 1, shift, len(argument)), bytes(argument)]
         self.process.stdin.write(b"".join(parts))
         self.process.stdin.flush()
-        result, is_well, *report = struct.unpack("<QB3Q", self.read(33))
+        result, is_well, refusals, out_of_memory, *report = struct.unpack("<QB5Q", self.read(49))
         after = [self.read(len(a)) if isinstance(a, bytearray) else None for a in arguments]
-        return result, is_well, tuple(report), after
+        return result, is_well, tuple(report), after, refusals, out_of_memory
 
 
 class Maker:
@@ -90,7 +91,7 @@ class Maker:
         self.passphrases = [b"", b"x", b"correct horse", self.bytes(200)]
         self.files = []
         self.payloads = {64: [], 56: []}
-        self.chunks = []
+        self.one_long_in = 400
 
     def bytes(self, count):
         return self.random.randbytes(count)
@@ -103,7 +104,7 @@ class Maker:
 
     def length(self):
         """The size of a plaintext: mostly short, because the model is slow."""
-        if self.is_rare(400):
+        if self.is_rare(self.one_long_in):
             return self.choice(TEXT - 1, TEXT, TEXT + 1, 2 * TEXT, 2 * TEXT + 5)
         return self.choice(0, 0, 1, 15, 16, 17, 63, 64, 65, self.random.randrange(600))
 
@@ -240,9 +241,6 @@ class Maker:
 
     # The arguments of each call.
 
-    def for_inspect(self):
-        return self.front()[1], bytes([0xEE]) * 48
-
     def for_stanzas(self):
         data = self.front()[1]
         try:
@@ -252,18 +250,6 @@ class Maker:
         text = sum(len(b" ".join(arguments)) + len(body) for arguments, body in found)
         sizes = bytes([0xEE]) * (24 * self.choice(len(found), len(found), len(found) + 1, max(len(found) - 1, 0), 0))
         return data, sizes, self.room(text)
-
-    def for_unlock_passphrase(self):
-        return self.front()[1], self.choice(*self.passphrases), self.work(), bytes(16)
-
-    def for_unlock_key(self):
-        return self.front()[1], self.choice(*self.keys), bytes(16)
-
-    def for_wrap_passphrase(self):
-        return self.bytes(16), self.choice(*self.passphrases), self.work(), self.bytes(16), self.room(80)
-
-    def for_wrap_key(self):
-        return self.bytes(16), self.choice(*self.keys), self.bytes(16), self.room(86)
 
     def for_wrap(self):
         arguments, body = self.arguments(), self.body()
@@ -293,13 +279,7 @@ class Maker:
         chunk, is_last = self.chunk(is_opening, bytes(payload[:32]), struct.unpack_from("<Q", payload, 32)[0])
         return payload, chunk, (1 - is_last if self.is_rare(8) else is_last)
 
-    def for_seal_next(self):
-        return self.for_open_next(False)
-
     for_salvage_next = for_open_next
-
-    def for_take_part(self):
-        return self.struct(64), self.choice(1, 2, 3, self.number()), self.bytes(64)
 
     def for_part_open_next(self, is_opening=True):
         part = self.struct(64)
@@ -309,9 +289,6 @@ class Maker:
             part = struct.pack("<32s4Q", self.keys[0], self.random.randrange(3), left, model.READING if is_opening else model.WRITING, 0)
             return part, self.choice(sealed, sealed, sealed[:-1])
         return part, bytes(self.choice(0, 16, 100))
-
-    def for_part_seal_next(self):
-        return self.for_part_open_next(False)
 
     def for_ranges_open(self):
         file_key, data = self.front()
@@ -378,19 +355,9 @@ class Maker:
         plain = self.bytes(self.length())
         return plain, self.choice(*self.keys), self.bytes(48), self.room(model.sealed_len(len(plain)))
 
-    def for_sealed_len(self):
-        return (self.number(),)
-
-    for_plain_len_at_most = for_sealed_len
-
-    def for_file_len(self):
-        return self.number(), self.number()
-
-    def for_version(self):
-        return ()
-
     def arguments_of(self, name):
-        return [a if isinstance(a, int) else bytearray(a) for a in getattr(self, "for_" + name)()]
+        made = ARGUMENTS[name](self) if name in ARGUMENTS else getattr(self, "for_" + name)()
+        return [a if isinstance(a, int) else bytearray(a) for a in made]
 
     def null_calls(self):
         """Each call with each pointer that a length follows null, in the form of `call`."""
@@ -417,12 +384,39 @@ class Maker:
             flags |= REFUSING
         return name, flags, arguments, shifts
 
+    def refused_calls(self):
+        """A successful call of each function, with each allocation refused."""
+        for name in (name for name in CALLS if name not in NUMBERS):
+            is_long = name in ("encrypt", "decrypt", "encrypt_key", "decrypt_key")
+            self.one_long_in = 1 if is_long else 400
+            self.files = 20 * [self.new_file()] if is_long else []
+            while expected(name, arguments := self.arguments_of(name))[0] != 0:
+                pass
+            yield name, REFUSING, arguments, [0] * len(arguments)
+
     def learn(self, name, code, after):
         """Keeps the structs of a call for later calls."""
         for argument, size in zip(after, CALLS[name]):
             if size in self.payloads and argument is not None and (code == 0 or self.is_rare(4)):
                 self.payloads[size].append(argument)
                 del self.payloads[size][:-40]
+
+
+# The arguments of the calls for which they are a line.
+ARGUMENTS = {
+    "inspect": lambda maker: (maker.front()[1], bytes([0xEE]) * 48),
+    "unlock_passphrase": lambda maker: (maker.front()[1], maker.choice(*maker.passphrases), maker.work(), bytes(16)),
+    "unlock_key": lambda maker: (maker.front()[1], maker.choice(*maker.keys), bytes(16)),
+    "wrap_passphrase": lambda maker: (maker.bytes(16), maker.choice(*maker.passphrases), maker.work(), maker.bytes(16), maker.room(80)),
+    "wrap_key": lambda maker: (maker.bytes(16), maker.choice(*maker.keys), maker.bytes(16), maker.room(86)),
+    "seal_next": lambda maker: maker.for_open_next(False),
+    "take_part": lambda maker: (maker.struct(64), maker.choice(1, 2, 3, maker.number()), maker.bytes(64)),
+    "part_seal_next": lambda maker: maker.for_part_open_next(False),
+    "sealed_len": lambda maker: (maker.number(),),
+    "plain_len_at_most": lambda maker: (maker.number(),),
+    "file_len": lambda maker: (maker.number(), maker.number()),
+    "version": lambda maker: (),
+}
 
 
 def expected(name, arguments):
@@ -444,9 +438,12 @@ def expected(name, arguments):
 
 def main(program, count=2000, seed=1):
     maker, driver, codes = Maker(seed), Driver(program), collections.Counter()
-    calls = itertools.chain(maker.null_calls(), (maker.call() for _ in range(count)))
+    calls = itertools.chain(maker.null_calls(), (maker.call() for _ in range(count)), maker.refused_calls())
     for number, (name, flags, arguments, shifts) in enumerate(calls):
-        result, is_well, report, after = driver.call(name, flags, arguments, shifts)
+        result, is_well, report, after, refusals, out_of_memory = driver.call(name, flags, arguments, shifts)
+        is_silent = name in CHUNKS or name in NUMBERS
+        if flags & REFUSING and (refusals if is_silent else result == 0 and out_of_memory < 1 + ("passphrase" in name)):
+            is_well = 0
         code, wanted_report, wanted = expected(name, arguments)
         wanted = [bytes(w) if isinstance(a, bytearray) else None for w, a in zip(wanted, arguments)] or after
         if (result, is_well, after) != (code, 1, wanted) or (wanted_report is not None and report != wanted_report):

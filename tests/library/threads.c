@@ -24,15 +24,12 @@ static void fail_if(bool is_wrong)
 
 static void whole_buffers(const uint8_t *text)
 {
-    uint8_t *out = room(file.len);
-    agefile_report report;
+    OWNED uint8_t *out = room(file.len);
     fail_if(agefile_decrypt_key(file.bytes, file.len, key, out, len, &report) != AGEFILE_OK || !are_equal(out, text, len));
     fail_if(agefile_encrypt_key(text, len, key, seed, out, file.len, &report) != AGEFILE_OK || !are_equal(out, file.bytes, file.len));
     fail_if(agefile_encrypt_passphrase(text, 100, pass, pass_len, 8, seed, out, file.len, &report) != AGEFILE_OK);
-    uint8_t *locked = copy_of(out, report.len);
+    OWNED uint8_t *locked = copy_of(out, report.len);
     fail_if(agefile_decrypt_passphrase(locked, report.len, pass, pass_len, 8, out, len, &report) != AGEFILE_OK || report.len != 100);
-    release(locked);
-    release(out);
 }
 
 static void steps(const uint8_t *text)
@@ -40,30 +37,27 @@ static void steps(const uint8_t *text)
     agefile_payload payload;
     agefile_part part;
     agefile_ranges ranges;
-    agefile_report report;
-    uint8_t *chunk = copy_of(file.bytes + file.front, AGEFILE_SEALED_CHUNK), header[AGEFILE_HEADER_ROOM];
-    fail_if(open_with(file.bytes, front_of(file.len), key, &payload, &report) != AGEFILE_OK);
+    uint8_t header[AGEFILE_HEADER_ROOM];
+    OWNED uint8_t *chunk = copy_of(file.bytes + file.front, AGEFILE_SEALED_CHUNK);
+    fail_if(open_with(file.bytes, front_of(file.len), key, &payload) != AGEFILE_OK);
     fail_if(agefile_open_next(&payload, chunk, AGEFILE_SEALED_CHUNK, false, &report) != AGEFILE_OK);
     fail_if(!are_equal(chunk, text, AGEFILE_TEXT_CHUNK));
-    fail_if(begin_with(header, sizeof header, &payload, &report) != AGEFILE_OK);
+    fail_if(begin_with(header, sizeof header, &payload) != AGEFILE_OK);
     fail_if(agefile_take_part(&payload, 1, &part, &report) != AGEFILE_OK);
     fail_if(agefile_part_seal_next(&part, chunk, AGEFILE_SEALED_CHUNK, &report) != AGEFILE_OK);
     fail_if(!are_equal(chunk, file.bytes + file.front, AGEFILE_SEALED_CHUNK));
-    release(chunk);
-    fail_if(ranges_with(file.bytes, front_of(file.len), file.len, &ranges, &report) != AGEFILE_OK);
-    chunk = copy_of(file.bytes + report.place, report.len);
-    fail_if(agefile_ranges_last(&ranges, chunk, report.len, &report) != AGEFILE_OK || report.len != len);
-    release(chunk);
+    fail_if(ranges_with(file.bytes, front_of(file.len), file.len, &ranges) != AGEFILE_OK);
+    OWNED uint8_t *last = copy_of(file.bytes + report.place, report.len);
+    fail_if(agefile_ranges_last(&ranges, last, report.len, &report) != AGEFILE_OK || report.len != len);
 }
 
 static void *run(void *unused)
 {
-    uint8_t *text = text_of(len);
+    OWNED uint8_t *text = text_of(len);
     for (int i = 0; i < turns; i++) {
         whole_buffers(text);
         steps(text);
     }
-    release(text);
     return unused;
 }
 
