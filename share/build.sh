@@ -101,6 +101,16 @@ library() {
     show_work
 }
 
+# Ends the script and the proofs that it runs in the background, which do not get an interrupt.
+stop_libraries() {
+    for job in "$cipher" $words; do
+        # shellcheck disable=SC2046
+        kill "$job" $(cat "/proc/$job/task/$job/children" 2>/dev/null) 2>/dev/null || :
+    done
+    rm -f "$finished" "$begun" "${began-}"
+    exit 130
+}
+
 # Proves and builds the libraries up to age_file or up to age_cli, lowest first: libraries LAST. A
 # run of `rt` waits for another run that uses the same lower library. So only those that share none
 # are proved in parallel with the others: age_cipher, and age_job with age_args above it. These two
@@ -121,8 +131,7 @@ libraries() {
         { library age_job --jobs 2 && library age_args --jobs 2; } &
         words=$!
     fi
-    # shellcheck disable=SC2086
-    trap 'kill "$cipher" $words 2>/dev/null; rm -f "$finished" "$begun"; exit 130' INT TERM
+    trap stop_libraries INT TERM
     if library age_kdf && library age_header && wait "$cipher" && library age_recipient &&
         library age_stream && library age_file && [ -n "$words" ] && wait "$words"; then
         library age_commands && library age_cli || :

@@ -5,15 +5,13 @@ import shutil
 
 from program import ROOT
 
-RT = """#!/bin/sh
-case $1 in doc | version) exec "{rt}" "$@" ;; esac
+RT = """case $1 in doc | version) exec "{rt}" "$@" ;; esac
 built={root}/crates/${{PWD##*/}}/out
 mkdir -p out
 case $1 in
     run) cp "$built/agep-$3" out/agep && cp "$built/agep-$3.o" out/agep.o ;;
     lib) [ "$2" != --cpu ] || cp "$built/$3.a" out/libagefile.a ;;
-esac
-"""
+esac"""
 
 
 def tools_but(folder, *hidden):
@@ -26,10 +24,15 @@ def tools_but(folder, *hidden):
     return os.environ | {"PATH": str(folder)}
 
 
+def tool(path, script):
+    """Makes a command of a script for sh."""
+    with open(path, "w") as file:
+        file.write(f"#!/bin/sh\n{script}\n")
+    os.chmod(path, 0o755)
+
+
 def toolchain(folder, *hidden):
     """An environment in which the stand-in is the command rt, and these tools are hidden."""
     environment = tools_but(folder, "rt", *hidden)
-    with open(f"{folder}/rt", "w") as file:
-        file.write(RT.format(root=ROOT, rt=shutil.which("rt")))
-    os.chmod(f"{folder}/rt", 0o755)
+    tool(f"{folder}/rt", RT.format(root=ROOT, rt=shutil.which("rt")))
     return environment

@@ -6,7 +6,9 @@ import functools
 import os
 import re
 import shutil
+import signal
 import subprocess
+import time
 import unittest
 from pathlib import Path
 
@@ -14,13 +16,13 @@ import stand_in
 from program import AGEP, ROOT, read, scratch, version, write
 
 # It logs its calls, makes each file that the scripts take from it, and runs a script that a test
-# sets.
-RT = """#!/bin/sh
-folder={}
+# sets. By itself it is of kit two.
+RT = """folder={}
+[ "$1" != version ] || exec echo kit two
 echo "${{PWD##*/}} $*" >>"$folder/asked"
 mkdir -p out
 touch out/agep.o out/libagefile.a
-if [ -f "$folder/meanwhile" ]; then sh "$folder/meanwhile"; fi
+[ ! -f "$folder/meanwhile" ] || . "$folder/meanwhile"
 """
 LEVELS = ("x86-64", "x86-64-v3")
 PROGRAM = "agep run --cpu {} -- --version"
@@ -43,6 +45,14 @@ SCRIPTS = {
 }
 
 
+def wait_until(is_so):
+    end = time.monotonic() + 60
+    while not is_so():
+        if time.monotonic() > end:
+            raise AssertionError("not so within a minute")
+        time.sleep(0.05)
+
+
 class Builds(unittest.TestCase):
     def setUp(self):
         self.addCleanup(os.chdir, "/")
@@ -61,8 +71,7 @@ class Builds(unittest.TestCase):
         for name in self.sources:
             write(name, b"")
         os.makedirs("kit/bin")
-        write("kit/bin/rt", RT.format(self.folder).encode())
-        os.chmod("kit/bin/rt", 0o755)
+        stand_in.tool("kit/bin/rt", RT.format(self.folder))
         write("kit/KIT-ID", b"kit one\n")
         self.environment = {**os.environ, "AGEP_CPU": "x86-64-v9", "PATH": f"{self.folder}/kit/bin:{os.environ['PATH']}"}
 
@@ -71,8 +80,9 @@ class Builds(unittest.TestCase):
         write("asked", b"")
         environment = {**self.environment, **environment}
         done = subprocess.run(f"tree/{script}".split(), env=environment, stdin=subprocess.DEVNULL, capture_output=True)
+        self.said = done.stderr.decode()
         if script == "agep --version":
-            self.assertEqual((done.returncode, done.stdout.decode()), (0, f"agep {version()}{commit}\n"), done.stderr.decode())
+            self.assertEqual((done.returncode, done.stdout.decode()), (0, f"agep {version()}{commit}\n"), self.said)
         return sorted(line for line in read("asked").decode().splitlines() if "--cpu" in line)
 
     def test_sources(self):
@@ -101,7 +111,11 @@ class Builds(unittest.TestCase):
         ):
             self.assertEqual(self.asked(script, AGEP_CPU=level), [PROGRAM.format(level)] * is_built, f"{script} for {level}")
         self.assertEqual(self.asked("package --build", AGEP_CPU="x86-64-v2"), SCRIPTS["package --build"])
-        self.assertEqual(self.asked("agep --version", AGEP_CPU="x86-64-v2"), [], "the program of ./agep stays")
+        program = "tree/crates/agep/out/agep"
+        write(f"{program}-x86-64-v4", read(AGEP) + b"v4")
+        for level in ("x86-64-v2", "x86-64-v4", "x86-64-v2", "x86-64-v4"):
+            self.assertEqual(self.asked("agep --version", AGEP_CPU=level), [], "the programs of ./agep stay")
+            self.assertEqual(read(program), read(f"{program}-{level}"), level)
 
     def test_levels(self):
         """If AGEP_CPU is not set, a build is for x86-64-v3 if the processor has all of that level."""
@@ -114,7 +128,7 @@ class Builds(unittest.TestCase):
             self.assertEqual(said, "x86-64-v2\n" if part else "x86-64-v3\n", f"without {part}")
 
     def test_order(self):
-        """Each library is proved once, after those that it depends on."""
+        """Each library is proved once, after those that it depends on. A line says how many are left."""
         lines = re.findall(r"^(\w+)[^:\n]*:(.*)$", read(f"{ROOT}/crates.txt").decode(), re.MULTILINE)
         needs = {name: {word for word in words.split() if word.startswith("age_")} for name, words in lines}
         for script, tops in zip(SCRIPTS, ({"agep"}, {"agep"}, {"agep", "agefile"}, {"agefile"})):
@@ -123,6 +137,7 @@ class Builds(unittest.TestCase):
                 for name in needs:
                     os.makedirs(f"tree/crates/{name}/specs", exist_ok=True)
                 write("meanwhile", LAST.format(f"{self.folder}/asked").encode())
+                stand_in.tool("kit/bin/date", "echo $(($(/bin/date +%s%N) / 1000))")
                 self.asked(script)
                 begun, done = collections.Counter(), set()
                 for name, what in (line.split(" ", 1) for line in read("asked").decode().splitlines()):
@@ -133,6 +148,8 @@ class Builds(unittest.TestCase):
                         begun[name] += 1
                 every = functools.reduce(lambda found, _: found.union(*map(needs.get, found)), needs, tops)
                 self.assertEqual(begun, collections.Counter(every - tops))
+                names, left = zip(*re.findall(r"^proved (\w+) in \d+ s, (\d+) left$", self.said, re.MULTILINE))
+                self.assertEqual((sorted(names), left[-1]), (sorted(begun), "0"))
 
     def test_failing_build(self):
         """If the toolchain is missing or a build fails, its output and a line are shown, nothing is run or
@@ -151,9 +168,47 @@ class Builds(unittest.TestCase):
                 self.assertNotIn(b"input", done.stderr)
                 os.remove("meanwhile")
                 self.assertEqual(self.asked(script), SCRIPTS[script])
+        self.make_tree()
+        write("meanwhile", b"case $PWD in *agefile) exit 1 ;; esac")
+        self.assertEqual(subprocess.run(["tree/package", "--build"], env=self.environment, capture_output=True).returncode, 1)
+
+    def test_interrupted(self):
+        """An interrupt ends a build with all that it has started, and leaves no file. The next one says that it
+        resumes it."""
+        for name in ("age_cipher", "age_kdf", "temporary"):
+            os.mkdir(f"tree/crates/{name}")
+        write("pids", b"")
+        write("meanwhile", b"echo $$ >>$folder/pids; exec sleep 100")
+        how = {"env": {**self.environment, "TMPDIR": f"{self.folder}/tree/crates/temporary"}, "start_new_session": True}
+        how["preexec_fn"] = lambda: signal.signal(signal.SIGINT, signal.SIG_DFL)
+        build = subprocess.Popen(["tree/agep"], stdin=subprocess.DEVNULL, stderr=subprocess.DEVNULL, **how)
+        wait_until(lambda: len(read("pids").split()) == 2)
+        os.killpg(build.pid, signal.SIGINT)
+        self.assertEqual(build.wait(60), 130)
+        wait_until(lambda: not any(os.path.exists(f"/proc/{int(pid)}/exe") for pid in read("pids").split()))
+        self.assertEqual(os.listdir("tree/crates/temporary"), [])
+        os.remove("meanwhile")
+        self.assertEqual(self.asked("agep --version"), SCRIPTS["agep --version"])
+        self.assertIn("\nagep: resuming a build that was interrupted\n", self.said)
+
+    def test_missing_files(self):
+        """A build without one of its files is taken from those that are kept, or made again."""
+        self.asked("package --build")
+        self.asked("agep --version")
+        for script, name, lines in (
+            ("agep --version", "agep/out/agep", []), ("package --build", "agefile/out/x86-64.a", LIBRARIES[:1]),
+            ("package --build", "agep/out/agep-x86-64-v3.o", [PROGRAM.format("x86-64-v3")]),
+        ):
+            os.remove(f"tree/crates/{name}")
+            self.assertEqual(self.asked(script), lines, name)
+        write("meanwhile", b"rm -f out/agep.o")
+        write("tree/crates.txt", b"")
+        self.asked("package --build")
+        self.assertFalse(os.path.exists("tree/crates/agep/out/agep-x86-64.o"), "an object of an earlier build")
 
     def test_commit(self):
-        """A build in a git repository names the commit, and says whether the crates have changed since."""
+        """A build in a git repository names the commit, and says whether the crates have changed since; one in
+        an archive names the commit in share/commit."""
         git = ["git", "-C", "tree", "-c", "user.name=Name", "-c", "user.email=name@host"]
         for words in (["init", "-q"], ["add", "-A"], ["commit", "-qm", "All"]):
             subprocess.run([*git, *words], check=True)
@@ -169,10 +224,13 @@ class Builds(unittest.TestCase):
         write("tree/crates.txt", b"text")
         name = subprocess.check_output([*git, "rev-parse", "HEAD"], text=True)[:10]
         self.assertEqual(self.asked("agep --version", commit=f" (commit {name}, changed)"), every)
+        shutil.rmtree("tree/.git")
+        write("tree/share/commit", b"0123456789abcdef 1 HEAD -> main\n")
+        write("tree/crates.txt", b"")
+        self.assertEqual(self.asked("agep --version", commit=" (commit 0123456789)"), every)
 
     def test_words(self):
-        """./agep passes its arguments, standard input and working directory to the program, and returns its
-        status."""
+        """./agep passes its arguments, standard input and working directory to the program, and becomes it."""
         self.asked("agep --version")
         write("some file", b"text")
         run = functools.partial(subprocess.run, input=b"input", capture_output=True, env=self.environment)
@@ -182,6 +240,8 @@ class Builds(unittest.TestCase):
             with self.subTest(words):
                 here, program = run(["tree/agep", *words]), run([AGEP, *words])
                 self.assertEqual((here.returncode, here.stdout, here.stderr), (program.returncode, program.stdout, program.stderr))
+        stand_in.tool("tree/crates/agep/out/agep", "echo $PPID")
+        self.assertEqual(int(run(["tree/agep"]).stdout), os.getpid())
 
     def test_toolchains(self):
         """Another toolchain builds again; without a toolchain the existing build is run and installed."""
@@ -190,9 +250,10 @@ class Builds(unittest.TestCase):
             with self.subTest(script):
                 write("kit/KIT-ID", b"kit one\n")
                 self.asked(script)
-                write("kit/KIT-ID", b"kit two\n")
+                os.remove("kit/KIT-ID")
                 self.assertEqual(self.asked(script, PATH=tools), [])
-                self.assertEqual(self.asked(script), SCRIPTS[script])
+                for lines in SCRIPTS[script], []:
+                    self.assertEqual(self.asked(script), lines)
 
 
 class Installs(unittest.TestCase):
@@ -227,7 +288,8 @@ class Installs(unittest.TestCase):
         """The files are those of the repository, whatever the umask; a running program is replaced and not
         overwritten. --uninstall removes only these, and the folders that this leaves empty."""
         here, other = os.getcwd(), "share/man/man1/other.1"
-        rows = (f"{here}/prefix", f"{here}/prefix", {}), ("other", "other", {}), ("/usr", "staged/usr", {"DESTDIR": "staged"}), ("/usr", "again/usr", {"DESTDIR": "again/"})
+        rows = [(f"{here}/prefix", f"{here}/prefix", {}), ("other", "other", {}), ("/usr", "staged/usr", {"DESTDIR": "staged"})]
+        rows += [("/usr", "again/usr", {"DESTDIR": "again/"}), (None, "default/usr/local", {"DESTDIR": "default"})]
         for prefix, top, environment in rows:
             for others in ([], [other]):
                 with self.subTest(f"{top} {others}"):
@@ -236,7 +298,7 @@ class Installs(unittest.TestCase):
                         write(f"{top}/{name}", b"other")
                     for _ in range(2):
                         said = "".join(f"installed {top}/{name}\n" for name in self.FILES)
-                        self.assertEqual(self.run_install(prefix, **environment), (0, said, ""))
+                        self.assertEqual(self.run_install(*filter(None, [prefix]), **environment), (0, said, ""))
                         self.assert_modes(top, [*self.FILES, *others])
                         self.assertEqual([name for name, file in self.FILES.items() if read(f"{top}/{name}") != read(f"{ROOT}/{file}")], [])
                         if os.path.exists("running"):
@@ -246,9 +308,9 @@ class Installs(unittest.TestCase):
                     os.remove("running")
                     os.remove(f"{top}/bin/agep")
                     os.symlink("absent", f"{top}/bin/agep")
-                    self.assertEqual(self.run_install("--uninstall", f"{prefix}/", **environment)[::2], (0, ""))
+                    self.assertEqual(self.run_install("--uninstall", *[f"{prefix}/"] * bool(prefix), **environment)[::2], (0, ""))
                     self.assert_modes(top, others)
-                    self.assertEqual(self.run_install("--uninstall", prefix, **environment), (0, "", ""))
+                    self.assertEqual(self.run_install("--uninstall", *filter(None, [prefix]), **environment), (0, "", ""))
 
     def test_words(self):
         for words in ("--help",), ("-h",):
