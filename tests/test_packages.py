@@ -31,6 +31,8 @@ import model
 
 ROOT = Path(__file__).resolve().parent.parent
 SECRET = ROOT / "tests/data/passphrase.age"
+# The tests of the package for Python. These two files take as long as all the others.
+PYTHON_TESTS, LONG = ROOT / "bindings/python/tests", {"test_ways.py", "test_whole.py"}
 # The oldest glibc for the programs and for the library, as docs/PACKAGES.md says.
 GLIBC, GLIBC_OF_LIBRARY = (2, 34), (2, 14)
 # Variables by which a caller may configure the tools. No byte may depend on them.
@@ -60,9 +62,8 @@ def run(*words, **options):
     return done.stdout
 
 
-MODULES = ("build", "setuptools", "wheel")
-
-
+# Commands and modules without which ./package makes no Debian packages.
+DEBIAN, MODULES = ("dpkg-buildpackage", "dh", "dh_python3", "unzip"), ("build", "setuptools", "wheel")
 CARGO = (1, 80)
 
 
@@ -99,7 +100,7 @@ def can_mount():
     return subprocess.run([*WITHOUT_PROC, "true"], capture_output=True).returncode == 0
 
 
-@needs("dpkg-buildpackage", "dh", "dh_python3", "cargo", "xz", "unzip", *MODULES)
+@needs("cargo", "xz", *DEBIAN, *MODULES)
 class Packages(unittest.TestCase):
     @classmethod
     def setUpClass(cls):
@@ -248,7 +249,6 @@ class Packages(unittest.TestCase):
         tree = self.work / "unpacked"
         run("dpkg-source", "-x", self.one("*.dsc"), tree)
         sources = sorted(tree.rglob("*"))
-        self.assertNotIn(tree / "share/commit", sources, "an archive and a clone differ in it")
         words = ("dpkg-buildpackage", "-b", "-us", "-uc", "-d")
         without = stand_in.tools_but(self.work / "tools", "rt")
         done = subprocess.run(words, cwd=tree, env=without, capture_output=True, text=True)
@@ -256,6 +256,10 @@ class Packages(unittest.TestCase):
         run(*words, cwd=tree, env=stand_in.toolchain(self.work / "kit"))
         for deb in self.dist.glob("*.deb"):
             self.assertEqual((self.work / deb.name).read_bytes(), deb.read_bytes(), deb.name)
+        names = (tree / "debian/libagefile1.symbols").read_text()
+        (tree / "debian/libagefile1.symbols").write_text(re.sub(".*agefile_wrap@.*\n", "", names))
+        with self.assertRaisesRegex(AssertionError, "\\+ agefile_wrap@AGEFILE_1 "):
+            run("debian/rules", "override_dh_makeshlibs", cwd=tree)
         run("debian/rules", "clean", cwd=tree)
         self.assertEqual(sorted(tree.rglob("*")), sources)
 
@@ -275,14 +279,20 @@ class Packages(unittest.TestCase):
                 self.assertEqual({path.name for path in tree.rglob("*.md")} >= {"USE.md", "CHANGELOG.md"}, pages == 5)
 
     def test_relations(self):
-        """The dependencies of each Debian package: the C library of docs/PACKAGES.md, and the library of its
-        own version."""
+        """The relations of each Debian package: the C library of docs/PACKAGES.md, and the library of its own
+        version. The source package needs the packages of the tools of ./package."""
         expected = {
-            "agep": "libc6 (>= 2.34)", "libagefile1": "libc6 (>= 2.14)", "libagefile-dev": f"libagefile1 (= {self.for_debian})",
-            "python3-agefile": f"libagefile1 (>= {self.for_debian}), python3:any",
+            "agep": "Depends: libc6 (>= 2.34)\nSuggests: age\n",
+            "libagefile1": "Depends: libc6 (>= 2.14)\nMulti-Arch: same\n",
+            "libagefile-dev": f"Depends: libagefile1 (= {self.for_debian})\nSuggests: agep, pkg-config\nMulti-Arch: same\n",
+            "python3-agefile": f"Depends: libagefile1 (>= {self.for_debian}), python3:any\nSuggests: python3-fsspec\n",
         }
-        found = {name: run("dpkg-deb", "-f", self.one(f"{name}_*.deb"), "Depends").strip() for name in expected}
+        found = {name: run("dpkg-deb", "-f", self.one(f"{name}_*.deb"), "Depends", "Suggests", "Multi-Arch") for name in expected}
         self.assertEqual(found, expected)
+        files = [*map(shutil.which, DEBIAN[1:]), *(f"/usr/lib/python3/dist-packages/{module}/__init__.py" for module in MODULES)]
+        owners = {line.split(":")[0] for line in run("dpkg", "-S", *files).splitlines()}
+        needed = re.search("^Build-Depends: (.*)", self.one("*.dsc").read_text(), re.MULTILINE)[1].replace("-compat (= 13)", "")
+        self.assertEqual({*needed.split(", ")}, {"python3", *owners})
 
     @needs("dpkg")
     def test_installed_and_removed(self):
@@ -462,9 +472,9 @@ def level():
     return "x86-64-v3" if has_v3 else "x86-64"
 
 
-# Stand-ins for the builds: each prints its name and its first argument.
-STAND_INS = "".join(
-    f'int main_{build}(int n, char **words) {{ return n < 2 || printf("{level} %s\\n", words[1]) < 0; }}\n'
+# Stand-ins for the builds: each prints its name and its first argument, if it gets the environment.
+STAND_INS = "extern char **environ;\n" + "".join(
+    f'int main_{build}(int n, char **words, char **all) {{ return n < 2 || all != environ || printf("{level} %s\\n", words[1]) < 0; }}\n'
     for build, level in (("x86_64", "x86-64"), ("x86_64_v3", "x86-64-v3"))
 )
 
@@ -541,46 +551,20 @@ class WithPython(unittest.TestCase):
         run(cls.environment_folder / "bin/pip", "install", "--no-index", "--no-deps", wheel)
         cls.environment = {k: v for k, v in os.environ.items() if k not in ("AGEFILE_LIBRARY", "PYTHONPATH")}
 
-    def run_tests(self, name):
-        tests = ROOT / "bindings/python/tests"
-        words = [self.environment_folder / "bin/python", "-m", "unittest", "discover", "-v", "-s", tests, "-p", name]
-        done = subprocess.run(words, capture_output=True, text=True, env=self.environment, cwd=self.environment_folder)
-        self.assertEqual(done.returncode, 0, done.stdout + done.stderr)
-        skipped = re.findall(r"skipped '(.*)'|SkipTest: (.*)", done.stderr)
-        if skipped:
-            self.skipTest(f"{name}: {skipped[0]}")
+    def run_tests(self, *names):
+        for name in names:
+            with self.subTest(name):
+                words = [self.environment_folder / "bin/python", "-m", "unittest", "discover", "-v", "-s", PYTHON_TESTS, "-p", name]
+                done = subprocess.run(words, capture_output=True, text=True, env=self.environment, cwd=self.environment_folder)
+                self.assertEqual(done.returncode, 0, done.stdout + done.stderr)
+                skipped = re.findall(r"skipped '(.*)'|SkipTest: (.*)", done.stderr)
+                if skipped:
+                    self.skipTest(f"{name}: {skipped[0]}")
 
 
 class ForPython(WithPython):
-    def test_opened_files(self):
-        self.run_tests("test_files.py")
-
-    def test_errors(self):
-        self.run_tests("test_errors.py")
-
-    def test_written_files(self):
-        self.run_tests("test_writing.py")
-
-    def test_unclosed_files(self):
-        self.run_tests("test_unclosed.py")
-
-    def test_damaged_files(self):
-        self.run_tests("test_damage.py")
-
-    def test_files_of_others(self):
-        self.run_tests("test_others.py")
-
-    def test_salvaging(self):
-        self.run_tests("test_salvaging.py")
-
-    def test_x25519(self):
-        self.run_tests("test_x25519.py")
-
-    def test_fsspec(self):
-        self.run_tests("test_fsspec.py")
-
-    def test_dask(self):
-        self.run_tests("test_dask.py")
+    def test_files(self):
+        self.run_tests(*sorted({path.name for path in PYTHON_TESTS.glob("test_*.py")} - LONG))
 
     @needs("mypy")
     def test_annotations(self):
@@ -589,11 +573,8 @@ class ForPython(WithPython):
 
 
 class LongForPython(WithPython):
-    def test_files_and_errors(self):
-        self.run_tests("test_whole.py")
-
-    def test_ways_of_writing(self):
-        self.run_tests("test_ways.py")
+    def test_files(self):
+        self.run_tests(*LONG)
 
 
 @needs("cargo")
@@ -693,7 +674,7 @@ class ForRust(unittest.TestCase):
     def test_folder_of_the_library(self):
         """It is the folder that AGEFILE_LIB_DIR names, else the one that pkg-config knows, else
         /usr/local/lib. If it has no library, the error of the build names the folder, the package and the
-        variable."""
+        variable. Other platforms are refused."""
         (self.tree / "link").symlink_to("lib")
         own, first, second = (str(self.tree / name) for name in ("lib", "lib/pkgconfig", "link/pkgconfig"))
         # Each variable changes once by itself, after a successful build.
@@ -711,6 +692,11 @@ class ForRust(unittest.TestCase):
                     self.assertIn(f'"native={folder}"', done.stdout)
                 else:
                     self.assertIn(error, done.stderr)
+        script = next((self.tree / "target/debug/build").glob("agefile-*/build-script-build"))
+        for platform in ("windows", "x86_64", "gnu"), ("linux", "aarch64", "gnu"), ("linux", "x86_64", "musl"):
+            names = {f"CARGO_CFG_TARGET_{part}": name for part, name in zip(("OS", "ARCH", "ENV"), platform)}
+            done = subprocess.run([script], env=self.environment | names, capture_output=True, text=True)
+            self.assertEqual((done.returncode, done.stderr), (1, "agefile: the library is for Linux on x86-64 with the GNU C library alone\n"))
 
     def test_each_function_is_called(self):
         """The tests of the crate call each public function: if all are deprecated, the compiler warns of each."""

@@ -59,7 +59,8 @@ def files_at_hand():
 
 
 class Case(unittest.TestCase):
-    """A clone of this repository. Its ./package makes no Debian packages, to save time."""
+    """A clone of this repository. Its ./package makes the source package and an empty Debian package, to save
+    time."""
 
     HIDDEN = ("dpkg-buildpackage",)
 
@@ -68,6 +69,7 @@ class Case(unittest.TestCase):
         self.addCleanup(shutil.rmtree, self.work)
         self.tree = self.work / "tree"
         self.environment = stand_in.toolchain(self.work / "tools", *self.HIDDEN) | {"AGEP_CPU": "x86-64"}
+        stand_in.tool(self.work / "tools/dpkg-buildpackage", ': >"../agep_$(dpkg-parsechangelog -S Version)_amd64.deb"')
         run("git", "clone", "-q", files_at_hand(), self.tree)
         self.git("config", "user.name", "Name")
         self.git("config", "user.email", "name@host")
@@ -121,15 +123,22 @@ class Versions(Case):
         self.assert_version(f"0.8.0-dev.0+g{commit}")
 
     def test_changes(self):
-        """With local changes the version names the tree of all files that git does not ignore."""
+        """With local changes the version names the tree of all files that git does not ignore, and the source
+        package has these."""
         self.write("CHANGELOG.md", RELEASED)
         commit = self.commit()
         for name in ("README.md", "bindings/python/agefile/new.py"):
             self.write(name, "text")
             self.assertNotEqual(self.git("status", "--porcelain"), "")
             version = self.right("./package", "--version").strip()
+            self.assertEqual(self.git("diff", "--cached", f"--relative={Path(name).parent}"), "", "the index stays")
             self.git("add", "-A")
             self.assertEqual(version, f"0.8.0-dev.0+g{commit}.t{self.git('write-tree')[:10]}")
+        self.write("README.md", "other")
+        self.right("./package", self.work / "dist")
+        (source,) = (self.work / "dist").glob("cushionduck_*.tar.xz")
+        names = ("*/README.md", "*/bindings/python/agefile/new.py")
+        self.assertEqual(self.right("tar", "-xOf", source, "--wildcards", "--no-wildcards-match-slash", *names), "othertext")
         self.git("reset", "-q", "--hard")
         self.write("passphrase", "text")
         self.assert_version("0.7.1")
@@ -138,10 +147,9 @@ class Versions(Case):
         """An archive without a repository, made by a forge, has the version of its commit or tag."""
         self.write("CHANGELOG.md", RELEASED)
         commit = self.commit()
-        for tag, version in ((), f"0.8.0-dev.0+g{commit}"), (("0.7.1",), "0.7.1"):
-            for name in tag:
-                self.git("tag", name)
-            folder = self.work / f"archive{len(tag)}"
+        for tag, version in ("", f"0.8.0-dev.0+g{commit}"), ("0.7.10", f"0.8.0-dev.0+g{commit}"), ("0.7.1", "0.7.1"):
+            self.git("tag", *tag.split())
+            folder = self.work / f"archive{tag}"
             folder.mkdir()
             self.right("sh", "-c", f"git archive HEAD | tar -xC {folder}")
             self.assertEqual(self.right("./package", "--version", cwd=folder), f"{version}\n")
@@ -239,7 +247,8 @@ class Release(Case):
         names = sorted(path.name for path in self.folder.iterdir())
         self.assertEqual([name for name in names if "SUMS" in name], ["SHA256SUMS", "SHA256SUMS.sig"])
         self.assertEqual([name for name in names if "SUMS" not in name and not re.search(r"[-_]80\.9\.2[-_.]", name)], [])
-        self.refused("release: 80.9.2 is not newer than 80.9.2", *self.release())
+        for older in "80.9.2", "9.10.0":
+            self.refused(f"release: {older} is not newer than 80.9.2", *self.release(older))
         archive = self.work / "archive"
         archive.mkdir()
         self.right("sh", "-c", f"git archive 80.9.2 | tar -xC {archive}")

@@ -1,4 +1,4 @@
-"""tests/planted/find_unused and check_margin: lemmas that nothing cites, answers that the check does not
+"""tests/planted/find_unused and tests/margin.sh: lemmas that nothing cites, answers that the check does not
 need, and answers that it needs with --margin."""
 
 import os
@@ -76,8 +76,8 @@ class Unused(unittest.TestCase):
     def setUp(self):
         self.tree = scratch()
         os.makedirs(self.tree + "/tests/planted")
-        for name in ("find_unused", "check_margin"):
-            shutil.copy(f"{TESTS}/planted/{name}", self.tree + "/tests/planted")
+        for name in ("planted/find_unused", "margin.sh"):
+            shutil.copy(f"{TESTS}/{name}", f"{self.tree}/tests/{name}")
         self.put("crates.txt", "# name: below\none:\n")
         self.put("crates/one/proofs/Common.antt", COMMON)
         self.put("crates/one/proofs/Lemmas.antt", LEMMAS)
@@ -92,12 +92,12 @@ class Unused(unittest.TestCase):
 
     def run_script(self, name, *crates):
         path = f"{self.tree}/bin:{os.environ['PATH']}"
-        done = subprocess.run((f"{self.tree}/tests/planted/{name}", *crates), stdout=subprocess.PIPE,
+        done = subprocess.run((f"{self.tree}/tests/{name}", *crates), stdout=subprocess.PIPE,
                               stderr=subprocess.STDOUT, text=True, env={**os.environ, "PATH": path})
         return done.returncode, done.stdout
 
     def find(self, *crates):
-        return self.run_script("find_unused", *crates)
+        return self.run_script("planted/find_unused", *crates)
 
     def test_lemmas(self):
         """It names the lemmas that only their own proofs cite, and the names that Common re-exports for nobody."""
@@ -118,10 +118,10 @@ class Unused(unittest.TestCase):
         self.assertEqual(self.find("one"), (0, ""))
 
     def test_margin(self):
-        """check_margin names the goals that are not proved with --margin, in all crates or in those given."""
-        self.assertEqual(self.run_script("check_margin"), (0, ""))
+        """margin.sh names the goals that are not proved with --margin, in all crates or in those given."""
+        self.assertEqual(self.run_script("margin.sh"), (0, "one: proved\n1 passed, 0 failed\n"))
         self.put("crates/one/proofs/f/Answers.antt", ANSWERS.replace("returns-clause-len c", "returns-clause-text c"))
         refused = "fn one::f: no proof: expected answers in ./proofs/f/Answers.antt; `search` did not prove `returns-clause-len`\n"
         for crates in ((), ("one",)):
             with self.subTest(crates):
-                self.assertEqual(self.run_script("check_margin", *crates), (1, "one:\n" + refused))
+                self.assertEqual(self.run_script("margin.sh", *crates), (1, f"one:\n{refused}0 passed, 1 failed\n"))
