@@ -2,6 +2,7 @@
 turn. A short call changes nothing. A failing call ends with its message, status 1 and a prefix of the right
 output, and never with status 0 and an incomplete file."""
 
+import itertools
 import os
 
 import fixture
@@ -123,7 +124,8 @@ class Order(CallCase):
         return [(kind, int(result)) for kind, name, result in rows if name == "made"]
 
     def test_order(self):
-        """OUT is truncated, then written, then synced; the writes add up to the whole output."""
+        """OUT is truncated, then written, then synced; the writes add up to the whole output. Those of `rewrap`
+        after the header begin at pages."""
         for job in self.jobs:
             if job.has_out:
                 with self.subTest(str(job)):
@@ -131,7 +133,10 @@ class Order(CallCase):
                     first, *middle, last = self.calls()
                     self.assertEqual((first, last[0]), (("ftruncate", 0), "fsync"))
                     self.assertEqual({kind for kind, _ in middle}, {"write"})
-                    self.assertEqual(sum(size for _, size in middle), len(job.expected))
+                    ends = list(itertools.accumulate(size for _, size in middle))
+                    self.assertEqual(ends[-1], len(job.expected))
+                    if job.words[0] == "rewrap":
+                        self.assertEqual(ends[1:], [*range(65536, ends[-1], 65536), ends[-1]], "each write begins at a page")
 
     def test_no_byte(self):
         """If there is no output, OUT is truncated and synced; after a fault it is left alone."""

@@ -59,14 +59,15 @@ class Allocations(ProgramCase):
                 self.assert_ended(ran, int(ends[0] != ""), *ends)
 
     def test_explained(self):
-        """With -v: out of memory, a shorter second line, or the usual result."""
-        line = message("NoMatch")
-        full = fault(line, "pass.age: its stanzas are of type scrypt; -p opens it").encode()
-        said = [fault(message("OutOfMemory")).encode(), fault(line, "reading pass.age").encode(), full]
+        """With -v: out of memory, also in place of a line, a shorter second line, or the usual result."""
+        line, hint = message("NoMatch"), "pass.age: its stanzas are of type scrypt; -p opens it"
+        full = fault(line, hint).encode()
+        refusal = message("OutOfMemory")
+        said = [fault(refusal), fault(refusal, hint), fault(line, refusal), fault(line, "reading pass.age"), fault(line, hint)]
         *refused, last = self.refusals("decrypt", "-v", "-k", "key", "pass.age")
         self.assertTrue(refused)
         for ran in refused:
-            self.assertIn(ran.err, said)
+            self.assertIn(ran.err.decode(), said)
             self.assert_ended(ran, 1, ran.err)
         self.assert_ended(last, 1, full)
 

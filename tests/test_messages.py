@@ -31,13 +31,9 @@ def numbered(text):
 def texts_of_code():
     """The names and texts of the faults, of their parts, and of the roles of files."""
     crates = ROOT + "/crates"
-    for source in ("age_file/src/fault.rt", "age_recipient/src/unwrapped.rt"):
-        code = text_of(f"{crates}/{source}")
-        for text, name in re.findall(r'#\[error\("(.*)"\)\]\s+(\w+)', code):
-            yield name, text
-    shown = text_of(crates + "/age_job/src/fault.rt").split("impl fmt::Display for Fault")[1]
-    for name, text in re.findall(r'Fault::(\w+)[^"]*"(.*)"', shown):
-        if name != "AgeFile":
+    for source in ("age_file/src/fault.rt", "age_recipient/src/unwrapped.rt", "age_job/src/fault.rt"):
+        shown = text_of(f"{crates}/{source}").split("impl fmt::Display for ")[1]
+        for name, text in re.findall(r'Fault::(\w+)[^"]*"(.*)"', shown):
             yield name, numbered(text)
     roles = text_of(crates + "/age_job/src/file_names.rt")
     for name, text in re.findall(r'Role::(\w+) => "(.*)"', roles):
@@ -90,6 +86,16 @@ class Manual(unittest.TestCase):
         lines = [line for line in text_of(VERBOSE).split("\n") if line.startswith("2> ")]
         shown = {without_example(line) for line in lines}
         self.assertEqual([line for line in self.second if without_example(line) not in shown], [])
+
+
+    def test_numbers(self):
+        """The numbers in an example fit each other: a chunk has 65,536 bytes, and scrypt takes 2^N KiB."""
+        said = " ".join(self.second)
+        for number, start, *end in re.findall(r"chunk (\d+)[a-z, ]+ byte (\d+)(?: to (\d+))?", said):
+            self.assertEqual([start, *end], [str(65536 * int(number)), str(65536 * int(number) + 65535) if end[0] else ""])
+        found = re.findall(r"work factor is (\d+)\S* .*?takes (\d+) ([MG])iB", said.replace("\n", " "))
+        self.assertEqual([1 << int(work) for work, _, _ in found], [int(size) << {"M": 10, "G": 20}[unit] for _, size, unit in found])
+        self.assertEqual(len(found), 2)
 
 
 class Transcripts(unittest.TestCase):

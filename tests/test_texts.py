@@ -3,6 +3,7 @@ completions, CHANGELOG.md."""
 
 import os
 import re
+import select
 import shlex
 import shutil
 import subprocess
@@ -213,10 +214,11 @@ class Manual(unittest.TestCase):
                     self.assertEqual(read("folder.tar.age"), old)
 
     def test_facts(self):
-        """The largest offset and length, the most keys without -H, the mode of a plaintext, and the statuses."""
+        """The largest offset and length, the most keys without -H, the mode of a plaintext, what may follow a
+        chunk, when `encrypt` begins to write, and the statuses."""
         self.enter_backups()
-        facts = (re.search(pattern, read(PAGE).decode())[1] for pattern in (r"Both are at most (\d+)\.", r"More than (\d+) keys", r"plaintext has mode (\d+)"))
-        most, keys, mode = map(int, facts)
+        patterns = (r"Both are at most (\d+)\.", r"More than (\d+) keys", r"plaintext has mode (\d+)", r"Up to ([\d,]+) bytes after", r"the ([\d,]+) bytes of", r"read (\d+) bytes")
+        most, keys, mode, behind, chunk, first = (int(re.search(pattern, read(PAGE).decode())[1].replace(",", "")) for pattern in patterns)
         for number in range(keys + 1):
             write(f"key{number}", number.to_bytes(32, "big"))
         for line, status in {
@@ -226,6 +228,16 @@ class Manual(unittest.TestCase):
             run_example(f"{line} 2>/dev/null", status=status)
         run_example("agep decrypt -k key -o plain disk.age")
         self.assertEqual(f"{os.stat('plain').st_mode & 0o777:o}", str(mode))
+        for length, more, is_saved in (9, behind, True), (9, behind + 1, False), (chunk - 16 - behind, behind, True), (chunk - 15 - behind, behind, False):
+            write("plain", b"x" * length)
+            run_example(f"(agep encrypt -k key plain; head -c {more} /dev/zero) >longer.age")
+            run_example("agep salvage -k key -o saved longer.age 2>/dev/null", status=1)
+            self.assertEqual(read("saved") == read("plain"), is_saved, f"{length} bytes and {more}")
+        with subprocess.Popen([AGEP, "encrypt", "-k", "key"], stdin=subprocess.PIPE, stdout=subprocess.PIPE, bufsize=0) as process:
+            for count, seconds in (first - 1, 0.5), (1, 60):
+                process.stdin.write(bytes(count))
+                self.assertEqual(bool(select.select([process.stdout], [], [], seconds)[0]), count == 1)
+            process.communicate()
         self.assertEqual(re.findall(r"^\.TP\n\.B (\d)$", section('"EXIT STATUS"'), re.MULTILINE), ["0", "1", "2"])
 
     @unittest.skipUnless(shutil.which("mandoc"), "mandoc is missing")
@@ -262,7 +274,7 @@ class Completions(unittest.TestCase):
         every = [*commands(), "help"]
         own = ["-V", "-h", "--help", "--version"]
         self.assert_offered({"agep ": every + own, "agep help ": every, "agep e": ["encrypt"]}, ["bash"])
-        self.assert_offered({"agep ": every, "agep -": own, "agep help ": every, "agep e": ["encrypt"]}, ["zsh"])
+        self.assert_offered({"agep ": every, "agep -": own, "agep help ": every, "agep e": ["encrypt"], "agep -V e": [], "agep -h -": []}, ["zsh"])
         self.assert_offered({"agep ": every, "agep -": own, "agep help ": commands(), "agep e": ["encrypt"]}, ["fish"])
 
     def test_options(self):
