@@ -8,7 +8,7 @@ pub use Rattle.std.proofs.lemmas.List.{append-nil, drop-drop, drop_at, get_or-ap
 pub use Rattle.std.proofs.lemmas.List.FromFn.{fill_by_all, get_or-map-range_with_len, length-map-range_with_len}
 pub use Rattle.std.proofs.lemmas.List.Sums.{sum_by-cons}
 pub use Rattle.std.proofs.lemmas.Nat.{and_mask, mul-le, mul-mod_first}
-pub use Rattle.std.proofs.lemmas.Simd.{Each1-get_or, below_from_Fits, get_or-chunk, get_or-put_chunk_above, get_or-put_chunk_at, get_or-put_chunk_below, get_or-replicate, get_or-zip2, length-chunk, length-replicate, length-zip2, zip2_splat}
+pub use Rattle.std.proofs.lemmas.Simd.{below_from_Fits, get_or-chunk, get_or-put_chunk_above, get_or-put_chunk_at, get_or-put_chunk_below, get_or-zip2, length-chunk, length-replicate, length-zip2, zip2_splat}
 pub use Rattle.std.proofs.lemmas.Slice.Eq.{bytes_eq-Decides}
 pub use Rattle.std.specs.Fn.{iterate}
 pub use Rattle.std.specs.Int.{from_le_bytes, rotate_left, w128}

@@ -132,6 +132,7 @@ fn sums(s: [u32x4; 4], t: [u32x4; 4]) -> [u32; 16]
 
 /// Salsa20/8 of 16 words.
 #[inline(always)]
+#[tactic(auto, unfolding(crate::specs::Salsa::double_rounds))]
 pub(crate) fn salsa8(x: &mut [u32; 16])
     ensures { x.new ≡ salsa8 x.old }
 {

@@ -30,6 +30,7 @@ fn load_block(words: &mut [u32], block: &[u8; 32])
 }
 
 // Fills `words` with the first `count` blocks of PBKDF2 at one round, eight words each.
+#[tactic(auto, using(std::proofs::lemmas::Grind::common_steps, crate::proofs::ListLemmas::filled, crate::proofs::Pbkdf2Lemmas::pbkdf2_whole), unfolding(crate::specs::Scrypt::words_of))]
 fn load(keyed: &Mac, salted: &Mac, words: &mut [u32], count: usize)
     requires count { count ≤ most_blocks }
     requires len { length words.old ≡ 8 * count }
@@ -53,6 +54,7 @@ fn feed_words(mac: &mut Mac, words: &[u32])
 }
 
 // Mixes each of the `p` parts by ROMix.
+#[tactic(auto, unfolding(crate::specs::Scrypt::mixed_parts))]
 fn mix_parts(table: &mut [u32], parts: &mut [u32], y: &mut [u32], r: usize, log_n: u32, p: usize)
     requires r { (1 ≤ r) × (r ≤ 32) }
     requires log_n { log_n ≤ 30 }
@@ -73,6 +75,7 @@ fn mix_parts(table: &mut [u32], parts: &mut [u32], y: &mut [u32], r: usize, log_
 /// `work` is scratch space of `params.work_len()` words. Its previous contents do not matter;
 /// afterwards it holds data derived from the passphrase. `out` must have at most 2^32 - 1 blocks of
 /// 32 bytes.
+#[tactic(auto, unfolding(crate::specs::Scrypt::scrypt))]
 pub fn scrypt_with(
     work: &mut [u32],
     pass: &[u8],

@@ -1,5 +1,4 @@
-use Rattle.age_kdf.proofs.Common.{◌≡◌, ◌+◌, ◌*◌, arith, rules, ◌∙◌, ap, x_after, evens, odds, block_mix, common_steps}
-use Rattle.age_kdf.proofs.ListLemmas.{filled}
+use Rattle.age_kdf.proofs.Common.{◌≡◌, ◌+◌, ◌*◌, arith, rules, ◌∙◌, ap, x_after, evens, odds}
 use Rattle.age_kdf.proofs.BlockMixLemmas.{mixed_next, block_written, evens_next, odds_next}
 use Rattle.age_kdf.proofs.block_mix.block_mix.Goals as goal
 
@@ -26,7 +25,3 @@ pairs-preserved c =
           (omega arith) (omega (arith, c.pairs.auto.odd, c.split_at_mut-even.ensures.back_len)))
           (c.copy_from_slice-in-pairs-2.ensures.after ∙ second);
     }
-
-pub returns : goal.returns
-unfolding block_mix
-returns c = search (rules, common_steps, filled)

@@ -1,5 +1,4 @@
-use Rattle.age_kdf.proofs.Common.{arith, rules, sym, ◌∙◌, ap, refl, ◌≡◌, length, [], take_all, append-nil, Bytes, hmac, hkdf, hkdf_block, hkdf_blocks, IsFed, subst, common_steps}
-use Rattle.age_kdf.proofs.ListLemmas.{filled}
+use Rattle.age_kdf.proofs.Common.{rules, sym, ◌∙◌, ap, refl, ◌≡◌, length, [], take_all, append-nil, Bytes, hmac, hkdf_block, hkdf_blocks, IsFed, subst}
 use Rattle.age_kdf.proofs.HkdfLemmas.{hkdf_next, length-hkdf_blocks}
 use Rattle.age_kdf.proofs.hkdf_sha256.hkdf.Goals as goal
 
@@ -24,7 +23,3 @@ each_block-preserved c =
       last = take_all 32 _ (search rules) ∙ turn.last;
       len = search rules;
     }
-
-pub returns : goal.returns
-unfolding hkdf
-returns c = grind (arith, common_steps, filled)

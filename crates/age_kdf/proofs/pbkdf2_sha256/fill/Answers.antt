@@ -1,5 +1,4 @@
-use Rattle.age_kdf.proofs.Common.{arith, rules, sym, [], take_all, pbkdf2, pbkdf2_blocks, common_steps}
-use Rattle.age_kdf.proofs.ListLemmas.{filled}
+use Rattle.age_kdf.proofs.Common.{rules, sym, [], take_all, pbkdf2_blocks}
 use Rattle.age_kdf.proofs.Pbkdf2Lemmas.{length-pbkdf2_blocks}
 use Rattle.age_kdf.proofs.pbkdf2_sha256.fill.Goals as goal
 
@@ -10,7 +9,3 @@ each_block-init c pass salt keyed salted = sym (take_all _ [] (search rules))
 pub each_block-preserved : goal.each_block-preserved
 unfolding pbkdf2_blocks
 each_block-preserved c pass salt keyed salted = search (rules, length-pbkdf2_blocks)
-
-pub returns : goal.returns
-unfolding pbkdf2
-returns c pass salt keyed salted = grind (arith, common_steps, filled)

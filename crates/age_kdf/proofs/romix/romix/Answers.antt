@@ -1,18 +1,10 @@
-use Rattle.age_kdf.proofs.Common.{◌≡◌, ◌*◌, ◌^◌, length, arith, ◌∙◌, refl, v_at, romix_after, below_more, rules}
+use Rattle.age_kdf.proofs.Common.{◌≡◌, ◌*◌, ◌^◌, length, arith, ◌∙◌, refl, v_at}
 use Rattle.age_kdf.proofs.RoMixLemmas.{look_turn}
 use Rattle.age_kdf.proofs.romix.romix.Goals as goal
 
 pub fill-init : goal.fill-init
 unfolding v_at
 fill-init c = record { x = refl; table = λ j h. absurd (omega arith) }
-
-pub fill-preserved : goal.fill-preserved
-unfolding v_at
-fill-preserved c = search (rules, below_more)
-
-pub look-init : goal.look-init
-unfolding romix_after
-look-init c = search rules
 
 pub look-preserved : goal.look-preserved
 look-preserved c =

@@ -1,9 +1,5 @@
-use Rattle.age_kdf.proofs.Common.{◌≡◌, arith, ◌∙◌, ap₂, refl, add-one, zip2, salsa8, double_rounds, columns, add32}
+use Rattle.age_kdf.proofs.Common.{◌≡◌, arith, ◌∙◌, ap₂, add-one, zip2, salsa8, double_rounds, columns, add32}
 use Rattle.age_kdf.proofs.salsa.salsa8.Goals as goal
-
-pub rounds-init : goal.rounds-init
-unfolding double_rounds
-rounds-init c = refl
 
 pub rounds-preserved : goal.rounds-preserved
 unfolding double_rounds

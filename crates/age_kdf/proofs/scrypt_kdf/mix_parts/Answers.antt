@@ -1,11 +1,7 @@
-use Rattle.age_kdf.proofs.Common.{arith, rules, refl, ◌+◌, ◌*◌, ◌^◌, mixed_parts}
+use Rattle.age_kdf.proofs.Common.{arith, rules, refl, ◌+◌, ◌*◌, ◌^◌}
 use Rattle.age_kdf.proofs.RoMixLemmas.{rows_apart}
 use Rattle.age_kdf.proofs.ScryptLemmas.{part_mixed}
 use Rattle.age_kdf.proofs.scrypt_kdf.mix_parts.Goals as goal
-
-pub each_part-init : goal.each_part-init
-unfolding mixed_parts
-each_part-init c = search (rules)
 
 pub each_part-preserved : goal.each_part-preserved
 each_part-preserved c =
