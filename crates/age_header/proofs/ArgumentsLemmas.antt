@@ -104,3 +104,5 @@ parsed_all text az p some = ((some, p.each), ap line (rw append-nil at p.spelled
 pub parsed_nothing : (text : Bytes) → Parsed text [] [] → SpellsNone text
 parsed_nothing text p [] h e = h.0 refl
 parsed_nothing text p (b ∷ bs) h e = let is = sym p.spelled ∙ line_text text (b ∷ bs) e in cc
+
+pub ruleset parse_steps = (no_arrow, stuck_space, stuck_empty, parsed_nothing)

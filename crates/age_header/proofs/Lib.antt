@@ -2,7 +2,6 @@ pub mod Common
 mod ArgumentsLemmas
 pub mod Base64Lemmas
 pub mod DeviceLemmas
-mod FillingLemmas
 pub mod HeaderLemmas
 pub mod LengthLemmas
 pub mod LinesLemmas

@@ -32,6 +32,7 @@ impl Arguments {
     ghost use Rattle.age_header.specs.Device.{Bytes};
 
     /// Copies these texts.
+    #[tactic(auto, using(crate::proofs::StanzaLemmas::copies_take))]
     pub(crate) fn copied(alloc: Global, texts: &[&str]) -> Result<Arguments, AllocError>
         ensures { IfOk result (λ args. args ≡ map (λ t. t.now) texts.now) }
     {
@@ -44,6 +45,7 @@ impl Arguments {
     }
 
     /// Parses an argument line, without its LF.
+    #[tactic(auto, using(crate::proofs::ArgumentsLemmas::parse_steps, std::proofs::lemmas::Grind::common_steps))]
     pub(crate) fn parse(alloc: Global, text: &[u8]) -> Result<Option<Arguments>, AllocError>
         ensures some { IfOk result
             (λ o. IfSome o (λ args. AreArguments args × (line text.now ≡ argument_line args))) }

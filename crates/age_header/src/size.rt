@@ -25,6 +25,7 @@ pub(crate) const MAC_TEXT_SIZE: usize = 43;
 pub(crate) const MAC_LINE_SIZE: usize = MAC_TEXT_SIZE + 5;
 
 /// The length of a stanza.
+#[tactic(auto, using(crate::proofs::LengthLemmas::sum_stays, crate::proofs::LengthLemmas::stanza_size))]
 pub(crate) fn stanza_len(stanza: &Stanza) -> u64
     ensures { result ≡ min (length (stanza_text stanza.now)) (2 ^ 64 - 1) }
 {
@@ -44,6 +45,7 @@ fn args_len(args: &[String]) -> u64
 }
 
 /// The length of the lines of a body of this many bytes.
+#[tactic(auto, using(crate::proofs::LengthLemmas::body_size))]
 fn body_len(len: usize) -> u64
     ensures { (b : Bytes) → length b ≡ len → result ≡ min (length (body_text b)) (2 ^ 64 - 1) }
 {

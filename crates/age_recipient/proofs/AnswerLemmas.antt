@@ -33,3 +33,5 @@ lacks_later f may xs {i} {x} low is answer goes_on later =
 pub if_err_of : {A E P : Type 0} (result : Result A E) → P → IfErr result (λ _. P)
 if_err_of (Ok _) p = tt
 if_err_of (Err _) p = p
+
+pub ruleset decisions = (decided_step, lacks_here, lacks_later, if_err_of)

@@ -53,6 +53,7 @@ pub fn unlock(
 }
 
 /// The first of these identities' results that decides.
+#[tactic(auto, using(crate::proofs::AnswerLemmas::decisions))]
 fn first_decided(
     alloc: Global,
     identities: &[Box<dyn Identity>],

@@ -26,6 +26,7 @@ fn keyed_wrap_key(key: &[u8; 32], salt: &[u8; 16]) -> [u8; 32]
 }
 
 /// The stanza that wraps this file key.
+#[tactic(auto, using(crate::proofs::StanzaLemmas::of_parts), unfolding(crate::specs::KeyedStanza::keyed_stanza))]
 pub(crate) fn keyed_stanza(
     alloc: Global,
     key: &[u8; 32],
@@ -44,6 +45,7 @@ pub(crate) fn keyed_stanza(
 }
 
 /// The answer of one stanza to a key.
+#[tactic(auto, using(crate::proofs::AnswerLemmas::if_err_of), unfolding(crate::specs::KeyedStanza::keyed_answer))]
 pub(crate) fn keyed_answer(
     alloc: Global,
     key: &[u8; 32],

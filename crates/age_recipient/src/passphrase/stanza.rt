@@ -52,6 +52,7 @@ fn labelled(salt: &[u8; 16]) -> [u8; 44]
 }
 
 /// The stanza that wraps this file key.
+#[tactic(auto, using(crate::proofs::StanzaLemmas::of_parts), unfolding(crate::specs::PassphraseStanza::pass_stanza))]
 pub(crate) fn pass_stanza(
     alloc: Global,
     pass: &[u8],
@@ -79,6 +80,7 @@ pub(crate) fn pass_stanza(
 }
 
 /// The answer of one stanza to a passphrase. Its form is checked before scrypt runs.
+#[tactic(auto, using(crate::proofs::AnswerLemmas::if_err_of), unfolding(crate::specs::PassphraseStanza::pass_answer))]
 pub(crate) fn pass_answer(
     alloc: Global,
     pass: &[u8],

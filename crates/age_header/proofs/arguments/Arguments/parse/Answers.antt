@@ -1,17 +1,6 @@
-use Rattle.age_header.proofs.Common.{◌≡◌, ◌≢◌, ◌∙◌, List, ℕ, [], ◌∷◌, ◌++◌, map, length, take, drop, sym, ap, arith, rules, take-append-drop, length-take, Global, String, common_steps, nil_from_length, map_push, string_bytes, Bytes}
-use Rattle.age_header.proofs.ArgumentsLemmas.{no_arrow, stuck_space, stuck_empty, parsed_more, parsed_nothing}
+use Rattle.age_header.proofs.Common.{◌≡◌, ◌≢◌, ◌∙◌, List, ℕ, [], ◌∷◌, ◌++◌, map, length, take, drop, sym, ap, arith, take-append-drop, length-take, Global, String, map_push, string_bytes, Bytes}
+use Rattle.age_header.proofs.ArgumentsLemmas.{parsed_more}
 use Rattle.age_header.proofs.arguments.Arguments.parse.Goals as goal
-
-pub returns-in_default-clause-none : goal.returns-in_default-clause-none
-returns-in_default-clause-none c = no_arrow c.args.text.now c.in_default.ensures
-
-pub returns-in_default-strip_prefix-clause-none : goal.returns-in_default-strip_prefix-clause-none
-returns-in_default-strip_prefix-clause-none c =
-    search (rules, stuck_space, c.loop-rest.invariant, c.in_default-strip_prefix.ensures)
-
-pub returns-then-len-eq0-clause-none : goal.returns-then-len-eq0-clause-none
-returns-then-len-eq0-clause-none c =
-    search (rules, stuck_empty, c.visible_len-len.ensures.rest, c.loop-rest.invariant, c.in-Some-strip_prefix.ensures)
 
 pub loop-rest-preserved : goal.loop-rest-preserved
 loop-rest-preserved c =
@@ -30,7 +19,3 @@ loop-rest-preserved c =
     ∙ ap (λ (x : Bytes). az ++ x ∷ [])
     (c.in_ok-visible_string.ensures ∙ c.split_at.ensures.front) in
     rw (texts, c.split_at.ensures.back) more
-
-pub returns-then-is_empty-clause-none : goal.returns-then-is_empty-clause-none
-returns-then-is_empty-clause-none c =
-    search (rules, nil_from_length, common_steps, parsed_nothing, c.loop-rest.invariant)
