@@ -47,7 +47,7 @@ pub use Rattle.age_recipient.specs.declared.recipient.WrapFault.{WrapFault}
 pub use Rattle.age_recipient.specs.declared.unwrapped.Unwrapped.{Unwrapped}
 pub use Rattle.age_recipient.specs.declared.unwrapped.Unwrapped.TheVariants.{Key}
 pub use Rattle.age_stream.proofs.PayloadLemmas.{ok_payload, payload_ok}
-pub use Rattle.age_stream.proofs.ReaderLemmas.{starts_reader}
+pub use Rattle.age_stream.proofs.OpeningLemmas.{starts_reader}
 pub use Rattle.age_stream.proofs.SalvageLemmas.{reports_none}
 pub use Rattle.age_stream.proofs.SalvageReading.{payload_exactly, payload_plaintext, payload_whole}
 pub use Rattle.age_stream.proofs.SealingLemmas.{filled_finishes, filled_seals}

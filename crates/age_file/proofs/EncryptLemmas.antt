@@ -32,11 +32,6 @@ pub filled : {s t : SealerState} {key : Bytes} {m max : ℕ} {more : Bool} {sour
     → m ≡ max → IfNone s.fault (Fills s t source (Ok more)) → Fills (at_start key max) t source (Ok more)
 filled is same h = rw same at (rw is at h)
 
--- or was not, since a read failed
-pub unfilled : {s : SealerState} (t : SealerState) {key : Bytes} {m : ℕ} {source : Flow} (fault : StreamFault)
-    → s ≡ at_start key m → IfNone s.fault (Fills s t source (Err fault)) → GaveSome source
-unfilled t fault is h = (rw is at h).1
-
 -- it keeps no fault
 kept_none : {key : Bytes} {max : ℕ} (t : SealerState) (more : Bool) (source : Flow)
     → Fills (at_start key max) t source (Ok more) → t.fault ≡ None

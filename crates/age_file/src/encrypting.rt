@@ -36,6 +36,7 @@ use std::alloc::Global;
 /// has more chunks than are allowed: the header, the nonce and the sealed chunks with an index
 /// below the limit less one were written. `Read` and `Write` if a device failed: a prefix of the
 /// file was written, and on `Read` before the first chunk was full, nothing.
+#[tactic(auto, using(crate::proofs::EncryptLemmas::encrypts_unread))]
 pub fn encrypt<S: Source, W: Sink>(
     alloc: Global,
     plain: &mut S,

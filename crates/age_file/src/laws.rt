@@ -26,6 +26,7 @@ use age_recipient::{Labels, Matched};
 
 /// The verdict is this plaintext without fault exactly on the age files of this plaintext for the
 /// file key that the identities choose. All bytes have exactly one verdict.
+#[tactic(auto, using(crate::proofs::DecryptLemmas::file_has_verdict))]
 pub fn ok_is_age_file()
     ensures ok { (limits : Bounds) (answers : Answering) (b plain : Bytes)
         → IsVerdict limits answers b (whole plain) ↔ ((stanzas : List StanzaParts) × (k : FileKey)
@@ -70,6 +71,7 @@ pub fn file_is_sliced()
 /// Which of this crate's own recipients go together. For a single recipient, and for keyed ones,
 /// this holds whatever labels their boxes return. The last two clauses are about the labels that
 /// the recipients mean.
+#[tactic(auto, using(crate::proofs::OwnLabels::one_index, crate::proofs::OwnLabels::alone_after))]
 pub fn own_recipients()
     // A single recipient, even a caller's own, is not incompatible.
     ensures one { (meant : Labels) (index : Option ℕ)
@@ -89,6 +91,7 @@ pub fn own_recipients()
 
 /// To identities that find its file key, a rewrapped file is what the old file was to those that
 /// found the key before: the same plaintext, or the same fault after the same plaintext.
+#[tactic(auto, using(crate::proofs::RewrapLemmas::keeps))]
 pub fn rewrap_keeps()
     ensures { (limits : Bounds) (old new : Answering) (b c : Bytes) (is : Rewrapped limits old b c)
         → choice (new is.stanzas) ≡ Ok is.key → (v : Reading Fault)

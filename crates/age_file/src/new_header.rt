@@ -65,6 +65,7 @@ pub fn header_text(alloc: Global, header: &Header) -> Result<Vec<u8>, AllocError
 }
 
 /// The text of the header that `header_for` makes.
+#[tactic(auto, using(crate::proofs::EncryptLemmas::new_header))]
 pub(crate) fn text_for(
     alloc: Global,
     recipients: &[Box<dyn Recipient>],
@@ -122,6 +123,7 @@ fn wrap_all(
 }
 
 /// The labels of the recipients, in order.
+#[tactic(auto, using(crate::proofs::GatheredLemmas::collects_all))]
 fn labels_of_all(
     alloc: Global,
     recipients: &[Box<dyn Recipient>],

@@ -50,6 +50,7 @@ impl SalvagedFile {
 /// if there are more chunks than the limit: as many as the limit were written. `Read` and `Write`
 /// if a device failed: a prefix of the saved text was written. `OutOfMemory` if an allocation was
 /// refused or an identity returned it: nothing was written.
+#[tactic(auto, using(crate::proofs::SalvageLemmas::inspect_salvages))]
 pub fn salvage<S: Source, W: Sink, L: Losses>(
     alloc: Global,
     input: &mut S,

@@ -6,7 +6,6 @@ pub mod OpeningLemmas
 pub mod PayloadLemmas
 pub mod RangeLemmas
 pub mod ReadAtLemmas
-pub mod ReaderLemmas
 pub mod ReadingLemmas
 pub mod SalvageLemmas
 pub mod SalvageReading

@@ -1,5 +1,5 @@
 -- The next piece, by what was read ahead, what was given, and what may still come.
-use Rattle.age_stream.proofs.Common.{◌≡◌, ◌⊎◌, ◌∙◌, ◌+◌, ◌-◌, ◌^◌, ◌<◌, ◌≤◌, ℕ, [], length, take, drop, min, ap, sym, arith, refl, inl, inr, not, subst, Option, Some, None, true, false, Bool, nat_le, cond, Result, Ok, Err, IfNone, IfSome, IsErrOf, IsAtEnd, cases_lt, le-leb, lt-leb, drop-drop, take_all, take-take, length-drop, length-take, length-take-le, Bytes, Flow, GaveSome, Seen, flow, StreamFault, Read, chunk_size, sealed_chunk_size, chunk_buf_size, gave_none, Piece, Advances, IsAtPiece, Loses, OpenerState, ReadsPiece, held_of, outcome, first_outcome, after_first, ◌++◌, length-append, Filled, GivesText, IfOk, OpensPiece, ReadsAhead, when_none}
+use Rattle.age_stream.proofs.Common.{◌≡◌, ◌⊎◌, ◌∙◌, ◌+◌, ◌-◌, ◌^◌, ◌<◌, ◌≤◌, ℕ, [], length, take, drop, min, ap, sym, arith, refl, inl, inr, not, subst, Option, Some, None, true, false, Bool, nat_le, cond, Result, Ok, Err, IfNone, IfSome, IsErrOf, IsAtEnd, cases_lt, le-leb, lt-leb, drop-drop, take_all, take-take, length-drop, length-take, length-take-le, Bytes, Flow, GaveSome, Seen, flow, StreamFault, Read, chunk_size, sealed_chunk_size, chunk_buf_size, gave_none, Piece, Advances, IsAtPiece, Loses, OpenerState, ReadsPiece, held_of, outcome, first_outcome, after_first, ◌++◌, length-append, Filled, GivesText, IfOk, OpensPiece, ReadsAhead, when_none, Known, GaveAtMost, flow_by, FileKey, nonce_size, Starts, StartsReader}
 
 -- ---- n bytes of a buffer, of which the first piece was opened
 
@@ -205,3 +205,14 @@ advances_none from ahead len bytes view over none small = rw (← view, over, no
   filled = refl;
   opens = (refl, refl);
 }))
+
+-- ---- an opener that was given
+
+-- a reader of the source from which an opener read the nonce
+pub starts_reader : {S : Type 0} (to_come : S → Known) (gave : S → Bytes → Type 0) (failed : S → ℕ) (k : FileKey)
+    (max : ℕ) (old : S) {mid new : S} (s : OpenerState) {t : OpenerState}
+    → new ≡ mid → t ≡ s → Starts k max (flow_by to_come gave old mid) (Ok s)
+    → IsErrOf {T = OpenerState} (Ok s) Read ⊎ GaveAtMost nonce_size (flow_by to_come gave old mid)
+    → failed mid ≡ failed old → StartsReader to_come gave failed k max old new (Ok t)
+starts_reader to_come gave failed k max old s same opener starts most uncounted =
+    rw same (rw opener (starts, elim most [ inl e ↦ absurd (cc) | inr x ↦ x ], uncounted))

@@ -89,6 +89,7 @@ impl Chunks {
     }
 
     /// Finds the chunks of the payload at this offset, and opens and keeps the last.
+    #[tactic(auto, using(crate::proofs::RangeLemmas::keeps_last))]
     pub(crate) fn open<D: ReadAt>(
         alloc: Global,
         key: &FileKey,

@@ -167,6 +167,7 @@ pub(crate) fn payload_start<D: ReadAt>(dev: &mut D, at: u64) -> Result<PayloadSt
 
 /// Reads and opens the last of the pieces, which have this many bytes from offset `first` on. Its
 /// text is then at the start of the buffer.
+#[tactic(auto, using(crate::proofs::JudgesLastLemmas::piece_named))]
 pub(crate) fn load_last<D: ReadAt>(
     dev: &mut D,
     key: [u8; 32],

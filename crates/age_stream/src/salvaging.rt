@@ -72,6 +72,7 @@ const NOTHING_SAVED: Salvaged = Salvaged {
 };
 
 /// Saves what it can of the pieces that are left in the source.
+#[tactic(auto, using(crate::proofs::SalvageLemmas::saves_many, crate::proofs::SalvageLemmas::saves_read, crate::proofs::SalvageLemmas::saves_write))]
 fn save_pieces<S: Source, W: Sink, L: Losses>(
     source: &mut S,
     out: &mut W,
@@ -115,6 +116,7 @@ fn save_pieces<S: Source, W: Sink, L: Losses>(
 
 /// Saves what it can of piece i, which is the first of these `n` bytes: its text, or zeros, is then
 /// at the start of the buffer. Returns its length.
+#[tactic(auto, using(crate::proofs::SalvageLemmas::first_saved))]
 fn save_first(key: &[u8; 32], i: u128, bytes: &mut [u8], n: usize) -> (usize, Saved)
     requires size { length bytes.old ≡ chunk_buf_size }
     requires high { n ≤ chunk_buf_size }

@@ -1,5 +1,4 @@
-use Rattle.age_file.proofs.Common.{rules}
-use Rattle.age_file.proofs.CopiesLemmas.{copied_then, copies_ahead_then, piece_ahead, piece_failed}
+use Rattle.age_file.proofs.CopiesLemmas.{copied_then, copies_ahead_then}
 use Rattle.age_file.proofs.copying.copy_all.Goals as goal
 
 pub returns-in-Ok-true-clause-copies : goal.returns-in-Ok-true-clause-copies
@@ -7,13 +6,7 @@ returns-in-Ok-true-clause-copies g c =
     let (piece, took, put, full) = rw c.in-Ok-true.field-0-test at c.in-Ok-true.ensures.copies in
     search (copied_then, took, put, c.copy_pieces.ensures.copies)
 
-pub returns-in-Err-clause-copies : goal.returns-in-Err-clause-copies
-returns-in-Err-clause-copies g c = search (piece_failed, c.in-Err.ensures.copies)
-
 pub returns-in-Ok-true-clause-ahead : goal.returns-in-Ok-true-clause-ahead
 returns-in-Ok-true-clause-ahead g c =
     let (piece, took, put, full) = rw c.in-Ok-true.field-0-test at c.in-Ok-true.ensures.copies in
     search (copies_ahead_then, took, put, c.copy_pieces.ensures.ahead)
-
-pub returns-in-Err-clause-ahead : goal.returns-in-Err-clause-ahead
-returns-in-Err-clause-ahead g c = search (piece_ahead, rules, c.in-Err.ensures.copies)

@@ -1,5 +1,5 @@
 use Rattle.age_file.proofs.Common.{◌∙◌, arith, length, Err}
-use Rattle.age_file.proofs.CopiesLemmas.{beyond_ahead, copied_all, copied_beyond, copied_more, copied_then, copies_ahead_then, piece_ahead, piece_failed}
+use Rattle.age_file.proofs.CopiesLemmas.{copied_all, copied_more, copied_then, copies_ahead_then, piece_ahead, piece_failed}
 use Rattle.age_file.proofs.copying.copy_pieces.Goals as goal
 
 pub loop-copied-preserved : goal.loop-copied-preserved
@@ -22,14 +22,8 @@ returns-in-Err-clause-copies g c =
     copied_then _ _ _ _ (Err c.in-Err.fault) so.took so.put
     (piece_failed _ _ _ _ _ c.in-Err.fault c.in-Err.ensures.copies)
 
-pub returns-clause-copies : goal.returns-clause-copies
-returns-clause-copies g c = copied_beyond c.loop-copied-test.false c.loop-copied.invariant.copied
-
 pub returns-in-Err-clause-ahead : goal.returns-in-Err-clause-ahead
 returns-in-Err-clause-ahead g c =
     let so = c.loop-copied.invariant.copied in
     copies_ahead_then _ _ _ _ (Err c.in-Err.fault) so.took so.put
     (piece_ahead _ _ _ c.in-Err.fault (omega (arith, c.loop-copied.invariant.size)) c.in-Err.ensures.copies)
-
-pub returns-clause-ahead : goal.returns-clause-ahead
-returns-clause-ahead g c = beyond_ahead c.loop-copied.invariant.copied

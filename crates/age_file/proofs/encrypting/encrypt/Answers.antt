@@ -1,11 +1,6 @@
 use Rattle.age_file.proofs.Common.{◌≡◌, ◌++◌, rules, Ok, Err, inr, gave_some, stream_fault}
-use Rattle.age_file.proofs.EncryptLemmas.{encrypts_begun, encrypts_payload, encrypts_unread, filled, read_late, sealed_ended, sealed_on, takes_begun, takes_payload, unfilled}
+use Rattle.age_file.proofs.EncryptLemmas.{encrypts_begun, encrypts_payload, filled, read_late, sealed_ended, sealed_on, takes_begun, takes_payload}
 use Rattle.age_file.proofs.encrypting.encrypt.Goals as goal
-
-pub returns-in_default-clause-encrypts : goal.returns-in_default-clause-encrypts
-returns-in_default-clause-encrypts g c =
-    encrypts_unread c.args.fresh.now c.in_ok-front.ensures.ok (g.W.Sink.taken c.args.out.now)
-    (unfilled c.fill.new.self c.in_default.field-0 c.new-sealer.ensures c.in_default.ensures.fills)
 
 pub returns-in_default-write_all-clause-encrypts : goal.returns-in_default-write_all-clause-encrypts
 returns-in_default-write_all-clause-encrypts g c =

@@ -1,4 +1,3 @@
-use Rattle.age_file.proofs.DecryptLemmas.{file_has_verdict}
 use Rattle.age_file.proofs.FileLemmas.{both_ways, one_verdict}
 use Rattle.age_file.proofs.laws.ok_is_age_file.Goals as goal
 
@@ -7,6 +6,3 @@ returns-clause-ok c = both_ways
 
 pub returns-clause-one : goal.returns-clause-one
 returns-clause-one c = one_verdict
-
-pub returns-clause-some : goal.returns-clause-some
-returns-clause-some c = file_has_verdict

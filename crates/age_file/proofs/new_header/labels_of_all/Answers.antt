@@ -1,4 +1,4 @@
-use Rattle.age_file.proofs.GatheredLemmas.{collects, collects_all}
+use Rattle.age_file.proofs.GatheredLemmas.{collects}
 use Rattle.age_file.proofs.new_header.labels_of_all.Goals as goal
 
 pub loop-recipient-init : goal.loop-recipient-init
@@ -9,6 +9,3 @@ loop-recipient-preserved g c =
     let low = c.loop-recipient-test.true in
     let items = c.in_ok-push.ensures.items in
     search (collects, low, c.recipient-item.is, c.in_ok-labels_of.ensures, items, c.loop-recipient.invariant)
-
-pub returns : goal.returns
-returns g c = search (collects_all, c.loop-recipient-test.false, c.loop-recipient.invariant)

@@ -1,13 +1,9 @@
 use Rattle.age_file.proofs.Common.{Err, inr, sym, flow, move_by, seen_by, losses_by, answers_by}
 use Rattle.age_file.proofs.DecryptLemmas.{reads_file}
 use Rattle.age_file.proofs.SalvageLaws.{quiet_pieces}
-use Rattle.age_file.proofs.SalvageLemmas.{inspect_salvages, locked_salvages, payload_salvages, salvage_takes}
+use Rattle.age_file.proofs.SalvageLemmas.{locked_salvages, payload_salvages, salvage_takes}
 use Rattle.age_file.proofs.FrontLemmas.{front_gave}
 use Rattle.age_file.proofs.salvaging.salvage.Goals as goal
-
-pub returns-in-Err-clause-salvages : goal.returns-in-Err-clause-salvages
-returns-in-Err-clause-salvages g c =
-    search (inspect_salvages, c.in-Err.ensures.verdict)
 
 pub returns-in-Err-found_key-clause-salvages : goal.returns-in-Err-found_key-clause-salvages
 returns-in-Err-found_key-clause-salvages g c =

@@ -1,5 +1,5 @@
 use Rattle.age_stream.proofs.Common.{arith, ◌≡◌, ◌+◌, ◌-◌, ◌*◌, ◌/◌, ◌≤◌, ◌∙◌, ap, refl, inr, take, Ok, Err, OnTrue_at, OnFalse_at, chunk_len, BadChunk, chunk_size, sealed_chunk_size}
-use Rattle.age_stream.proofs.JudgesLastLemmas.{last_many, last_gone, last_read, last_verified, open_len, piece_named}
+use Rattle.age_stream.proofs.JudgesLastLemmas.{last_many, last_gone, last_read, last_verified, open_len}
 use Rattle.age_stream.proofs.loading.load_last.Goals as goal
 
 pub returns-then-last-max-clause-judges : goal.returns-then-last-max-clause-judges
@@ -57,11 +57,6 @@ returns-in-Ok-clause-judges g c =
           (OnTrue_at c.in-Ok-true.field-0-test c.in-Ok-true.ensures.full)
           (c.in-Ok.ensures.text.0 ∙ ap (λ k. Ok (take k c.open_chunk.new.bytes)) text),
     )
-
-pub returns-in-Err-open_chunk-clause-named : goal.returns-in-Err-open_chunk-clause-named
-returns-in-Err-open_chunk-clause-named g c =
-    piece_named c.args.max (c.saturating_sub.result / sealed_chunk_size) c.in-Err-open_chunk.fault
-    c.in-Err-open_chunk.ensures.at
 
 pub returns-in-Ok-clause-verified : goal.returns-in-Ok-clause-verified
 returns-in-Ok-clause-verified g c =

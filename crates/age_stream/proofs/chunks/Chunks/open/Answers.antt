@@ -1,6 +1,5 @@
 use Rattle.age_stream.proofs.Common.{arith, rules, ◌∙◌, ◌+◌, ap, slice_index, Some, written_all}
 use Rattle.age_stream.proofs.JudgesLastLemmas.{judged_err, judged_ok, probes_last}
-use Rattle.age_stream.proofs.RangeLemmas.{keeps_last}
 use Rattle.age_stream.proofs.chunks.Chunks.open.Goals as goal
 
 pub returns-in-Ok-load_last-clause-probes : goal.returns-in-Ok-load_last-clause-probes
@@ -29,11 +28,6 @@ returns-in-Ok-load_last-clause-opens g c =
     rw all (judged_ok c.args.key.now c.args.max_chunks c.args.payload_at (g.D.ReadAt.bytes c.args.dev.now)
     c.in_ok-start.start.nonce new c.in_ok-start.start.sealed_len c.in-Ok-load_last.layout c.in_ok-start.ensures.ok
     (rw (c.payload_key-key.ensures, c.payload_start.ensures.stay) at c.in-Ok-load_last.ensures.judges))
-
-pub returns-in-Ok-load_last-clause-verified : goal.returns-in-Ok-load_last-clause-verified
-returns-in-Ok-load_last-clause-verified g c =
-    keeps_last 1 (written_all c.load_last.new.buf c.into_bytes-buf.result.items c.into_bytes-buf.result.len
-    (search rules) (search rules)) c.in-Ok-load_last.ensures.verified
 
 pub returns-in-Ok-load_last-clause-begins : goal.returns-in-Ok-load_last-clause-begins
 returns-in-Ok-load_last-clause-begins g c =
