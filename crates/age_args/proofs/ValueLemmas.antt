@@ -1,5 +1,5 @@
--- What the value of a result or of an option is equal to.
-use Rattle.age_args.proofs.Common.{◌≡◌, ◌∙◌, ap, Option, Some, None, Result, Ok, Err, option_map, unwrap_or, IfOk}
+-- What the value of a result or of an option is equal to, and what tests say of their parts.
+use Rattle.age_args.proofs.Common.{◌≡◌, ◌∙◌, ap, Option, Some, None, Result, Ok, Err, option_map, unwrap_or, IfOk, arith, ℕ, Bool, true, false, not, ◌&&◌, ◌||◌, ◌==◌, eqb-true}
 
 pub IfOk-equal_to : {X T E : Type 0} (r : Result T E) (f : T → X) {y z : X} → IfOk r (λ t. f t ≡ y) → y ≡ z
     → IfOk r (λ t. f t ≡ z)
@@ -10,3 +10,18 @@ pub mapped_or : {T U : Type 0} (f : T → U) (o : Option T) (d : T) {t : T} {v :
     → option_map f o ≡ v → f t ≡ unwrap_or v (f d)
 mapped_or f None d is e = ap f is ∙ ap (λ v. unwrap_or v (f d)) e
 mapped_or f (Some x) d is e = ap f is ∙ ap (λ v. unwrap_or v (f d)) e
+
+pub both : {a b : Bool} → (a && b) ≡ true → (a ≡ true) × (b ≡ true)
+both e = grind arith
+
+pub neither : {a b : Bool} → (a || b) ≡ false → (a ≡ false) × (b ≡ false)
+neither e = grind arith
+
+pub not_true : {b : Bool} → not b ≡ true → b ≡ false
+not_true e = grind arith
+
+pub not_false : {b : Bool} → not b ≡ false → b ≡ true
+not_false e = grind arith
+
+pub same_number : {a b : ℕ} → (a == b) ≡ true → a ≡ b
+same_number {a} {b} e = eqb-true a b e

@@ -24,6 +24,7 @@ use std::alloc::{AllocError, Global};
 /// # Errors
 /// `Refused` with the text of `clap` if the arguments are not a job or ask for help or the version;
 /// `Memory` if an allocation was refused.
+#[tactic(auto, using(crate::proofs::WordsLemmas::help_read))]
 pub fn parse_args(alloc: Global, words: &[&str]) -> Result<Job, ArgsFault>
     // Returns a job only if `clap` has no reason to refuse the words. The job's command is the one
     // that they name, and each field is the value, the values, the number or the flag of its
@@ -149,6 +150,7 @@ fn rest_of(alloc: Global, matches: &ArgMatches<'_>, id: &str) -> Result<Vec<Stri
 }
 
 /// Copies these texts.
+#[tactic(auto, using(crate::proofs::RowLemmas::copies_take))]
 fn copied(alloc: Global, texts: &[&str]) -> Result<Vec<String>, AllocError>
     ensures { IfOk result (λ copies. map string_bytes copies.items ≡ map (λ t. t.now) texts.now) }
 {

@@ -32,6 +32,7 @@ pub trait Report: Losses {
 /// Saves what is left of the reader to the sink with the identity of this secret. Of a named IN it
 /// goes on behind what cannot be read. Reports each lost chunk. If the result is not whole, or not
 /// all was read, reports that too; the fault is then `BadChunk` with the number of pieces.
+#[tactic(auto, using(crate::proofs::TaskLemmas::no_source))]
 pub(crate) fn salvage_all<R: Read + Seek, W: Sink, L: Report, K: Begun>(
     alloc: Global,
     job: &Job,
@@ -90,6 +91,7 @@ fn judged<L: Report>(
 
 /// Saves what is left of the source to the sink with the identity of this secret, as
 /// `age_file::salvage` does. Reports each lost chunk.
+#[tactic(auto, using(age_header::proofs::DeviceLemmas::of_any, age_header::proofs::DeviceLemmas::some_none, age_stream::proofs::SalvageLemmas::reports_none))]
 fn salvage<S: Source, W: Sink, L: Losses>(
     alloc: Global,
     job: &Job,

@@ -95,6 +95,7 @@ pub(crate) fn refuse(fault: Fault, out: &mut [u8], report: &mut Report) -> u32
 /// text, `HeaderTruncated` and `HeaderTooLarge`, as for `age_file::inspect` and a header with these
 /// lines; `MixedPassphrase` if a `scrypt` stanza is not alone. `OutOfMemory` if an allocation was
 /// refused.
+#[tactic(auto, using(crate::proofs::HeadingLemmas::header_none))]
 pub(crate) fn make_header(alloc: Global, stanzas: &[u8], key: &FileKey) -> Result<Vec<u8>, Fault>
     ensures { MakesHeader stanzas.now key.now result }
 {
@@ -126,6 +127,7 @@ fn characters_of(alloc: Global, mac: &[u8; 32]) -> Result<String, AllocError>
 }
 
 /// A text between the version line and an end line with these base64 characters.
+#[tactic(auto, using(crate::proofs::HeadingLemmas::framed_text))]
 fn framed(alloc: Global, text: &[u8], characters: &[u8]) -> Result<Vec<u8>, AllocError>
     ensures { IfOk result (λ all. all.items ≡ heading text.now characters.now) }
 {

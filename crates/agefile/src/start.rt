@@ -16,6 +16,7 @@ pub(crate) struct Start {
 }
 
 /// Finds the start of the payload of a file with this front, for one identity.
+#[tactic(auto, using(crate::proofs::UnlockLemmas::start_failed))]
 pub(crate) fn start_for(
     alloc: Global,
     front: &[u8],

@@ -1,7 +1,7 @@
 use Rattle.age_args.proofs.Common.{rules, ap, ap₂, refl, true, false, ◌≡◌, ◌∙◌, App, Shape, app_of, shape_of, with_subcommand}
 use Rattle.clap.specs.declared.builder.command.Command.{Command}
 use Rattle.clap.specs.declared.builder.command.Command.TheViews.{out-Command}
-use Rattle.age_args.proofs.Booleans.{both, not_true}
+use Rattle.age_args.proofs.ValueLemmas.{both, not_true}
 use Rattle.age_args.proofs.options.whole_command.Goals as goal
 
 -- a plain command has no global argument

@@ -1,5 +1,5 @@
 use Rattle.std.proofs.Common.{◌∙◌, inl, inr, sym}
-use Rattle.age_args.proofs.Booleans.{same_number}
+use Rattle.age_args.proofs.ValueLemmas.{same_number}
 use Rattle.age_args.proofs.WordsLemmas.{asks}
 use Rattle.age_args.proofs.words.asks_for_help.Goals as goal
 use Rattle.age_args.proofs.words.asks_for_help.Goals.{then-words-eq3, else-words-eq3}

@@ -1,11 +1,7 @@
 use Rattle.age_commands.proofs.Common.{◌≡◌, rules, ◌≢◌, Took, WritesPart, move_by}
-use Rattle.age_commands.proofs.InspectLemmas.{missed, shown_of}
+use Rattle.age_commands.proofs.InspectLemmas.{shown_of}
 use Rattle.age_commands.specs.declared.inspect.Check.TheVariants.{Bad}
 use Rattle.age_commands.proofs.inspect.inspect.Goals as goal
-
-pub returns-in-Err-clause-inspects : goal.returns-in-Err-clause-inspects
-returns-in-Err-clause-inspects g c =
-    search (missed, c.limits_of.ensures, rw c.in-Err.is at c.inspect.ensures.verdict)
 
 pub returns-in_default-write_all-clause-inspects : goal.returns-in_default-write_all-clause-inspects
 returns-in_default-write_all-clause-inspects g c =

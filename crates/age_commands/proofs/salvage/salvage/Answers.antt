@@ -1,4 +1,4 @@
-use Rattle.age_commands.proofs.Common.{◌≡◌, ◌∷◌, [], rules, Appends-nil, of_any, some_none, reports_none}
+use Rattle.age_commands.proofs.Common.{◌≡◌, ◌∷◌, [], rules}
 use Rattle.age_commands.proofs.SecretLemmas.{answers_meant, made_reads}
 use Rattle.age_commands.proofs.salvage.salvage.Goals as goal
 use Rattle.age_commands.proofs.salvage.salvage.OwnLists.{own-1, entry-1-1, at-1-1, same-1-1}
@@ -8,9 +8,3 @@ returns-clause-salvages g c =
     let same = made_reads own-1 entry-1-1 at-1-1 same-1-1 (λ j y. j.1.meaning y) c.into_dyn_box.ensures.1 in
     let one : c.as_slice.result.now ≡ c.into_dyn_box.result ∷ [] = search rules in
     rw (one, c.limits_of.ensures, answers_meant same c.in-Ok.ensures) at c.salvage.ensures.salvages
-
-pub returns-in_default-clause-salvages : goal.returns-in_default-clause-salvages
-returns-in_default-clause-salvages g c = search (of_any, some_none, Appends-nil, reports_none)
-
-pub returns-then-is_err-clause-salvages : goal.returns-then-is_err-clause-salvages
-returns-then-is_err-clause-salvages g c = search (of_any, some_none, Appends-nil, reports_none)

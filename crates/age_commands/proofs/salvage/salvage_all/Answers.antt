@@ -1,9 +1,5 @@
 use Rattle.age_commands.proofs.SalvageLemmas.{quiet_whole, salvages_from, silent_whole, writes_whole}
-use Rattle.age_commands.proofs.TaskLemmas.{no_source}
 use Rattle.age_commands.proofs.salvage.salvage_all.Goals as goal
-
-pub returns-in-Err-clause-salvages : goal.returns-in-Err-clause-salvages
-returns-in-Err-clause-salvages g c = search (no_source, c.in-Err.ensures.err)
 
 pub returns-clause-salvages : goal.returns-clause-salvages
 returns-clause-salvages g c =

@@ -1,5 +1,5 @@
 use Rattle.agefile.proofs.Common.{◌≡◌, ◌∙◌, ap, arith, inl, inr, length, refl, Err, string_bytes, nil_from_length, NoRecipients}
-use Rattle.agefile.proofs.HeadingLemmas.{header_made, header_none}
+use Rattle.agefile.proofs.HeadingLemmas.{header_made}
 use Rattle.agefile.proofs.heading.make_header.Goals as goal
 
 pub returns-then-stanzas-eq0 : goal.returns-then-stanzas-eq0
@@ -8,11 +8,6 @@ returns-then-stanzas-eq0 c = inr (
   inl (nil_from_length c.args.stanzas.now c.if-stanzas-eq0.true, refl),
   refl,
 )
-
-pub returns-in-Err : goal.returns-in-Err
-returns-in-Err c = header_none c.in-Err.fault
-    (λ e. let none : length c.args.stanzas.now ≡ 0 = ap length e in omega (arith, none, c.if-stanzas-eq0.false))
-    (c.in-Err.ensures c.args.stanzas.now (c.as_slice.ensures.value ∙ c.in-Ok.ensures))
 
 pub returns-in-Ok-framed : goal.returns-in-Ok-framed
 returns-in-Ok-framed c =

@@ -1,9 +1,5 @@
-use Rattle.agefile.proofs.UnlockLemmas.{key_in_front, start_cut, start_failed, start_found}
+use Rattle.agefile.proofs.UnlockLemmas.{key_in_front, start_cut, start_found}
 use Rattle.agefile.proofs.start.start_for.Goals as goal
-
-pub returns-in-Err : goal.returns-in-Err
-returns-in-Err g c =
-    search (start_failed, c.in-Err.ensures)
 
 pub split_at-requires : goal.split_at-requires
 split_at-requires g c =
