@@ -63,7 +63,7 @@ class Allocations(ProgramCase):
         line, hint = message("NoMatch"), "pass.age: its stanzas are of type scrypt; -p opens it"
         full = fault(line, hint).encode()
         refusal = message("OutOfMemory")
-        said = [fault(refusal), fault(refusal, hint), fault(line, refusal), fault(line, "reading pass.age"), fault(line, hint)]
+        said = [fault(refusal), fault(line, refusal), fault(line, "reading pass.age"), fault(line, hint)]
         *refused, last = self.refusals("decrypt", "-v", "-k", "key", "pass.age")
         self.assertTrue(refused)
         for ran in refused:

@@ -196,3 +196,5 @@ words_job remaining contents words c job from sink result pipe makes runs =
     let p = piped c words job pipe makes in
     let limits : ℕ → Bounds = λ n. record { max_header = n; max_chunks = (word_limits words).max_chunks } in
     (p.is, ap limits p.max_header, alone remaining contents job p.input p.output runs)
+
+pub ruleset jobs_done = (done_decrypt, done_encrypt, done_rewrap, done_inspect, done_range)

@@ -1,6 +1,7 @@
 -- What was printed on standard error, from what each call printed.
 use Rattle.std.proofs.Math.Seq.{take-length}
-use Rattle.age_cli.proofs.Common.{◌≡◌, ◌⊎◌, ℕ, List, Bool, arith, inl, inr, refl, length, Some, Result, Ok, Err, ⊤, Bytes, Moved, AskForText, Reads, AnswersRefusal}
+use Rattle.std.specs.Prelude.{codes}
+use Rattle.age_cli.proofs.Common.{◌≡◌, ◌⊎◌, ℕ, List, Bool, arith, inl, inr, refl, length, None, Some, Result, Ok, Err, ⊤, Bytes, Known, Moved, AskForText, Reads, AnswersRefusal}
 use Rattle.age_args.specs.declared.fault.ArgsFault.{ArgsFault}
 use Rattle.age_args.specs.declared.fault.ArgsFault.TheVariants.{Memory, Refused}
 use Rattle.age_args.proofs.RefusalLemmas.{shown}
@@ -10,6 +11,16 @@ use Rattle.age_cli.specs.Told.{Says, Tells, error_line}
 part : {E : Type 0} (err : Moved) (r : Result ⊤ E) (line : Bytes) → Writes err r line → WritesPart err line
 part err (Ok u) line h = (length line, rw take-length h)
 part err (Err e) line h = h
+
+-- the line of refused memory was printed in place of another
+pub says_refusal : {E F : Type 0} (known : Known) (err : Moved) (r : Result ⊤ E) (e : F)
+    → Writes err r (error_line (codes "out of memory")) → Says known err (Err e)
+says_refusal None err r e h = (error_line (codes "out of memory"), part err r (error_line (codes "out of memory")) h, tt)
+says_refusal (Some said) err r e h = (
+  error_line (codes "out of memory"),
+  part err r (error_line (codes "out of memory")) h,
+  inr refl,
+)
 
 pub tells_only : {E : Type 0} (verbose : Bool) (text : Bytes) (err : Moved) (r : Result ⊤ E)
     → Says (Some (error_line text)) err r → Tells verbose text err

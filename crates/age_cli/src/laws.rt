@@ -28,6 +28,7 @@ use std::rt::Files;
 ///
 /// The same holds for a `run` that ended with status 0, if its arguments name no file: by `words`
 /// its job has the command and the limits that they set. (Those of `range` name a file.)
+#[tactic(auto, using(crate::proofs::LawLemmas::jobs_done))]
 pub fn done_jobs<F: Files>()
     ensures decrypt { (job : Job) (b xs : Bytes) (new : Known)
         → (job.command ≡ Command.Decrypt) ⊎ (job.command ≡ Command.Salvage)

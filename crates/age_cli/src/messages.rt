@@ -13,14 +13,17 @@ use std::io;
 use std::io::{ErrorKind, Write};
 
 /// Prints a text on standard error, in one write if the system takes it whole. If memory is
-/// refused for the text, prints the line of that fault instead.
+/// refused for the text, prints the line of that fault instead, and returns an error too.
 pub(crate) fn say<D: Display, E: Write>(alloc: Global, text: &D, err: &mut E) -> io::Result<()>
     ensures { Says (D.output text.now) (move_by E.contents err.old err.new) result }
 {
     let mut whole = Vec::new(alloc);
     match write!(whole, "{text}") {
         Ok(()) => write_text(whole.as_slice(), err),
-        Err(_) => write_text(b"agep: out of memory\n", err),
+        Err(_) => {
+            write_text(b"agep: out of memory\n", err)?;
+            Err(io::Error::from(ErrorKind::OutOfMemory))
+        }
     }
 }
 
@@ -46,8 +49,7 @@ fn write_part<E: Write>(part: &[u8], err: &mut E) -> io::Result<usize>
     }
 }
 
-/// Prints a failure and, with `--verbose`, what more is known about it. Returns the first failed
-/// write.
+/// Prints a failure and, with `--verbose`, what more is known about it. Returns the first error.
 pub(crate) fn tell<E: Write>(
     alloc: Global,
     job: &Job,

@@ -1,1 +1,0 @@
--- The names that most files of this crate cite, passed on from one place.
