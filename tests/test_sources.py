@@ -22,8 +22,8 @@ def text_of(name):
 
 
 def wide_lines(name, text, most=100):
-    """The numbers of the lines wider than `most` columns, except those that may be wider: imports, long
-    literals, tables, blocks of code, and in scripts everything except comments."""
+    """The numbers of the lines wider than `most` columns, except those that may be wider: imports, lists of
+    lemmas, long literals, tables, blocks of code, and in scripts everything except comments."""
     found, is_code = [], False
     for number, line in enumerate(text.split("\n"), 1):
         if name.endswith(".md"):
@@ -31,7 +31,7 @@ def wide_lines(name, text, most=100):
                 is_code = not is_code
             may_be_wide = is_code or re.match(" *[|]", line)
         elif name.endswith((".rt", ".antt")):
-            may_be_wide = re.match(r" *((pub|ghost|unfoldable) )*use |.*\".{60}", line)
+            may_be_wide = re.match(r" *((pub|ghost|unfoldable) )*use | *#\[tactic|.*\".{60}", line)
         else:
             may_be_wide = not re.match(" *#", line)
         if not may_be_wide and len(line) > most:
