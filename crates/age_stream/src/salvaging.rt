@@ -72,7 +72,6 @@ const NOTHING_SAVED: Salvaged = Salvaged {
 };
 
 /// Saves what it can of the pieces that are left in the source.
-#[tactic(auto, using(crate::proofs::SalvageLemmas::saves_many, crate::proofs::SalvageLemmas::saves_read, crate::proofs::SalvageLemmas::saves_write))]
 fn save_pieces<S: Source, W: Sink, L: Losses>(
     source: &mut S,
     out: &mut W,
