@@ -20,7 +20,7 @@ error_line text = codes "agep: " ++ (text ++ 10 ∷ [])
 abbrev pub IsLineOf : (text line : Bytes) → Type 0
 IsLineOf text line = (line ≡ error_line text) ⊎ (line ≡ error_line (codes "out of memory"))
 
--- A line was printed, and on a failed write a prefix of it. It is this one, if it is known, or that
+-- A line was printed, and on an error a prefix of it. It is this one, if it is known, or that
 -- of refused memory.
 abbrev pub Says : {E : Type 0} (known : Known) (err : Moved) (result : Result (Unit {0}) E) → Type 0
 Says known err result = (line : Bytes) × Writes err result line
