@@ -96,5 +96,3 @@ pub version_read : {a new : Seen} (first : Bytes) {rest : Bytes} {max : ℕ} →
     → length first < min max version_size
     → version_text ≡ first ++ rest → rest ≡ [] → (version_size ≤ max) × Gave (flow a new) version_line
 version_read first {rest} took low is none = search (rules, prefix_size, append-nil, version_is_line)
-
-pub ruleset short_versions = (short_line, short_input, short_room)

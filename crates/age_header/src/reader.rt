@@ -126,7 +126,6 @@ fn read_header<S: Source>(alloc: Global, input: &mut S, max: usize) -> Result<He
 }
 
 /// Reads the version line.
-#[tactic(auto, using(crate::proofs::VerdictFirstLineLemmas::short_versions), unfolding(crate::proofs::VerdictPathLemmas::version_text))]
 fn read_version<S: Source>(alloc: Global, input: &mut S, max: usize) -> Result<(), HeaderFault>
     ensures count { CountsIf is_read (S.failed input.old) (S.failed input.new) result }
     ensures ok { OnOk result
