@@ -113,22 +113,20 @@ impl Chunks {
         let start = payload_start(dev, payload_at)?;
         let key = payload_key(key, &start.nonce);
         let mut buf = buf.into_bytes();
-        match load_last(
+        let layout = load_last(
             dev,
             key,
             payload_at + NONCE_SIZE as u64,
             start.sealed_len,
             max_chunks,
             buf.as_mut_slice(),
-        ) {
-            Ok(layout) => Ok(Chunks {
-                layout,
-                buf,
-                index: Some(layout.count - 1),
-                opened: 1,
-            }),
-            Err(fault) => Err(fault),
-        }
+        )?;
+        Ok(Chunks {
+            layout,
+            buf,
+            index: Some(layout.count - 1),
+            opened: 1,
+        })
     }
 
     /// Opens and keeps chunk i, unless it is kept already.

@@ -198,13 +198,11 @@ pub(crate) fn load_last<D: ReadAt>(
         Ok(false) => return Err(StreamFault::BadChunk(last as u128)),
         Ok(true) => {}
     }
-    match open_chunk(&key, max, last as u128, true, buf, end) {
-        Ok(len) => Ok(Layout {
-            key,
-            first,
-            plain: CHUNK_SIZE as u64 * last + len as u64,
-            count: last + 1,
-        }),
-        Err(fault) => Err(fault),
-    }
+    let len = open_chunk(&key, max, last as u128, true, buf, end)?;
+    Ok(Layout {
+        key,
+        first,
+        plain: CHUNK_SIZE as u64 * last + len as u64,
+        count: last + 1,
+    })
 }

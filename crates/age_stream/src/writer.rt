@@ -199,10 +199,8 @@ impl<'a, W: Sink> StreamWriter<'a, W> {
     {
         let StreamWriter { out, sealer } = self;
         let mut sealer = sealer;
-        match sealer.write_from(plain, out) {
-            Ok(()) => sealer.finish(out),
-            Err(fault) => Err(fault),
-        }
+        sealer.write_from(plain, out)?;
+        sealer.finish(out)
     }
 
     /// Seals what is held as the last chunk, and writes it. Returns the total numbers of bytes and
