@@ -6,7 +6,7 @@ use crate::fault::Fault;
 use age_header::HeaderFault;
 use age_recipient::UnlockFault;
 use age_stream::StreamFault;
-use std::alloc::AllocError;
+use std::alloc::{AllocError, AllocFailed};
 
 impl From<HeaderFault> for Fault {
     ghost use Rattle.age_file.specs.Verdict.{header_fault};
@@ -65,6 +65,16 @@ impl From<AllocError> for Fault {
     ghost from_gives = { λ error fault. fault ≡ OutOfMemory };
 
     fn from(_error: AllocError) -> Fault {
+        Fault::OutOfMemory
+    }
+}
+
+impl<T: Drop> From<AllocFailed<T>> for Fault {
+    ghost use Rattle.age_file.specs.declared.fault.Fault.TheVariants.{OutOfMemory};
+
+    ghost from_gives = { λ error fault. fault ≡ OutOfMemory };
+
+    fn from(_error: AllocFailed<T>) -> Fault {
         Fault::OutOfMemory
     }
 }

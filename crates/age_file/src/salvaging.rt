@@ -80,19 +80,11 @@ pub fn salvage<S: Source, W: Sink, L: Losses>(
         ⊎ ((fault ≡ Fault.NonceTruncated) ⊎ ((fault ≡ Fault.OutOfMemory)
         ⊎ GaveAtMost limits.now.max_header (flow_by S.to_come S.gave input.old input.new)))) }
 {
-    let header = match inspect(alloc, input, limits) {
-        Ok(header) => header,
-        Err(fault) => return Err(fault),
-    };
-    let (key, has_right_mac) = match found_key(alloc, identities, &header) {
-        Ok(found) => found,
-        Err(fault) => return Err(fault),
-    };
-    match salvage_payload(alloc, &key, input, out, losses, limits.max_chunks()) {
-        Ok(payload) => Ok(SalvagedFile {
-            has_right_mac,
-            payload,
-        }),
-        Err(fault) => Err(Fault::from(fault)),
-    }
+    let header = inspect(alloc, input, limits)?;
+    let (key, has_right_mac) = found_key(alloc, identities, &header)?;
+    let payload = salvage_payload(alloc, &key, input, out, losses, limits.max_chunks())?;
+    Ok(SalvagedFile {
+        has_right_mac,
+        payload,
+    })
 }

@@ -41,11 +41,11 @@ pub fn unlock_header(
         (answers_by identities.now (λ i s. meaning i s) header.now.stanzas)
         (map (λ i. may_run_out i header.now.stanzas) identities.now) }
 {
-    match found_key(alloc, identities, header) {
-        Ok((key, true)) => Ok(key),
-        Ok((_, false)) => Err(Fault::BadMac),
-        Err(fault) => Err(fault),
+    let (key, has_right_mac) = found_key(alloc, identities, header)?;
+    if !has_right_mac {
+        return Err(Fault::BadMac);
     }
+    Ok(key)
 }
 
 /// Finds the file key of a header as `unlock_header` does, and whether the header's MAC is right
