@@ -119,13 +119,9 @@ fn open_first(
     let (sealed, _) = chunk.split_at_mut(size);
     sealed.copy_from_slice(piece);
     let last = left.len() <= SEALED_CHUNK_SIZE;
-    match open_chunk(key, MAX_CHUNKS, number as u128, last, sealed, size) {
-        Ok(len) => {
-            let (text, _) = sealed.split_at(len);
-            let (front, _) = room.split_at_mut(len);
-            front.copy_from_slice(text);
-            Ok(len)
-        }
-        Err(fault) => Err(fault),
-    }
+    let len = open_chunk(key, MAX_CHUNKS, number as u128, last, sealed, size)?;
+    let (text, _) = sealed.split_at(len);
+    let (front, _) = room.split_at_mut(len);
+    front.copy_from_slice(text);
+    Ok(len)
 }

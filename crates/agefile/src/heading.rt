@@ -102,20 +102,10 @@ pub(crate) fn make_header(alloc: Global, stanzas: &[u8], key: &FileKey) -> Resul
     if stanzas.len() == 0 {
         return Err(Fault::NoRecipients);
     }
-    let Ok(probe) = framed(alloc, stanzas, &[b'A'; 43]) else {
-        return Err(Fault::OutOfMemory);
-    };
-    let mac = match mac_under(alloc, probe.as_slice(), key) {
-        Ok(mac) => mac,
-        Err(fault) => return Err(fault),
-    };
-    let Ok(characters) = characters_of(alloc, &mac) else {
-        return Err(Fault::OutOfMemory);
-    };
-    match framed(alloc, stanzas, characters.as_bytes()) {
-        Ok(header) => Ok(header),
-        Err(_) => Err(Fault::OutOfMemory),
-    }
+    let probe = framed(alloc, stanzas, &[b'A'; 43])?;
+    let mac = mac_under(alloc, probe.as_slice(), key)?;
+    let characters = characters_of(alloc, &mac)?;
+    Ok(framed(alloc, stanzas, characters.as_bytes())?)
 }
 
 /// The base64 of a MAC.
@@ -156,10 +146,7 @@ fn mac_under(alloc: Global, text: &[u8], key: &FileKey) -> Result<[u8; 32], Faul
     if is_mixed(header.stanzas()) {
         return Err(Fault::MixedPassphrase);
     }
-    match mac_of(alloc, &key.0, header.stanzas()) {
-        Ok(mac) => Ok(mac),
-        Err(_) => Err(Fault::OutOfMemory),
-    }
+    Ok(mac_of(alloc, &key.0, header.stanzas())?)
 }
 
 /// Converts a header's fault to one of its text of stanzas, which begins at the second line.

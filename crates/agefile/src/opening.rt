@@ -90,8 +90,6 @@ fn start_at(start: Result<Start, Fault>, payload: &mut Payload, report: &mut Rep
 pub(crate) fn start_under(alloc: Global, front: &[u8], file_key: &[u8; 16]) -> Result<Start, Fault>
     ensures { FindsStart (by_file_key file_key.now) front.now result }
 {
-    match Box::new(alloc, GivenKey::new(FileKey(*file_key))) {
-        Ok(identity) => start_for(alloc, front, identity),
-        Err(_) => Err(Fault::OutOfMemory),
-    }
+    let identity = Box::new(alloc, GivenKey::new(FileKey(*file_key)))?;
+    start_for(alloc, front, identity)
 }

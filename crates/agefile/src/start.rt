@@ -16,7 +16,6 @@ pub(crate) struct Start {
 }
 
 /// Finds the start of the payload of a file with this front, for one identity.
-#[tactic(auto, using(crate::proofs::UnlockLemmas::start_failed))]
 pub(crate) fn start_for(
     alloc: Global,
     front: &[u8],
@@ -24,10 +23,7 @@ pub(crate) fn start_for(
 ) -> Result<Start, Fault>
     ensures { FindsStart (one_answer (meaning identity)) front.now result }
 {
-    let found = match key_for(alloc, front, identity) {
-        Ok(found) => found,
-        Err(fault) => return Err(fault),
-    };
+    let found = key_for(alloc, front, identity)?;
     let key = found.key;
     let (_, rest) = front.split_at(found.header_len as usize);
     if rest.len() < NONCE_SIZE {

@@ -128,10 +128,8 @@ fn key_for_passphrase(
 fn key_for_key(alloc: Global, front: &[u8], key: &[u8; 32]) -> Result<Unlocked, Fault>
     ensures { FindsKey (one_answer (key_unwraps key.now)) front.now result }
 {
-    match Box::new(alloc, KeyIdentity::new(*key)) {
-        Ok(identity) => key_for(alloc, front, identity),
-        Err(_) => Err(Fault::OutOfMemory),
-    }
+    let identity = Box::new(alloc, KeyIdentity::new(*key))?;
+    key_for(alloc, front, identity)
 }
 
 /// Finds the file key for one identity.
@@ -142,10 +140,8 @@ pub(crate) fn key_for(
 ) -> Result<Unlocked, Fault>
     ensures { FindsKey (one_answer (meaning identity)) front.now result }
 {
-    match vec![in alloc; identity] {
-        Ok(identities) => find_key(alloc, front, identities.as_slice()),
-        Err(_) => Err(Fault::OutOfMemory),
-    }
+    let identities = vec![in alloc; identity]?;
+    find_key(alloc, front, identities.as_slice())
 }
 
 /// Finds the file key for some identities.
@@ -157,14 +153,8 @@ fn find_key(
     ensures { FindsKey (λ stanzas. map (λ i. meaning i stanzas) identities.now) front.now result }
 {
     let mut source = MemSource::new(front);
-    let header = match inspect(alloc, &mut source, &limits()) {
-        Ok(header) => header,
-        Err(fault) => return Err(fault),
-    };
-    let key = match unlock_header(alloc, identities, &header) {
-        Ok(key) => key,
-        Err(fault) => return Err(fault),
-    };
+    let header = inspect(alloc, &mut source, &limits())?;
+    let key = unlock_header(alloc, identities, &header)?;
     let header_len = (front.len() - source.rest().len()) as u64;
     Ok(Unlocked { header_len, key })
 }

@@ -27,12 +27,12 @@ returns-then-is_mixed c stanzas is =
     let none : length c.rest-rest.result.now ≡ 0 = omega (arith, c.if-rest-gt0.false) in
     inr (Err MixedPassphrase, whole_text stanzas _ c.in-Ok.header (Err MixedPassphrase) f none (rw mixed refl), refl)
 
-pub returns-in-Ok-mac_of : goal.returns-in-Ok-mac_of
-returns-in-Ok-mac_of c stanzas is =
+pub returns : goal.returns
+returns c stanzas is =
     let f = fronts (c.new-source.ensures ∙ ap Some is) c.rest-rest.ensures
     (rw c.limits.ensures at c.in-Ok.ensures.verdict) in
     let mixed = rw c.stanzas.ensures.value at (sym c.is_mixed.ensures ∙ c.if-is_mixed.false) in
-    let mac = rw c.stanzas-2.ensures.value at c.in-Ok-mac_of.ensures in
+    let mac = rw c.stanzas-2.ensures.value at c.in_ok-mac_of.ensures in
     let none : length c.rest-rest.result.now ≡ 0 = omega (arith, c.if-rest-gt0.false) in
     inr (
       Ok c.in-Ok.header.stanzas,

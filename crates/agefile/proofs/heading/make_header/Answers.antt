@@ -9,10 +9,10 @@ returns-then-stanzas-eq0 c = inr (
   refl,
 )
 
-pub returns-in-Ok-framed : goal.returns-in-Ok-framed
-returns-in-Ok-framed c =
-    header_made c.in-Ok-mac_under.mac (string_bytes c.in-Ok-characters_of.characters)
+pub returns : goal.returns
+returns c =
+    header_made c.in_ok-mac.mac (string_bytes c.in_ok-characters.characters)
     (λ e. let none : length c.args.stanzas.now ≡ 0 = ap length e in omega (arith, none, c.if-stanzas-eq0.false))
-    (c.in-Ok-mac_under.ensures c.args.stanzas.now (c.as_slice.ensures.value ∙ c.in-Ok.ensures))
-    c.in-Ok-characters_of.ensures.base64 c.in-Ok-characters_of.ensures.len
-    (rw c.as_bytes.ensures.value at c.in-Ok-framed.ensures)
+    (c.in_ok-mac.ensures c.args.stanzas.now (c.as_slice.ensures.value ∙ c.in_ok-probe.ensures))
+    c.in_ok-characters.ensures.base64 c.in_ok-characters.ensures.len
+    (rw c.as_bytes.ensures.value at c.in_ok-framed.ensures)
