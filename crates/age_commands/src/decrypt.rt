@@ -30,12 +30,7 @@ pub(crate) fn decrypt<S: Source, W: Sink>(
     ensures took { IfErr result (TookUpTo (limits_of job.now)
         (flow_by S.to_come S.gave input.old input.new) (move_by W.taken out.old out.new)) }
 {
-    let Ok(identity) = SecretIdentity::boxed(alloc, job, secret) else {
-        return Err(Fault::OutOfMemory);
-    };
-    let mut identities: Vec<Box<dyn Identity>> = Vec::new(alloc);
-    if identities.push(identity).is_err() {
-        return Err(Fault::OutOfMemory);
-    }
+    let identity: Box<dyn Identity> = SecretIdentity::boxed(alloc, job, secret)?;
+    let identities = vec![in alloc; identity]?;
     age_file::decrypt(alloc, input, out, identities.as_slice(), &limits_of(job))
 }

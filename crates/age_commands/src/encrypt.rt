@@ -33,13 +33,8 @@ pub(crate) fn encrypt<S: Source, W: Sink>(
     ensures spared { result ≡ Err Fault.Read
         → (out.new ≡ out.old) ⊎ FillsChunk (flow_by S.to_come S.gave input.old input.new) }
 {
-    let Ok(recipient) = SecretRecipient::boxed(alloc, job, secret, seed.salt) else {
-        return Err(Fault::OutOfMemory);
-    };
-    let mut recipients: Vec<Box<dyn Recipient>> = Vec::new(alloc);
-    if recipients.push(recipient).is_err() {
-        return Err(Fault::OutOfMemory);
-    }
+    let recipient: Box<dyn Recipient> = SecretRecipient::boxed(alloc, job, secret, seed.salt)?;
+    let recipients = vec![in alloc; recipient]?;
     age_file::encrypt(
         alloc,
         input,

@@ -56,16 +56,9 @@ pub(crate) fn inspect<S: Source, W: Sink>(
     ensures reads { CountsIf is_read (S.failed input.old) (S.failed input.new) result }
     ensures writes { CountsIf is_write (W.failed out.old) (W.failed out.new) result }
 {
-    let header = match age_file::inspect(alloc, input, &limits_of(job)) {
-        Ok(header) => header,
-        Err(fault) => return Err(fault),
-    };
-    let Ok(check) = check_of(alloc, &header, file_key) else {
-        return Err(Fault::OutOfMemory);
-    };
-    let Ok(shown) = shown_of(alloc, job.raw, &header, check) else {
-        return Err(Fault::OutOfMemory);
-    };
+    let header = age_file::inspect(alloc, input, &limits_of(job))?;
+    let check = check_of(alloc, &header, file_key)?;
+    let shown = shown_of(alloc, job.raw, &header, check)?;
     let Ok(()) = write_all(out, shown.as_slice()) else {
         return Err(Fault::Write);
     };

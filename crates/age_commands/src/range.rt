@@ -43,16 +43,9 @@ pub(crate) fn range_of<D: ReadAt, W: Sink>(
     ensures reads { CountsIf is_read (D.failed input.old) (D.failed input.new) result }
     ensures writes { CountsIf is_write (W.failed out.old) (W.failed out.new) result }
 {
-    let Ok(identity) = SecretIdentity::boxed(alloc, job, secret) else {
-        return Err(Fault::OutOfMemory);
-    };
-    let mut identities: Vec<Box<dyn Identity>> = Vec::new(alloc);
-    if identities.push(identity).is_err() {
-        return Err(Fault::OutOfMemory);
-    }
-    let Ok(mut piece) = vec![in alloc; 0u8; CHUNK_SIZE] else {
-        return Err(Fault::OutOfMemory);
-    };
+    let identity: Box<dyn Identity> = SecretIdentity::boxed(alloc, job, secret)?;
+    let identities = vec![in alloc; identity]?;
+    let mut piece = vec![in alloc; 0u8; CHUNK_SIZE]?;
     match opened_ranges(alloc, input, identities.as_slice(), &limits_of(job)) {
         Ok(mut reader) => {
             let written = write_range(&mut reader, job.at, job.len, piece.as_mut_slice(), out);
@@ -91,11 +84,10 @@ fn write_range<D: ReadAt, W: Sink>(
     let mut at = at;
     let mut left = len;
     while left > 0 {
-        let n = match write_next(reader, at, left, piece, out) {
-            Ok(0) => return Ok(()),
-            Ok(n) => n,
-            Err(fault) => return Err(fault),
-        };
+        let n = write_next(reader, at, left, piece, out)?;
+        if n == 0 {
+            return Ok(());
+        }
         at += n as u64;
         left -= n as u64;
     }
@@ -140,12 +132,9 @@ fn write_next<D: ReadAt, W: Sink>(
     ensures writes { CountsIf is_write (W.failed out.old) (W.failed out.new) result }
 {
     let most = left.min(CHUNK_SIZE as u64 - at % CHUNK_SIZE as u64) as usize;
-    let n = match reader.read_range(at, &mut piece[..most]) {
-        Ok(n) => n,
-        Err(fault) => return Err(Fault::from(fault)),
+    let n = reader.read_range(at, &mut piece[..most])?;
+    let Ok(()) = write_all(out, &piece[..n]) else {
+        return Err(Fault::Write);
     };
-    match write_all(out, &piece[..n]) {
-        Ok(()) => Ok(n),
-        Err(_) => Err(Fault::Write),
-    }
+    Ok(n)
 }

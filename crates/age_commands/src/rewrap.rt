@@ -32,20 +32,10 @@ pub(crate) fn rewrap<S: Source, W: Sink>(
     ensures reads { CountsIf is_read (S.failed input.old) (S.failed input.new) result }
     ensures writes { CountsIf is_write (W.failed out.old) (W.failed out.new) result }
 {
-    let Ok(identity) = SecretIdentity::boxed(alloc, job, old) else {
-        return Err(Fault::OutOfMemory);
-    };
-    let mut identities: Vec<Box<dyn Identity>> = Vec::new(alloc);
-    if identities.push(identity).is_err() {
-        return Err(Fault::OutOfMemory);
-    }
-    let Ok(recipient) = SecretRecipient::boxed(alloc, job, new, salt) else {
-        return Err(Fault::OutOfMemory);
-    };
-    let mut recipients: Vec<Box<dyn Recipient>> = Vec::new(alloc);
-    if recipients.push(recipient).is_err() {
-        return Err(Fault::OutOfMemory);
-    }
+    let identity: Box<dyn Identity> = SecretIdentity::boxed(alloc, job, old)?;
+    let identities = vec![in alloc; identity]?;
+    let recipient: Box<dyn Recipient> = SecretRecipient::boxed(alloc, job, new, salt)?;
+    let recipients = vec![in alloc; recipient]?;
     age_file::rewrap(
         alloc,
         input,

@@ -113,13 +113,8 @@ fn salvage<S: Source, W: Sink, L: Losses>(
     ensures reads { CountsIf is_read (S.failed input.old) (S.failed input.new) result }
     ensures writes { CountsIf is_write (W.failed out.old) (W.failed out.new) result }
 {
-    let Ok(identity) = SecretIdentity::boxed(alloc, job, secret) else {
-        return Err(Fault::OutOfMemory);
-    };
-    let mut identities: Vec<Box<dyn Identity>> = Vec::new(alloc);
-    if identities.push(identity).is_err() {
-        return Err(Fault::OutOfMemory);
-    }
+    let identity: Box<dyn Identity> = SecretIdentity::boxed(alloc, job, secret)?;
+    let identities = vec![in alloc; identity]?;
     let limits = &limits_of(job);
     age_file::salvage(alloc, input, out, losses, identities.as_slice(), limits)
 }

@@ -61,22 +61,22 @@ pub fn perform_between<R: Read + Seek, W: Sink, L: Report>(
         Task::Encrypt(secret, seed) => {
             without_counts(encrypt(alloc, job, secret, &seed, &mut ReadSource::new(input), out))
         }
-        Task::Decrypt(secret) => match file_source(alloc, input) {
-            Ok(mut source) => without_counts(decrypt(alloc, job, secret, &mut source, out)),
-            Err(_) => Err(Fault::OutOfMemory),
-        },
-        Task::Rewrap(old, new, salt) => match file_source(alloc, input) {
-            Ok(mut source) => rewrap(alloc, job, old, new, salt, &mut source, out),
-            Err(_) => Err(Fault::OutOfMemory),
-        },
-        Task::Inspect(file_key) => match header_source(alloc, input) {
-            Ok(mut source) => inspect(alloc, job, &file_key, &mut source, out),
-            Err(_) => Err(Fault::OutOfMemory),
-        },
-        Task::Range(secret) => match source_at_offsets(alloc, input) {
-            Ok(mut source) => range_of(alloc, job, secret, &mut source, out),
-            Err(_) => Err(Fault::OutOfMemory),
-        },
+        Task::Decrypt(secret) => {
+            let mut source = file_source(alloc, input)?;
+            without_counts(decrypt(alloc, job, secret, &mut source, out))
+        }
+        Task::Rewrap(old, new, salt) => {
+            let mut source = file_source(alloc, input)?;
+            rewrap(alloc, job, old, new, salt, &mut source, out)
+        }
+        Task::Inspect(file_key) => {
+            let mut source = header_source(alloc, input)?;
+            inspect(alloc, job, &file_key, &mut source, out)
+        }
+        Task::Range(secret) => {
+            let mut source = source_at_offsets(alloc, input)?;
+            range_of(alloc, job, secret, &mut source, out)
+        }
         Task::Salvage(secret) => {
             salvage_all::<R, W, L, Brand>(alloc, job, secret, input, out, report)
         }

@@ -5,7 +5,7 @@ use Rattle.age_commands.proofs.encrypt.encrypt.OwnLists.{own-1, entry-1-1, at-1-
 
 pub returns-clause-encrypts : goal.returns-clause-encrypts
 returns-clause-encrypts g c =
-    let made = c.in-Ok.ensures in
+    let made = c.in_ok-boxed.ensures in
     let wraps = made_reads own-1 entry-1-1 at-1-1 same-1-1 (λ j y. j.1.wraps y) c.into_dyn_box.ensures.1
     ∙ ap wraps_of made in
     let labels = made_reads own-1 entry-1-1 at-1-1 same-1-1 (λ j y. j.1.the_labels y) c.into_dyn_box.ensures.1

@@ -5,30 +5,30 @@ use Rattle.age_commands.proofs.VerifiedLemmas as verified
 use Rattle.age_commands.proofs.range.range_of.Goals as goal
 use Rattle.age_commands.proofs.range.range_of.OwnLists.{own-1, entry-1-1, at-1-1, same-1-1}
 
-pub returns-in-Ok-opened_ranges-clause-known : goal.returns-in-Ok-opened_ranges-clause-known
-returns-in-Ok-opened_ranges-clause-known g c =
+pub returns-in-Ok-clause-known : goal.returns-in-Ok-clause-known
+returns-in-Ok-clause-known g c =
     let meant = made_reads own-1 entry-1-1 at-1-1 same-1-1 (λ j y. j.1.meaning y) c.into_dyn_box.ensures.1 in
     let one : c.as_slice.result.now ≡ c.into_dyn_box.result ∷ [] = search rules in
-    let opened = c.in-Ok-opened_ranges.ensures.ranges in
+    let opened = c.in-Ok.ensures.ranges in
     let given = g.D.ReadAt.given in
     let sink = move_by g.W.Sink.taken c.args.out.now c.write_range-written.new.out in
     ranged (limits_of c.args.job.now) c.args.job.now.at c.args.job.now.len (given c.args.input.now)
-    (given c.in-Ok-opened_ranges.reader.dev.now) sink c.write_range-written.result
-    (answers_meant meant c.in-Ok.ensures) opened.0 (rw (one, c.limits_of.ensures) at opened.1)
+    (given c.in-Ok.reader.dev.now) sink c.write_range-written.result
+    (answers_meant meant c.in_ok-boxed.ensures) opened.0 (rw (one, c.limits_of.ensures) at opened.1)
     c.write_range-written.ensures.known
 
-pub returns-in-Ok-opened_ranges-clause-any : goal.returns-in-Ok-opened_ranges-clause-any
-returns-in-Ok-opened_ranges-clause-any g c =
+pub returns-in-Ok-clause-any : goal.returns-in-Ok-clause-any
+returns-in-Ok-clause-any g c =
     let meant = made_reads own-1 entry-1-1 at-1-1 same-1-1 (λ j y. j.1.meaning y) c.into_dyn_box.ensures.1 in
     let same = c.into_inner-source.ensures.same_reference ∙ c.write_range-written.ensures.same_reference
-    ∙ c.in-Ok-opened_ranges.ensures.same_reference in
+    ∙ c.in-Ok.ensures.same_reference in
     let one : c.as_slice.result.now ≡ c.into_dyn_box.result ∷ [] = search rules in
-    verified.ranged c.in-Ok-opened_ranges.reader.dev.now (answers_meant meant c.in-Ok.ensures)
-    (rw (one, c.limits_of.ensures) at c.in-Ok-opened_ranges.ensures.ranges.2)
-    (subst (λ d. WritesAny (g.D.ReadAt.gave d) c.in-Ok-opened_ranges.reader.chunks c.args.job.now.at c.args.job.now.len
+    verified.ranged c.in-Ok.reader.dev.now (answers_meant meant c.in_ok-boxed.ensures)
+    (rw (one, c.limits_of.ensures) at c.in-Ok.ensures.ranges.2)
+    (subst (λ d. WritesAny (g.D.ReadAt.gave d) c.in-Ok.reader.chunks c.args.job.now.at c.args.job.now.len
     (move_by g.W.Sink.taken c.args.out.now c.write_range-written.new.out) c.write_range-written.result)
     (sym c.into_inner-source.ensures.unchanged ∙ (search rules))
-    (c.write_range-written.ensures.any c.in-Ok-opened_ranges.ensures.ranges.3))
+    (c.write_range-written.ensures.any c.in-Ok.ensures.ranges.3))
 
 pub returns-clause-known : goal.returns-clause-known
 returns-clause-known g c =
@@ -37,7 +37,7 @@ returns-clause-known g c =
     rw c.fault.ensures.fault
     (unopened (limits_of c.args.job.now) c.args.job.now.at c.args.job.now.len (g.D.ReadAt.bytes c.args.input.now)
     (g.W.Sink.taken c.args.out.now)
-    (answers_meant meant c.in-Ok.ensures) (rw (one, c.limits_of.ensures) at c.in-Err.ensures.refuses.misses))
+    (answers_meant meant c.in_ok-boxed.ensures) (rw (one, c.limits_of.ensures) at c.in-Err.ensures.refuses.misses))
 
 pub returns-clause-any : goal.returns-clause-any
 returns-clause-any g c =
@@ -47,15 +47,15 @@ pub returns-clause-writes : goal.returns-clause-writes
 returns-clause-writes g c =
     rw c.fault.ensures.fault (search (verified.opens_unwritten, c.in-Err.ensures.refuses.named))
 
-pub returns-in-Ok-opened_ranges-clause-reads : goal.returns-in-Ok-opened_ranges-clause-reads
-returns-in-Ok-opened_ranges-clause-reads g c =
+pub returns-in-Ok-clause-reads : goal.returns-in-Ok-clause-reads
+returns-in-Ok-clause-reads g c =
     let same = c.into_inner-source.ensures.same_reference ∙ c.write_range-written.ensures.same_reference
-    ∙ c.in-Ok-opened_ranges.ensures.same_reference in
+    ∙ c.in-Ok.ensures.same_reference in
     subst
     (λ d. CountsIf is_read (g.D.ReadAt.failed c.args.input.now) (g.D.ReadAt.failed d) c.write_range-written.result)
     (sym c.into_inner-source.ensures.unchanged ∙ (search rules))
-    (rw c.in-Ok-opened_ranges.ensures.ranges.6 at c.write_range-written.ensures.reads)
+    (rw c.in-Ok.ensures.ranges.6 at c.write_range-written.ensures.reads)
 
-pub returns-in-Ok-opened_ranges-clause-quiet : goal.returns-in-Ok-opened_ranges-clause-quiet
-returns-in-Ok-opened_ranges-clause-quiet g c =
-    search (verified.quiet_part, c.write_range-written.ensures.any c.in-Ok-opened_ranges.ensures.ranges.3)
+pub returns-in-Ok-clause-quiet : goal.returns-in-Ok-clause-quiet
+returns-in-Ok-clause-quiet g c =
+    search (verified.quiet_part, c.write_range-written.ensures.any c.in-Ok.ensures.ranges.3)

@@ -1,42 +1,45 @@
-use Rattle.std.proofs.Common.{drop, rules, inr, refl}
+use Rattle.age_commands.proofs.Common.{◌≡◌, drop, rules, inr, refl, Err}
+use Rattle.age_file.specs.Verdict.{stream_fault}
 use Rattle.age_commands.proofs.RangeLemmas.{stopped, written, written_part}
 use Rattle.age_commands.proofs.VerifiedLemmas as verified
 use Rattle.age_commands.proofs.range.write_next.Goals as goal
 
-pub returns-in-Err-clause-known : goal.returns-in-Err-clause-known
-returns-in-Err-clause-known g c = λ sound.
-    stopped c.args.at c.args.left (search rules) (search rules) c.from.ensures sound c.in-Err.ensures.reads.stop
+pub returns-in_err-n-clause-known : goal.returns-in_err-n-clause-known
+returns-in_err-n-clause-known g c = λ sound.
+    let is : c.from_residual.result ≡ Err (stream_fault c.in_err-n.field-0.0) = search rules in
+    rw is (stopped c.args.at c.args.left (search rules) (search rules) refl sound c.in_err-n.ensures.reads.stop)
 
-pub returns-in-Ok-write_all-clause-known : goal.returns-in-Ok-write_all-clause-known
-returns-in-Ok-write_all-clause-known g c = λ sound.
+pub returns-clause-known : goal.returns-clause-known
+returns-clause-known g c = λ sound.
     written c.read_range.new.buf (drop c.min-most.result c.args.piece.now) (search rules)
-    (c.in-Ok.ensures.reads.filled.1 sound) c.in-Ok-write_all.ensures.text
+    (c.in_ok-n.ensures.reads.filled.1 sound) c.in-Ok.ensures.text
 
-pub returns-in-Err-write_all-clause-known : goal.returns-in-Err-write_all-clause-known
-returns-in-Err-write_all-clause-known g c = λ sound.
+pub returns-in_default-clause-known : goal.returns-in_default-clause-known
+returns-in_default-clause-known g c = λ sound.
     let rest = drop c.min-most.result c.args.piece.now in
     inr (
       inr refl,
       written_part c.read_range.new.buf rest (search rules)
-          (c.in-Ok.ensures.reads.filled.1 sound) (search rules) c.in-Err-write_all.ensures.text,
+          (c.in_ok-n.ensures.reads.filled.1 sound) (search rules) c.in_default.ensures.text,
     )
 
-pub returns-in-Err-clause-any : goal.returns-in-Err-clause-any
-returns-in-Err-clause-any g c = λ keeps.
-    verified.stopped c.args.at c.args.left (search rules) c.from.ensures c.in-Err.ensures.reads.stop
+pub returns-in_err-n-clause-any : goal.returns-in_err-n-clause-any
+returns-in_err-n-clause-any g c = λ keeps.
+    let is : c.from_residual.result ≡ Err (stream_fault c.in_err-n.field-0.0) = search rules in
+    rw is (verified.stopped c.args.at c.args.left (search rules) refl c.in_err-n.ensures.reads.stop)
 
-pub returns-in-Ok-write_all-clause-any : goal.returns-in-Ok-write_all-clause-any
-returns-in-Ok-write_all-clause-any g c = λ keeps.
+pub returns-clause-any : goal.returns-clause-any
+returns-clause-any g c = λ keeps.
     let rest = drop c.min-most.result c.args.piece.now in
     written c.read_range.new.buf rest (search rules)
-    (verified.filled c.args.at c.read_range.new.buf (search rules) (c.in-Ok.ensures.reads.verified keeps))
-    c.in-Ok-write_all.ensures.text
+    (verified.filled c.args.at c.read_range.new.buf (search rules) (c.in_ok-n.ensures.reads.verified keeps))
+    c.in-Ok.ensures.text
 
-pub returns-in-Err-write_all-clause-any : goal.returns-in-Err-write_all-clause-any
-returns-in-Err-write_all-clause-any g c = λ keeps.
+pub returns-in_default-clause-any : goal.returns-in_default-clause-any
+returns-in_default-clause-any g c = λ keeps.
     let rest = drop c.min-most.result c.args.piece.now in (
       inr (inr refl),
       written_part c.read_range.new.buf rest (search rules)
-          (verified.filled c.args.at c.read_range.new.buf (search rules) (c.in-Ok.ensures.reads.verified keeps))
-          (search rules) c.in-Err-write_all.ensures.text,
+          (verified.filled c.args.at c.read_range.new.buf (search rules) (c.in_ok-n.ensures.reads.verified keeps))
+          (search rules) c.in_default.ensures.text,
     )
