@@ -32,15 +32,11 @@ fn main(rt: HostRuntime) -> io::Result<()> {
 
 /// Encrypts a text, and returns the file and the text decrypted from it.
 fn file_and_text(alloc: Global, text: &[u8]) -> Result<(Vec<u8>, Vec<u8>), Fault> {
-    let mut recipients: Vec<Box<dyn Recipient>> = Vec::new(alloc);
-    let mut identities: Vec<Box<dyn Identity>> = Vec::new(alloc);
     let key = FRESH.file_key;
-    let (Ok(plug), Ok(held)) = (Box::new(alloc, Plug), Box::new(alloc, Held { key })) else {
-        return Err(Fault::OutOfMemory);
-    };
-    if recipients.push(plug).is_err() || identities.push(held).is_err() {
-        return Err(Fault::OutOfMemory);
-    }
+    let recipient: Box<dyn Recipient> = Box::new(alloc, Plug)?;
+    let identity: Box<dyn Identity> = Box::new(alloc, Held { key })?;
+    let recipients = vec![in alloc; recipient]?;
+    let identities = vec![in alloc; identity]?;
     encrypt_and_decrypt(alloc, text, recipients.as_slice(), identities.as_slice())
 }
 

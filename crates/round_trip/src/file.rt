@@ -34,10 +34,7 @@ pub fn encrypted(
         (Gathered (wraps recipient fresh.now.file_key ∷ []) (the_labels recipient ∷ [])) in
         IfErr result (IsUnwritten refuses limits.now plain.now) }
 {
-    let mut recipients: Vec<Box<dyn Recipient>> = Vec::new(alloc);
-    if recipients.push(recipient).is_err() {
-        return Err(Fault::OutOfMemory);
-    }
+    let recipients = vec![in alloc; recipient]?;
     let mut source = MemSource::new(plain);
     let mut file = MemSink::new(Vec::new(alloc));
     encrypt(
@@ -72,10 +69,7 @@ pub fn decrypted(
         → IsMemoryFault fault) }
 {
     laws::ok_is_age_file();
-    let mut identities: Vec<Box<dyn Identity>> = Vec::new(alloc);
-    if identities.push(identity).is_err() {
-        return Err(Fault::OutOfMemory);
-    }
+    let identities = vec![in alloc; identity]?;
     let mut source = MemSource::new(file);
     let mut text = MemSink::new(Vec::new(alloc));
     decrypt(alloc, &mut source, &mut text, identities.as_slice(), limits)?;

@@ -14,7 +14,7 @@ returns-clause-text g c plain is =
 
 pub returns-in_err-decrypt-clause-lost : goal.returns-in_err-decrypt-clause-lost
 returns-in_err-decrypt-clause-lost g c =
-    let is : c.from_residual.result ≡ Err c.in_err-decrypt.field-0.0 = search rules in
+    let is : c.from_residual-in_err-decrypt.result ≡ Err c.in_err-decrypt.field-0.0 = search rules in
     let list : c.as_slice.result.now ≡ c.args.identity ∷ [] = search rules in
     let come : c.new-source.result.rest.now ≡ c.args.file.now = cc (c.new-source.ensures) in
     rw is (λ plain whole. lost_of_one (λ i. (goal.Identity-dyn g (i.vtable, i.value)).meaning i.value)

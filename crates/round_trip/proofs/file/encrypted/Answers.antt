@@ -15,7 +15,7 @@ returns-clause-file g c =
 
 pub returns-in_err-encrypt-clause-lost : goal.returns-in_err-encrypt-clause-lost
 returns-in_err-encrypt-clause-lost g c =
-    let is : c.from_residual.result ≡ Err c.in_err-encrypt.field-0.0 = search rules in
+    let is : c.from_residual-in_err-encrypt.result ≡ Err c.in_err-encrypt.field-0.0 = search rules in
     let list : c.as_slice.result.now ≡ c.args.recipient ∷ [] = search rules in
     let come : c.new-source.result.rest.now ≡ c.args.plain.now = cc (c.new-source.ensures) in
     rw is (unwritten_of_one c.args.limits.now c.args.fresh.now
