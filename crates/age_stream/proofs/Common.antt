@@ -24,7 +24,7 @@ pub use Rattle.age_kdf.specs.Bytes.{Bytes}
 pub use Rattle.age_stream.specs.Cutting.{IsCut, cut, cut_after}
 pub use Rattle.age_stream.specs.Offsets.{EndsBefore, GaveAt, HasAt, StaysGiven}
 pub use Rattle.age_stream.specs.Opening.{Advances, EndsAt, GivesNonce, IsAtPiece, IsFilled, Loses, OpenerState, OpensNext, OpensPiece, GivesText, ReadsAhead, ReadsPiece, Starts, WritesAll, WritesReading, held_of, left_of, pieces_left, reading_left}
-pub use Rattle.age_stream.specs.Payload.{chunks, is_end, payload, pieces, sealed_chunks_from}
+pub use Rattle.age_stream.specs.Payload.{chunks, each, is_end, payload, pieces, sealed_chunk, sealed_chunks_from}
 unfoldable pub use Rattle.age_stream.specs.Payload.{chunk_nonce, payload_key}
 pub use Rattle.age_stream.specs.Ranges.{HasPlain, IsOpenFault, IsSound, IsThere, IsVerified, IsVerifiedByte, JudgesLast, KeepsVerified, OpenedAtLeast, OpensRanges, Probes, RangeState, bytes_from, first_to_open, kept_text, last_len, sealed_span, source_opening}
 pub use Rattle.age_stream.specs.Reader.{StartsReader}

@@ -1,5 +1,5 @@
 -- What reads to its end is a payload, and the other way round.
-use Rattle.age_stream.proofs.Common.{◌≡◌, ◌↔◌, ◌⊎◌, ℕ, List, [], ◌∷◌, ◌++◌, ◌+◌, ◌<◌, ◌≤◌, ◌&&◌, length, take, drop, map, sym, ◌∙◌, ap, arith, nat_lt, nat_le, nat_eq, cond, true, false, Bool, refl, suc, length-append, subst, inl, inr, Option, Some, None, Result, Ok, Err, ok_or, concat, le-ltb, lt-ltb, cases_lt, leb-false, lt-leb, nat_tests, take-append-drop, take_at, drop_at, length-take-le, Bytes, sealed_text, opened_text, FileKey, StreamFault, ChunkShort, EmptyFinal, BadChunk, TooManyChunks, chunk_size, sealed_chunk_size, IsCut, chunks, pieces, chunk_nonce, is_end, sealed_chunks_from, payload_key, payload, Reading, outcome, outcomes, first_fault, plaintext_of, reading_from, payload_reading, whole, length-sealed_text, opened_is}
+use Rattle.age_stream.proofs.Common.{◌≡◌, ◌↔◌, ◌⊎◌, ℕ, List, [], ◌∷◌, ◌++◌, ◌+◌, ◌<◌, ◌≤◌, ◌&&◌, length, take, drop, map, sym, ◌∙◌, ap, arith, nat_lt, nat_le, nat_eq, cond, true, false, Bool, refl, suc, length-append, subst, inl, inr, Option, Some, None, Result, Ok, Err, ok_or, concat, le-ltb, lt-ltb, cases_lt, leb-false, lt-leb, nat_tests, take-append-drop, take_at, drop_at, length-take-le, Bytes, sealed_text, opened_text, FileKey, StreamFault, ChunkShort, EmptyFinal, BadChunk, TooManyChunks, chunk_size, sealed_chunk_size, IsCut, chunks, pieces, chunk_nonce, is_end, sealed_chunks_from, payload_key, payload, Reading, outcome, outcomes, first_fault, plaintext_of, reading_from, payload_reading, whole, length-sealed_text, opened_is, each, sealed_chunk}
 use Rattle.age_stream.specs.Cutting.{IsFilled}
 use Rattle.age_stream.proofs.CuttingLemmas.{is_cut, cut_is_unique, filled_cut, AtMost, cut_at_most}
 
@@ -219,9 +219,10 @@ ok_is_payload_both k b p max = (
   (λ h. payload_ok k b p max (record { nonce = h.0; nonce_len = h.1; spelled = h.2; count = h.3 })),
 )
 
-pub length_each : (key : Bytes) (i : ℕ) (ts : List Bytes) → length (sealed_chunks_from key i ts) ≡ length ts
-length_each key i [] = refl
-length_each key i (t ∷ ts) = ap suc (length_each key (i + 1) ts)
+pub length_each : {A : Type 0} (of : ℕ → Bool → Bytes → A) (i : ℕ) (ts : List Bytes)
+    → length (each of i ts) ≡ length ts
+length_each of i [] = refl
+length_each of i (t ∷ ts) = ap suc (length_each of (i + 1) ts)
 
 -- the pieces of a payload that reads whole are its sealed chunks
 pub whole_pieces : (k : FileKey) (b p : Bytes) (max : ℕ) → payload_reading k max b ≡ whole p
@@ -234,4 +235,5 @@ whole_pieces k b p max h =
 
 pub whole_count : (k : FileKey) (b p : Bytes) (max : ℕ) → payload_reading k max b ≡ whole p
     → length (pieces (drop 16 b)) ≡ length (chunks p)
-whole_count k b p max h = rw (whole_pieces k b p max h) (length_each (payload_key k (take 16 b)) 0 (chunks p))
+whole_count k b p max h =
+    rw (whole_pieces k b p max h) (length_each (sealed_chunk (payload_key k (take 16 b))) 0 (chunks p))

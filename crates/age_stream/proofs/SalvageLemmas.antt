@@ -1,5 +1,6 @@
 -- The parts of pieces that are saved one after another.
 use Rattle.age_stream.proofs.Common.{◌≡◌, ◌⊎◌, ◌∙◌, ◌++◌, ◌∷◌, ◌+◌, ◌-◌, ◌*◌, ◌<◌, ◌≤◌, ℕ, List, [], length, take, drop, ap, sym, arith, append_assoc, append-nil, length-append, refl, Bool, not, inl, inr, None, Some, Result, Ok, Err, nat_le, min, suc, IfErr, Appends, IsAtEnd, Appends-trans, Appends-nil, le-leb, lt-leb, cases_lt, drop-append-le, take_all, take_at, drop_at, take-append-le, length-take-le, length-drop, Bytes, opened_text, Gave, GaveSome, Known, OfGiven, Seen, WritesPart, flow, move_of, FileKey, StreamFault, NonceTruncated, TooManyChunks, Read, Write, Memory, chunk_size, sealed_chunk_size, chunk_buf_size, gave_more, gave_none, gave_then, of_any, of_ended, of_map, of_more, of_then, LostChunk, Salvaged, Saved, Nothing, Zeros, length-sealed_text, opened_is, EndsAt, GivesNonce, chunk_nonce, payload_key, pieces, piece_opening, EndsSaving, KnownLosses, Part, ReadsAhead, Reports, Salvages, SavesParts, SavesPayload, early_after, first_part, in_place, last_saved, latest_early, loss, losses, lost_part, part, parts, payload_parts, salvaged_text, summary, losses_of, with_part, Option, concat-append, map-append, map, zero, true, false, take-take, Padded, closed_part, opening_or, out_of_place, padded_part, padding, max_padding, cases_Option}
+use Rattle.age_stream.proofs.PayloadLemmas.{length_each}
 use Rattle.age_stream.proofs.CuttingLemmas.{cut_last}
 use Rattle.age_stream.proofs.OpeningLemmas.{take_most}
 use Rattle.age_stream.proofs.ReadingLemmas.{cut_some, cut_step, is_end_cut}
@@ -104,12 +105,8 @@ parts_next key i c d lt =
       drop-append-le sealed_chunk_size c d (omega arith),
     )
 
-pub length-parts : (key : Bytes) (i : ℕ) (cs : List Bytes) → length (parts key i cs) ≡ length cs
-length-parts key i [] = refl
-length-parts key i (c ∷ cs) = ap suc (length-parts key (i + 1) cs)
-
 pub parts_some : (key : Bytes) (i : ℕ) (c : Bytes) → 0 < length (parts key i (pieces c))
-parts_some key i c = omega (arith, length-parts key i (pieces c), cut_some sealed_chunk_size [] c)
+parts_some key i c = omega (arith, length_each (part key) i (pieces c), cut_some sealed_chunk_size [] c)
 
 -- ---- one part more
 

@@ -3,7 +3,8 @@ use Rattle.age_stream.proofs.Common.{nat_le, ◌≡◌, ◌↔◌, ◌∙◌, �
 use Rattle.age_stream.proofs.CuttingLemmas.{AtMost, cut_at_most}
 use Rattle.age_stream.proofs.PayloadLemmas.{opens_first, opens_outcome, outcome_opens, result_cases}
 use Rattle.age_stream.proofs.ReadingLemmas.{cut_some}
-use Rattle.age_stream.proofs.SalvageLemmas.{length-parts, part-opened, part_cases}
+use Rattle.age_stream.proofs.PayloadLemmas.{length_each}
+use Rattle.age_stream.proofs.SalvageLemmas.{part-opened, part_cases}
 
 abbrev text_part : Bool → Bytes → Part
 text_part last text = record { text = text; saved = cond last LastChunk Chunk }
@@ -198,4 +199,5 @@ payload_exactly k text max = (reads, saves)
         let cs : List Bytes = pieces (drop 16 text) in
         let (last, lost, early) = whole_to (last_saved ps) (length (losses 0 0 ps)) (latest_early 0 None ps) is in
         rw (le-ltb (length text) 16 ge) (all_read key max 0 0 cs (cut_at_most sealed_chunk_size (drop 16 text)
-        (omega arith)) (omega (arith, within, length-parts key 0 cs)) (nil_from_length (losses 0 0 ps) lost) early last)
+        (omega arith)) (omega (arith, within, length_each (part key) 0 cs)) (nil_from_length (losses 0 0 ps) lost)
+        early last)

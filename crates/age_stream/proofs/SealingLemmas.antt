@@ -1,5 +1,5 @@
 -- Full chunks that go out, one after another.
-use Rattle.age_stream.proofs.Common.{◌≡◌, ◌⊎◌, ◌∙◌, ◌++◌, ◌+◌, ◌-◌, ◌*◌, ◌<◌, ◌≤◌, ℕ, List, [], ◌∷◌, length, take, drop, ap, sym, arith, append-nil, append_assoc, length-append, refl, Bool, Option, Some, None, Result, Ok, Err, false, inl, inr, zero, suc, slice_set, slice_index_or, concat, Appends, IsAtEnd, Appends-trans, Appends-nil, take-add, length-take-le, take_at, length-drop, Bytes, sealed_text, Flow, Gave, GaveAtMost, GaveSome, Known, Seen, WritesPart, flow, move_of, Done as StreamDone, StreamFault, Read, Write, TooManyChunks, chunk_size, sealed_chunk_size, chunk_buf_size, length-sealed_text, Filled, gave_all, gave_then, of_any, of_ended, of_more, of_still, of_then, done_part, cut_after, chunk_nonce, IfNone, FinishesBy, Fills, SealerState, SealsAll, StopsIn, TakesAll, Fed, IsFed, Stopped, WroteAtLeast, at_start, sealed_chunks_after, concat-append, at_none, when_none}
+use Rattle.age_stream.proofs.Common.{◌≡◌, ◌⊎◌, ◌∙◌, ◌++◌, ◌+◌, ◌-◌, ◌*◌, ◌<◌, ◌≤◌, ℕ, List, [], ◌∷◌, length, take, drop, ap, sym, arith, append-nil, append_assoc, length-append, refl, Bool, Option, Some, None, Result, Ok, Err, false, inl, inr, zero, suc, slice_set, slice_index_or, concat, Appends, IsAtEnd, Appends-trans, Appends-nil, take-add, length-take-le, take_at, length-drop, Bytes, sealed_text, Flow, Gave, GaveAtMost, GaveSome, Known, Seen, WritesPart, flow, move_of, Done as StreamDone, StreamFault, Read, Write, TooManyChunks, chunk_size, sealed_chunk_size, chunk_buf_size, length-sealed_text, Filled, gave_all, gave_then, of_any, of_ended, of_more, of_still, of_then, done_part, cut_after, chunk_nonce, IfNone, FinishesBy, Fills, SealerState, SealsAll, StopsIn, TakesAll, Fed, IsFed, Stopped, WroteAtLeast, at_start, sealed_chunks_after, concat-append, at_none, when_none, sealed_chunk}
 use Rattle.age_header.proofs.DeviceLemmas.{Done}
 use Rattle.age_stream.proofs.CuttingLemmas.{cut_first, cut_fits}
 use Rattle.age_stream.proofs.PayloadLemmas.{length_each}
@@ -154,11 +154,12 @@ module _ {key : Bytes} {i j : ℕ} {held text now piece full next : Bytes} {a b 
               let last : List Bytes = sealed_text key (chunk_nonce j false) [] full ∷ sealed_chunks_after key
               (j + 1) next d in
               let count : length (cut_after chunk_size held all) ≡ length f.gone + length last =
-              sym (length_each key i (cut_after chunk_size held all)) ∙ ap length is ∙ length-append f.gone last in (
+              sym (length_each (sealed_chunk key) i (cut_after chunk_size held all)) ∙ ap length is
+              ∙ length-append f.gone last in (
                 omega (
                   arith,
                   f.count,
-                  length_each key (j + 1) (cut_after chunk_size next d),
+                  length_each (sealed_chunk key) (j + 1) (cut_after chunk_size next d),
                   cut_some chunk_size next d,
                 ),
                 rw (is, take_at f.gone last (max - 1 - i) (omega (arith, f.count))) wrote,
@@ -234,7 +235,7 @@ module _ (s t : SealerState) {u : Unit {0}} (source : Flow) (a b c : Known) (non
       let f = fed.fed in
       let last : List Bytes = sealed_chunks_after s.key t.index t.held [] in
       let count : length (cut_after chunk_size s.held fed.text) ≡ length f.gone + length last =
-      sym (length_each s.key s.index (cut_after chunk_size s.held fed.text)) ∙ ap length (chunks_all f)
+      sym (length_each (sealed_chunk s.key) s.index (cut_after chunk_size s.held fed.text)) ∙ ap length (chunks_all f)
       ∙ length-append f.gone last in
       of_ended fed.took end (
         rw (chunks_all f, concat-append f.gone last)

@@ -25,11 +25,18 @@ abbrev pub is_end : List Bytes → Bool
 is_end [] = true
 is_end (_ ∷ _) = false
 
--- chunks sealed under their numbers, from number i on
+-- what `of` gives for each chunk or piece, by its number, from i on, and whether it is the last
+abbrev pub each : {A : Type 0} (of : ℕ → Bool → Bytes → A) (i : ℕ) (pieces : List Bytes) → List A
+each of i [] = []
+each of i (piece ∷ more) = of i (is_end more) piece ∷ each of (i + 1) more
+
+-- chunk i, sealed under its number
+abbrev pub sealed_chunk : (key : Key) (i : ℕ) (last : Bool) (chunk : Bytes) → Bytes
+sealed_chunk key i last chunk = sealed_text key (chunk_nonce i last) [] chunk
+
+-- sealed chunks, with numbers from i on
 abbrev pub sealed_chunks_from : (key : Key) (i : ℕ) (chunks : List Bytes) → List Bytes
-sealed_chunks_from key i [] = []
-sealed_chunks_from key i (chunk ∷ more) =
-    sealed_text key (chunk_nonce i (is_end more)) [] chunk ∷ sealed_chunks_from key (i + 1) more
+sealed_chunks_from key = each (sealed_chunk key)
 
 -- the key of the chunks
 unfoldable pub payload_key : (file_key : FileKey) (nonce : Bytes) → Key

@@ -1,7 +1,7 @@
 -- The reading of a payload: the first fault, and the plaintext before it (C2SP age.md, "Payload").
-use Rattle.std.specs.Prelude.{ℕ, List, [], ◌∷◌, ◌++◌, ◌+◌, ◌&&◌, Bool, length, take, drop, nat_lt, nat_le, nat_eq, Option, Some, None, Result, Ok, Err, ok_or, if◌then◌else◌}
+use Rattle.std.specs.Prelude.{ℕ, List, [], ◌∷◌, ◌++◌, ◌&&◌, Bool, length, take, drop, nat_lt, nat_le, nat_eq, Option, Some, None, Result, Ok, Err, ok_or, if◌then◌else◌}
 use Rattle.age_stream.specs.Words.{Bytes, Key, opened_text, FileKey, StreamFault, NonceTruncated, ChunkShort, EmptyFinal, BadChunk, TooManyChunks, nonce_size, tag_size, sealed_chunk_size}
-use Rattle.age_stream.specs.Payload.{pieces, chunk_nonce, is_end, payload_key}
+use Rattle.age_stream.specs.Payload.{pieces, chunk_nonce, each, payload_key}
 
 -- the text that piece i opens to under its number, if it opens
 abbrev pub piece_opening : (key : Key) (i : ℕ) (last : Bool) (piece : Bytes) → Option Bytes
@@ -17,11 +17,8 @@ outcome key max i last piece =
     else ok_or (piece_opening key i last piece) (BadChunk i)
 
 -- the outcome of each piece, with numbers from i on
-abbrev pub outcomes : (key : Key) (max i : ℕ) (pieces : List Bytes)
-    → List (Result Bytes StreamFault)
-outcomes key max i [] = []
-outcomes key max i (piece ∷ more) =
-    outcome key max i (is_end more) piece ∷ outcomes key max (i + 1) more
+abbrev pub outcomes : (key : Key) (max : ℕ) → ℕ → List Bytes → List (Result Bytes StreamFault)
+outcomes key max = each (outcome key max)
 
 -- the first fault, if there is one
 abbrev pub first_fault : {F : Type 0} → List (Result Bytes F) → Option F
@@ -50,10 +47,9 @@ whole plain = record { plaintext = plain; fault = None }
 
 -- the reading of a text as the pieces from number i on
 abbrev pub reading_from : (key : Key) (max i : ℕ) (rest : Bytes) → Reading StreamFault
-reading_from key max i rest = record {
-  plaintext = plaintext_of (outcomes key max i (pieces rest));
-  fault = first_fault (outcomes key max i (pieces rest));
-}
+reading_from key max i rest =
+    let all = outcomes key max i (pieces rest) in
+    record { plaintext = plaintext_of all; fault = first_fault all }
 
 -- the reading of a payload under a file key: its nonce, then its pieces
 abbrev pub payload_reading : (file_key : FileKey) (max : ℕ) (text : Bytes) → Reading StreamFault

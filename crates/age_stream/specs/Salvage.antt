@@ -8,7 +8,7 @@ use Rattle.age_stream.specs.declared.salvaged.Salvaged.{Salvaged}
 use Rattle.age_stream.specs.declared.salvaged.Saved.{Saved}
 use Rattle.age_stream.specs.declared.salvaged.Saved.TheVariants.{Chunk, LastChunk, Padded, Early, Zeros, Nothing}
 use Rattle.age_stream.specs.Opening.{EndsAt}
-use Rattle.age_stream.specs.Payload.{is_end, payload_key, pieces}
+use Rattle.age_stream.specs.Payload.{each, payload_key, pieces}
 use Rattle.age_stream.specs.Reading.{piece_opening}
 
 -- the part of the saved text that stands for a piece
@@ -61,8 +61,7 @@ part key i last piece =
 
 -- the parts of these pieces, with numbers from i on
 abbrev pub parts : (key : Key) (i : ℕ) (pieces : List Bytes) → List Part
-parts key i [] = []
-parts key i (piece ∷ more) = part key i (is_end more) piece ∷ parts key (i + 1) more
+parts key = each (part key)
 
 -- the parts of a payload
 abbrev pub payload_parts : (file_key : FileKey) (text : Bytes) → List Part

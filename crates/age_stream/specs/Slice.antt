@@ -1,14 +1,13 @@
 -- Parts of a plaintext by offset. Chunks outside a part need not open (C2SP age.md, "Payload").
-use Rattle.std.specs.Prelude.{ℕ, List, [], ◌∷◌, ◌+◌, ◌-◌, ◌*◌, ◌/◌, ◌%◌, ◌<◌, ◌≡◌, length, get_or, take, drop, nat_lt, true, min, slice_get, slice_index, Option, Some, None, Result, Err, if◌then◌else◌}
+use Rattle.std.specs.Prelude.{ℕ, List, [], ◌+◌, ◌-◌, ◌*◌, ◌/◌, ◌%◌, ◌<◌, ◌≡◌, length, get_or, take, drop, nat_lt, true, min, slice_get, slice_index, Option, Some, None, Result, Err, if◌then◌else◌}
 use Rattle.std.specs.List.{sum_by}
 use Rattle.age_stream.specs.Words.{Bytes, Key, FileKey, StreamFault, NonceTruncated, nonce_size, tag_size, chunk_size}
-use Rattle.age_stream.specs.Payload.{pieces, is_end, payload_key}
+use Rattle.age_stream.specs.Payload.{pieces, each, payload_key}
 use Rattle.age_stream.specs.Reading.{piece_opening, outcome}
 
 -- the text of each piece that opens, with numbers from i on
 abbrev pub openings : (key : Key) (i : ℕ) (pieces : List Bytes) → List (Option Bytes)
-openings key i [] = []
-openings key i (piece ∷ more) = piece_opening key i (is_end more) piece ∷ openings key (i + 1) more
+openings key = each (piece_opening key)
 
 -- the text of piece i of the bytes after the nonce, if it opens
 abbrev pub opening : (key : Key) (rest : Bytes) (i : ℕ) → Option Bytes
