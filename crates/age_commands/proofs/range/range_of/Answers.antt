@@ -1,4 +1,4 @@
-use Rattle.age_commands.proofs.Common.{◌≡◌, ◌∙◌, ◌∷◌, [], rules, subst, sym, CountsIf, move_by, is_read, WritesAny, limits_of}
+use Rattle.age_commands.proofs.Common.{◌≡◌, ◌∙◌, ◌∷◌, [], rules, Err, subst, sym, CountsIf, move_by, is_read, OutOfMemory, WritesAny, limits_of}
 use Rattle.age_commands.proofs.RangeLemmas.{ranged, unopened}
 use Rattle.age_commands.proofs.SecretLemmas.{answers_meant, made_reads}
 use Rattle.age_commands.proofs.VerifiedLemmas as verified
@@ -29,6 +29,16 @@ returns-in-Ok-clause-any g c =
     (move_by g.W.Sink.taken c.args.out.now c.write_range-written.new.out) c.write_range-written.result)
     (sym c.into_inner-source.ensures.unchanged ∙ (search rules))
     (c.write_range-written.ensures.any c.in-Ok.ensures.ranges.3))
+
+pub returns-in_err-identities-clause-any : goal.returns-in_err-identities-clause-any
+returns-in_err-identities-clause-any g c =
+    let is : c.from_residual-in_err-identities.result ≡ Err OutOfMemory = search rules in
+    rw is (verified.unopened c.args.job.now.at c.args.job.now.len (search rules))
+
+pub returns-in_err-piece-clause-any : goal.returns-in_err-piece-clause-any
+returns-in_err-piece-clause-any g c =
+    let is : c.from_residual-in_err-piece.result ≡ Err OutOfMemory = search rules in
+    rw is (verified.unopened c.args.job.now.at c.args.job.now.len (search rules))
 
 pub returns-clause-known : goal.returns-clause-known
 returns-clause-known g c =
