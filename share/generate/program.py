@@ -110,4 +110,4 @@ class Source:
 def commands(root):
     """The commands except `help`, in the order of the help."""
     source = Source(root)
-    return [source.command(name) for name in re.findall(r"\.subcommand\((\w+)\(", source.functions["whole_command"][1])]
+    return [source.command(name) for name in re.findall(r"with_subcommand\(command, (\w+)\(", source.functions["whole_command"][1])]

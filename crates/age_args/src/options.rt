@@ -1,7 +1,7 @@
 //! The commands and options that `clap` parses. An option's id is its long name.
 ghost use Rattle.std.specs.Prelude.{◌≡◌, [], codes, false, true, IfOk};
 ghost use Rattle.clap.specs.Simple.{new_shape};
-ghost use Rattle.clap.specs.Words.{app_of, rule_of, shape_of};
+ghost use Rattle.clap.specs.Words.{App, Rule, Shape, app_of, rule_of, shape_of, with_subcommand};
 ghost use Rattle.age_args.specs.CommandLine as line;
 ghost use Rattle.age_args.specs.CommandLine.{IsArg};
 
@@ -80,13 +80,13 @@ const VERSION: &str = "0.4.0";
 pub(crate) fn whole_command<'a>(alloc: Global) -> Result<Command<'a>, AllocError>
     ensures { IfOk result (λ command. app_of command ≡ line.agep) }
 {
-    let command = bare_command(alloc)
-        .subcommand(encrypt_command(alloc)?)?
-        .subcommand(decrypt_command(alloc)?)?
-        .subcommand(inspect_command(alloc)?)?
-        .subcommand(range_command(alloc)?)?
-        .subcommand(rewrap_command(alloc)?)?
-        .subcommand(salvage_command(alloc)?)?;
+    let command = Ok(bare_command(alloc));
+    let command = with_subcommand(command, encrypt_command(alloc));
+    let command = with_subcommand(command, decrypt_command(alloc));
+    let command = with_subcommand(command, inspect_command(alloc));
+    let command = with_subcommand(command, range_command(alloc));
+    let command = with_subcommand(command, rewrap_command(alloc));
+    let command = with_subcommand(command, salvage_command(alloc))?;
     Ok(command.subcommand_required(true))
 }
 
@@ -105,6 +105,19 @@ fn bare_command<'a>(alloc: Global) -> Command<'a>
         .propagate_version(true)
 }
 
+/// The program with one more command, which has no global argument.
+fn with_subcommand<'a>(
+    command: Result<Command<'a>, AllocError>,
+    subcommand: Result<Command<'a>, AllocError>,
+) -> Result<Command<'a>, AllocError>
+    ensures { (app : App) (shape : Shape) → shape.is_plain ≡ true
+        → IfOk command.entry (λ before. app_of before ≡ app)
+        → IfOk subcommand.entry (λ sub. shape_of sub ≡ shape)
+        → IfOk result (λ more. app_of more ≡ with_subcommand app shape) }
+{
+    command?.subcommand(subcommand?)
+}
+
 /// A command, without its options. Its version is that of the program.
 fn bare_subcommand<'a>(
     alloc: Global,
@@ -121,12 +134,16 @@ fn bare_subcommand<'a>(
 }
 
 /// The command with one more option or argument.
-fn with_arg<'a>(command: Command<'a>, arg: Arg<'a>) -> Result<Command<'a>, AllocError>
+fn with_arg<'a>(
+    command: Result<Command<'a>, AllocError>,
+    arg: Arg<'a>,
+) -> Result<Command<'a>, AllocError>
     requires { arg.global ≡ false }
-    ensures { IfOk result
-        (λ more. shape_of more ≡ line.with_rule (shape_of command.entry) (rule_of arg.entry)) }
+    ensures { (shape : Shape) (rule : Rule) → rule_of arg.entry ≡ rule
+        → IfOk command.entry (λ before. shape_of before ≡ shape)
+        → IfOk result (λ more. shape_of more ≡ line.with_rule shape rule) }
 {
-    command.arg(arg)
+    command?.arg(arg)
 }
 
 fn encrypt_command<'a>(alloc: Global) -> Result<Command<'a>, AllocError>
@@ -137,14 +154,14 @@ fn encrypt_command<'a>(alloc: Global) -> Result<Command<'a>, AllocError>
         "encrypt",
         "Encrypt a file with a passphrase or a key",
         ENCRYPT_END,
-    )?;
-    let command = with_arg(command, pass_option(alloc))?;
-    let command = with_arg(command, key_option(alloc))?;
-    let command = with_arg(command, work_option(alloc))?;
-    let command = with_arg(command, seed_option(alloc, SEED_HELP))?;
-    let command = with_arg(command, max_header_option(alloc))?;
-    let command = with_output_options(alloc, command, ENCRYPTED_OUTPUT_HELP)?;
-    let command = with_arg(command, verbose_option(alloc))?;
+    );
+    let command = with_arg(command, pass_option(alloc));
+    let command = with_arg(command, key_option(alloc));
+    let command = with_arg(command, work_option(alloc));
+    let command = with_arg(command, seed_option(alloc, SEED_HELP));
+    let command = with_arg(command, max_header_option(alloc));
+    let command = with_output_options(alloc, command, ENCRYPTED_OUTPUT_HELP);
+    let command = with_arg(command, verbose_option(alloc));
     with_arg(command, input_word(alloc))
 }
 
@@ -156,82 +173,84 @@ fn decrypt_command<'a>(alloc: Global) -> Result<Command<'a>, AllocError>
         "decrypt",
         "Decrypt a file with a passphrase or a key",
         DECRYPT_END,
-    )?;
-    let command = with_opening_options(alloc, command, PLAIN_OUTPUT_HELP)?;
+    );
+    let command = with_opening_options(alloc, command, PLAIN_OUTPUT_HELP);
     with_arg(command, input_word(alloc))
 }
 
 /// The options of the commands that unlock a file.
 fn with_opening_options<'a>(
     alloc: Global,
-    command: Command<'a>,
+    command: Result<Command<'a>, AllocError>,
     output_help: &'a str,
 ) -> Result<Command<'a>, AllocError>
-    ensures { IfOk result
-        (λ more. shape_of more ≡ line.with_rules (shape_of command.entry) line.opening) }
+    ensures { (shape : Shape) → IfOk command.entry (λ before. shape_of before ≡ shape)
+        → IfOk result (λ more. shape_of more ≡ line.with_rules shape line.opening) }
 {
-    let command = with_arg(command, pass_option(alloc))?;
-    let command = with_arg(command, key_option(alloc))?;
-    let command = with_arg(command, max_work_option(alloc))?;
-    let command = with_arg(command, max_header_option(alloc))?;
-    let command = with_output_options(alloc, command, output_help)?;
+    let command = with_arg(command, pass_option(alloc));
+    let command = with_arg(command, key_option(alloc));
+    let command = with_arg(command, max_work_option(alloc));
+    let command = with_arg(command, max_header_option(alloc));
+    let command = with_output_options(alloc, command, output_help);
     with_arg(command, verbose_option(alloc))
 }
 
 /// The options of the commands that write OUT.
 fn with_output_options<'a>(
     alloc: Global,
-    command: Command<'a>,
+    command: Result<Command<'a>, AllocError>,
     output_help: &'a str,
 ) -> Result<Command<'a>, AllocError>
-    ensures { IfOk result
-        (λ more. shape_of more ≡ line.with_rules (shape_of command.entry) line.writing) }
+    ensures { (shape : Shape) → IfOk command.entry (λ before. shape_of before ≡ shape)
+        → IfOk result (λ more. shape_of more ≡ line.with_rules shape line.writing) }
 {
     let output = text_option(alloc, OUTPUT, 'o', "OUT", output_help);
-    let command = with_arg(command, output)?;
-    let command = with_arg(command, flag(alloc, NO_CLOBBER, 'n', NO_CLOBBER_HELP))?;
+    let command = with_arg(command, output);
+    let command = with_arg(command, flag(alloc, NO_CLOBBER, 'n', NO_CLOBBER_HELP));
     with_arg(command, long_flag(alloc, ATOMIC, ATOMIC_HELP))
 }
 
 fn inspect_command<'a>(alloc: Global) -> Result<Command<'a>, AllocError>
     ensures { IfOk result (λ command. shape_of command ≡ line.inspect) }
 {
+    let command = bare_subcommand(
+        alloc,
+        "inspect",
+        "Show what the header of an age file holds",
+        INSPECT_END,
+    );
     let raw = flag(
         alloc,
         RAW,
         'r',
         "Print the header itself instead of a table",
     );
+    let command = with_arg(command, raw);
     let file_key = text_option(alloc, FILE_KEY, 'f', "FILE", FILE_KEY_HELP);
-    let command = bare_subcommand(
-        alloc,
-        "inspect",
-        "Show what the header of an age file holds",
-        INSPECT_END,
-    )?;
-    let command = with_arg(command, raw)?;
-    let command = with_arg(command, file_key)?;
-    let command = with_arg(command, max_header_option(alloc))?;
-    let command = with_arg(command, verbose_option(alloc))?;
+    let command = with_arg(command, file_key);
+    let command = with_arg(command, max_header_option(alloc));
+    let command = with_arg(command, verbose_option(alloc));
     with_arg(command, input_word(alloc))
 }
 
 fn range_command<'a>(alloc: Global) -> Result<Command<'a>, AllocError>
     ensures { IfOk result (λ command. shape_of command ≡ line.range) }
 {
-    let command = bare_subcommand(alloc, "range", "Decrypt part of a file", RANGE_END)?;
+    let command = bare_subcommand(alloc, "range", "Decrypt part of a file", RANGE_END);
+    let command = with_opening_options(alloc, command, PLAIN_OUTPUT_HELP);
     let at = offset_word(
         alloc,
         AT,
         "AT",
         "Offset of the first byte in the plaintext, from 0",
     );
+    let command = with_arg(command, at);
     let len = offset_word(alloc, LEN, "LEN", "How many bytes to write at most");
-    let input = required_word(alloc, INPUT, "IN", SEEKABLE_INPUT_HELP);
-    let command = with_opening_options(alloc, command, PLAIN_OUTPUT_HELP)?;
-    let command = with_arg(command, at)?;
-    let command = with_arg(command, len)?;
-    with_arg(command, input)
+    let command = with_arg(command, len);
+    with_arg(
+        command,
+        required_word(alloc, INPUT, "IN", SEEKABLE_INPUT_HELP),
+    )
 }
 
 fn rewrap_command<'a>(alloc: Global) -> Result<Command<'a>, AllocError>
@@ -242,14 +261,14 @@ fn rewrap_command<'a>(alloc: Global) -> Result<Command<'a>, AllocError>
         "rewrap",
         "Change the passphrase or keys without encrypting again",
         REWRAP_END,
-    )?;
+    );
+    let command = with_opening_options(alloc, command, ENCRYPTED_OUTPUT_HELP);
     let new_pass = text_option(alloc, NEW_PASS, 'P', "FILE", NEW_PASS_HELP);
+    let command = with_arg(command, new_pass);
     let new_key = text_option(alloc, NEW_KEY, 'K', "FILE", NEW_KEY_HELP).action(ArgAction::Append);
-    let command = with_opening_options(alloc, command, ENCRYPTED_OUTPUT_HELP)?;
-    let command = with_arg(command, new_pass)?;
-    let command = with_arg(command, new_key)?;
-    let command = with_arg(command, work_option(alloc))?;
-    let command = with_arg(command, seed_option(alloc, SALT_HELP))?;
+    let command = with_arg(command, new_key);
+    let command = with_arg(command, work_option(alloc));
+    let command = with_arg(command, seed_option(alloc, SALT_HELP));
     with_arg(command, input_word(alloc))
 }
 
@@ -261,8 +280,8 @@ fn salvage_command<'a>(alloc: Global) -> Result<Command<'a>, AllocError>
         "salvage",
         "Save what is left of a damaged file",
         SALVAGE_END,
-    )?;
-    let command = with_opening_options(alloc, command, PLAIN_OUTPUT_HELP)?;
+    );
+    let command = with_opening_options(alloc, command, PLAIN_OUTPUT_HELP);
     with_arg(command, input_word(alloc))
 }
 

@@ -80,14 +80,16 @@ fn job_of(alloc: Global, command: Command, matches: &ArgMatches<'_>) -> Result<J
     ensures job { IfOk result (JobOf (rows_of (found_of matches.now))) }
     ensures ranges { IfOk result IsInRange }
 {
+    let (pass, key, more_keys) = secret_files(alloc, matches, PASS, KEY)?;
+    let (new_pass, new_key, more_new_keys) = secret_files(alloc, matches, NEW_PASS, NEW_KEY)?;
     Ok(Job {
         command,
-        pass: text_of(alloc, matches, PASS)?,
-        key: text_of(alloc, matches, KEY)?,
-        more_keys: rest_of(alloc, matches, KEY)?,
-        new_pass: text_of(alloc, matches, NEW_PASS)?,
-        new_key: text_of(alloc, matches, NEW_KEY)?,
-        more_new_keys: rest_of(alloc, matches, NEW_KEY)?,
+        pass,
+        key,
+        more_keys,
+        new_pass,
+        new_key,
+        more_new_keys,
         work: number_or(matches, WORK, u64::from(DEFAULT_WORK)) as u8,
         seed: seed_of(alloc, matches)?,
         max_work: number_or(matches, MAX_WORK, u64::from(DEFAULT_MAX_WORK)) as u8,
@@ -102,6 +104,26 @@ fn job_of(alloc: Global, command: Command, matches: &ArgMatches<'_>) -> Result<J
         len: number_or(matches, LEN, 0),
         verbose: is_set(matches, VERBOSE),
     })
+}
+
+/// The files that these options name for a passphrase, and for a first key and more keys.
+fn secret_files(
+    alloc: Global,
+    matches: &ArgMatches<'_>,
+    pass: &str,
+    key: &str,
+) -> Result<(Option<String>, Option<String>, Vec<String>), AllocError>
+    ensures { IfOk result (λ files. let rows = rows_of (found_of matches.now) in
+        (option_map string_bytes files.0 ≡ first_of pass.now rows)
+        × ((option_map string_bytes files.1 ≡ first_of key.now rows)
+        × (map string_bytes files.2.items ≡ rest_of key.now rows))) }
+{
+    let first = text_of(alloc, matches, pass)?;
+    Ok((
+        first,
+        text_of(alloc, matches, key)?,
+        rest_of(alloc, matches, key)?,
+    ))
 }
 
 fn seed_of(alloc: Global, matches: &ArgMatches<'_>) -> Result<String, AllocError>

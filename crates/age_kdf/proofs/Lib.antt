@@ -6,4 +6,3 @@ mod Pbkdf2Lemmas
 mod BlockMixLemmas
 mod RoMixLemmas
 mod ScryptLemmas
-mod Vectors

@@ -1,15 +1,12 @@
-use Rattle.age_args.proofs.Common.{ap, ◌∙◌, Shape, with_rules, writing}
-use Rattle.age_args.proofs.ShapeLemmas.{IfOk-one_more, one_more}
 use Rattle.age_args.proofs.options.encrypt_command.Goals as goal
 
 pub returns : goal.returns
 returns c =
-    IfOk-one_more c.with_arg-7.result c.with_arg-7.ensures c.input_word.ensures.0
-    (one_more c.in_ok-command-8.ensures c.verbose_option.ensures.0
-    (c.in_ok-command-7.ensures ∙ ap (λ (s : Shape). with_rules s writing)
-    (one_more c.in_ok-command-6.ensures c.max_header_option.ensures.0
-    (one_more c.in_ok-command-5.ensures c.seed_option.ensures.0
-    (one_more c.in_ok-command-4.ensures c.work_option.ensures.0
-    (one_more c.in_ok-command-3.ensures c.key_option.ensures.0
-    (one_more c.in_ok-command-2.ensures c.pass_option.ensures.0
-    c.in_ok-command.ensures)))))))
+    c.with_arg.ensures _ _ c.input_word.ensures.0
+    (c.with_arg-command-6.ensures _ _ c.verbose_option.ensures.0
+    (c.with_output_options-command.ensures _
+    (c.with_arg-command-5.ensures _ _ c.max_header_option.ensures.0
+    (c.with_arg-command-4.ensures _ _ c.seed_option.ensures.0
+    (c.with_arg-command-3.ensures _ _ c.work_option.ensures.0
+    (c.with_arg-command-2.ensures _ _ c.key_option.ensures.0
+    (c.with_arg-command.ensures _ _ c.pass_option.ensures.0 c.bare_subcommand-command.ensures)))))))

@@ -24,5 +24,5 @@ returns-clause-ranges c = record {
   max_header = rw c.number_or-3.ensures (search (in_range, c.requires.max_header, arith));
   at = rw c.number_or-4.ensures (search (in_range, c.requires.at, arith));
   len = rw c.number_or-5.ensures (search (in_range, c.requires.len, arith));
-  input = names_input string_bytes c.args.command c.in_ok-text_of-7.field-0 c.in_ok-text_of-7.ensures c.requires.input;
+  input = names_input string_bytes c.args.command c.in_ok-text_of-3.field-0 c.in_ok-text_of-3.ensures c.requires.input;
 }
