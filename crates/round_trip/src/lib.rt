@@ -1,5 +1,5 @@
 //! The identity of a pair decrypts what was encrypted for the pair's recipient to the same
-//! plaintext.
+//! plaintext. Also here: a list of calls on one reader of ranges (`make_calls`).
 //!
 //! ```
 //! let text = key_there_and_back(alloc, key, salt, plain, &fresh, &limits)?; // equals `plain`
@@ -15,6 +15,8 @@
 
 mod file;
 mod pairs;
+mod ranges;
 
 pub use file::{decrypted, encrypted};
 pub use pairs::{TripError, key_there_and_back, pass_there_and_back, there_and_back};
+pub use ranges::{RangeCall, make_calls};

@@ -1,0 +1,33 @@
+-- Calls on one reader of ranges, one after another.
+use Rattle.std.specs.Prelude.{ℕ, ◌≡◌, ◌+◌, ◌-◌, ◌*◌, ◌/◌, ◌<◌, length, IsSome, Result, Ok, Err}
+use Rattle.age_stream.specs.declared.fault.StreamFault.{StreamFault}
+use Rattle.age_stream.specs.Ranges.{Fills, IsLost, IsSound, RangeState, ReadsRange, range_len, source_opening}
+use Rattle.age_stream.specs.Sizes.{chunk_size}
+use Rattle.age_file.specs.Words.{Bytes, Known}
+use Rattle.round_trip.specs.declared.ranges.RangeCall.{RangeCall}
+
+-- chunk i holds one of the n bytes from `at` on
+abbrev pub Touches : (at n i : ℕ) → Type 0
+Touches at n i = (k : ℕ) × (k < n) × ((at + k) / chunk_size ≡ i)
+
+-- A call's result, by the contents and the reader's state before the first call: the slice of the
+-- plaintext if every touched chunk opens; otherwise the first that does not, or a failed read,
+-- after the slice before that chunk. The rest of the buffer is unchanged.
+abbrev pub Answers : (told : Known) (s : RangeState) (at : ℕ) (old new : Bytes)
+    (r : Result ℕ StreamFault) → Type 0
+Answers told s at old new (Ok n) =
+    (n ≡ range_len s at (length old)) × Fills told s at n old new
+    × ((i : ℕ) → Touches at n i → IsSound told s → IsSome (source_opening told s.layout i))
+Answers told s at old new (Err fault) =
+    (i : ℕ) × Touches at (range_len s at (length old)) i
+    × Fills told s at (chunk_size * i - at) old new × IsLost told s i fault
+
+-- A call of a list, before and after it, took the reader from one state to the next. `first` and
+-- `s` are its source and its chunks before the list.
+pub record Makes {D : Type 0} (told : D → Known) (count_given failed : D → ℕ)
+    (gave : D → (at byte : ℕ) → Type 0) (first : D) (s : RangeState) (old : D × RangeState)
+    (call : RangeCall × RangeCall) (new : D × RangeState) : Type 0 where
+  pub answers : Answers (told first) s call.0.at call.0.buf.items call.1.buf.items call.1.answer
+  pub reads : ReadsRange told count_given failed gave call.0.at
+      (record { source = old.0; chunks = old.1; buf = call.0.buf.items })
+      (record { source = new.0; chunks = new.1; buf = call.1.buf.items }) call.1.answer

@@ -1,0 +1,54 @@
+//! Calls on one reader of ranges, one after another.
+
+ghost use Rattle.std.specs.Prelude.{◌≡◌, length};
+ghost use Rattle.std.specs.List.{FoldsTo, zip};
+ghost use Rattle.age_stream.specs.Ranges.{ReadsRange, chunks_of, source_at_of};
+ghost use Rattle.round_trip.specs.Calls.{Makes};
+
+use age_file::{RangeReader, ReadAt, StreamFault};
+
+/// A call of `read_range`.
+#[derive(Drop)]
+pub struct RangeCall {
+    /// The offset of the first byte.
+    pub at: u64,
+    /// The buffer to be filled.
+    pub buf: Vec<u8>,
+    /// What the call returned, once it was made.
+    pub answer: Result<usize, StreamFault>,
+}
+
+/// Makes every call of a list, in order.
+pub fn make_calls<D: ReadAt>(reader: &mut RangeReader<'_, D>, calls: &mut [RangeCall])
+    ensures same_reference { (source_at_of reader.new).ghost_name
+        ≡ (source_at_of reader.old).ghost_name }
+    // Each call's result is the slice of the plaintext exactly if every chunk that it touches
+    // opens, by what the source and the reader's chunks were before the first call. It reads and
+    // opens no more than these chunks. None returns that memory was refused.
+    ensures made { FoldsTo (Makes D.bytes D.given D.failed D.gave (source_at_of reader.old).now
+        (chunks_of reader.old)) ((source_at_of reader.old).now, chunks_of reader.old)
+        (zip calls.old calls.new) ((source_at_of reader.new).now, chunks_of reader.new) }
+{
+    for call in calls.iter_mut() {
+        make(reader, call);
+    }
+}
+
+/// Makes a call, and keeps what it returned.
+fn make<D: ReadAt>(reader: &mut RangeReader<'_, D>, call: &mut RangeCall)
+    ensures same_reference { (source_at_of reader.new).ghost_name
+        ≡ (source_at_of reader.old).ghost_name }
+    ensures len { length call.new.buf.items ≡ length call.old.buf.items }
+    ensures reads { ReadsRange D.bytes D.given D.failed D.gave call.old.at
+        (record {
+          source = (source_at_of reader.old).now;
+          chunks = chunks_of reader.old;
+          buf = call.old.buf.items;
+        }) (record {
+          source = (source_at_of reader.new).now;
+          chunks = chunks_of reader.new;
+          buf = call.new.buf.items;
+        }) call.new.answer }
+{
+    call.answer = reader.read_range(call.at, call.buf.as_mut_slice());
+}
