@@ -1,30 +1,33 @@
 -- What was printed on standard error, from what each call printed.
-use Rattle.std.proofs.Math.Seq.{take-length}
-use Rattle.std.specs.Prelude.{codes}
-use Rattle.age_cli.proofs.Common.{◌≡◌, ◌⊎◌, ℕ, List, Bool, arith, inl, inr, refl, length, None, Some, Result, Ok, Err, ⊤, Bytes, Known, Moved, AskForText, Reads, AnswersRefusal}
+use Rattle.std.specs.Prelude.{IfSome, codes, false}
+use Rattle.age_cli.proofs.Common.{◌≡◌, ◌⊎◌, ℕ, List, arith, inl, inr, refl, None, Some, Result, Ok, Err, ⊤, Bytes, Known, AskForText, Reads, AnswersRefusal}
 use Rattle.age_args.specs.declared.fault.ArgsFault.{ArgsFault}
 use Rattle.age_args.specs.declared.fault.ArgsFault.TheVariants.{Memory, Refused}
 use Rattle.age_args.proofs.RefusalLemmas.{shown}
-use Rattle.age_header.specs.Device.{Writes, WritesPart}
-use Rattle.age_cli.specs.Told.{Says, Tells, error_line}
+use Rattle.age_header.specs.Device.{Counts, Writes}
+use Rattle.age_cli.specs.Told.{Prints, Says, Stream, error_line}
 
-part : {E : Type 0} (err : Moved) (r : Result ⊤ E) (line : Bytes) → Writes err r line → WritesPart err line
-part err (Ok u) line h = (length line, rw take-length h)
-part err (Err e) line h = h
+-- the line, from a write of it whole
+pub prints : {E : Type 0} (err : Stream) (r : Result ⊤ E) (line : Bytes) → Writes err.bytes r line
+    → Counts err.before err.after r → Prints err line
+prints err (Ok u) line h count = inl h
+prints err (Err e) line h count = inr (h, count)
 
 -- the line of refused memory was printed in place of another
-pub says_refusal : {E F : Type 0} (known : Known) (err : Moved) (r : Result ⊤ E) (e : F)
-    → Writes err r (error_line (codes "out of memory")) → Says known err (Err e)
-says_refusal None err r e h = (error_line (codes "out of memory"), part err r (error_line (codes "out of memory")) h, tt)
-says_refusal (Some said) err r e h = (
-  error_line (codes "out of memory"),
-  part err r (error_line (codes "out of memory")) h,
-  inr refl,
-)
+refused_is : (known : Known)
+    → IfSome known (λ said. (error_line (codes "out of memory") ≡ said)
+    ⊎ (error_line (codes "out of memory") ≡ error_line (codes "out of memory")))
+refused_is None = tt
+refused_is (Some said) = inr refl
 
-pub tells_only : {E : Type 0} (verbose : Bool) (text : Bytes) (err : Moved) (r : Result ⊤ E)
-    → Says (Some (error_line text)) err r → Tells verbose text err
-tells_only verbose text err r (line, h, is) = (line, is, inl (part err r line h))
+pub says_refusal : {E : Type 0} (known : Known) (err : Stream) (r : Result ⊤ E)
+    → Writes err.bytes r (error_line (codes "out of memory")) → Counts err.before err.after r → Says known err false
+says_refusal known err r h count = (
+  error_line (codes "out of memory"),
+  prints err r (error_line (codes "out of memory")) h count,
+  (λ yes. absurd (cc)),
+  refused_is known,
+)
 
 -- what was printed after a refusal with status 1
 pub told_refusal : (words : List Bytes) (unwritten told : Type 0) (fault : ArgsFault) (status : ℕ)

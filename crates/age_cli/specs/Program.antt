@@ -1,17 +1,19 @@
 -- The results of a job, from its input to its output.
-use Rattle.std.specs.Prelude.{◌≡◌, ◌≤◌, ◌⊎◌, ◌^◌, ℕ, ⊤, List, Option, None, Some, Result, Ok, Err}
-use Rattle.age_header.specs.Device.{Bytes, Known, Moved, move_by, move_of}
+use Rattle.std.specs.Prelude.{◌≡◌, ◌≤◌, ◌⊎◌, ◌^◌, ℕ, ⊤, List, Option, None, Some, IsSome, Result, Ok, Err}
+use Rattle.age_header.specs.Device.{Bytes, Known, Moved, Stays, move_by, move_of}
 use Rattle.age_stream.specs.Salvage.{LossesMoved}
 use Rattle.age_file.specs.AgeFile.{Bounds}
 use Rattle.age_file.specs.declared.fault.Fault.{Fault as FileFault}
 use Rattle.age_job.specs.declared.job.Command.TheVariants as command
 use Rattle.age_job.specs.declared.job.Job.{Job}
+use Rattle.age_job.specs.Refusal.{MayRefuse}
+use Rattle.age_job.specs.declared.failure.Failure.{Failure as JobFailure}
+use Rattle.age_job.specs.declared.fault.Fault.TheVariants.{Write}
 use Rattle.age_job.specs.Secret.{IsFileKeyOf, IsNewSecret, IsSecretOf}
 use Rattle.age_job.specs.declared.secret.Secret.{Secret}
 use Rattle.age_args.specs.declared.fault.ArgsFault.{ArgsFault}
 use Rattle.age_args.specs.declared.fault.ArgsFault.TheVariants.{Memory, Refused}
 use Rattle.age_args.specs.JobOf.{IsShown, header_limit}
-use Rattle.age_cli.specs.declared.failure.Detail.{Detail}
 use Rattle.age_cli.specs.declared.failure.Failure.{Failure}
 use Rattle.age_cli.specs.declared.failure.Failure.TheVariants.{AgeFile, Job as OfJob}
 use Rattle.age_commands.specs.declared.task.Task.{Task}
@@ -66,12 +68,19 @@ RunsOn {F} remaining contents job from sink result =
     × IsDevice (λ (file : F × F). move_by contents file.0 file.1) job.output sink target
     × Runs job source target result)
 
+-- A job failed before its work, by a refusal that its options allow, or when its named OUT was
+-- ended. Nothing was written to its standard output.
+abbrev pub FailsBeside : (job : Job) (sink : Moved) (failure : JobFailure) → Type 0
+FailsBeside job sink failure =
+    Stays sink
+    × (MayRefuse job failure.fault ⊎ (IsSome job.output × (failure.fault ≡ Write)))
+
 -- the result of work that has this meaning, or of a failure before it or after it
-abbrev pub OfWork : (meaning : Result ⊤ FileFault → Type 0) (other : Type 0)
+abbrev pub OfWork : (meaning : Result ⊤ FileFault → Type 0) (other : JobFailure → Type 0)
     (result : Result ⊤ Failure) → Type 0
 OfWork meaning other (Ok _) = meaning (Ok tt)
 OfWork meaning other (Err (AgeFile fault detail)) = meaning (Err fault)
-OfWork meaning other (Err (OfJob failure)) = other
+OfWork meaning other (Err (OfJob failure)) = other failure
 
 -- the limits set by the words
 abbrev pub word_limits : (words : List Bytes) → Bounds

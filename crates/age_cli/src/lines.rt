@@ -3,12 +3,12 @@
 use crate::messages::say;
 use age_commands::{Report, Unread};
 use age_file::{
-    CHUNK_SIZE, Losses, LostChunk, LostRun, Salvaged, SalvagedFile, Saved, TAG_SIZE, join_lost,
+    CHUNK_SIZE, Losses, LostChunk, LostRun, Salvaged, SalvagedFile, Saved, Sink, TAG_SIZE,
+    join_lost,
 };
 use age_job::{Detail, ERASE, Name, Operation};
 use std::alloc::Global;
 use std::fmt;
-use std::io::Write;
 
 /// Prints a line for each run of lost chunks as soon as it ends.
 #[derive(Drop)]
@@ -66,10 +66,10 @@ impl fmt::Display for RunLine {
     }
 }
 
-impl<'a, 'b, E: Write> LossLines<'a, 'b, E> {
+impl<'a, 'b, E: Sink> LossLines<'a, 'b, E> {
     fn print<D: fmt::Display>(&mut self, line: &D) {
         let before = if self.is_shown { ERASE } else { "" };
-        let _ = say(
+        say(
             self.alloc,
             &format_args!("{before}agep: {line}\n"),
             self.err,
@@ -101,7 +101,7 @@ impl<'a, 'b, E: Write> LossLines<'a, 'b, E> {
     }
 }
 
-impl<'a, 'b, E: Write> Losses for LossLines<'a, 'b, E> {
+impl<'a, 'b, E: Sink> Losses for LossLines<'a, 'b, E> {
     ghost use Rattle.std.specs.Prelude.{None};
 
     ghost lost = { λ _. None };
@@ -116,7 +116,7 @@ impl<'a, 'b, E: Write> Losses for LossLines<'a, 'b, E> {
     }
 }
 
-impl<'a, 'b, E: Write> Report for LossLines<'a, 'b, E> {
+impl<'a, 'b, E: Sink> Report for LossLines<'a, 'b, E> {
     fn damaged(&mut self, saved: &SalvagedFile) {
         self.end();
         if !saved.has_right_mac {

@@ -1,90 +1,63 @@
 //! Messages on standard error.
-ghost use Rattle.std.specs.Prelude.{◌≡◌};
-ghost use Rattle.std.specs.Io.{WritesAtMost};
-ghost use Rattle.age_cli.specs.Told.{Says, Tells, failure_text};
-ghost use Rattle.age_header.specs.Device.{Bytes, Takes, Took, Writes, move_by};
+ghost use Rattle.age_cli.specs.Told.{Says, Tells, failure_text, stream_by};
+ghost use Rattle.age_header.specs.Device.{Bytes, Took, move_by};
 
 use crate::failure::Failure;
-use age_file::Fault;
+use age_file::{Fault, Sink, write_all};
 use age_job::{Job, ReadFiles};
 use std::alloc::Global;
 use std::fmt::Display;
-use std::io;
-use std::io::{ErrorKind, Write};
+use std::io::Write;
 
 /// Prints a text on standard error, in one write if the system takes it whole. If memory is
-/// refused for the text, prints the line of that fault instead, and returns an error too.
-pub(crate) fn say<D: Display, E: Write>(alloc: Global, text: &D, err: &mut E) -> io::Result<()>
-    ensures { Says (D.output text.now) (move_by E.contents err.old err.new) result }
+/// refused for the text, prints the line of that fault instead. Returns whether the text was
+/// printed.
+pub(crate) fn say<D: Display, E: Sink>(alloc: Global, text: &D, err: &mut E) -> bool
+    ensures { Says (D.output text.now) (stream_by E.taken E.failed err.old err.new) result }
 {
     let mut whole = Vec::new(alloc);
     match write!(whole, "{text}") {
-        Ok(()) => write_text(whole.as_slice(), err),
+        Ok(()) => write_all(err, whole.as_slice()).is_ok(),
         Err(_) => {
-            write_text(b"agep: out of memory\n", err)?;
-            Err(io::Error::from(ErrorKind::OutOfMemory))
+            let _ = write_all(err, b"agep: out of memory\n");
+            false
         }
     }
 }
 
-/// Writes a text, in as many writes as needed, up to a failed one.
-fn write_text<E: Write>(text: &[u8], err: &mut E) -> io::Result<()>
-    ensures { Writes (move_by E.contents err.old err.new) result text.now }
-{
-    let mut at = 0;
-    while at < text.len() {
-        at += write_part(&text[at..], err)?;
-    }
-    Ok(())
-}
-
-/// Writes a part of a text once. That no byte of it was taken is a failure.
-fn write_part<E: Write>(part: &[u8], err: &mut E) -> io::Result<usize>
-    ensures bound { WritesAtMost result part.now }
-    ensures bytes { Takes (move_by E.contents err.old err.new) result part.now }
-{
-    match err.write(part) {
-        Ok(0) => Err(io::Error::from(ErrorKind::WriteZero)),
-        written => written,
-    }
-}
-
-/// Prints a failure and, with `--verbose`, what more is known about it. Returns the first error.
-pub(crate) fn tell<E: Write>(
+/// Prints a failure and, with `--verbose`, what more is known about it.
+pub(crate) fn tell<E: Sink>(
     alloc: Global,
     job: &Job,
     failure: &Failure<'_>,
     read: &ReadFiles<'_>,
     err: &mut E,
-) -> io::Result<()>
+)
     ensures { Tells job.now.verbose (failure_text failure.now)
-        (move_by E.contents err.old err.new) }
+        (stream_by E.taken E.failed err.old err.new) }
 {
-    match say(alloc, &format_args!("agep: {failure}\n"), err) {
-        Ok(()) if job.verbose => explain(alloc, failure, read, err),
-        told => told,
+    if say(alloc, &format_args!("agep: {failure}\n"), err) && job.verbose {
+        explain(alloc, failure, read, err);
     }
 }
 
 /// Prints what more is known about a failure.
-fn explain<E: Write>(
-    alloc: Global,
-    failure: &Failure<'_>,
-    read: &ReadFiles<'_>,
-    err: &mut E,
-) -> io::Result<()>
-    ensures { (text : Bytes) × Took (move_by E.contents err.old err.new) text }
+fn explain<E: Sink>(alloc: Global, failure: &Failure<'_>, read: &ReadFiles<'_>, err: &mut E)
+    ensures { (text : Bytes) × Took (move_by E.taken err.old err.new) text }
 {
     match failure {
         Failure::AgeFile(Fault::WrongKey, Some(detail)) => {
             let tried = read.tried();
-            say(alloc, &format_args!("agep: {detail}{tried}\n"), err)
+            say(alloc, &format_args!("agep: {detail}{tried}\n"), err);
         }
-        Failure::AgeFile(_, Some(detail)) => say(alloc, &format_args!("agep: {detail}\n"), err),
-        Failure::AgeFile(_, None) => Ok(()),
-        Failure::Job(failure) => match &failure.detail {
-            Some(detail) => say(alloc, &format_args!("agep: {detail}\n"), err),
-            None => Ok(()),
-        },
+        Failure::AgeFile(_, Some(detail)) => {
+            say(alloc, &format_args!("agep: {detail}\n"), err);
+        }
+        Failure::AgeFile(_, None) => {}
+        Failure::Job(failure) => {
+            if let Some(detail) = &failure.detail {
+                say(alloc, &format_args!("agep: {detail}\n"), err);
+            }
+        }
     }
 }

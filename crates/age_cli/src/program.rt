@@ -1,26 +1,29 @@
 //! The program, over a reader and two writers.
-ghost use Rattle.std.specs.Prelude.{◌≡◌, ◌≢◌, ◌≤◌, ◌⊎◌, Err, None, Ok, false, codes, IfOk, OnOk};
+ghost use Rattle.std.specs.Prelude.{◌≡◌, ◌≢◌, ◌≤◌, ◌⊎◌, Err, None, Ok, false, codes, IfErr, IfOk, OnOk};
 ghost use Rattle.age_job.specs.Job.{IsInRange};
+ghost use Rattle.age_job.specs.Refusal.{MayRefuse};
+ghost use Rattle.age_job.specs.declared.target.Target.TheVariants.{InPlace};
 ghost use Rattle.age_args.specs.JobOf.{AreWrong, AskForText, Makes};
 ghost use Rattle.age_args.specs.Words.{texts};
-ghost use Rattle.age_cli.specs.Program.{AnswersRefusal, IsDevice, IsTaskOf, OfWork, RunsOn, Works};
-ghost use Rattle.age_cli.specs.Told.{Tells, Told};
+ghost use Rattle.age_cli.specs.Program.{AnswersRefusal, FailsBeside, IsDevice, IsTaskOf, OfWork, RunsOn, Works};
+ghost use Rattle.age_cli.specs.Told.{Tells, Told, stream_by};
 ghost use Rattle.age_file.specs.Texts.{fault_text};
 ghost use Rattle.age_header.specs.Device.{Moved, Stays, move_by};
 
+use crate::error_stream::Parts;
 use crate::failure::Failure;
 use crate::lines::{LossLines, NoLines};
 use crate::messages::{say, tell};
 use crate::work::{input_name, kept_prefix, perform_to};
 use age_args::{ArgsFault, parse_args};
 use age_commands::{Report, Seed, Task, seed_of};
-use age_file::Fault;
+use age_file::{Fault, Sink, write_all};
 use age_job::{
     Command, Job, Lines, Pipe, ReadFiles, SEED_LEN, Shown, Target, Watched, read_encrypt_secrets,
     read_file_key, read_rewrap_secrets, read_secret, refuse_output, shows_progress,
 };
 use std::alloc::Global;
-use std::fmt::Display;
+use std::fmt::{Display, Write as _};
 use std::io::{IsTerminal, Read, Seek, Write};
 use std::rt::{Env, Files};
 use std::time::Clock;
@@ -45,7 +48,7 @@ pub fn run<
     F: Files + Clock + Env + AllocGlobal,
     R: Read,
     W: Write + IsTerminal,
-    E: Write + IsTerminal,
+    E: Sink + IsTerminal,
 >(rt: &F, words: &[&str], input: &mut R, out: &mut W, err: &mut E) -> u8
     // The status is 0, 1 or 2.
     ensures status { result ≤ 2 }
@@ -74,7 +77,7 @@ pub fn run<
         (R.remaining input.old) (move_by W.contents out.old out.new) (Err fault)))) }
     // Status 1: the words ask for a text, or `err` got the line of refused memory, or that of the
     // fault that ended the job of these words.
-    ensures told { let err = move_by E.contents err.old err.new in
+    ensures told { let err = stream_by E.taken E.failed err.old err.new in
         result ≡ 1 → AskForText (texts words.now)
         ⊎ (Tells false (codes "out of memory") err
         ⊎ ((job : Job) × Makes (texts words.now) job × Told F.File.remaining F.File.contents job
@@ -97,7 +100,7 @@ pub fn run_job<
     F: Files + Clock + Env + AllocGlobal,
     R: Read,
     W: Write + IsTerminal,
-    E: Write + IsTerminal,
+    E: Sink + IsTerminal,
 >(rt: &F, job: &Job, input: &mut R, out: &mut W, err: &mut E) -> u8
     requires { IsInRange job.now }
     // The status is 0 or 1.
@@ -123,7 +126,7 @@ pub fn run_job<
     // failed write it has a prefix of that line, and with `--verbose` more may follow the line.
     ensures told { result ≡ 1 → Told F.File.remaining F.File.contents job.now
         (R.remaining input.old) (move_by W.contents out.old out.new)
-        (move_by E.contents err.old err.new) }
+        (stream_by E.taken E.failed err.old err.new) }
 {
     let is_shown = shows_progress(rt, job, out, err);
     let target = Target::of(rt, job);
@@ -147,14 +150,14 @@ pub fn run_job<
         lines.end();
         let LossLines { alloc, err, .. } = lines;
         if !is_told(&failure) {
-            let _ = tell(alloc, job, &failure, &work.read, err);
+            tell(alloc, job, &failure, &work.read, err);
         }
         return FAILED;
     }
     let Err(failure) = perform(rt, &mut work, input, out, &mut NoLines) else {
         return DONE;
     };
-    let _ = tell(rt.alloc(), job, &failure, &work.read, err);
+    tell(rt.alloc(), job, &failure, &work.read, err);
     FAILED
 }
 
@@ -173,6 +176,7 @@ struct Work<'a> {
     read: ReadFiles<'a>,
     /// Whether to show how much of IN was read.
     is_shown: bool,
+    ghost in_place: { job.now.atomic ≡ false → target.now ≡ InPlace },
 }
 
 /// Reads the small files, opens the input, creates the output, performs the task, in this order.
@@ -188,7 +192,7 @@ fn perform<'a, F: Files + Clock + AllocGlobal, R: Read, W: Write + IsTerminal, L
     ensures silent { OnOk result (lines.new ≡ lines.old) }
     ensures completes { let sink = move_by W.contents out.old out.new in
         OfWork (RunsOn F.File.remaining F.File.contents work.old.job.now
-        (R.remaining input.old) sink) (Stays sink) result }
+        (R.remaining input.old) sink) (FailsBeside work.old.job.now sink) result }
     ensures input { work.old.job.now.input ≢ None → input.new ≡ input.old }
     ensures output { work.old.job.now.output ≢ None → out.new ≡ out.old }
 {
@@ -217,7 +221,8 @@ fn task_of<'a, F: Files + AllocGlobal, W: IsTerminal>(
     read: &mut ReadFiles<'a>,
     out: &W,
 ) -> Result<Task, age_job::Failure<'a>>
-    ensures { IfOk result (IsTaskOf job.now) }
+    ensures task { IfOk result (IsTaskOf job.now) }
+    ensures fault { IfErr result (λ failure. MayRefuse job.now failure.fault) }
 {
     refuse_output(rt, job)?;
     match job.command {
@@ -259,7 +264,8 @@ fn perform_on<'a, F: Files + AllocGlobal, R: Read + Seek + Drop, W: Write, L: Re
         OfWork (λ done. (target : Moved)
         × IsDevice (λ (file : F.File × F.File). move_by F.File.contents file.0 file.1)
         work.now.job.now.output sink target
-        × Works work.now.job.now task (R.remaining input) target done) (Stays sink) result }
+        × Works work.now.job.now task (R.remaining input) target done)
+        (FailsBeside work.now.job.now sink) result }
     ensures output { work.now.job.now.output ≢ None → out.new ≡ out.old }
 {
     let (job, target) = (work.job, work.target);
@@ -283,28 +289,28 @@ fn perform_on<'a, F: Files + AllocGlobal, R: Read + Seek + Drop, W: Write, L: Re
 }
 
 /// Prints a fault.
-fn fail<E: Write>(alloc: Global, fault: Fault, err: &mut E) -> u8
+fn fail<E: Sink>(alloc: Global, fault: Fault, err: &mut E) -> u8
     ensures status { result ≡ 1 }
-    ensures told { Tells false (fault_text fault) (move_by E.contents err.old err.new) }
+    ensures told { Tells false (fault_text fault) (stream_by E.taken E.failed err.old err.new) }
 {
-    let _ = say(alloc, &format_args!("agep: {fault}\n"), err);
+    say(alloc, &format_args!("agep: {fault}\n"), err);
     FAILED
 }
 
 /// Prints why the command line was refused, in parts if memory is refused for the whole text.
-fn refuse<D: Display, E: Write>(alloc: Global, why: &D, err: &mut E) -> u8
+fn refuse<D: Display, E: Sink>(alloc: Global, why: &D, err: &mut E) -> u8
     ensures { result ≡ 2 }
 {
     let mut whole = Vec::new(alloc);
     let _ = match write!(whole, "{why}") {
-        Ok(()) => err.write_all(whole.as_slice()),
-        Err(_) => write!(err, "{why}"),
+        Ok(()) => write_all(err, whole.as_slice()).is_ok(),
+        Err(_) => write!(Parts(err), "{why}").is_ok(),
     };
     REFUSED
 }
 
 /// Prints why the arguments are not a job, or prints the help or the version.
-fn answer_refusal<W: Write, E: Write>(
+fn answer_refusal<W: Write, E: Sink>(
     alloc: Global,
     fault: &ArgsFault,
     out: &mut W,
@@ -313,7 +319,7 @@ fn answer_refusal<W: Write, E: Write>(
     ensures answers { AnswersRefusal fault.now result (out.new ≡ out.old) }
     ensures quiet { result ≡ 0 → err.new ≡ err.old }
     ensures told { fault.now ≡ ArgsFault.Memory
-        → Tells false (codes "out of memory") (move_by E.contents err.old err.new) }
+        → Tells false (codes "out of memory") (stream_by E.taken E.failed err.old err.new) }
 {
     match fault {
         ArgsFault::Refused(error) => {

@@ -1,5 +1,8 @@
 //! A fault of a job's files, and what `--verbose` prints after it.
 
+ghost use Rattle.std.specs.Prelude.{◌≡◌};
+ghost use Rattle.age_job.specs.declared.fault.Fault.TheVariants.{OutOfMemory};
+
 use crate::fault::Fault;
 use crate::file_names::{Bytes, Name, Quoted, Role};
 use crate::files::{Held, MAX_SMALL, NamedFile, ReadFile};
@@ -54,11 +57,15 @@ impl<'a> Failure<'a> {
         operation: Operation,
         name: &'a str,
         reason: io::Error,
-    ) -> Failure<'a> {
+    ) -> Failure<'a>
+        ensures { result.fault ≡ fault.entry }
+    {
         Failure::with(fault, Detail::System(operation, Name(name), reason))
     }
 
-    pub fn with(fault: Fault<'a>, detail: Detail<'a>) -> Failure<'a> {
+    pub fn with(fault: Fault<'a>, detail: Detail<'a>) -> Failure<'a>
+        ensures { result.fault ≡ fault.entry }
+    {
         Failure {
             fault,
             detail: Some(detail),
@@ -67,6 +74,8 @@ impl<'a> Failure<'a> {
 }
 
 impl<'a> From<Fault<'a>> for Failure<'a> {
+    ghost from_gives = { λ fault failure. failure.fault ≡ fault };
+
     fn from(fault: Fault<'a>) -> Failure<'a> {
         Failure {
             fault,
@@ -76,12 +85,16 @@ impl<'a> From<Fault<'a>> for Failure<'a> {
 }
 
 impl From<AllocError> for Failure<'_> {
+    ghost from_gives = { λ _ failure. failure.fault ≡ OutOfMemory };
+
     fn from(error: AllocError) -> Self {
         Failure::from(Fault::from(error))
     }
 }
 
 impl<T: Drop> From<AllocFailed<T>> for Failure<'_> {
+    ghost from_gives = { λ _ failure. failure.fault ≡ OutOfMemory };
+
     fn from(error: AllocFailed<T>) -> Self {
         Failure::from(Fault::from(error))
     }

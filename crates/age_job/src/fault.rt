@@ -1,6 +1,7 @@
 //! Why a file of a job was refused or could not be used.
 
-ghost use Rattle.std.specs.Prelude.{Some};
+ghost use Rattle.std.specs.Prelude.{◌≡◌, Some};
+ghost use Rattle.age_job.specs.declared.fault.Fault.TheVariants.{OutOfMemory};
 ghost use Rattle.age_job.specs.Texts.{fault_text};
 
 use crate::file_names::{Name, Role};
@@ -49,12 +50,16 @@ pub enum Fault<'a> {
 }
 
 impl From<AllocError> for Fault<'_> {
+    ghost from_gives = { λ _ fault. fault ≡ OutOfMemory };
+
     fn from(_error: AllocError) -> Self {
         Fault::OutOfMemory
     }
 }
 
 impl<T: Drop> From<AllocFailed<T>> for Fault<'_> {
+    ghost from_gives = { λ _ fault. fault ≡ OutOfMemory };
+
     fn from(_error: AllocFailed<T>) -> Self {
         Fault::OutOfMemory
     }

@@ -1,6 +1,7 @@
 //! The files that a job reads, and which of them are the same file.
 
-ghost use Rattle.std.specs.Prelude.{◌≡◌, take, IfOk, IfSome};
+ghost use Rattle.std.specs.Prelude.{◌≡◌, ◌⊎◌, codes, take, IfErr, IfOk, IfSome};
+ghost use Rattle.age_job.specs.Refusal.{IsFileFault, IsSameFault, MayRefuse};
 
 use crate::failure::{Failure, Operation, Tried};
 use crate::fault::Fault;
@@ -55,7 +56,9 @@ pub struct ReadFiles<'a> {
     standard_role: Option<Role>,
 }
 
-fn cannot_open<'a>(name: &'a str, reason: io::Error) -> Failure<'a> {
+fn cannot_open<'a>(name: &'a str, reason: io::Error) -> Failure<'a>
+    ensures { result.fault ≡ Fault.CannotOpen (record { 0 = name.entry }) }
+{
     Failure::of_system(
         Fault::CannotOpen(Name(name)),
         Operation::Opening,
@@ -64,7 +67,9 @@ fn cannot_open<'a>(name: &'a str, reason: io::Error) -> Failure<'a> {
     )
 }
 
-pub(crate) fn unidentified<'a>(name: &'a str, reason: io::Error) -> Failure<'a> {
+pub(crate) fn unidentified<'a>(name: &'a str, reason: io::Error) -> Failure<'a>
+    ensures { result.fault ≡ Fault.Unidentified (record { 0 = name.entry }) }
+{
     Failure::of_system(
         Fault::Unidentified(Name(name)),
         Operation::Identifying,
@@ -75,7 +80,9 @@ pub(crate) fn unidentified<'a>(name: &'a str, reason: io::Error) -> Failure<'a> 
 
 impl<'a> ReadFile<'a> {
     /// Refuses to write `out`, the file of this name, if that changes, or may change, this file.
-    fn refuse(&self, out: &Inode, name: &'a str) -> Result<(), Failure<'a>> {
+    fn refuse(&self, out: &Inode, name: &'a str) -> Result<(), Failure<'a>>
+        ensures { IfErr result (λ failure. IsSameFault name.now failure.fault) }
+    {
         match &self.inode {
             Err(reason) if out.keeps_bytes() => Err(unidentified(self.named.name, *reason)),
             Ok(inode) if inode.is_changed_by(out) => {
@@ -112,7 +119,10 @@ impl<'a> ReadFiles<'a> {
         rt: &F,
         command: Command,
         name: &'a str,
-    ) -> Result<F::File, Failure<'a>> {
+    ) -> Result<F::File, Failure<'a>>
+        ensures { IfErr result
+            (λ failure. IsFileFault name.now failure.fault) }
+    {
         let mut file = open(rt, name)?;
         self.add_input(name, Inode::of_open(&file))?;
         if command == Command::Range
@@ -148,7 +158,10 @@ impl<'a> ReadFiles<'a> {
         &mut self,
         rt: &F,
         named: NamedFile<'a>,
-    ) -> Result<F::File, Failure<'a>> {
+    ) -> Result<F::File, Failure<'a>>
+        ensures { IfErr result
+            (λ failure. IsFileFault named.entry.name.now failure.fault) }
+    {
         let NamedFile { role, name } = named;
         if let Some(other) = self.standard_role
             && self.is_named_standard(rt, name)
@@ -215,7 +228,9 @@ impl<'a> ReadFiles<'a> {
         &self,
         rt: &F,
         job: &'a Job,
-    ) -> Result<(), Failure<'a>> {
+    ) -> Result<(), Failure<'a>>
+        ensures { IfErr result (λ failure. MayRefuse job.now failure.fault) }
+    {
         let mut earlier = None;
         for file in secrets_of(rt.alloc(), job)?.as_slice() {
             if self.is_named_standard(rt, file.name) {
@@ -229,7 +244,9 @@ impl<'a> ReadFiles<'a> {
     }
 
     /// Refuses to write this file if that changes, or may change, a file that the job reads.
-    pub(crate) fn refuse(&self, out: &Inode, name: &'a str) -> Result<(), Failure<'a>> {
+    pub(crate) fn refuse(&self, out: &Inode, name: &'a str) -> Result<(), Failure<'a>>
+        ensures { IfErr result (λ failure. IsSameFault name.now failure.fault) }
+    {
         for file in self.files.as_slice() {
             file.refuse(out, name)?;
         }
@@ -237,7 +254,9 @@ impl<'a> ReadFiles<'a> {
     }
 
     /// The same, if the file to write is replaced at the end: then it may be IN.
-    pub(crate) fn refuse_secrets(&self, out: &Inode, name: &'a str) -> Result<(), Failure<'a>> {
+    pub(crate) fn refuse_secrets(&self, out: &Inode, name: &'a str) -> Result<(), Failure<'a>>
+        ensures { IfErr result (λ failure. IsSameFault name.now failure.fault) }
+    {
         for file in self.files.as_slice() {
             if file.named.role != Role::Input {
                 file.refuse(out, name)?;
@@ -248,7 +267,9 @@ impl<'a> ReadFiles<'a> {
 
     /// Refuses standard output if it is a file that the job reads, which would grow while it is
     /// read.
-    pub fn refuse_standard_output(&self) -> Result<(), Failure<'a>> {
+    pub fn refuse_standard_output(&self) -> Result<(), Failure<'a>>
+        ensures { IfErr result (λ failure. IsSameFault (codes "standard output") failure.fault) }
+    {
         match &self.standard_output {
             Ok(out) => self.refuse(out, "standard output"),
             Err(_) => Ok(()),
@@ -256,7 +277,9 @@ impl<'a> ReadFiles<'a> {
     }
 }
 
-fn open<'a, F: Files>(rt: &F, name: &'a str) -> Result<F::File, Failure<'a>> {
+fn open<'a, F: Files>(rt: &F, name: &'a str) -> Result<F::File, Failure<'a>>
+    ensures { IfErr result (λ failure. failure.fault ≡ Fault.CannotOpen (record { 0 = name.entry })) }
+{
     match fs::open(rt, name) {
         Ok(file) => Ok(file),
         Err(reason) => Err(cannot_open(name, reason)),
@@ -313,8 +336,10 @@ pub(crate) fn read_prefix<'a, R: Read + Drop>(
     most: usize,
 ) -> Result<Vec<u8>, Failure<'a>>
     // If the reader's bytes are known, returns the first of them, at most as many as asked for.
-    ensures { IfOk result
+    ensures bytes { IfOk result
         (λ bytes. IfSome (R.remaining file) (λ xs. bytes.items ≡ take most xs)) }
+    ensures fault { IfErr result
+        (λ failure. (failure.fault ≡ Fault.Read) ⊎ (failure.fault ≡ Fault.OutOfMemory)) }
 {
     let mut bytes = Vec::new(alloc);
     match file.take(most as u64).read_to_end(&mut bytes) {

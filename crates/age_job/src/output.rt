@@ -1,5 +1,6 @@
 //! The output file named in the arguments.
-ghost use Rattle.std.specs.Prelude.{◌≡◌, ◌<◌, false, true, length, Err, None, IfOk, IsOk};
+ghost use Rattle.std.specs.Prelude.{◌≡◌, ◌<◌, false, true, length, Err, None, IfErr, IfOk, IsOk};
+ghost use Rattle.age_job.specs.Refusal.{IsNamed, MakesHeader, MayRefuse};
 ghost use Rattle.age_job.specs.Mode.{new_mode};
 
 use crate::failure::{Failure, Operation};
@@ -37,6 +38,7 @@ pub fn refuse_output<'a, F: Files>(rt: &F, job: &'a Job) -> Result<(), Fault<'a>
     ensures alone { job.now.atomic ≡ true → job.now.output ≡ None → result ≡ Err Fault.AtomicAlone }
     // Without these options nothing is refused.
     ensures free { job.now.atomic ≡ false → job.now.no_clobber ≡ false → IsOk result }
+    ensures fault { IfErr result (MayRefuse job.now) }
 {
     match &job.output {
         Some(name) if job.no_clobber && fs::symlink_metadata(rt, name.as_str()).is_ok() => {
@@ -54,7 +56,10 @@ pub(crate) fn open_in_place<'a, F: Files>(
     job: &'a Job,
     read: &ReadFiles<'a>,
     name: &'a str,
-) -> Result<Output<F::File>, Failure<'a>> {
+) -> Result<Output<F::File>, Failure<'a>>
+    requires { IsNamed job.now.output name.now }
+    ensures { IfErr result (λ failure. MayRefuse job.now failure.fault) }
+{
     let mut options = new_file(new_mode(job.command));
     match options.open(rt, name) {
         Ok(file) => return Ok(Output::over(file, true)),
@@ -84,7 +89,9 @@ pub(crate) fn new_file(mode: u32) -> OpenOptions {
     options
 }
 
-pub(crate) fn cannot_create<'a>(name: &'a str, reason: io::Error) -> Failure<'a> {
+pub(crate) fn cannot_create<'a>(name: &'a str, reason: io::Error) -> Failure<'a>
+    ensures { result.fault ≡ Fault.CannotCreate (record { 0 = name.entry }) }
+{
     Failure::of_system(
         Fault::CannotCreate(Name(name)),
         Operation::Creating,
@@ -94,7 +101,9 @@ pub(crate) fn cannot_create<'a>(name: &'a str, reason: io::Error) -> Failure<'a>
 }
 
 /// Refuses to write an age file, which is not text, to a terminal.
-pub(crate) fn refuse_terminal<'a, W: IsTerminal>(job: &Job, out: &W) -> Result<(), Fault<'a>> {
+pub(crate) fn refuse_terminal<'a, W: IsTerminal>(job: &Job, out: &W) -> Result<(), Fault<'a>>
+    ensures { MakesHeader job.now → IfErr result (MayRefuse job.now) }
+{
     if job.output.is_none() && out.is_terminal() {
         return Err(Fault::OutputIsTerminal);
     }
@@ -158,6 +167,7 @@ impl<F: OpenFile> Output<F> {
     pub(crate) fn finish<'a>(mut self, name: &'a str) -> Result<(), Failure<'a>>
     where
         F: Drop,
+        ensures { IfErr result (λ failure. failure.fault ≡ Fault.Write) }
     {
         if let Err(reason) = self.empty() {
             return Err(failed_write(Operation::Truncating, name, reason));
@@ -180,7 +190,9 @@ pub(crate) fn failed_write<'a>(
     operation: Operation,
     name: &'a str,
     reason: io::Error,
-) -> Failure<'a> {
+) -> Failure<'a>
+    ensures { result.fault ≡ Fault.Write }
+{
     Failure::of_system(Fault::Write, operation, name, reason)
 }
 

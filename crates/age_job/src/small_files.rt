@@ -1,15 +1,17 @@
 //! The small files that hold a job's secrets: passphrases, keys and seeds.
 
-ghost use Rattle.std.specs.Prelude.{◌≤◌, ◌<◌, ◌+◌, length, vec_len, IfOk};
+ghost use Rattle.std.specs.Prelude.{◌≡◌, ◌≤◌, ◌<◌, ◌+◌, ◌⊎◌, ℕ, List, length, vec_len, IfErr, IfOk};
+ghost use Rattle.std.specs.String.{string_bytes};
 ghost use Rattle.age_job.specs.Passphrase.{IsNewPassphrase};
-ghost use Rattle.age_job.specs.Secret.{IsChoice, IsFileKeyOf, IsNewSecret, IsReadFrom, IsSecretOf};
+ghost use Rattle.age_job.specs.Refusal.{IsFileFault, IsNoChoice, IsPassphraseFault, MakesHeader, MayRefuse};
+ghost use Rattle.age_job.specs.Secret.{IsChoice, IsFileKeyOf, IsFilesFault, IsNewSecret, IsReadFrom, IsSecretOf};
 
 use crate::failure::{Detail, Failure};
 use crate::fault::Fault;
 use crate::file_names::{Name, Role};
 use crate::files::{Held, MAX_SMALL, NamedFile, ReadFiles, read_prefix, unidentified};
 use crate::inode::{Inode, Kind};
-use crate::job::Job;
+use crate::job::{Command, Job};
 use crate::output::refuse_terminal;
 use crate::ranges::DEFAULT_SEED;
 use crate::secret::{
@@ -20,7 +22,7 @@ use std::io::IsTerminal;
 use std::rt::Files;
 
 /// Reads the secret of a command that has only one.
-#[tactic(auto, using(crate::proofs::SecretLemmas::chosen))]
+#[tactic(auto, using(crate::proofs::SecretLemmas::chosen, crate::proofs::RefusalLemmas::of_files))]
 pub fn read_secret<'a, F: Files + AllocGlobal>(
     rt: &F,
     job: &'a Job,
@@ -28,7 +30,8 @@ pub fn read_secret<'a, F: Files + AllocGlobal>(
 ) -> Result<Secret, Failure<'a>>
     // Returns a passphrase if only a passphrase file is named. If only key files are named, returns
     // one or more keys, not more than there are key files.
-    ensures { IfOk result (IsSecretOf job.now.pass job.now.key job.now.more_keys.items) }
+    ensures secret { IfOk result (IsSecretOf job.now.pass job.now.key job.now.more_keys.items) }
+    ensures fault { IfErr result (λ failure. MayRefuse job.now failure.fault) }
 {
     let files = secret_files(job)?;
     read.refuse_shared_input(rt, job)?;
@@ -36,7 +39,7 @@ pub fn read_secret<'a, F: Files + AllocGlobal>(
 }
 
 /// Reads the secret and the seed for a new file, which is written to `out` if the job names no OUT.
-#[tactic(auto, using(crate::proofs::SecretLemmas::chosen))]
+#[tactic(auto, using(crate::proofs::SecretLemmas::chosen, crate::proofs::RefusalLemmas::of_new_files, crate::proofs::RefusalLemmas::of_seed))]
 pub fn read_encrypt_secrets<'a, F: Files + AllocGlobal, W: IsTerminal>(
     rt: &F,
     job: &'a Job,
@@ -49,6 +52,8 @@ pub fn read_encrypt_secrets<'a, F: Files + AllocGlobal, W: IsTerminal>(
         (λ read. IsSecretOf job.now.pass job.now.key job.now.more_keys.items read.0) }
     // No new passphrase is empty, ends in CR or begins with a byte-order mark.
     ensures new { IfOk result (λ read. IsNewSecret read.0) }
+    ensures fault { job.now.command ≡ Command.Encrypt
+        → IfErr result (λ failure. MayRefuse job.now failure.fault) }
 {
     let files = secret_files(job)?;
     refuse_terminal(job, out)?;
@@ -59,7 +64,7 @@ pub fn read_encrypt_secrets<'a, F: Files + AllocGlobal, W: IsTerminal>(
 
 /// Reads the old secret, the new one, and the seed for a file that is written to `out` if the job
 /// names no OUT. The arguments must name the files of both secrets.
-#[tactic(auto, using(crate::proofs::SecretLemmas::chosen))]
+#[tactic(auto, using(crate::proofs::SecretLemmas::chosen, crate::proofs::RefusalLemmas::of_files, crate::proofs::RefusalLemmas::of_other_files, crate::proofs::RefusalLemmas::of_seed))]
 pub fn read_rewrap_secrets<'a, F: Files + AllocGlobal, W: IsTerminal>(
     rt: &F,
     job: &'a Job,
@@ -74,6 +79,8 @@ pub fn read_rewrap_secrets<'a, F: Files + AllocGlobal, W: IsTerminal>(
         job.now.more_new_keys.items read.1) }
     // No new passphrase is empty, ends in CR or begins with a byte-order mark.
     ensures new { IfOk result (λ read. IsNewSecret read.1) }
+    ensures fault { job.now.command ≡ Command.Rewrap
+        → IfErr result (λ failure. MayRefuse job.now failure.fault) }
 {
     let old = secret_files(job)?;
     let new = new_secret_files(job)?;
@@ -91,7 +98,9 @@ pub fn read_file_key<'a, F: Files + AllocGlobal>(
     read: &mut ReadFiles<'a>,
 ) -> Result<Option<[u8; 16]>, Failure<'a>>
     // Returns a file key exactly if `-f` names one and `-r` is absent.
-    ensures { IfOk result (IsFileKeyOf job.now.raw job.now.file_key) }
+    ensures key { IfOk result (IsFileKeyOf job.now.raw job.now.file_key) }
+    ensures fault { job.now.command ≡ Command.Inspect
+        → IfErr result (λ failure. MayRefuse job.now failure.fault) }
 {
     match &job.file_key {
         Some(name) if !job.raw => {
@@ -115,7 +124,8 @@ enum SecretFiles<'a> {
 
 /// The files of the job's passphrase or keys.
 fn secret_files<'a>(job: &'a Job) -> Result<SecretFiles<'a>, Fault<'a>>
-    ensures { IfOk result (IsChoice job.now.pass job.now.key job.now.more_keys.items) }
+    ensures files { IfOk result (IsChoice job.now.pass job.now.key job.now.more_keys.items) }
+    ensures fault { IfErr result (MayRefuse job.now) }
 {
     let roles = (Role::Passphrase, Role::Key);
     choice_of(roles, &job.pass, &job.key, &job.more_keys, Fault::KeyChoice)
@@ -123,8 +133,9 @@ fn secret_files<'a>(job: &'a Job) -> Result<SecretFiles<'a>, Fault<'a>>
 
 /// The same for the job's new passphrase or keys.
 fn new_secret_files<'a>(job: &'a Job) -> Result<SecretFiles<'a>, Fault<'a>>
-    ensures { IfOk result
+    ensures files { IfOk result
         (IsChoice job.now.new_pass job.now.new_key job.now.more_new_keys.items) }
+    ensures fault { job.now.command ≡ Command.Rewrap → IfErr result (MayRefuse job.now) }
 {
     let roles = (Role::NewPassphrase, Role::NewKey);
     choice_of(
@@ -145,7 +156,8 @@ fn choice_of<'a>(
     more: &'a Vec<String>,
     fault: Fault<'a>,
 ) -> Result<SecretFiles<'a>, Fault<'a>>
-    ensures { IfOk result (IsChoice pass.now key.now more.now.items) }
+    ensures files { IfOk result (IsChoice pass.now key.now more.now.items) }
+    ensures fault { IfErr result (λ refused. (refused ≡ fault.entry) × IsNoChoice pass.now key.now) }
 {
     match (pass, key) {
         (Some(name), None) => {
@@ -166,7 +178,9 @@ fn read_from<'a, F: Files + AllocGlobal>(
     read: &mut ReadFiles<'a>,
     files: SecretFiles<'a>,
 ) -> Result<Secret, Failure<'a>>
-    ensures { IfOk result (λ secret. IsReadFrom files.entry secret) }
+    ensures secret { IfOk result (λ secret. IsReadFrom files.entry secret) }
+    ensures fault { IfErr result
+        (λ failure. IsFilesFault (λ fault. fault ≡ Fault.PassphraseLength) files.entry failure.fault) }
 {
     match files {
         SecretFiles::Passphrase(named) => Ok(Secret::Passphrase(read_passphrase(rt, read, named)?)),
@@ -182,6 +196,8 @@ fn read_new_from<'a, F: Files + AllocGlobal>(
 ) -> Result<Secret, Failure<'a>>
     ensures secret { IfOk result (λ secret. IsReadFrom files.entry secret) }
     ensures new { IfOk result IsNewSecret }
+    ensures fault { IfErr result
+        (λ failure. IsFilesFault IsPassphraseFault files.entry failure.fault) }
 {
     match files {
         SecretFiles::Passphrase(named) => {
@@ -200,7 +216,9 @@ fn read_new_passphrase<'a, F: Files + AllocGlobal>(
     named: NamedFile<'a>,
 ) -> Result<Vec<u8>, Failure<'a>>
     // The passphrase is not empty, does not end in CR and does not begin with a byte-order mark.
-    ensures { IfOk result (λ passphrase. IsNewPassphrase passphrase.items) }
+    ensures passphrase { IfOk result (λ passphrase. IsNewPassphrase passphrase.items) }
+    ensures fault { IfErr result (λ failure. IsFileFault named.entry.name.now failure.fault
+        ⊎ IsPassphraseFault failure.fault) }
 {
     let NamedFile { role, name } = named;
     let passphrase = read_passphrase(rt, read, named)?;
@@ -220,7 +238,10 @@ fn read_passphrase<'a, F: Files + AllocGlobal>(
     rt: &F,
     read: &mut ReadFiles<'a>,
     named: NamedFile<'a>,
-) -> Result<Vec<u8>, Failure<'a>> {
+) -> Result<Vec<u8>, Failure<'a>>
+    ensures { IfErr result (λ failure. IsFileFault named.entry.name.now failure.fault
+        ⊎ (failure.fault ≡ Fault.PassphraseLength)) }
+{
     let NamedFile { role, name } = named;
     let file = read.open_small(rt, named)?;
     let bytes = read_prefix(rt.alloc(), named, file, MAX_SMALL + 1)?;
@@ -243,8 +264,12 @@ fn read_keys<'a, F: Files + AllocGlobal>(
     first: NamedFile<'a>,
     more: &'a [String],
 ) -> Result<Vec<[u8; 32]>, Failure<'a>>
-    ensures { IfOk result
+    ensures keys { IfOk result
         (λ keys. (0 < vec_len keys) × (vec_len keys ≤ 1 + length more.now)) }
+    ensures fault { IfErr result (λ failure. (IsFileFault first.entry.name.now failure.fault
+        ⊎ (failure.fault ≡ Fault.KeyLength))
+        ⊎ ((0 < length more.now) × ((name : List ℕ) × (IsFileFault name failure.fault
+        ⊎ (failure.fault ≡ Fault.KeyLength))))) }
 {
     let mut keys = vec![in rt.alloc(); read_just(rt, read, first, Fault::KeyLength)?]?;
     let role = first.role;
@@ -264,7 +289,10 @@ fn read_seed<'a, F: Files + AllocGlobal>(
     rt: &F,
     job: &'a Job,
     read: &mut ReadFiles<'a>,
-) -> Result<[u8; SEED_LEN], Failure<'a>> {
+) -> Result<[u8; SEED_LEN], Failure<'a>>
+    ensures { IfErr result (λ failure. IsFileFault (string_bytes job.now.seed) failure.fault
+        ⊎ (failure.fault ≡ Fault.SeedLength)) }
+{
     let name = job.seed.as_str();
     let role = Role::Seed;
     let named = NamedFile { role, name };
@@ -283,7 +311,9 @@ fn read_seed<'a, F: Files + AllocGlobal>(
 }
 
 /// Refuses a seed file that is not a character device.
-fn refuse_ordinary<'a, F: OpenFile>(file: &F, name: &'a str) -> Result<(), Failure<'a>> {
+fn refuse_ordinary<'a, F: OpenFile>(file: &F, name: &'a str) -> Result<(), Failure<'a>>
+    ensures { IfErr result (λ failure. IsFileFault name.now failure.fault) }
+{
     match Inode::of_open(file) {
         Ok(inode) if inode.kind == Kind::CharDevice => Ok(()),
         Ok(_) => Err(Failure::with(
@@ -300,7 +330,10 @@ fn read_just<'a, F: Files + AllocGlobal, const N: usize>(
     read: &mut ReadFiles<'a>,
     named: NamedFile<'a>,
     length: Fault<'a>,
-) -> Result<[u8; N], Failure<'a>> {
+) -> Result<[u8; N], Failure<'a>>
+    ensures { IfErr result (λ failure. IsFileFault named.entry.name.now failure.fault
+        ⊎ (failure.fault ≡ length.entry)) }
+{
     let NamedFile { role, name } = named;
     let file = read.open_small(rt, named)?;
     let bytes = read_prefix(rt.alloc(), named, file, MAX_SMALL + 1)?;

@@ -1,6 +1,7 @@
 //! How OUT is written: in place, or with `--atomic` by a new file that takes its place.
 
-ghost use Rattle.std.specs.Prelude.{◌≡◌, false};
+ghost use Rattle.std.specs.Prelude.{◌≡◌, IfErr, false, true};
+ghost use Rattle.age_job.specs.Refusal.{IsFoundFault, IsNamed, MayEnd, MayRefuse};
 
 use crate::failure::{Detail, Failure, Operation};
 use crate::fault::Fault;
@@ -64,7 +65,11 @@ impl Target {
         job: &'a Job,
         read: &ReadFiles<'a>,
         name: &'a str,
-    ) -> Result<Output<F::File>, Failure<'a>> {
+    ) -> Result<Output<F::File>, Failure<'a>>
+        requires name { IsNamed job.now.output name.now }
+        requires target { job.now.atomic ≡ false → self.now ≡ Target.InPlace }
+        ensures { IfErr result (λ failure. MayRefuse job.now failure.fault) }
+    {
         let Target::Replaced(found) = self else {
             return open_in_place(rt, job, read, name);
         };
@@ -84,7 +89,9 @@ impl Target {
         job: &'a Job,
         output: Output<F::File>,
         name: &'a str,
-    ) -> Result<(), Failure<'a>> {
+    ) -> Result<(), Failure<'a>>
+        ensures { IfErr result (λ failure. MayEnd job.now failure.fault) }
+    {
         let ended = match output.finish(name) {
             Ok(()) => self.replace(rt, job, name),
             Err(failure) => Err(failure),
@@ -95,12 +102,9 @@ impl Target {
         ended
     }
 
-    fn replace<'a, F: Files>(
-        &self,
-        rt: &F,
-        job: &'a Job,
-        name: &'a str,
-    ) -> Result<(), Failure<'a>> {
+    fn replace<'a, F: Files>(&self, rt: &F, job: &'a Job, name: &'a str) -> Result<(), Failure<'a>>
+        ensures { IfErr result (λ failure. MayEnd job.now failure.fault) }
+    {
         let Target::Replaced(Ok(Replacement { old, new })) = self else {
             return Ok(());
         };
@@ -133,7 +137,11 @@ impl Replacement {
         job: &'a Job,
         read: &ReadFiles<'a>,
         name: &'a str,
-    ) -> Result<Output<F::File>, Failure<'a>> {
+    ) -> Result<Output<F::File>, Failure<'a>>
+        requires name { IsNamed job.now.output name.now }
+        requires atomic { job.now.atomic ≡ true }
+        ensures { IfErr result (λ failure. MayRefuse job.now failure.fault) }
+    {
         let found = self.found(rt, read, name)?;
         let mode = match &found {
             Some(_) => PLAINTEXT_MODE,
@@ -163,7 +171,9 @@ impl Replacement {
         rt: &F,
         read: &ReadFiles<'a>,
         name: &'a str,
-    ) -> Result<Option<Metadata>, Failure<'a>> {
+    ) -> Result<Option<Metadata>, Failure<'a>>
+        ensures { IfErr result (λ failure. IsFoundFault name.now failure.fault) }
+    {
         let found = match fs::metadata(rt, self.old.as_str()) {
             Ok(found) => found,
             Err(reason) if reason.kind() == ErrorKind::NotFound => return Ok(None),

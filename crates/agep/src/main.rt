@@ -44,7 +44,7 @@ fn run(rt: &HostRuntime, owned: &[String]) -> u8
         args.as_slice(),
         &mut rt.stdin(),
         &mut rt.stdout(),
-        &mut rt.stderr(),
+        &mut age_cli::ErrorStream::new(rt.stderr()),
     )
 }
 

@@ -1,6 +1,6 @@
 //! A writer with a buffer, under `run`.
 
-use age_cli::run;
+use age_cli::{ErrorStream, run};
 use std::io;
 use std::io::{ErrorKind, IsTerminal, Write};
 use std::process::Abort;
@@ -55,13 +55,14 @@ fn expect_flushed<F: Files + Clock + Env + AllocGlobal + Abort>(
             flushed: Vec::new(alloc),
             refuses,
         };
-        let mut err = Buffered {
+        let mut err = ErrorStream::new(Buffered {
             taken: Vec::new(alloc),
             flushed: Vec::new(alloc),
             refuses: false,
-        };
+        });
         let mut input = input;
         let ended = run(rt, words, &mut input, &mut out, &mut err);
+        let err = err.into_inner();
         if let Some(len) = len {
             assert_eq!(rt; out.taken.len(), len);
         }

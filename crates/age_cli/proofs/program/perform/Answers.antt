@@ -1,5 +1,8 @@
-use Rattle.age_cli.proofs.Common.{ap, rules, move_by}
-use Rattle.age_cli.proofs.ProgramLemmas.{completes}
+use Rattle.age_cli.proofs.Common.{◌≡◌, ap, inl, refl, rules, Err, move_by}
+use Rattle.age_cli.proofs.ProgramLemmas.{completes, stays_known}
+use Rattle.age_cli.specs.declared.failure.Failure.TheVariants.{Job as OfJob}
+use Rattle.age_job.proofs.RefusalLemmas.{of_file}
+use Rattle.age_job.specs.declared.file_names.Role.TheVariants as roles
 use Rattle.age_cli.proofs.program.perform.Goals as goal
 
 pub returns-in_ok-file-in-Some-clause-completes : goal.returns-in_ok-file-in-Some-clause-completes
@@ -9,3 +12,12 @@ returns-in_ok-file-in-Some-clause-completes g c =
     (g.R.Read.remaining c.args.input.now) (g.F.File.Read.remaining c.over-input.result.reader) sink c.perform_on.result
     (search rules) (rw c.in-Some.is (c.in_ok-file-in-Some.file, ap g.F.File.Read.remaining c.over-input.ensures))
     c.perform_on.ensures.performs
+
+pub returns-in_err-file-in-Some-clause-completes : goal.returns-in_err-file-in-Some-clause-completes
+returns-in_err-file-in-Some-clause-completes g c =
+    let is : c.from_residual-in_err-file-in-Some.result ≡ Err (OfJob c.in_err-file-in-Some.field-0.0) = search rules in
+    rw is (
+      stays_known refl,
+      inl (of_file c.args.work.now.job.now roles.Input c.as_str.result.now c.in_err-file-in-Some.field-0.0.fault
+          (rw c.in-Some.is c.as_str.ensures.value) c.in_err-file-in-Some.ensures),
+    )

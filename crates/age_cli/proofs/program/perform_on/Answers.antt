@@ -1,4 +1,6 @@
-use Rattle.age_cli.proofs.Common.{◌≡◌, ap, refl, rules, Err, move_by, move_of}
+use Rattle.age_cli.proofs.Common.{◌≡◌, ap, inl, refl, rules, Err, move_by, move_of}
+use Rattle.std.specs.Prelude.{codes}
+use Rattle.age_job.proofs.RefusalLemmas.{of_same}
 use Rattle.age_cli.proofs.ProgramLemmas.{performs, stays_known}
 use Rattle.age_cli.specs.declared.failure.Failure.TheVariants.{Job as OfJob}
 use Rattle.age_cli.proofs.program.perform_on.Goals as goal
@@ -32,4 +34,9 @@ pub returns-in_err-refuse_standard_output-in-None-clause-performs :
 returns-in_err-refuse_standard_output-in-None-clause-performs g c =
     let is : c.from_residual-in_err-refuse_standard_output-in-None.result
     ≡ Err (OfJob c.in_err-refuse_standard_output-in-None.field-0.0) = search rules in
-    rw is (stays_known refl)
+    rw is (
+      stays_known refl,
+      inl (of_same c.args.work.now.job.now (codes "standard output")
+          c.in_err-refuse_standard_output-in-None.field-0.0.fault (rw c.in-None.is refl)
+          c.in_err-refuse_standard_output-in-None.ensures),
+    )

@@ -1,0 +1,152 @@
+-- The faults of a job's files are those with which the job may be refused.
+use Rattle.std.specs.Prelude.{String, IsSome}
+use Rattle.std.specs.String.{string_bytes}
+use Rattle.std.proofs.Common.{◌≡◌, ◌⊎◌, ◌<◌, ℕ, List, Option, None, Some, length, inl, inr, arith, refl}
+use Rattle.age_job.specs.declared.fault.Fault.{Fault}
+use Rattle.age_job.specs.declared.fault.Fault.TheVariants as faults
+use Rattle.age_job.specs.declared.file_names.Role.{Role}
+use Rattle.age_job.specs.declared.file_names.Role.TheVariants as roles
+use Rattle.age_job.specs.declared.job.Command.TheVariants as command
+use Rattle.age_job.specs.declared.job.Job.{Job}
+use Rattle.age_job.specs.declared.small_files.SecretFiles.{SecretFiles}
+use Rattle.age_job.specs.declared.small_files.SecretFiles.TheVariants as files
+use Rattle.age_job.specs.Refusal.{IsFileFault, IsNamed, IsPassphraseFault, IsRead, MakesHeader, MayRefuse, IsOutput, IsSameFault}
+use Rattle.age_job.specs.Secret.{IsChoice, IsFilesFault}
+
+pub of_file : (job : Job) (role : Role) (name : List ℕ) (fault : Fault) → IsRead job role name
+    → IsFileFault name fault → MayRefuse job fault
+of_file job role name faults.Read is h = tt
+of_file job role name faults.OutOfMemory is h = tt
+of_file job role name (faults.CannotOpen named) is h = (role, rw h is)
+of_file job role name (faults.Unidentified named) is h = tt
+of_file job role name (faults.StandardInputTwice one other) is h = tt
+of_file job role name faults.Write is h = absurd h
+of_file job role name faults.KeyChoice is h = absurd h
+of_file job role name faults.NewKeyChoice is h = absurd h
+of_file job role name faults.AtomicAlone is h = absurd h
+of_file job role name faults.KeyLength is h = absurd h
+of_file job role name faults.SeedLength is h = absurd h
+of_file job role name faults.FileKeyLength is h = absurd h
+of_file job role name faults.PassphraseLength is h = absurd h
+of_file job role name faults.NoPassphrase is h = absurd h
+of_file job role name faults.UntypedPassphrase is h = absurd h
+of_file job role name faults.OutputIsTerminal is h = absurd h
+of_file job role name (faults.CannotCreate named) is h = absurd h
+of_file job role name (faults.OutputExists named) is h = absurd h
+of_file job role name (faults.OutputIsSpecial named) is h = absurd h
+of_file job role name (faults.NewFileExists named) is h = absurd h
+of_file job role name (faults.OutputIsRead other named) is h = absurd h
+
+-- a file key or a seed, which must have one length
+pub of_seed : (job : Job) (fault : Fault) → MakesHeader job
+    → IsFileFault (string_bytes job.seed) fault ⊎ (fault ≡ faults.SeedLength) → MayRefuse job fault
+of_seed job fault makes (inl h) = of_file job roles.Seed (string_bytes job.seed) fault (makes, refl) h
+of_seed job fault makes (inr same) = rw same makes
+
+-- what follows from a fault of the files of a passphrase or of keys
+choose : {Z : Type 0} (pass key : Option (String Z)) (more : List (String Z)) (from : SecretFiles)
+    (refuses : Fault → Type 0) (fault : Fault) {R : Type 0} → IsChoice pass key more from
+    → IsFilesFault refuses from fault → (IsSome pass → refuses fault → R)
+    → (IsSome key → fault ≡ faults.KeyLength → R)
+    → ((name : List ℕ) → IsNamed pass name → IsFileFault name fault → R)
+    → ((name : List ℕ) → IsNamed key name ⊎ (0 < length more) → IsFileFault name fault → R) → R
+choose (Some name) None more (files.Passphrase named) refuses fault is (inl h) a b c d = c named.name.now is h
+choose (Some name) None more (files.Passphrase named) refuses fault is (inr h) a b c d = a refl h
+choose (Some name) None more (files.Keys first rest) refuses fault is h a b c d = absurd is
+choose None (Some name) more (files.Keys first rest) refuses fault is (inl (inl h)) a b c d =
+    d first.name.now (inl is.1) h
+choose None (Some name) more (files.Keys first rest) refuses fault is (inl (inr h)) a b c d = b refl h
+choose None (Some name) more (files.Keys first rest) refuses fault is (inr (some, (other, inl h))) a b c d =
+    d other (inr (omega (arith, some, is.0))) h
+choose None (Some name) more (files.Keys first rest) refuses fault is (inr (some, (other, inr h))) a b c d =
+    b refl h
+choose None (Some name) more (files.Passphrase named) refuses fault is h a b c d = absurd is
+choose None None more from refuses fault is h a b c d = absurd is
+choose (Some name) (Some other) more from refuses fault is h a b c d = absurd is
+
+-- a passphrase that is refused
+of_passphrase : (job : Job) (fault : Fault) → MakesHeader job → IsSome job.pass ⊎ IsSome job.new_pass
+    → IsPassphraseFault fault → MayRefuse job fault
+of_passphrase job faults.PassphraseLength makes some h = some
+of_passphrase job faults.NoPassphrase makes some h = (makes, some)
+of_passphrase job faults.UntypedPassphrase makes some h = (makes, some)
+of_passphrase job faults.Read makes some h = absurd h
+of_passphrase job faults.OutOfMemory makes some h = absurd h
+of_passphrase job faults.Write makes some h = absurd h
+of_passphrase job faults.KeyChoice makes some h = absurd h
+of_passphrase job faults.NewKeyChoice makes some h = absurd h
+of_passphrase job faults.AtomicAlone makes some h = absurd h
+of_passphrase job faults.KeyLength makes some h = absurd h
+of_passphrase job faults.SeedLength makes some h = absurd h
+of_passphrase job faults.FileKeyLength makes some h = absurd h
+of_passphrase job faults.OutputIsTerminal makes some h = absurd h
+of_passphrase job (faults.CannotOpen named) makes some h = absurd h
+of_passphrase job (faults.Unidentified named) makes some h = absurd h
+of_passphrase job (faults.CannotCreate named) makes some h = absurd h
+of_passphrase job (faults.OutputExists named) makes some h = absurd h
+of_passphrase job (faults.OutputIsSpecial named) makes some h = absurd h
+of_passphrase job (faults.NewFileExists named) makes some h = absurd h
+of_passphrase job (faults.OutputIsRead one other) makes some h = absurd h
+of_passphrase job (faults.StandardInputTwice one other) makes some h = absurd h
+
+-- the files of the secret, to open a file
+pub of_files : (job : Job) (from : SecretFiles) (fault : Fault)
+    → IsChoice job.pass job.key job.more_keys.items from
+    → IsFilesFault (λ f. f ≡ faults.PassphraseLength) from fault → MayRefuse job fault
+of_files job from fault is h =
+    choose job.pass job.key job.more_keys.items from (λ f. f ≡ faults.PassphraseLength) fault is h
+    (λ some same. rw same (inl some)) (λ some same. rw same (inl some))
+    (λ name named. of_file job roles.Passphrase name fault named)
+    (λ name named. of_file job roles.Key name fault named)
+
+-- the same, to make one
+pub of_new_files : (job : Job) (from : SecretFiles) (fault : Fault) → MakesHeader job
+    → IsChoice job.pass job.key job.more_keys.items from → IsFilesFault IsPassphraseFault from fault
+    → MayRefuse job fault
+of_new_files job from fault makes is h =
+    choose job.pass job.key job.more_keys.items from IsPassphraseFault fault is h
+    (λ some. of_passphrase job fault makes (inl some)) (λ some same. rw same (inl some))
+    (λ name named. of_file job roles.Passphrase name fault named)
+    (λ name named. of_file job roles.Key name fault named)
+
+-- the files of the new secret
+pub of_other_files : (job : Job) (from : SecretFiles) (fault : Fault) → MakesHeader job
+    → IsChoice job.new_pass job.new_key job.more_new_keys.items from
+    → IsFilesFault IsPassphraseFault from fault → MayRefuse job fault
+of_other_files job from fault makes is h =
+    choose job.new_pass job.new_key job.more_new_keys.items from IsPassphraseFault fault is h
+    (λ some. of_passphrase job fault makes (inr some)) (λ some same. rw same (inr some))
+    (λ name named. of_file job roles.NewPassphrase name fault named)
+    (λ name named. of_file job roles.NewKey name fault named)
+
+-- the file of the file key
+pub of_file_key : (job : Job) (name : List ℕ) (fault : Fault) → job.command ≡ command.Inspect
+    → IsNamed job.file_key name → IsSome job.file_key
+    → IsFileFault name fault ⊎ (fault ≡ faults.FileKeyLength) → MayRefuse job fault
+of_file_key job name fault inspects named some (inl h) = of_file job roles.FileKey name fault (inspects, named) h
+of_file_key job name fault inspects named some (inr same) = rw same (inspects, some)
+
+-- an OUT that may be a file that is read
+pub of_same : (job : Job) (name : List ℕ) (fault : Fault) → IsOutput job.output name → IsSameFault name fault
+    → MayRefuse job fault
+of_same job name (faults.Unidentified named) is h = tt
+of_same job name (faults.OutputIsRead role named) is h = rw h is
+of_same job name faults.Read is h = absurd h
+of_same job name faults.OutOfMemory is h = absurd h
+of_same job name faults.Write is h = absurd h
+of_same job name faults.KeyChoice is h = absurd h
+of_same job name faults.NewKeyChoice is h = absurd h
+of_same job name faults.AtomicAlone is h = absurd h
+of_same job name faults.KeyLength is h = absurd h
+of_same job name faults.SeedLength is h = absurd h
+of_same job name faults.FileKeyLength is h = absurd h
+of_same job name faults.PassphraseLength is h = absurd h
+of_same job name faults.NoPassphrase is h = absurd h
+of_same job name faults.UntypedPassphrase is h = absurd h
+of_same job name faults.OutputIsTerminal is h = absurd h
+of_same job name (faults.CannotOpen named) is h = absurd h
+of_same job name (faults.CannotCreate named) is h = absurd h
+of_same job name (faults.OutputExists named) is h = absurd h
+of_same job name (faults.OutputIsSpecial named) is h = absurd h
+of_same job name (faults.NewFileExists named) is h = absurd h
+of_same job name (faults.StandardInputTwice one other) is h = absurd h
