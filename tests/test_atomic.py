@@ -192,6 +192,7 @@ class Atomic(Files):
         for role, name, line in (
             ("Key", "key", "encrypt -k key hello"), ("Key", "key", "decrypt -k key key.age"), ("NewKey", "new.key", "rewrap -k key -K new.key key.age"),
             ("Passphrase", "pass", "decrypt -p pass pass.age"), ("Seed", "seed", "encrypt -k key -s seed hello"), ("Key", "key", "encrypt -k key key"),
+            ("NewPassphrase", "new.pass", "rewrap -p pass -P new.pass pass.age"), ("Passphrase", "pass", "encrypt -p pass -w 1 hello"),
         ):
             with self.subTest(f"{line}, {name}"):
                 self.changes_nothing(f"OutputIsRead: {role}, {name}", f"{line} --atomic -o {name}")
@@ -212,6 +213,13 @@ class Atomic(Files):
             env = {"LD_PRELOAD": preload("calls"), "CALL": "lchown", "NUMBER": "0", "DO": "1"}
             self.assert_ended(self.run_line("decrypt -k key --atomic -o made key.age", env=env))
             self.assertEqual(f"{os.stat('made').st_mode & 0o7777:o}", "604")
+            os.remove("made")
+        with self.subTest("the system lets only the group be kept"):
+            write("made", YESTERDAY)
+            os.chmod("made", 0o664)
+            env = {"LD_PRELOAD": preload("calls"), "CALL": "lchown", "NUMBER": "1", "DO": "1"}
+            self.assert_ended(self.run_line("decrypt -k key --atomic -o made key.age", env=env))
+            self.assertEqual(f"{os.stat('made').st_mode & 0o7777:o}", "664")
             os.remove("made")
         for line in WRITING:
             mode = 0o666 if line.startswith(("encrypt", "rewrap")) else 0o600

@@ -250,6 +250,25 @@ class UnreadChunks(CallCase):
         self.assertIn(fault(line).encode(), ran.err)
         self.assert_bytes(self.made, LONG_PLAIN[:65536] + bytes(len(LONG_PLAIN) - 65536))
 
+    def test_reasons(self):
+        """Whatever the system's reason is: a disk may also say that it has no data."""
+        for error, reason in ("61", "No data available"), ("110", "Connection timed out"):
+            with self.subTest(reason):
+                ran = self.run_job(self.job, "-o", call="read", number=4, do=error)
+                lines = ["chunk 0 is lost: bytes 0 to 65535 of the plaintext"]
+                lines.append(f"reading IN.age: {reason}; {HEAD + SEALED - 8192} bytes were left out, the first at byte 8192")
+                self.assert_ended(ran, 1, "".join(map(fault, lines)), None)
+                self.assert_bytes(self.made, bytes(65536) + LONG_PLAIN[65536:])
+
+    def test_fault_behind_it(self):
+        """They are told too if a write fails later."""
+        env = {"LD_PRELOAD": preload("calls"), "CALL": "read", "NUMBER": "4", "DO": IO_ERROR}
+        ran = self.run_agep("salvage", "-k", "key", "-o", "/dev/full", "IN.age", env=env)
+        line = f"reading IN.age: Input/output error; {HEAD + SEALED - 8192} bytes were left out, the first at byte 8192"
+        self.assertEqual(ran.status, 1)
+        self.assertIn(fault(line).encode(), ran.err)
+        self.assertIn(fault(message("Write")).encode(), ran.err)
+
     def test_pipe(self):
         """Of a pipe and of standard input nothing follows."""
         whole = Job("salvage -k key", "key.age", LONG_PLAIN, 5, 3)

@@ -97,6 +97,13 @@ class Progress(ProgramCase):
         self.assertEqual((status, out), (0, MANY))
         self.assert_drawn(said, FILE, took)
 
+    def test_range(self):
+        """For a range, which reads a part of the file, it does not show the size."""
+        status, out, said, took = self.at_terminal("range", "-v", "-k", "key", "0", str(len(MANY)), "many.age")
+        self.assertEqual((status, out), (0, MANY))
+        self.assertIn(ERASE, said)
+        self.assertNotIn(" of ", said)
+
     def test_fault(self):
         """It is erased before the message about a fault."""
         write("damaged", fixture.changed(read("many.age"), -1))

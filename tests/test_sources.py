@@ -465,6 +465,8 @@ class OutOfMemory(unittest.TestCase):
             for line in re.findall(".*(?:with_capacity|vec!).*", code):
                 with self.subTest(f"{name}: {line.strip()}"):
                     self.assertRegex(line, self.ROOM)
+                    # a name for the number does not hide a choice
+                    self.assertNotRegex(code, r"\blet (len|spaces|range) =[^;]*\b(if|match|MAX)\b")
 
 
 class FailedCalls(unittest.TestCase):
