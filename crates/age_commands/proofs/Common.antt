@@ -1,6 +1,6 @@
 -- The names that the proofs of this crate cite, passed on from one place.
 pub use Rattle.age_commands.specs.Inspect.{Inspecting, InspectsText, IsShown, IsTable, OfShown, check_of, first_lines, last_lines, row, rows, spaced_arguments}
-pub use Rattle.age_commands.specs.Range.{IsPartFault, IsPlainByte, OfBytes, Ranging, RangingAny, WritesAny, WritesBytes, WritesPlain, WritesRange, WritesVerified}
+pub use Rattle.age_commands.specs.Range.{IsPartFault, OfBytes, RangingAny, WritesAny, WritesBytes, WritesVerified}
 pub use Rattle.age_commands.specs.Secret.{answers_of, gathering_of, keys_unwrap, labels_of, limits_of, recipient_of, wraps_of}
 pub use Rattle.age_commands.specs.Task.{Encrypting, OfKnown, Performs, SalvagesAll, if_whole}
 pub use Rattle.age_commands.specs.Words.{Answering, BadChunk, Bounds, Bytes, Fault, Flow, Head, HeaderParts, IfSome, Job, Known, Moved, OfGiven, OutOfMemory, StanzaParts, Took, Write, WritesPart, codes, header_fault, ⊤, ◌&&◌, ◌≢◌}

@@ -1,5 +1,5 @@
 -- What is written of a range, piece by piece.
-use Rattle.age_commands.proofs.Common.{◌≡◌, ◌∙◌, ◌⊎◌, ◌++◌, Result, ◌+◌, ◌-◌, ◌*◌, ◌%◌, ◌<◌, ◌≤◌, ℕ, [], ap, arith, inl, inr, length, min, refl, slice_index, subst, sym, take, None, Some, Err, ⊤, IfSome, Appends-nil, Appends-trans, Keeps-refl, length-append, length-take, length-take-le, take-append-le, get_or-take, get_or_append_left, get_or-append-add, Appends, Bytes, Known, Moved, WritesPart, move_of, StreamFault, Layout, IsSound, RangeState, Stops, source_opening, range_len, chunk_size, Fault, Bounds, IsRangesOf, MissesRanges, Answering, stream_fault, IsPlainByte, OfBytes, Ranging, WritesBytes, WritesPlain, WritesRange}
+use Rattle.age_commands.proofs.Common.{◌≡◌, ◌∙◌, ◌⊎◌, ◌++◌, ◌+◌, ◌-◌, ◌*◌, ◌%◌, ◌<◌, ◌≤◌, ℕ, [], ap, arith, inl, inr, length, min, refl, slice_index, subst, sym, take, Appends-nil, Appends-trans, length-append, length-take, length-take-le, take-append-le, get_or-take, get_or_append_left, get_or-append-add, Appends, Bytes, Known, WritesPart, move_of, chunk_size, OfBytes, WritesBytes}
 use Rattle.std.proofs.lemmas.Bool.{cases_lt}
 
 -- nothing is written
@@ -31,35 +31,6 @@ both P at xs ys one more k lt =
           let value : slice_index (xs ++ ys) k ≡ slice_index ys j = ap (slice_index (xs ++ ys)) sum
           ∙ get_or-append-add xs ys j 0 in
           subst (P (at + k)) (sym value) (subst (λ x. P x (slice_index ys j)) place (more j (omega arith)))
-    ]
-
--- a chunk of a range ends in the first piece
-within_one : (at n m i : ℕ) → chunk_size * i < at + n → n ≤ m → m ≤ chunk_size - at % chunk_size
-    → chunk_size * i - at ≡ 0
-within_one at n m i to low within = omega arith
-
--- what a range that stops has not written
-pub stopped : {told : Known} {s : RangeState} (at left : ℕ) {most : ℕ} {was buf : Bytes} {opened : ℕ}
-    {fault : StreamFault} {named : Fault} {old : Known}
-    → most ≤ left → most ≤ chunk_size - at % chunk_size → named ≡ stream_fault fault → IsSound told s
-    → Stops told s at (range_len s at most) was buf opened fault
-    → WritesRange told s at left (move_of old old) (Err named)
-stopped {told} {s} at left {most} {old} le within is sound stops =
-    let some : 0 < range_len s at most = stops.some in
-    let to : chunk_size * stops.chunk < at + range_len s at most = stops.to in
-    elim stops.lost [
-      | inl failed ↦
-          inr (inl (is ∙ ap stream_fault failed), (0, omega arith, nothing (IsPlainByte told s.layout) at old refl))
-      | inr lost ↦ inl (
-        stops.chunk,
-        is ∙ ap stream_fault lost.0,
-        record {
-          has = record { some = omega arith; from = stops.from; to = omega arith };
-          lost = lost.1 sound;
-          writes = nothing (IsPlainByte told s.layout) at old
-              (within_one at (range_len s at most) most stops.chunk to (omega arith) within);
-        },
-      )
     ]
 
 -- a piece was written
@@ -108,98 +79,8 @@ follows R at k from n m {old} {mid} {new} first second ef em one more =
       appends = Appends-trans old mid new one.part more.part one.appends more.appends;
     }
 
-pub joined : {told again : Known} {layout same : Layout} (at k from n m : ℕ) {old mid new : Known} → again ≡ told
-    → same ≡ layout → from ≡ at + k → m ≡ k + n
-    → WritesPlain told layout at k (move_of old mid) → WritesPlain again same from n (move_of mid new)
-    → WritesPlain told layout at m (move_of old new)
-joined {told} {layout} {same} at k from n m et el ef em one more =
-    follows (IsPlainByte told layout) at k from n m (λ x byte h. h)
-    (λ x byte h. subst (λ l. IsPlainByte told l x byte) el (subst (λ t. IsPlainByte t same x byte) et h)) ef em one more
-
--- a range so far begins a chunk, unless it has just begun or is at its end
-abbrev pub IsWhole : (plain begin at left : ℕ) → Type 0
-IsWhole plain begin at left = (at ≡ begin) ⊎ ((at % chunk_size ≡ 0) ⊎ ((plain ≤ at) ⊎ (left ≡ 0)))
-
-pub whole_on : {plain begin : ℕ} (at left : ℕ) {n : ℕ} → n ≡ min (min left (chunk_size - at % chunk_size)) (plain - at)
-    → IsWhole plain begin (at + n) (left - n)
-whole_on at left {n} is = elim (cases_lt n left) [
-  | inl lt ↦ elim (cases_lt n (chunk_size - at % chunk_size)) [
-    | inl less ↦ inr (inr (inl (omega arith)))
-    | inr ge ↦ inr (inl (omega arith))
-  ]
-  | inr ge ↦ inr (inr (inr (omega arith)))
-]
-
 pub some_on : (plain : ℕ) {begin : ℕ} (len : ℕ) {at : ℕ} (left : ℕ) {n : ℕ}
     → n ≡ min (min left (chunk_size - at % chunk_size)) (plain - at)
     → at + left ≡ begin + len → begin ≤ at → at - begin ≤ min len (plain - begin)
     → at + n - begin ≤ min len (plain - begin)
 some_on plain len left is end low some = omega arith
-
--- where the chunk that stops a range begins
-before_chunk : (plain begin at left i : ℕ) → IsWhole plain begin at left → begin ≤ at → 0 < min left (plain - at)
-    → at < chunk_size * (i + 1) → chunk_size * i - begin ≡ (at - begin) + (chunk_size * i - at)
-before_chunk plain begin at left i (inl e) low some from = omega arith
-before_chunk plain begin at left i (inr (inl e)) low some from = omega arith
-before_chunk plain begin at left i (inr (inr (inl e))) low some from = absurd (omega arith)
-before_chunk plain begin at left i (inr (inr (inr e))) low some from = absurd (omega arith)
-
--- a range that fails after a part
-pub failed_on : {told again : Known} {s t : RangeState} (begin len at left : ℕ) {old mid new : Known} {fault : Fault}
-    → again ≡ told → t.layout ≡ s.layout
-    → at + left ≡ begin + len → begin ≤ at → at - begin ≤ range_len s begin len → IsWhole s.layout.plain begin at left
-    → WritesPlain told s.layout begin (at - begin) (move_of old mid)
-    → WritesRange again t at left (move_of mid new) (Err fault)
-    → WritesRange told s begin len (move_of old new) (Err fault)
-failed_on {told} {again} {s} {t} begin len at left {old} {mid} {new} et el end low some whole one (inl (i, is, stops)) =
-    let plain : t.layout.plain ≡ s.layout.plain = ap (λ (l : Layout). l.plain) el in
-    let has : 0 < range_len t at left = stops.has.some in
-    let from : at < chunk_size * (i + 1) = stops.has.from in
-    let to : chunk_size * i < at + range_len t at left = stops.has.to in
-    inl (
-      i,
-      is,
-      record {
-        has = record { some = omega arith; from = omega arith; to = omega arith };
-        lost = subst (λ (l : Layout). source_opening told l i ≡ None) el
-            (subst (λ (k : Known). source_opening k t.layout i ≡ None) et stops.lost);
-        writes = joined begin (at - begin) at (chunk_size * i - at) (chunk_size * i - begin) et el (omega arith)
-            (before_chunk s.layout.plain begin at left i whole low (omega arith) from) one stops.writes;
-      },
-    )
-failed_on {told} {again} {s} {t} begin len at left {old} {mid} {new} et el end low some whole one
-    (inr (which, (n, within, more))) =
-    let plain : t.layout.plain ≡ s.layout.plain = ap (λ (l : Layout). l.plain) el in
-    inr (
-      which,
-      (
-        at - begin + n,
-        omega arith,
-        joined begin (at - begin) at n (at - begin + n) et el (omega arith) refl one more,
-      ),
-    )
-
--- a source that was opened
-pub ranged : (limits : Bounds) (at len : ℕ) {f answers : Answering} {told again : Known} {s : RangeState}
-    (given given2 : ℕ) (sink : Moved) (r : Result ⊤ Fault) → f ≡ answers → again ≡ told
-    → IfSome told (λ b. IsRangesOf limits f b s given given2)
-    → (IsSound again s → WritesRange again s at len sink r)
-    → Ranging limits answers at len told sink r
-ranged limits at len {told = None} given given2 sink r means et opens writes = tt
-ranged limits at len {told = Some b} {s} given given2 sink r means et opens writes =
-    inr (record {
-      state = s;
-      given = given;
-      given2 = given2;
-      opened = subst (λ (a : Answering). IsRangesOf limits a b s given given2) means opens;
-      writes = subst (λ (k : Known). WritesRange k s at len sink r) et
-          (writes (subst (λ (k : Known). IsSound k s) (sym et) opens.opened.sound));
-    })
-
--- one that was not
-pub unopened : (limits : Bounds) (at len : ℕ) {f answers : Answering} (told old : Known) {fault : Fault}
-    → f ≡ answers → MissesRanges limits f told fault
-    → Ranging limits answers at len told (move_of old old) (Err fault)
-unopened limits at len None old means misses = tt
-unopened limits at len (Some b) old {fault} means misses =
-    inl (subst (λ (a : Answering). MissesRanges limits a (Some b) fault) means misses, Keeps-refl old)

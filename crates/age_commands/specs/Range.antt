@@ -18,68 +18,11 @@ pub record WritesBytes (P : (at byte : ℕ) → Type 0) (at n : ℕ) (sink : Mov
   pub holds : OfBytes P at part
   pub appends : Took sink part
 
--- the plaintext has this byte at this offset
-abbrev pub IsPlainByte : (told : Known) (layout : Layout) (at byte : ℕ) → Type 0
-IsPlainByte told layout at byte =
-    (text : Bytes)
-    × (opening layout.key (bytes_from told layout.first) (at / chunk_size) ≡ Some text)
-    × (slice_get text (at % chunk_size) ≡ Some byte)
-
--- n bytes of the plaintext from offset `at` on were written
-abbrev pub WritesPlain : (told : Known) (layout : Layout) (at n : ℕ) (sink : Moved) → Type 0
-WritesPlain told layout at n sink = WritesBytes (IsPlainByte told layout) at n sink
-
 -- a range of at most `len` bytes from `at` on includes bytes of chunk i
 pub record HasBytesOf (s : RangeState) (at len i : ℕ) : Type 0 where
   pub some : 0 < range_len s at len
   pub from : at < chunk_size * (i + 1)
   pub to : chunk_size * i < at + range_len s at len
-
--- a range includes bytes of chunk i, which does not open; the bytes before the chunk were written
-pub record StopsAt (told : Known) (s : RangeState) (at len i : ℕ) (sink : Moved) : Type 0 where
-  pub has : HasBytesOf s at len i
-  pub lost : source_opening told s.layout i ≡ None
-  pub writes : WritesPlain told s.layout at (chunk_size * i - at) sink
-
--- The output for an opened file and at most `len` bytes from `at` on: all of them, or those before
--- the first chunk that does not open; after a failed read or write, some from `at` on.
-abbrev pub WritesRange : (told : Known) (s : RangeState) (at len : ℕ) (sink : Moved)
-    (result : Result ⊤ Fault) → Type 0
-WritesRange told s at len sink (Ok _) = WritesPlain told s.layout at (range_len s at len) sink
-WritesRange told s at len sink (Err fault) =
-    ((i : ℕ) × (fault ≡ BadChunk i) × StopsAt told s at len i sink)
-    ⊎ (((fault ≡ Read) ⊎ (fault ≡ Write))
-    × ((n : ℕ) × (n ≤ range_len s at len) × WritesPlain told s.layout at n sink))
-
--- the same for the next bytes, all in one chunk
-abbrev pub WritesNext : (told : Known) (s : RangeState) (at left : ℕ) (sink : Moved)
-    (result : Result ℕ Fault) → Type 0
-WritesNext told s at left sink (Ok n) = WritesPlain told s.layout at n sink
-WritesNext told s at left sink (Err fault) = WritesRange told s at left sink (Err fault)
-
--- b does not open for ranges, and nothing was written
-abbrev pub Unopened : (limits : Bounds) (answers : Answering) (b : Bytes) (sink : Moved)
-    (result : Result ⊤ Fault) → Type 0
-Unopened limits answers b sink (Ok _) = ⊥
-Unopened limits answers b sink (Err fault) = MissesRanges limits answers (Some b) fault × Stays sink
-
--- b was opened for ranges, under the key chosen, and a part of its plaintext was written
-pub record OpensPart (limits : Bounds) (answers : Answering) (b : Bytes) (at len : ℕ)
-    (sink : Moved) (result : Result ⊤ Fault) : Type 0 where
-  pub state : RangeState
-  pub given : ℕ
-  pub given2 : ℕ
-  pub opened : IsRangesOf limits answers b state given given2
-  pub writes : WritesRange (Some b) state at len sink result
-
--- The result and the output of `range` for a source with known contents.
-abbrev pub Ranging : (limits : Bounds) (answers : Answering) (at len : ℕ) (told : Known)
-    (sink : Moved) (result : Result ⊤ Fault) → Type 0
-Ranging limits answers at len None sink result = ⊤
-Ranging limits answers at len (Some b) sink result =
-    Unopened limits answers b sink result ⊎ OpensPart limits answers b at len sink result
-
--- ---- any source, whether or not its contents are known
 
 -- n bytes from offset `at` on were written, each of which was verified
 abbrev pub WritesVerified : (gave : (at byte : ℕ) → Type 0) (layout : Layout) (at n : ℕ)

@@ -1,12 +1,12 @@
 //! The command `range`: a part of the plaintext of a file of the format.
 ghost use Rattle.std.specs.Prelude.{◌≤◌, ◌<◌, ◌≡◌, ◌+◌, ◌-◌, ◌^◌, ◌%◌, length, min, IfOk};
 ghost use Rattle.age_stream.specs.Offsets.{StaysGiven};
-ghost use Rattle.age_stream.specs.Ranges.{IsSound, KeepsVerified, chunks_of, range_len, source_at_of};
+ghost use Rattle.age_stream.specs.Ranges.{KeepsVerified, chunks_of, range_len, source_at_of};
 ghost use Rattle.age_stream.specs.Sizes.{chunk_size};
-ghost use Rattle.age_file.specs.Device.{IsQuiet, is_read, is_write};
+ghost use Rattle.age_file.specs.Device.{IsQuiet, is_write};
 ghost use Rattle.age_job.specs.Job.{IsInRange};
 ghost use Rattle.age_job.specs.declared.ranges.TheConstants.{MAX_OFFSET};
-ghost use Rattle.age_commands.specs.Range.{Ranging, RangingAny, WritesNext, WritesNextAny, WritesAny, WritesRange};
+ghost use Rattle.age_commands.specs.Range.{RangingAny, WritesNextAny, WritesAny};
 ghost use Rattle.age_commands.specs.Secret.{answers_of, limits_of};
 ghost use Rattle.age_header.specs.Device.{CountsIf, move_by};
 
@@ -27,20 +27,13 @@ pub(crate) fn range_of<D: ReadAt, W: Sink>(
     out: &mut W,
 ) -> Result<(), Fault>
     requires { IsInRange job.now }
-    // If the contents are known, writes the plaintext from the job's offset on, at most as many
-    // bytes as the job requests, of the payload that opens under this secret and these limits. At a
-    // chunk that does not open: the bytes before it. After a failed read or write: a prefix. If the
-    // file does not open: nothing, and that fault.
-    ensures known { Ranging (limits_of job.now) (answers_of secret job.now.max_work) job.now.at
-        job.now.len (D.bytes input.old) (move_by W.taken out.old out.new) result }
-    // Even of a file, each byte written was verified at its offset; the bytes are in order from the
+    // Each byte written was verified at its offset; the bytes are in order from the
     // job's offset on, at most as many as requested, on Ok all of them. A fault is one of opening,
     // after which nothing was written, a damaged chunk, or a failed read or write.
     ensures any { RangingAny D.gave D.found (limits_of job.now)
         (answers_of secret job.now.max_work) job.now.at job.now.len input.new
         (move_by W.taken out.old out.new) result }
     ensures quiet { IsQuiet out.old out.new result }
-    ensures reads { CountsIf is_read (D.failed input.old) (D.failed input.new) result }
     ensures writes { CountsIf is_write (W.failed out.old) (W.failed out.new) result }
 {
     let identity: Box<dyn Identity> = SecretIdentity::boxed(alloc, job, secret)?;
@@ -71,14 +64,9 @@ fn write_range<D: ReadAt, W: Sink>(
     requires piece { length piece.old ≡ CHUNK_SIZE }
     ensures same_reference { (source_at_of reader.new).ghost_name
         ≡ (source_at_of reader.old).ghost_name }
-    ensures known { let told = D.bytes (source_at_of reader.old).now in
-        IsSound told (chunks_of reader.old) → WritesRange told (chunks_of reader.old) at len
-        (move_by W.taken out.old out.new) result }
     ensures any { KeepsVerified (D.gave (source_at_of reader.old).now) (chunks_of reader.old)
         → WritesAny (D.gave (source_at_of reader.new).now) (chunks_of reader.old) at len
         (move_by W.taken out.old out.new) result }
-    ensures reads { CountsIf is_read (D.failed (source_at_of reader.old).now)
-        (D.failed (source_at_of reader.new).now) result }
     ensures writes { CountsIf is_write (W.failed out.old) (W.failed out.new) result }
 {
     let mut at = at;
@@ -110,15 +98,9 @@ fn write_next<D: ReadAt, W: Sink>(
     ensures same_reference { (source_at_of reader.new).ghost_name
         ≡ (source_at_of reader.old).ghost_name }
     ensures piece { length piece.new ≡ CHUNK_SIZE }
-    ensures stay { D.bytes (source_at_of reader.new).now ≡ D.bytes (source_at_of reader.old).now }
     ensures same { (chunks_of reader.new).layout ≡ (chunks_of reader.old).layout }
-    ensures sound { let told = D.bytes (source_at_of reader.old).now in
-        IsSound told (chunks_of reader.old) → IsSound told (chunks_of reader.new) }
     ensures number { IfOk result (λ n. n
         ≡ range_len (chunks_of reader.old) at (min left (chunk_size - at % chunk_size))) }
-    ensures known { let told = D.bytes (source_at_of reader.old).now in
-        IsSound told (chunks_of reader.old) → WritesNext told (chunks_of reader.old) at left
-        (move_by W.taken out.old out.new) result }
     ensures stays_given { StaysGiven (D.gave (source_at_of reader.old).now)
         (D.gave (source_at_of reader.new).now) }
     ensures keeps_verified { let gave = D.gave (source_at_of reader.old).now in
@@ -127,8 +109,6 @@ fn write_next<D: ReadAt, W: Sink>(
     ensures any { KeepsVerified (D.gave (source_at_of reader.old).now) (chunks_of reader.old)
         → WritesNextAny (D.gave (source_at_of reader.new).now) (chunks_of reader.old) at left
         (move_by W.taken out.old out.new) result }
-    ensures reads { CountsIf is_read (D.failed (source_at_of reader.old).now)
-        (D.failed (source_at_of reader.new).now) result }
     ensures writes { CountsIf is_write (W.failed out.old) (W.failed out.new) result }
 {
     let most = left.min(CHUNK_SIZE as u64 - at % CHUNK_SIZE as u64) as usize;

@@ -1,21 +1,8 @@
 use Rattle.age_commands.proofs.Common.{◌≡◌, ◌∙◌, ◌∷◌, [], rules, Err, subst, sym, CountsIf, move_by, is_read, OutOfMemory, WritesAny, limits_of}
-use Rattle.age_commands.proofs.RangeLemmas.{ranged, unopened}
 use Rattle.age_commands.proofs.SecretLemmas.{answers_meant, made_reads}
 use Rattle.age_commands.proofs.VerifiedLemmas as verified
 use Rattle.age_commands.proofs.range.range_of.Goals as goal
 use Rattle.age_commands.proofs.range.range_of.OwnLists.{own-1, entry-1-1, at-1-1, same-1-1}
-
-pub returns-in-Ok-clause-known : goal.returns-in-Ok-clause-known
-returns-in-Ok-clause-known g c =
-    let meant = made_reads own-1 entry-1-1 at-1-1 same-1-1 (λ j y. j.1.meaning y) c.into_dyn_box.ensures.1 in
-    let one : c.as_slice.result.now ≡ c.into_dyn_box.result ∷ [] = search rules in
-    let opened = c.in-Ok.ensures.ranges in
-    let given = g.D.ReadAt.given in
-    let sink = move_by g.W.Sink.taken c.args.out.now c.write_range-written.new.out in
-    ranged (limits_of c.args.job.now) c.args.job.now.at c.args.job.now.len (given c.args.input.now)
-    (given c.in-Ok.reader.dev.now) sink c.write_range-written.result
-    (answers_meant meant c.in_ok-boxed.ensures) opened.0 (rw (one, c.limits_of.ensures) at opened.1)
-    c.write_range-written.ensures.known
 
 pub returns-in-Ok-clause-any : goal.returns-in-Ok-clause-any
 returns-in-Ok-clause-any g c =
@@ -40,15 +27,6 @@ returns-in_err-piece-clause-any g c =
     let is : c.from_residual-in_err-piece.result ≡ Err OutOfMemory = search rules in
     rw is (verified.unopened c.args.job.now.at c.args.job.now.len (search rules))
 
-pub returns-clause-known : goal.returns-clause-known
-returns-clause-known g c =
-    let meant = made_reads own-1 entry-1-1 at-1-1 same-1-1 (λ j y. j.1.meaning y) c.into_dyn_box.ensures.1 in
-    let one : c.as_slice.result.now ≡ c.into_dyn_box.result ∷ [] = search rules in
-    rw c.fault.ensures.fault
-    (unopened (limits_of c.args.job.now) c.args.job.now.at c.args.job.now.len (g.D.ReadAt.bytes c.args.input.now)
-    (g.W.Sink.taken c.args.out.now)
-    (answers_meant meant c.in_ok-boxed.ensures) (rw (one, c.limits_of.ensures) at c.in-Err.ensures.refuses.misses))
-
 pub returns-clause-any : goal.returns-clause-any
 returns-clause-any g c =
     rw c.fault.ensures.fault (verified.unopened c.args.job.now.at c.args.job.now.len c.in-Err.ensures.refuses.named)
@@ -56,15 +34,6 @@ returns-clause-any g c =
 pub returns-clause-writes : goal.returns-clause-writes
 returns-clause-writes g c =
     rw c.fault.ensures.fault (search (verified.opens_unwritten, c.in-Err.ensures.refuses.named))
-
-pub returns-in-Ok-clause-reads : goal.returns-in-Ok-clause-reads
-returns-in-Ok-clause-reads g c =
-    let same = c.into_inner-source.ensures.same_reference ∙ c.write_range-written.ensures.same_reference
-    ∙ c.in-Ok.ensures.same_reference in
-    subst
-    (λ d. CountsIf is_read (g.D.ReadAt.failed c.args.input.now) (g.D.ReadAt.failed d) c.write_range-written.result)
-    (sym c.into_inner-source.ensures.unchanged ∙ (search rules))
-    (rw c.in-Ok.ensures.ranges.6 at c.write_range-written.ensures.reads)
 
 pub returns-in-Ok-clause-quiet : goal.returns-in-Ok-clause-quiet
 returns-in-Ok-clause-quiet g c =

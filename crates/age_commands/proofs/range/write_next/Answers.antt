@@ -1,27 +1,8 @@
 use Rattle.age_commands.proofs.Common.{◌≡◌, drop, rules, inr, refl, Err}
 use Rattle.age_file.specs.Verdict.{stream_fault}
-use Rattle.age_commands.proofs.RangeLemmas.{stopped, written, written_part}
+use Rattle.age_commands.proofs.RangeLemmas.{written, written_part}
 use Rattle.age_commands.proofs.VerifiedLemmas as verified
 use Rattle.age_commands.proofs.range.write_next.Goals as goal
-
-pub returns-in_err-n-clause-known : goal.returns-in_err-n-clause-known
-returns-in_err-n-clause-known g c = λ sound.
-    let is : c.from_residual.result ≡ Err (stream_fault c.in_err-n.field-0.0) = search rules in
-    rw is (stopped c.args.at c.args.left (search rules) (search rules) refl sound c.in_err-n.ensures.reads.stop)
-
-pub returns-clause-known : goal.returns-clause-known
-returns-clause-known g c = λ sound.
-    written c.read_range.new.buf (drop c.min-most.result c.args.piece.now) (search rules)
-    (c.in_ok-n.ensures.reads.filled.1 sound) c.in-Ok.ensures.text
-
-pub returns-in_default-clause-known : goal.returns-in_default-clause-known
-returns-in_default-clause-known g c = λ sound.
-    let rest = drop c.min-most.result c.args.piece.now in
-    inr (
-      inr refl,
-      written_part c.read_range.new.buf rest (search rules)
-          (c.in_ok-n.ensures.reads.filled.1 sound) (search rules) c.in_default.ensures.text,
-    )
 
 pub returns-in_err-n-clause-any : goal.returns-in_err-n-clause-any
 returns-in_err-n-clause-any g c = λ keeps.

@@ -1,5 +1,5 @@
 use Rattle.age_commands.proofs.Common.{◌≤◌, ◌<◌, ◌≡◌, ◌∙◌, ◌+◌, ◌-◌, ◌%◌, ℕ, ap, arith, min, rules, Err, Layout, chunk_size}
-use Rattle.age_commands.proofs.RangeLemmas.{failed_on, joined, some_on, whole_on}
+use Rattle.age_commands.proofs.RangeLemmas.{some_on}
 use Rattle.age_commands.proofs.VerifiedLemmas as verified
 use Rattle.age_commands.proofs.range.write_range.Goals as goal
 
@@ -10,13 +10,6 @@ returns-in_err-n-clause-any g c = λ keeps.
     rw is (verified.failed_on c.args.reader.now.chunks c.loop-left.reader.chunks c.args.at c.args.len c.loop-left.at
     c.loop-left.left c.write_next.ensures.stays_given inv.same inv.end inv.begin inv.some (inv.verified keeps)
     (c.in_err-n.ensures.any (inv.keeps keeps)))
-
-pub returns-in_err-n-clause-known : goal.returns-in_err-n-clause-known
-returns-in_err-n-clause-known g c = λ sound.
-    let inv = c.loop-left.invariant in
-    let is : c.from_residual.result ≡ Err c.in_err-n.field-0.0 = search rules in
-    rw is (failed_on c.args.at c.args.len c.loop-left.at c.loop-left.left inv.stay inv.same inv.end inv.begin inv.some
-    inv.whole (inv.written sound) (c.in_err-n.ensures.known (rw inv.stay (inv.sound sound))))
 
 pub loop-left-preserved : goal.loop-left-preserved
 loop-left-preserved g c =
@@ -35,20 +28,13 @@ loop-left-preserved g c =
       within = omega arith;
       piece = c.in_ok-n.ensures.piece;
       same_reference = c.write_next.ensures.same_reference ∙ inv.same_reference;
-      stay = c.in_ok-n.ensures.stay ∙ inv.stay;
       same = c.in_ok-n.ensures.same ∙ inv.same;
-      sound = λ sound. rw inv.stay at (c.in_ok-n.ensures.sound (rw inv.stay (inv.sound sound)));
       some = search (some_on, number, end, begin, inv.some);
-      whole = search (whole_on, number);
-      written = λ sound. joined c.args.at (c.loop-left.at - c.args.at) c.loop-left.at c.in_ok-n.n
-          (c.loop-left.at + c.in_ok-n.n - c.args.at) inv.stay inv.same (omega arith) (omega arith) (inv.written sound)
-          (c.in_ok-n.ensures.known (rw inv.stay (inv.sound sound)));
       given = λ at byte was. c.write_next.ensures.stays_given at byte (inv.given at byte was);
       keeps = λ keeps. c.write_next.ensures.keeps_verified (inv.keeps keeps);
       verified = λ keeps. verified.joined c.args.at (c.loop-left.at - c.args.at) c.loop-left.at c.in_ok-n.n
           (c.loop-left.at + c.in_ok-n.n - c.args.at) c.write_next.ensures.stays_given inv.same (omega arith)
           (omega arith) (inv.verified keeps) (c.in_ok-n.ensures.any (inv.keeps keeps));
-      reads = c.in_ok-n.ensures.reads ∙ inv.reads;
       writes = c.in_ok-n.ensures.writes ∙ inv.writes;
     }
 
