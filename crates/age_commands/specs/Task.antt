@@ -1,6 +1,6 @@
 -- The results of a job with its secrets, from the bytes of its input to those of its output.
 use Rattle.std.specs.Prelude.{◌≡◌, ◌⊎◌, ◌&&◌, if◌then◌else◌}
-use Rattle.age_commands.specs.Words.{ℕ, ⊤, Bool, IfErr, IfSome, Option, Result, Ok, Err, Bytes, Flow, Known, Moved, Fault, BadChunk, BadMac, Bounds, EncryptsGiven, EncryptsText, Gathering, RefusesFirst, TookWhileEncrypting, Answering, Job}
+use Rattle.age_commands.specs.Words.{ℕ, ⊤, Bool, IfErr, IfSome, Option, Result, Ok, Err, Bytes, Flow, Known, Moved, Fault, BadChunk, BadMac, Bounds, EncryptsGiven, EncryptsText, Gathering, RefusesFirst, Answering, Job}
 use Rattle.age_stream.specs.declared.done.Done.{Done}
 use Rattle.age_file.specs.declared.limits.Fresh.{Fresh}
 use Rattle.age_file.specs.Decrypt.{DecryptsText}
@@ -26,7 +26,6 @@ pub record Encrypting (limits : Bounds) (fresh : Fresh) (gathered : Gathering) (
     (sink : Moved) (done : Result Done Fault) : Type 0 where
   pub encrypts : EncryptsGiven limits fresh gathered source sink done
   pub refused : IfErr done (RefusesFirst limits fresh.file_key gathered)
-  pub took : IfErr done (TookWhileEncrypting limits fresh gathered source sink)
 
 -- the result of salvaging: Ok only if everything is read and saved
 abbrev pub if_whole : (is_read : Bool) → Result SalvagedFile Fault → Result ⊤ Fault

@@ -1,6 +1,6 @@
 -- The names that most files of this crate cite, passed on from one place.
 pub use Rattle.age_file.specs.AgeFile.{Bounds}
-pub use Rattle.age_file.specs.NewFile.{EncryptsGiven, EncryptsText, Gathered, Gathering, RefusesFirst, TookWhileEncrypting}
+pub use Rattle.age_file.specs.NewFile.{EncryptsGiven, EncryptsText, Gathered, Gathering, RefusesFirst}
 pub use Rattle.age_file.specs.Verdict.{Answering, finding, header_fault}
 pub use Rattle.age_file.specs.declared.fault.Fault.{Fault}
 pub use Rattle.age_file.specs.declared.fault.Fault.TheVariants.{BadChunk, BadMac, OutOfMemory, Read, Write}

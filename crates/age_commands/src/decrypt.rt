@@ -1,7 +1,6 @@
 //! The command `decrypt`: the plaintext of a file of the format.
-ghost use Rattle.std.specs.Prelude.{IfErr};
-ghost use Rattle.age_file.specs.Decrypt.{Decrypts, TookUpTo};
-ghost use Rattle.age_file.specs.Device.{IsQuiet, is_read, is_write};
+ghost use Rattle.age_file.specs.Decrypt.{Decrypts};
+ghost use Rattle.age_file.specs.Device.{IsQuiet, is_write};
 ghost use Rattle.age_job.specs.Job.{IsInRange};
 ghost use Rattle.age_commands.specs.Secret.{answers_of, limits_of};
 ghost use Rattle.age_header.specs.Device.{CountsIf, flow_by, move_by};
@@ -25,10 +24,7 @@ pub(crate) fn decrypt<S: Source, W: Sink>(
     ensures decrypts { Decrypts (limits_of job.now) (answers_of secret job.now.max_work)
         (flow_by S.to_come S.gave input.old input.new) (move_by W.taken out.old out.new) result }
     ensures quiet { IsQuiet out.old out.new result }
-    ensures reads { CountsIf is_read (S.failed input.old) (S.failed input.new) result }
     ensures writes { CountsIf is_write (W.failed out.old) (W.failed out.new) result }
-    ensures took { IfErr result (TookUpTo (limits_of job.now)
-        (flow_by S.to_come S.gave input.old input.new) (move_by W.taken out.old out.new)) }
 {
     let identity: Box<dyn Identity> = SecretIdentity::boxed(alloc, job, secret)?;
     let identities = vec![in alloc; identity]?;

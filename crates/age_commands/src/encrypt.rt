@@ -1,7 +1,5 @@
 //! The command `encrypt`: a file of the format, made of any bytes.
-ghost use Rattle.std.specs.Prelude.{◌≡◌, ◌⊎◌, Err};
-ghost use Rattle.age_file.specs.Device.{IsQuiet, is_read, is_write};
-ghost use Rattle.age_file.specs.NewFile.{FillsChunk};
+ghost use Rattle.age_file.specs.Device.{IsQuiet, is_write};
 ghost use Rattle.age_job.specs.Job.{IsInRange};
 ghost use Rattle.age_commands.specs.Secret.{gathering_of, limits_of};
 ghost use Rattle.age_commands.specs.Task.{Encrypting};
@@ -28,10 +26,7 @@ pub(crate) fn encrypt<S: Source, W: Sink>(
         (gathering_of secret job.now.work seed.now.salt seed.now.fresh.file_key)
         (flow_by S.to_come S.gave input.old input.new) (move_by W.taken out.old out.new) result }
     ensures quiet { IsQuiet out.old out.new result }
-    ensures reads { CountsIf is_read (S.failed input.old) (S.failed input.new) result }
     ensures writes { CountsIf is_write (W.failed out.old) (W.failed out.new) result }
-    ensures spared { result ≡ Err Fault.Read
-        → (out.new ≡ out.old) ⊎ FillsChunk (flow_by S.to_come S.gave input.old input.new) }
 {
     let recipient: Box<dyn Recipient> = SecretRecipient::boxed(alloc, job, secret, seed.salt)?;
     let recipients = vec![in alloc; recipient]?;

@@ -3,7 +3,7 @@ ghost use Rattle.std.specs.Prelude.{◌≡◌, ◌⊎◌, map, Err, IfOk, OnOk};
 ghost use Rattle.std.specs.String.{string_bytes};
 ghost use Rattle.std.specs.Io.KnownBytes.{Appends};
 ghost use Rattle.age_header.specs.Device.{Bytes, CountsIf, flow_by, move_by};
-ghost use Rattle.age_file.specs.Device.{IsQuiet, is_read, is_write};
+ghost use Rattle.age_file.specs.Device.{IsQuiet, is_write};
 ghost use Rattle.age_job.specs.Job.{IsInRange};
 ghost use Rattle.age_commands.specs.Inspect.{Inspecting, IsShown, IsTable, check_of, row, rows, spaced_arguments};
 ghost use Rattle.age_commands.specs.Secret.{limits_of};
@@ -53,7 +53,6 @@ pub(crate) fn inspect<S: Source, W: Sink>(
     ensures inspects { Inspecting (limits_of job.now) job.now.raw file_key.now
         (flow_by S.to_come S.gave input.old input.new) (move_by W.taken out.old out.new) result }
     ensures quiet { (result ≡ Err Fault.BadMac) ⊎ IsQuiet out.old out.new result }
-    ensures reads { CountsIf is_read (S.failed input.old) (S.failed input.new) result }
     ensures writes { CountsIf is_write (W.failed out.old) (W.failed out.new) result }
 {
     let header = age_file::inspect(alloc, input, &limits_of(job))?;

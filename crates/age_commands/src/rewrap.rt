@@ -1,5 +1,5 @@
 //! The command `rewrap`: a file with a new header for the same file key.
-ghost use Rattle.age_file.specs.Device.{IsQuiet, is_read, is_write};
+ghost use Rattle.age_file.specs.Device.{IsQuiet, is_write};
 ghost use Rattle.age_file.specs.Rewrap.{Rewraps};
 ghost use Rattle.age_job.specs.Job.{IsInRange};
 ghost use Rattle.age_commands.specs.Secret.{answers_of, gathering_of, limits_of};
@@ -29,7 +29,6 @@ pub(crate) fn rewrap<S: Source, W: Sink>(
         (gathering_of new job.now.work salt)
         (flow_by S.to_come S.gave input.old input.new) (move_by W.taken out.old out.new) result }
     ensures quiet { IsQuiet out.old out.new result }
-    ensures reads { CountsIf is_read (S.failed input.old) (S.failed input.new) result }
     ensures writes { CountsIf is_write (W.failed out.old) (W.failed out.new) result }
 {
     let identity: Box<dyn Identity> = SecretIdentity::boxed(alloc, job, old)?;

@@ -1,6 +1,6 @@
 //! The command `salvage`, which saves what is left of a damaged file.
 ghost use Rattle.std.specs.Prelude.{◌≡◌, IfOk, OnOk};
-ghost use Rattle.age_file.specs.Device.{IsQuiet, is_read, is_write};
+ghost use Rattle.age_file.specs.Device.{IsQuiet, is_write};
 ghost use Rattle.age_file.specs.Salvage.{SalvagesFile};
 ghost use Rattle.age_job.specs.Job.{IsInRange};
 ghost use Rattle.age_commands.specs.Task.{SalvagesAll, if_whole};
@@ -110,7 +110,6 @@ fn salvage<S: Source, W: Sink, L: Losses>(
     ensures silent { IfOk result (λ s. s.payload.lost ≡ 0 → losses.new ≡ losses.old) }
     // On a fault other than a chunk's, `TooManyChunks`, `Read` and `Write` the sink is unchanged.
     ensures quiet { IsQuiet out.old out.new result }
-    ensures reads { CountsIf is_read (S.failed input.old) (S.failed input.new) result }
     ensures writes { CountsIf is_write (W.failed out.old) (W.failed out.new) result }
 {
     let identity: Box<dyn Identity> = SecretIdentity::boxed(alloc, job, secret)?;

@@ -15,5 +15,4 @@ returns-clause-encrypts g c =
     encrypting_meant gathers (record {
       encrypts = rw (one, c.limits_of.ensures) at c.encrypt.ensures.encrypts;
       refused = rw (one, c.limits_of.ensures) at c.encrypt.ensures.refused;
-      took = rw (one, c.limits_of.ensures) at c.encrypt.ensures.took;
     })
