@@ -92,11 +92,6 @@ pub(crate) fn source_at_offsets<F: Read + Seek + Drop>(
     alloc: Global,
     file: F,
 ) -> Result<FileAt<BufReader<F>>, Fault>
-    // The contents of a file are not known.
-    ensures bytes { IfOk result
-        (λ source. ⟦<FileAt<BufReader<F>> as ReadAt>⟧.bytes source ≡ None) }
-    // No byte was read.
-    ensures given { IfOk result (λ source. ⟦<FileAt<BufReader<F>> as ReadAt>⟧.given source ≡ 0) }
     ensures err { IfErr result (λ fault. fault ≡ Fault.OutOfMemory) }
 {
     match BufReader::with_capacity(alloc, HEADER_BUFFER_LEN, file) {

@@ -130,8 +130,6 @@ fn pass_over<R: Seek>(reader: &mut R, buf: &mut [u8]) -> Option<(u64, usize)>
     ensures len { length buf.new ≡ length buf.old }
     ensures zeros { IfSome result
         (λ r. (r.1 ≤ length buf.new) × (take r.1 buf.new ≡ replicate r.1 0)) }
-    // It ends: no more zeros follow than the file has bytes.
-    ensures some { IfSome result (λ r. 0 < r.1) }
 {
     let at = reader.stream_position().ok()?;
     let end = reader.seek(SeekFrom::End(0)).ok()?;
