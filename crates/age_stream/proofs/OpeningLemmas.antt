@@ -1,5 +1,5 @@
 -- The next piece, by what was read ahead, what was given, and what may still come.
-use Rattle.age_stream.proofs.Common.{◌≡◌, ◌⊎◌, ◌∙◌, ◌+◌, ◌-◌, ◌^◌, ◌<◌, ◌≤◌, ℕ, [], length, take, drop, min, ap, sym, arith, refl, inl, inr, not, subst, Option, Some, None, true, false, Bool, nat_le, cond, Result, Ok, Err, IfNone, IfSome, IsErrOf, IsAtEnd, cases_lt, le-leb, lt-leb, drop-drop, take_all, take-take, length-drop, length-take, length-take-le, Bytes, Flow, GaveSome, Seen, flow, StreamFault, Read, chunk_size, sealed_chunk_size, chunk_buf_size, gave_none, Piece, Advances, IsAtPiece, Loses, OpenerState, ReadsPiece, held_of, outcome, first_outcome, after_first, ◌++◌, length-append, Filled, GivesText, IfOk, OpensPiece, ReadsAhead, when_none, Known, GaveAtMost, flow_by, FileKey, nonce_size, Starts, StartsReader}
+use Rattle.age_stream.proofs.Common.{◌≡◌, ◌⊎◌, ◌∙◌, ◌+◌, ◌-◌, ◌^◌, ◌<◌, ◌≤◌, ℕ, [], length, take, drop, min, ap, sym, arith, refl, inl, inr, not, subst, Option, Some, None, true, false, Bool, nat_le, cond, Result, Ok, Err, IfNone, IfSome, IsErrOf, cases_lt, le-leb, lt-leb, drop-drop, take_all, take-take, length-drop, length-take, length-take-le, Bytes, Flow, GaveSome, Seen, flow, StreamFault, Read, chunk_size, sealed_chunk_size, chunk_buf_size, gave_none, Piece, Advances, IsAtPiece, Loses, OpenerState, ReadsPiece, held_of, outcome, first_outcome, after_first, ◌++◌, length-append, GivesText, OpensPiece, ReadsAhead, when_none, Known, GaveAtMost, flow_by, FileKey, nonce_size, Starts, StartsReader}
 
 -- ---- n bytes of a buffer, of which the first piece was opened
 
@@ -32,21 +32,6 @@ ahead_has_len : (ahead : ℕ) (bytes : Bytes) → length bytes ≡ chunk_buf_siz
 ahead_has_len ahead bytes size le =
     length-take-le ahead (drop sealed_chunk_size bytes) (omega (arith, length-drop sealed_chunk_size bytes))
 
--- what filling the buffer after the byte that was held leaves there
-pub reads_ahead : {E : Type 0} (r : Result ℕ E) (ahead : ℕ) {held : Bytes} (carried after : Bytes) (now next : Seen)
-    → IfOk r (λ n. Filled ahead n carried after (flow now next))
-    → IfOk r (λ n. n < length carried → IsAtEnd next.to_come) → take ahead carried ≡ held → length carried
-    ≡ chunk_buf_size
-    → IfOk r (λ n. ReadsAhead held n after (flow now next))
-reads_ahead (Ok n) ahead carried after now next f end is size = record {
-  given = f.piece;
-  gave = f.bytes;
-  is = f.is ∙ ap (λ t. t ++ f.piece) is;
-  room = omega (arith, f.room);
-  end = λ low. end (omega arith);
-}
-reads_ahead (Err e) ahead carried after now next f end is size = tt
-
 -- what opening a piece returns, and whether another follows
 abbrev piece_of : (last : Bool) → Result ℕ StreamFault → Result Piece StreamFault
 piece_of last (Ok len) = Ok (record { len = len; more = not last })
@@ -54,7 +39,7 @@ piece_of last (Err fault) = Err fault
 
 -- a piece was read, and opened with this result
 pub reads_piece : {key : Bytes} {max i n : ℕ} {held filled after : Bytes} {source : Flow} (r : Result ℕ StreamFault)
-    → ReadsAhead held n filled source → length filled ≡ chunk_buf_size
+    → ReadsAhead sealed_chunk_size held n filled source → length filled ≡ chunk_buf_size
     → GivesText (outcome key max i (nat_le n sealed_chunk_size) (take (min n sealed_chunk_size) filled)) after r
     → drop (min n sealed_chunk_size - 16) after ≡ drop (min n sealed_chunk_size - 16) filled
     → ReadsPiece key max i held after source (piece_of (nat_le n sealed_chunk_size) r)

@@ -259,7 +259,7 @@ module _ {key : Bytes} {s : Salvaged} {ahead : Bytes} {from now : Seen} {old new
 
 module _ {key : Bytes} {s : Salvaged} {held : Bytes} {n : ℕ} {buf : Bytes} {from now next : Seen} {old mid : Known}
     {before said : KnownLosses} (o : Salvaging key s held from now old mid before said)
-    (r : ReadsAhead held n buf (flow now next)) (size : length buf ≡ chunk_buf_size) where
+    (r : ReadsAhead sealed_chunk_size held n buf (flow now next)) (size : length buf ≡ chunk_buf_size) where
   piece_len : length (held ++ r.given) ≡ n
   piece_len = ap length (sym r.is) ∙ length-take-le n buf (omega (arith, r.room))
 

@@ -173,13 +173,13 @@ OpensPiece key max i c after (Ok p) =
 OpensPiece key max i c after (Err fault) = first_outcome key max i c ≡ Err fault
 
 -- n bytes are at the start of the buffer: those held, then those read from the source. If they are
--- fewer than it has room for, the source is at its end.
-pub record ReadsAhead (held : Bytes) (n : ℕ) (after : Bytes) (source : Flow) : Type 0 where
+-- at most `size`, the source is at its end.
+pub record ReadsAhead (size : ℕ) (held : Bytes) (n : ℕ) (after : Bytes) (source : Flow) : Type 0 where
   pub given : Bytes
   pub gave : Gave source given
   pub is : take n after ≡ held ++ given
-  pub room : n ≤ chunk_buf_size
-  pub end : n < chunk_buf_size → IsAtEnd source.after.to_come
+  pub room : n ≤ size + 1
+  pub end : n < size + 1 → IsAtEnd source.after.to_come
 
 -- the same for the bytes read ahead and then those of the source
 pub record ReadsPiece (key : Key) (max i : ℕ) (ahead after : Bytes) (source : Flow)

@@ -229,7 +229,7 @@ fn next_piece<S: Source>(
         (λ piece. (piece.len ≤ chunk_size) × (piece.more ≡ true → piece.len ≡ chunk_size)) }
     ensures within { OnOk result (i < max) }
 {
-    let Ok(n) = read_piece(source, bytes, ahead) else {
+    let Ok(n) = read_piece(source, bytes, SEALED_CHUNK_SIZE, ahead) else {
         return Err(StreamFault::Read);
     };
     let last = n <= SEALED_CHUNK_SIZE;
@@ -237,22 +237,24 @@ fn next_piece<S: Source>(
     Ok(Piece { len, more: !last })
 }
 
-/// Reads the next piece, and the byte after it. Before the call the last byte of the buffer is the
-/// first of this piece, if `ahead` is 1.
+/// Reads the next piece of `size` bytes, and the byte after it. Before the call the last byte of
+/// the buffer is the first of this piece, if `ahead` is 1.
 pub(crate) fn read_piece<S: Source>(
     source: &mut S,
     bytes: &mut [u8],
+    size: usize,
     ahead: usize,
 ) -> Result<usize, DeviceFault>
-    requires size { length bytes.old ≡ chunk_buf_size }
+    requires size { length bytes.old ≡ size + 1 }
     requires ahead { ahead ≤ 1 }
-    ensures len { length bytes.new ≡ chunk_buf_size }
-    ensures reads { IfOk result (λ n. ReadsAhead (take ahead (drop sealed_chunk_size bytes.old)) n
+    requires some { 0 < size }
+    ensures len { length bytes.new ≡ size + 1 }
+    ensures reads { IfOk result (λ n. ReadsAhead size (take ahead (drop size bytes.old)) n
         bytes.new (flow_by S.to_come S.gave source.old source.new)) }
     ensures lost { OnErr result (GaveSome (flow_by S.to_come S.gave source.old source.new)) }
     ensures count { Counts (S.failed source.old) (S.failed source.new) result }
 {
-    carry(bytes, ahead);
+    carry(bytes, size, ahead);
     fill_from(source, bytes, ahead)
 }
 
@@ -272,13 +274,14 @@ pub(crate) fn read_nonce<S: Source>(source: &mut S) -> Result<[u8; 16], StreamFa
 }
 
 /// Moves what was read ahead to the start of the buffer.
-fn carry(bytes: &mut [u8], ahead: usize)
-    requires size { length bytes.old ≡ chunk_buf_size }
+fn carry(bytes: &mut [u8], size: usize, ahead: usize)
+    requires size { length bytes.old ≡ size + 1 }
     requires ahead { ahead ≤ 1 }
-    ensures len { length bytes.new ≡ chunk_buf_size }
-    ensures prefix { take ahead bytes.new ≡ take ahead (drop sealed_chunk_size bytes.old) }
+    requires some { 0 < size }
+    ensures len { length bytes.new ≡ size + 1 }
+    ensures prefix { take ahead bytes.new ≡ take ahead (drop size bytes.old) }
 {
-    let (prefix, end) = bytes.split_at_mut(SEALED_CHUNK_SIZE);
+    let (prefix, end) = bytes.split_at_mut(size);
     let (first, _) = prefix.split_at_mut(ahead);
     let (next, _) = end.split_at(ahead);
     first.copy_from_slice(next);

@@ -98,7 +98,7 @@ fn save_pieces<S: Source, W: Sink, L: Losses>(
         if done.chunks >= max {
             return Err(StreamFault::TooManyChunks);
         }
-        let Ok(n) = read_piece(source, bytes, ahead) else {
+        let Ok(n) = read_piece(source, bytes, SEALED_CHUNK_SIZE, ahead) else {
             return Err(StreamFault::Read);
         };
         let (len, saved) = save_first(key, done.chunks, bytes, n);
