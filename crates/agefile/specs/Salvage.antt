@@ -1,9 +1,10 @@
 -- Saving what is left of a payload, one sealed chunk after another.
-use Rattle.std.specs.Prelude.{◌≡◌, ◌⊎◌, ◌<◌, ◌≤◌, ◌∷◌, ◌++◌}
-use Rattle.agefile.specs.Words.{ℕ, List, [], Bool, length, take, drop, Bytes, TooManyChunks, is_end, Payload, Report}
+use Rattle.std.specs.Prelude.{◌≡◌, ◌⊎◌, ◌+◌, ◌<◌, ◌≤◌, ◌∷◌, ◌++◌, Option, Some, zero, suc, if◌then◌else◌}
+use Rattle.agefile.specs.Words.{ℕ, List, [], None, true, Bool, length, take, drop, Bytes, TooManyChunks, is_end, Payload, Report}
 use Rattle.age_stream.specs.declared.salvaged.Saved.{Saved}
 use Rattle.age_stream.specs.declared.salvaged.Saved.TheVariants.{Chunk, LastChunk, Padded, Early, Zeros, Nothing}
-use Rattle.age_stream.specs.Salvage.{Part, part}
+use Rattle.age_stream.specs.Salvage.{Part, is_cut_to, is_whole_to, part}
+use Rattle.age_stream.specs.declared.salvaged.Salvaged.{Salvaged}
 use Rattle.agefile.specs.Codes.{ok}
 use Rattle.agefile.specs.Payload.{after_chunk, may_open}
 use Rattle.agefile.specs.Report.{Refuses, Steps}
@@ -18,29 +19,62 @@ saved_number Zeros = 4
 saved_number Nothing = 5
 saved_number (Padded k) = 6
 
--- the chunk's buffer begins with the text of this part, and the rest of it is unchanged; the report
--- has the length of the text, and what was saved
-abbrev pub Gives : (part : Part) (chunk after : Bytes) (report : Report) (code : ℕ) → Type 0
-Gives p chunk after report code =
-    (code ≡ ok)
-    × (report ≡ record { len = length p.text; place = saved_number p.saved; detail = 0 })
-    × (after ≡ p.text ++ drop (length p.text) chunk)
+-- what a payload notes of a chunk: that one is lost, or the latest early one, by its number and 1
+abbrev pub noted : (p : Payload) (saved : Saved) → Payload
+noted p Zeros = record p { lost = 1 }
+noted p Early = record p { early = p.number + 1 }
+noted p _ = p
 
--- returns the part for this chunk at its number, or the number exceeds the maximum and the chunk is
--- unchanged
-abbrev pub SavesAs : (key : Bytes) (number : ℕ) (last : Bool) (chunk after : Bytes)
+-- the chunk that was noted as early
+abbrev pub early_of : ℕ → Option ℕ
+early_of zero = None
+early_of (suc i) = Some i
+
+-- 1 if the plaintext is whole, 2 if it is cut short, else 0
+abbrev pub verdict_to : (saved : Saved) (lost : ℕ) (early : Option ℕ) (chunks : ℕ) → ℕ
+verdict_to saved lost early chunks =
+    if is_whole_to saved lost early then 1 else if is_cut_to saved early chunks then 2 else 0
+
+abbrev pub verdict_of : Salvaged → ℕ
+verdict_of s = verdict_to s.last s.lost s.early s.chunks
+
+-- the report's detail after a chunk
+abbrev pub detail_of : (p : Payload) (last : Bool) (saved : Saved) → ℕ
+detail_of p last saved =
+    if last then verdict_to saved (noted p saved).lost (early_of (noted p saved).early)
+    (p.number + 1)
+    else 0
+
+-- the chunk's buffer begins with the text of this part, and the rest of it is unchanged; the report
+-- has the length of the text, what was saved and, after the last chunk, what the whole is
+abbrev pub Gives : (p : Payload) (last : Bool) (part : Part) (chunk after : Bytes)
     (report : Report) (code : ℕ) → Type 0
-SavesAs key number last chunk after report code =
-    ((number < limits.max_chunks) × Gives (part key number last chunk) chunk after report code)
-    ⊎ ((limits.max_chunks ≤ number) × Refuses TooManyChunks chunk after report code)
+Gives p last q chunk after report code =
+    (code ≡ ok)
+    × (report ≡ record {
+      len = length q.text;
+      place = saved_number q.saved;
+      detail = detail_of p last q.saved;
+    })
+    × (after ≡ q.text ++ drop (length q.text) chunk)
+
+-- returns the part for this chunk at its number, and goes on after it; or the number exceeds the
+-- maximum and the chunk is unchanged
+abbrev pub SavesAs : (old new : Payload) (last : Bool) (chunk after : Bytes) (report : Report)
+    (code : ℕ) → Type 0
+SavesAs old new last chunk after report code =
+    ((old.number < limits.max_chunks)
+    × Gives old last (part old.key old.number last chunk) chunk after report code
+    × (new ≡ after_chunk (noted old (part old.key old.number last chunk).saved) last ok))
+    ⊎ ((limits.max_chunks ≤ old.number) × Refuses TooManyChunks chunk after report code
+    × (new ≡ after_chunk old last code))
 
 -- one call: if the payload is open for reading, what can be saved of its next chunk is returned
 abbrev pub SavesNext : (old new : Payload) (chunk after : Bytes) (last : Bool) (report : Report)
     (code : ℕ) → Type 0
 SavesNext old new chunk after last report code =
-    Steps (may_open old (length chunk) last)
-    (SavesAs old.key old.number last chunk after report code × (new ≡ after_chunk old last code))
-    old new chunk after report code
+    Steps (may_open old (length chunk) last) (SavesAs old new last chunk after report code) old new
+    chunk after report code
 
 -- what a call returns for a chunk: the text, and what was saved
 pub record Given : Type 0 where
@@ -50,12 +84,15 @@ pub record Given : Type 0 where
 abbrev pub given_of : Part → Given
 given_of p = record { text = p.text; number = saved_number p.saved }
 
--- Calls that save these pieces in order, the last as the last: what each returned.
-abbrev pub SavesRun : (p : Payload) (pieces : List Bytes) (given : List Given) → Type 0
-SavesRun p [] given = given ≡ []
-SavesRun p (chunk ∷ more) given =
+-- Calls that save these pieces in order, the last as the last: what each returned, and the detail
+-- that the last one reported.
+abbrev pub SavesRun : (p : Payload) (pieces : List Bytes) (given : List Given) (detail : ℕ)
+    → Type 0
+SavesRun p [] given detail = given ≡ []
+SavesRun p (chunk ∷ more) given detail =
     (new : Payload) × (after : Bytes) × (report : Report)
     × SavesNext p new chunk after (is_end more) report ok
     × (rest : List Given)
     × (given ≡ record { text = take report.len after; number = report.place } ∷ rest)
-    × SavesRun new more rest
+    × (is_end more ≡ true → detail ≡ report.detail)
+    × SavesRun new more rest detail

@@ -5,7 +5,7 @@ ghost use Rattle.agefile.specs.Words.{Ok, List, [], drop, length, map, take, tru
 ghost use Rattle.std.specs.List.{concat};
 ghost use Rattle.age_stream.specs.Payload.{chunks, pieces, sealed_chunks_from};
 ghost use Rattle.age_stream.specs.Reading.{Reading, outcome, whole};
-ghost use Rattle.age_stream.specs.Salvage.{parts};
+ghost use Rattle.age_stream.specs.Salvage.{parts, summary};
 ghost use Rattle.age_stream.specs.Slice.{IsSlice, last_outcome, plain_len};
 ghost use Rattle.age_file.specs.AgeFile.{AgeFile};
 ghost use Rattle.agefile.specs.declared.ranges.Ranges.{Ranges};
@@ -18,7 +18,7 @@ ghost use Rattle.agefile.specs.Unlock.{IsStart, Opens, Unlocks, by_file_key};
 ghost use Rattle.agefile.specs.Payload.{OpensNext, SealsNext, before_first, phase_reading};
 ghost use Rattle.agefile.specs.Ranges.{OpensRanges, piece_outcome, last_index, piece_at, plain_of};
 ghost use Rattle.agefile.specs.Report.{report_of};
-ghost use Rattle.agefile.specs.Salvage.{Given, SavesRun, given_of};
+ghost use Rattle.agefile.specs.Salvage.{Given, SavesRun, given_of, verdict_of};
 
 /// Reading a file in steps returns what decrypting it returns. The first 65,552 bytes of a file
 /// suffice to open it. A fault of opening, other than out of memory, is that of the verdict, before
@@ -52,11 +52,12 @@ pub fn steps_write()
 
 /// Salvaging a payload in steps returns what `age_stream::salvage_payload` writes of it: the texts
 /// of its parts, in order, and for each what was saved.
-#[tactic(auto, using(crate::proofs::SalvageLemmas::run_saves))]
+#[tactic(auto, using(crate::proofs::SalvageLemmas::steps_save))]
 pub fn steps_save()
-    ensures { (key rest : Bytes) (given : List Given)
-        → SavesRun (before_first key phase_reading) (pieces rest) given
-        → given ≡ map given_of (parts key 0 (pieces rest)) }
+    ensures { (key rest : Bytes) (given : List Given) (detail : ℕ)
+        → SavesRun (before_first key phase_reading) (pieces rest) given detail
+        → (given ≡ map given_of (parts key 0 (pieces rest)))
+        × (detail ≡ verdict_of (summary (parts key 0 (pieces rest)))) }
 {}
 
 /// Reading ranges in steps returns parts of the plaintext. The first 65,552 bytes of a file and its

@@ -47,7 +47,8 @@ impl Part {
             key: self.key,
             number: self.number,
             state: self.state,
-            spare: [0; 2],
+            lost: 0,
+            early: 0,
         }
     }
 

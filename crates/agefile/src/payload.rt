@@ -19,8 +19,10 @@ pub struct Payload {
     pub number: u64,
     /// 0 not open, 1 reading, 2 writing, 3 after the last chunk, 4 after a fault.
     pub state: u64,
-    /// 0, reserved for later versions.
-    pub spare: [u64; 2],
+    /// Of the calls that save: 1 if a chunk is lost, else 0.
+    pub lost: u64,
+    /// Of the calls that save: the number of the latest early chunk and 1, or 0.
+    pub early: u64,
 }
 
 impl Payload {
@@ -32,7 +34,8 @@ impl Payload {
             key: [0; 32],
             number: 0,
             state: CLOSED,
-            spare: [0; 2],
+            lost: 0,
+            early: 0,
         }
     }
 
@@ -44,7 +47,8 @@ impl Payload {
             key,
             number: 0,
             state: phase,
-            spare: [0; 2],
+            lost: 0,
+            early: 0,
         }
     }
 

@@ -1,10 +1,8 @@
 //! Saving what is left of a damaged payload, one sealed chunk after another.
 
-ghost use Rattle.std.specs.Prelude.{◌≡◌, ◌<◌, ◌≤◌};
+ghost use Rattle.std.specs.Prelude.{◌≡◌, ◌+◌, ◌^◌, ◌<◌, ◌≤◌};
 ghost use Rattle.agefile.specs.Words.{length, sealed_chunk_size};
-ghost use Rattle.agefile.specs.Codes.{ok};
-ghost use Rattle.agefile.specs.Salvage.{SavesAs, SavesNext, saved_number};
-ghost use Rattle.agefile.specs.Sizes.{limits};
+ghost use Rattle.agefile.specs.Salvage.{SavesAs, SavesNext, early_of, noted, saved_number, verdict_to};
 
 use crate::code::{OK, OUT_OF_ORDER};
 use crate::limits::MAX_CHUNKS;
@@ -38,26 +36,58 @@ pub extern "C" fn agefile_salvage_next(
         *report = Report::default();
         return OUT_OF_ORDER;
     }
-    let code = save_as(&payload.key, payload.number, last, chunk, report);
-    go_on(payload, last, code);
-    code
+    save_as(payload, last, chunk, report)
 }
 
 /// Saves what it can of a chunk under its number.
-fn save_as(key: &[u8; 32], number: u64, last: bool, chunk: &mut [u8], report: &mut Report) -> u32
+fn save_as(payload: &mut Payload, last: bool, chunk: &mut [u8], report: &mut Report) -> u32
     requires { length chunk.old ≤ sealed_chunk_size }
-    ensures saves { SavesAs key.now number last chunk.old chunk.new report.new result }
-    ensures within { result ≡ ok → number < limits.max_chunks }
+    ensures { SavesAs payload.old payload.new last chunk.old chunk.new report.new result }
 {
-    if number as u128 >= MAX_CHUNKS {
-        return report_fault(0, Fault::TooManyChunks, report);
+    if payload.number as u128 >= MAX_CHUNKS {
+        let code = report_fault(0, Fault::TooManyChunks, report);
+        go_on(payload, last, code);
+        return code;
     }
     let len = chunk.len();
-    let saved = save_piece(key, number as u128, last, chunk, len);
+    let saved = save_piece(&payload.key, payload.number as u128, last, chunk, len);
     let text = len.saturating_sub(TAG_SIZE).saturating_sub(saved.padding());
+    note(payload, saved);
     *report = Report::of_len(text as u64);
     report.place = saved_number(saved);
+    if last {
+        report.detail = verdict(payload, saved);
+    }
+    go_on(payload, last, OK);
     OK
+}
+
+/// Notes a lost chunk or an early one.
+fn note(payload: &mut Payload, saved: Saved)
+    requires { payload.old.number + 1 < 2 ^ 64 }
+    ensures notes { payload.new ≡ noted payload.old saved }
+    ensures number { payload.new.number ≡ payload.old.number }
+{
+    match saved {
+        Saved::Zeros => payload.lost = 1,
+        Saved::Early => payload.early = payload.number + 1,
+        _ => {}
+    }
+}
+
+/// What the whole is after its last chunk: 1 whole, 2 cut short, else 0.
+fn verdict(payload: &Payload, last: Saved) -> u64
+    requires { payload.now.number + 1 < 2 ^ 64 }
+    ensures { result ≡ verdict_to last payload.now.lost (early_of payload.now.early)
+        (payload.now.number + 1) }
+{
+    let early = payload.early;
+    match last {
+        Saved::LastChunk if payload.lost == 0 && early == 0 => 1,
+        Saved::Chunk => 2,
+        Saved::Nothing if early == 0 || early < payload.number => 2,
+        _ => 0,
+    }
 }
 
 /// What was saved of a chunk, by the numbers of `agefile.h`.
