@@ -12,7 +12,7 @@ ghost use Rattle.age_header.specs.Device.{CountsIf, move_by};
 
 use crate::buffering::limits_of;
 use crate::identity::SecretIdentity;
-use age_file::{CHUNK_SIZE, Fault, Identity, RangeReader, ReadAt, Sink, opened_ranges, write_all};
+use age_file::{CHUNK_SIZE, Fault, Identity, RangeReader, ReadAt, Sink, open_ranges, write_all};
 use age_job::{Job, Secret};
 use std::alloc::Global;
 
@@ -39,7 +39,7 @@ pub(crate) fn range_of<D: ReadAt, W: Sink>(
     let identity: Box<dyn Identity> = SecretIdentity::boxed(alloc, job, secret)?;
     let identities = vec![in alloc; identity]?;
     let mut piece = vec![in alloc; 0u8; CHUNK_SIZE]?;
-    match opened_ranges(alloc, input, identities.as_slice(), &limits_of(job)) {
+    match open_ranges(alloc, input, identities.as_slice(), &limits_of(job)) {
         Ok(mut reader) => {
             let written = write_range(&mut reader, job.at, job.len, piece.as_mut_slice(), out);
             let source = reader.into_inner();

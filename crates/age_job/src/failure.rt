@@ -63,8 +63,10 @@ impl<'a> Failure<'a> {
         Failure::with(fault, Detail::System(operation, Name(name), reason))
     }
 
+    /// A fault and what more is known about it.
     pub fn with(fault: Fault<'a>, detail: Detail<'a>) -> Failure<'a>
-        ensures { result.fault ≡ fault.entry }
+        // The fault that was passed.
+        ensures fault { result.fault ≡ fault.entry }
     {
         Failure {
             fault,

@@ -278,7 +278,8 @@ impl<'a> ReadFiles<'a> {
 }
 
 fn open<'a, F: Files>(rt: &F, name: &'a str) -> Result<F::File, Failure<'a>>
-    ensures { IfErr result (λ failure. failure.fault ≡ Fault.CannotOpen (record { 0 = name.entry })) }
+    ensures { IfErr result
+        (λ failure. failure.fault ≡ Fault.CannotOpen (record { 0 = name.entry })) }
 {
     match fs::open(rt, name) {
         Ok(file) => Ok(file),

@@ -157,7 +157,8 @@ fn choice_of<'a>(
     fault: Fault<'a>,
 ) -> Result<SecretFiles<'a>, Fault<'a>>
     ensures files { IfOk result (IsChoice pass.now key.now more.now.items) }
-    ensures fault { IfErr result (λ refused. (refused ≡ fault.entry) × IsNoChoice pass.now key.now) }
+    ensures fault { IfErr result
+        (λ refused. (refused ≡ fault.entry) × IsNoChoice pass.now key.now) }
 {
     match (pass, key) {
         (Some(name), None) => {
@@ -179,8 +180,8 @@ fn read_from<'a, F: Files + AllocGlobal>(
     files: SecretFiles<'a>,
 ) -> Result<Secret, Failure<'a>>
     ensures secret { IfOk result (λ secret. IsReadFrom files.entry secret) }
-    ensures fault { IfErr result
-        (λ failure. IsFilesFault (λ fault. fault ≡ Fault.PassphraseLength) files.entry failure.fault) }
+    ensures fault { IfErr result (λ failure. IsFilesFault (λ fault. fault ≡ Fault.PassphraseLength)
+        files.entry failure.fault) }
 {
     match files {
         SecretFiles::Passphrase(named) => Ok(Secret::Passphrase(read_passphrase(rt, read, named)?)),

@@ -174,7 +174,8 @@ OpensPiece key max i c after (Err fault) = first_outcome key max i c ≡ Err fau
 
 -- n bytes are at the start of the buffer: those held, then those read from the source. If they are
 -- at most `size`, the source is at its end.
-pub record ReadsAhead (size : ℕ) (held : Bytes) (n : ℕ) (after : Bytes) (source : Flow) : Type 0 where
+pub record ReadsAhead (size : ℕ) (held : Bytes) (n : ℕ) (after : Bytes)
+    (source : Flow) : Type 0 where
   pub given : Bytes
   pub gave : Gave source given
   pub is : take n after ≡ held ++ given

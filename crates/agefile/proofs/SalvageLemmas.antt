@@ -80,7 +80,8 @@ verdict_same Nothing lost n chunks early same = refl
 
 -- what the last call reports of these parts, after n lost chunks
 abbrev pub told : (i n at : ℕ) (early : Option ℕ) (ps : List Part) → ℕ
-told i n at early ps = verdict_to (last_saved ps) (n + length (losses i at ps)) (latest_early i early ps) (i + length ps)
+told i n at early ps =
+    verdict_to (last_saved ps) (n + length (losses i at ps)) (latest_early i early ps) (i + length ps)
 
 last_told : (q : Part) (key : Bytes) (i lost n early at : ℕ) → nat_eq lost 0 ≡ nat_eq n 0
     → detail_of (noting key i lost early) true q.saved ≡ told i n at (early_of early) (q ∷ [])
