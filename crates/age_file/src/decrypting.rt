@@ -60,7 +60,7 @@ pub fn decrypt<S: Source, W: Sink>(
 {
     let header = inspect(alloc, input, limits)?;
     let key = unlock_header(alloc, identities, &header)?;
-    let reader = match StreamReader::started(alloc, &key, input, limits.max_chunks()) {
+    let reader = match StreamReader::new(alloc, &key, input, limits.max_chunks()) {
         Ok(reader) => reader,
         Err(refused) => return Err(Fault::from(refused.fault())),
     };

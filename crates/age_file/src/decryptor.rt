@@ -41,11 +41,12 @@ impl<'a, S: Source> Decryptor<'a, S> {
         }
     }
 
-    /// Like `new`, but returns the source with the fault.
+    /// Reads the header of a file (C2SP `age.md`), and exactly the header's bytes from the source.
+    /// Does not verify the MAC. An error holds the source.
     ///
     /// # Errors
     /// Those of `inspect`, then `MixedPassphrase` if a `scrypt` stanza is not alone.
-    pub fn started(
+    pub fn new(
         alloc: Global,
         input: &'a mut S,
         limits: &Limits,
@@ -73,29 +74,6 @@ impl<'a, S: Source> Decryptor<'a, S> {
         Ok(Decryptor::over(input, header, limits))
     }
 
-    /// Reads the header of a file (C2SP `age.md`), and exactly the header's bytes from the source.
-    /// Does not verify the MAC. `started` says more about the source after an error.
-    ///
-    /// # Errors
-    /// Those of `inspect`, then `MixedPassphrase` if a `scrypt` stanza is not alone.
-    pub fn new(alloc: Global, input: &'a mut S, limits: &Limits) -> Result<Decryptor<'a, S>, Fault>
-        ensures same_reference { IfOk result
-            (λ d. (input_of d).ghost_name ≡ input.entry.ghost_name) }
-        // It holds the header that `inspect` returns, in which a `scrypt` stanza is alone.
-        ensures starts { IfOk result (λ d. StartsDecryptor S.to_come S.gave S.failed limits.now
-            input.old (input_of d).now (Ok (header_of d))) }
-        // It keeps the limits.
-        ensures limits { IfOk result (λ d. limits_of d ≡ limits.now) }
-        // As for `started`, but of some state of the source, which is not returned.
-        ensures refuses { IfErr result (λ fault. (last : S)
-            × StartsDecryptor S.to_come S.gave S.failed limits.now input.old last (Err fault)) }
-    {
-        match Decryptor::started(alloc, input, limits) {
-            Ok(decryptor) => Ok(decryptor),
-            Err(refused) => Err(refused.fault()),
-        }
-    }
-
     /// The header's stanzas, in order.
     pub fn stanzas(&self) -> &[Stanza]
         ensures { result.now ≡ (header_of self.now).stanzas }
@@ -103,13 +81,14 @@ impl<'a, S: Source> Decryptor<'a, S> {
         self.header.stanzas()
     }
 
-    /// Like `unlock`, but returns the source with the fault.
+    /// Finds the file key, verifies the header's MAC under it, reads the nonce, and returns a
+    /// reader of the payload. An error holds the source.
     ///
     /// # Errors
     /// `NoMatch`, `WrongKey`, `Malformed`, as for `age_recipient::unlock`; `BadMac`; `OutOfMemory`
     /// if an allocation was refused or an identity returned it. On these nothing was read. Then
     /// `NonceTruncated` if the source returns fewer than 16 bytes, and `Read` if it failed.
-    pub fn unlocked(
+    pub fn unlock(
         self,
         alloc: Global,
         identities: &[Box<dyn Identity>],
@@ -152,42 +131,6 @@ impl<'a, S: Source> Decryptor<'a, S> {
         match ChunkOpener::start(&key, input, limits.max_chunks(), buf) {
             Ok(opener) => Ok(StreamReader::over(input, opener)),
             Err(fault) => Err(Refused::of(input, Fault::from(fault))),
-        }
-    }
-
-    /// Finds the file key, verifies the header's MAC under it, reads the nonce, and returns a
-    /// reader of the payload. `unlocked` says more about the source after an error.
-    ///
-    /// # Errors
-    /// `NoMatch`, `WrongKey`, `Malformed`, as for `age_recipient::unlock`; `BadMac`; `OutOfMemory`
-    /// if an allocation was refused or an identity returned it. On these nothing was read. Then
-    /// `NonceTruncated` if the source returns fewer than 16 bytes, and `Read` if it failed.
-    pub fn unlock(
-        self,
-        alloc: Global,
-        identities: &[Box<dyn Identity>],
-    ) -> Result<StreamReader<'a, S>, Fault>
-        ensures same_reference { IfOk result
-            (λ reader. (source_of reader).ghost_name ≡ (input_of self.entry).ghost_name) }
-        // The reader is before piece 0, under the key that the identities choose; at most 16 bytes
-        // were read.
-        ensures starts { IfOk result
-            (λ reader. StartsUnder S.to_come S.gave S.failed (limits_of self.entry)
-            (header_key (answers_by identities.now (λ i s. meaning i s)) (header_of self.entry))
-            (input_of self.entry).now (source_of reader).now (Ok (opener_of reader))) }
-        // As for `unlocked`, but of some state of the source, which is not returned.
-        ensures misses { IfErr result
-            (λ fault. (last : S) × StartsUnder S.to_come S.gave S.failed (limits_of self.entry)
-            (header_key (answers_by identities.now (λ i s. meaning i s)) (header_of self.entry))
-            (input_of self.entry).now last (Err fault)) }
-        // As for `unlocked`.
-        ensures memory { IfErr result (λ fault. fault ≡ Fault.OutOfMemory → MayLackMemory
-            (answers_by identities.now (λ i s. meaning i s) (header_of self.entry).stanzas)
-            (map (λ i. may_run_out i (header_of self.entry).stanzas) identities.now)) }
-    {
-        match self.unlocked(alloc, identities) {
-            Ok(reader) => Ok(reader),
-            Err(refused) => Err(refused.fault()),
         }
     }
 }

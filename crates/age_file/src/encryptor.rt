@@ -66,12 +66,13 @@ impl Encryptor {
         })
     }
 
-    /// Like `start`, but returns the sink with the fault.
+    /// Writes the header and the nonce, and returns a writer of the payload. Allocates before it
+    /// writes. An error holds the sink.
     ///
     /// # Errors
     /// `OutOfMemory` if the allocation was refused: nothing was written. `Write` if the sink
     /// failed: a prefix of the header and the nonce was written.
-    pub fn started<'a, W: Sink>(
+    pub fn start<'a, W: Sink>(
         self,
         alloc: Global,
         out: &'a mut W,
@@ -97,31 +98,5 @@ impl Encryptor {
         let max_chunks = self.limits.max_chunks();
         let sealer = ChunkSealer::new(&self.fresh.file_key, &self.fresh.nonce, max_chunks, buf);
         Ok(StreamWriter::over(out, sealer))
-    }
-
-    /// Writes the header and the nonce, and returns a writer of the payload. Allocates before it
-    /// writes. `started` says more about the sink after an error.
-    ///
-    /// # Errors
-    /// `OutOfMemory` if the allocation was refused: nothing was written. `Write` if the sink
-    /// failed: a prefix of the header and the nonce was written.
-    pub fn start<'a, W: Sink>(
-        self,
-        alloc: Global,
-        out: &'a mut W,
-    ) -> Result<StreamWriter<'a, W>, Fault>
-        ensures same_reference { IfOk result
-            (λ writer. (sink_of writer).ghost_name ≡ out.entry.ghost_name) }
-        // The header and the nonce were written, and chunk 0 is next.
-        ensures starts { IfOk result (λ writer. StartsFile W.taken W.failed self out.old
-            (sink_of writer).now (Ok (sealer_of writer))) }
-        // As for `started`, but of some state of the sink, which is not returned.
-        ensures loses { IfErr result (λ fault. (last : W)
-            × StartsFile W.taken W.failed self out.old last (Err fault)) }
-    {
-        match self.started(alloc, out) {
-            Ok(writer) => Ok(writer),
-            Err(refused) => Err(refused.fault()),
-        }
     }
 }

@@ -5,7 +5,7 @@ ghost use Rattle.std.specs.Prelude.{◌≡◌};
 use crate::fault::Fault;
 use age_header::HeaderFault;
 use age_recipient::UnlockFault;
-use age_stream::StreamFault;
+use age_stream::{Refused, StreamFault};
 use std::alloc::{AllocError, AllocFailed};
 
 impl From<HeaderFault> for Fault {
@@ -76,5 +76,15 @@ impl<T: Drop> From<AllocFailed<T>> for Fault {
 
     fn from(_error: AllocFailed<T>) -> Fault {
         Fault::OutOfMemory
+    }
+}
+
+impl<'a, D> From<Refused<'a, D, Fault>> for Fault {
+    ghost use Rattle.age_stream.specs.Writer.{fault_of};
+
+    ghost from_gives = { λ refused fault. fault ≡ fault_of refused };
+
+    fn from(refused: Refused<'a, D, Fault>) -> Fault {
+        refused.fault()
     }
 }

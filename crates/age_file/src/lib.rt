@@ -78,7 +78,7 @@ pub use fault::Fault;
 pub use inspecting::inspect;
 pub use limits::{Fresh, Limits, MAX_CHUNKS};
 pub use new_header::{header_for, header_text};
-pub use ranges::{open_ranges, opened_ranges};
+pub use ranges::open_ranges;
 pub use rewrapping::rewrap;
 pub use salvaging::{SalvagedFile, salvage};
 pub use unlocking::{is_mixed, unlock_header};

@@ -68,11 +68,20 @@ fn header_at<'a, D: ReadAt, K: Origin>(
     }
 }
 
-/// Like `open_ranges`, but returns the source with the fault.
+/// Opens a file for reading any part of its plaintext (C2SP `age.md`). Reads the header from the
+/// source's first byte on, byte by byte, finds the file key, and verifies the header's MAC under
+/// it. Then opens the payload as `RangeReader::open` does, which reads the nonce and the last
+/// piece. An error holds the source.
 ///
 /// # Errors
-/// Those of `open_ranges`.
-pub fn opened_ranges<'a, D: ReadAt>(
+/// The first that applies of:
+/// - those of `decrypt` up to `NonceTruncated`;
+/// - `TooManyChunks`;
+/// - `ChunkShort`, `EmptyFinal` or `BadChunk` of the last piece.
+///
+/// `Read` if the source failed, `OutOfMemory` if an allocation was refused or an identity returned
+/// it.
+pub fn open_ranges<'a, D: ReadAt>(
     alloc: Global,
     dev: &'a mut D,
     identities: &[Box<dyn Identity>],
@@ -105,47 +114,11 @@ pub fn opened_ranges<'a, D: ReadAt>(
         Ok(key) => key,
         Err(fault) => return Err(Refused::of(dev, fault)),
     };
-    match RangeReader::started(alloc, &key, dev, at, limits.max_chunks()) {
+    match RangeReader::open(alloc, &key, dev, at, limits.max_chunks()) {
         Ok(reader) => Ok(reader),
         Err(refused) => {
             let (dev, fault) = refused.into_parts();
             Err(Refused::of(dev, Fault::from(fault)))
         }
-    }
-}
-
-/// Opens a file for reading any part of its plaintext (C2SP `age.md`). Reads the header from the
-/// source's first byte on, byte by byte, finds the file key, and verifies the header's MAC under
-/// it. Then opens the payload as `RangeReader::open` does, which reads the nonce and the last
-/// piece. `opened_ranges` says more about the source after an error.
-///
-/// # Errors
-/// The first that applies of:
-/// - those of `decrypt` up to `NonceTruncated`;
-/// - `TooManyChunks`;
-/// - `ChunkShort`, `EmptyFinal` or `BadChunk` of the last piece.
-///
-/// `Read` if the source failed, `OutOfMemory` if an allocation was refused or an identity returned
-/// it.
-pub fn open_ranges<'a, D: ReadAt>(
-    alloc: Global,
-    dev: &'a mut D,
-    identities: &[Box<dyn Identity>],
-    limits: &Limits,
-) -> Result<RangeReader<'a, D>, Fault>
-    ensures same_reference { IfOk result
-        (λ reader. (source_at_of reader).ghost_name ≡ dev.entry.ghost_name) }
-    // As for `opened_ranges`.
-    ensures ranges { IfOk result (λ reader. StartsFileRanges D.bytes D.given D.failed D.gave
-        D.found limits.now (answers_by identities.now (λ i s. meaning i s)) dev.old
-        (source_at_of reader).now (Ok (chunks_of reader))) }
-    // As for `opened_ranges`, but of some state of the source, which is not returned.
-    ensures refuses { IfErr result (λ fault. (last : D) × StartsFileRanges D.bytes D.given D.failed
-        D.gave D.found limits.now (answers_by identities.now (λ i s. meaning i s))
-        dev.old last (Err fault)) }
-{
-    match opened_ranges(alloc, dev, identities, limits) {
-        Ok(reader) => Ok(reader),
-        Err(refused) => Err(refused.fault()),
     }
 }

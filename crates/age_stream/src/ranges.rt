@@ -28,11 +28,18 @@ impl<'a, D: ReadAt> RangeReader<'a, D> {
         RangeReader { dev, chunks }
     }
 
-    /// Like `open`, but returns the source with the fault.
+    /// Makes a reader of the payload that begins at offset `payload_at` of the source, under this
+    /// file key (C2SP `age.md`, "Payload"). It allocates its buffer, reads the nonce, and reads and
+    /// opens the last piece, whose length and tag prove where the payload ends. The last chunk is
+    /// then the kept one. An error holds the source.
     ///
     /// # Errors
-    /// Those of `open`.
-    pub fn started(
+    /// `Memory` if the allocation was refused: nothing was read. `NonceTruncated` if there are
+    /// fewer than 16 bytes from there on. Then the first that applies: `TooManyChunks` if there are
+    /// more than `max_chunks` pieces, `ChunkShort` if the last is shorter than a tag, `EmptyFinal`
+    /// if it is not the first and only a tag, `BadChunk` if no plaintext seals to it at its number.
+    /// `Read` if the source failed.
+    pub fn open(
         alloc: Global,
         key: &FileKey,
         dev: &'a mut D,
@@ -57,40 +64,6 @@ impl<'a, D: ReadAt> RangeReader<'a, D> {
         match Chunks::open(alloc, key, dev, payload_at, max_chunks) {
             Ok(chunks) => Ok(RangeReader::over(dev, chunks)),
             Err(fault) => Err(Refused::of(dev, fault)),
-        }
-    }
-
-    /// Makes a reader of the payload that begins at offset `payload_at` of the source, under this
-    /// file key (C2SP `age.md`, "Payload"). It allocates its buffer, reads the nonce, and reads and
-    /// opens the last piece, whose length and tag prove where the payload ends. The last chunk is
-    /// then the kept one. `started` says more about the source after an error.
-    ///
-    /// # Errors
-    /// `Memory` if the allocation was refused: nothing was read. `NonceTruncated` if there are
-    /// fewer than 16 bytes from there on. Then the first that applies: `TooManyChunks` if there are
-    /// more than `max_chunks` pieces, `ChunkShort` if the last is shorter than a tag, `EmptyFinal`
-    /// if it is not the first and only a tag, `BadChunk` if no plaintext seals to it at its number.
-    /// `Read` if the source failed.
-    pub fn open(
-        alloc: Global,
-        key: &FileKey,
-        dev: &'a mut D,
-        payload_at: u64,
-        max_chunks: u128,
-    ) -> Result<RangeReader<'a, D>, StreamFault>
-        ensures same_reference { IfOk result
-            (λ reader. reader.dev.ghost_name ≡ dev.entry.ghost_name) }
-        // As for `started`.
-        ensures opens { IfOk result (λ reader. StartsRanges D.bytes D.given D.failed D.gave
-            D.found key.now max_chunks payload_at dev.old reader.dev.now (Ok reader.chunks)) }
-        // As for `started`, but of some state of the source, which is not returned.
-        ensures refuses { IfErr result (λ fault. (last : D)
-            × StartsRanges D.bytes D.given D.failed D.gave D.found key.now max_chunks payload_at
-            dev.old last (Err fault)) }
-    {
-        match RangeReader::started(alloc, key, dev, payload_at, max_chunks) {
-            Ok(reader) => Ok(reader),
-            Err(refused) => Err(refused.fault()),
         }
     }
 

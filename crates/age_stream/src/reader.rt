@@ -40,12 +40,13 @@ impl<'a, S: Source> StreamReader<'a, S> {
         StreamReader { input, opener }
     }
 
-    /// Like `new`, but returns the source with the fault.
+    /// Makes a reader, under this file key, of the payload that is left in the source. It allocates
+    /// its buffer, and then reads the nonce. An error holds the source.
     ///
     /// # Errors
     /// `Memory` if the allocation was refused: nothing was read. `NonceTruncated` if the source
     /// returns fewer than 16 bytes, `Read` if it failed.
-    pub fn started(
+    pub fn new(
         alloc: Global,
         key: &FileKey,
         input: &'a mut S,
@@ -69,34 +70,6 @@ impl<'a, S: Source> StreamReader<'a, S> {
         match ChunkOpener::start(key, input, max_chunks, buf) {
             Ok(opener) => Ok(StreamReader::over(input, opener)),
             Err(fault) => Err(Refused::of(input, fault)),
-        }
-    }
-
-    /// Makes a reader, under this file key, of the payload that is left in the source. It allocates
-    /// its buffer, and then reads the nonce. `started` says more about the source after an error.
-    ///
-    /// # Errors
-    /// `Memory` if the allocation was refused: nothing was read. `NonceTruncated` if the source
-    /// returns fewer than 16 bytes, `Read` if it failed.
-    pub fn new(
-        alloc: Global,
-        key: &FileKey,
-        input: &'a mut S,
-        max_chunks: u128,
-    ) -> Result<StreamReader<'a, S>, StreamFault>
-        requires { max_chunks ≤ most_chunks }
-        ensures same_reference { IfOk result
-            (λ reader. reader.input.ghost_name ≡ input.entry.ghost_name) }
-        // The nonce was read, and piece 0 is next.
-        ensures starts { IfOk result (λ reader. StartsReader S.to_come S.gave S.failed key.now
-            max_chunks input.old reader.input.now (Ok reader.opener)) }
-        // As for `started`, but of some state of the source, which is not returned.
-        ensures misses { IfErr result (λ fault. (last : S) × StartsReader S.to_come S.gave S.failed
-            key.now max_chunks input.old last (Err fault)) }
-    {
-        match StreamReader::started(alloc, key, input, max_chunks) {
-            Ok(reader) => Ok(reader),
-            Err(refused) => Err(refused.fault()),
         }
     }
 

@@ -1,7 +1,10 @@
-//! The error of a constructor that returns its device.
+//! The error of a constructor, which holds its device.
 ghost use Rattle.std.specs.Prelude.{◌≡◌};
 
-/// A device, and the fault for which the constructor failed.
+use crate::fault::StreamFault;
+use std::fmt;
+
+/// A device, and the fault for which the constructor failed. `?` keeps only the fault.
 pub struct Refused<'a, D, E> {
     device: &'a mut D,
     fault: E,
@@ -37,5 +40,19 @@ impl<'a, D, E> Refused<'a, D, E> {
     {
         let Refused { device, fault } = self;
         (device, fault)
+    }
+}
+
+impl<'a, D, E: fmt::Debug> fmt::Debug for Refused<'a, D, E> {
+    fn fmt<W: fmt::Write>(&self, f: &mut fmt::Formatter<W>) -> fmt::Result {
+        self.fault.fmt(f)
+    }
+}
+
+impl<'a, D> From<Refused<'a, D, StreamFault>> for StreamFault {
+    ghost from_gives = { λ refused fault. fault ≡ refused.fault };
+
+    fn from(refused: Refused<'a, D, StreamFault>) -> StreamFault {
+        refused.fault()
     }
 }

@@ -33,11 +33,12 @@ impl<'a, W: Sink> StreamWriter<'a, W> {
         StreamWriter { out, sealer }
     }
 
-    /// Like `with_buf`, but returns the sink with the fault.
+    /// Makes a writer of the payload with this nonce under this file key. It allocates nothing, and
+    /// writes the nonce. An error holds the sink.
     ///
     /// # Errors
     /// `Write` if the sink failed: a prefix of the nonce was written.
-    pub fn started_with(
+    pub fn with_buf(
         key: &FileKey,
         nonce: &[u8; 16],
         out: &'a mut W,
@@ -63,12 +64,13 @@ impl<'a, W: Sink> StreamWriter<'a, W> {
         Ok(StreamWriter::over(out, ChunkSealer::new(key, nonce, max_chunks, buf)))
     }
 
-    /// Like `new`, but returns the sink with the fault.
+    /// Makes a writer of the payload with this nonce under this file key. It allocates its buffer,
+    /// and then writes the nonce. An error holds the sink.
     ///
     /// # Errors
     /// `Memory` if the allocation was refused: nothing was written. `Write` if the sink failed: a
     /// prefix of the nonce was written.
-    pub fn started(
+    pub fn new(
         alloc: Global,
         key: &FileKey,
         nonce: &[u8; 16],
@@ -84,7 +86,7 @@ impl<'a, W: Sink> StreamWriter<'a, W> {
             max_chunks out.old writer.out.now (Ok writer.sealer)) }
         ensures handed_back { IfErr result
             (λ refused. refused.device.ghost_name ≡ out.entry.ghost_name) }
-        // Memory was refused and nothing was written, or as for `started_with`.
+        // Memory was refused and nothing was written, or as for `with_buf`.
         ensures loses { IfErr result (λ refused. IsRefusedMemory out.old refused.device.now
             refused.fault ⊎ StartsWriter W.taken W.failed key.now nonce.now max_chunks out.old
             refused.device.now (Err refused.fault)) }
@@ -92,67 +94,7 @@ impl<'a, W: Sink> StreamWriter<'a, W> {
         let Ok(buf) = ChunkBuf::new(alloc) else {
             return Err(Refused::of(out, StreamFault::Memory));
         };
-        StreamWriter::started_with(key, nonce, out, max_chunks, buf)
-    }
-
-    /// Makes a writer of the payload with this nonce under this file key. It allocates nothing, and
-    /// writes the nonce. `started_with` says more about the sink after an error.
-    ///
-    /// # Errors
-    /// `Write` if the sink failed: a prefix of the nonce was written.
-    pub fn with_buf(
-        key: &FileKey,
-        nonce: &[u8; 16],
-        out: &'a mut W,
-        max_chunks: u128,
-        buf: ChunkBuf,
-    ) -> Result<StreamWriter<'a, W>, StreamFault>
-        requires low { 1 ≤ max_chunks }
-        requires high { max_chunks ≤ most_chunks }
-        ensures same_reference { IfOk result
-            (λ writer. writer.out.ghost_name ≡ out.entry.ghost_name) }
-        // The nonce was written, and chunk 0 is next.
-        ensures starts { IfOk result (λ writer. StartsWriter W.taken W.failed key.now nonce.now
-            max_chunks out.old writer.out.now (Ok writer.sealer)) }
-        // As for `started_with`, but of some state of the sink, which is not returned.
-        ensures loses { IfErr result (λ fault. (last : W) × StartsWriter W.taken W.failed key.now
-            nonce.now max_chunks out.old last (Err fault)) }
-    {
-        match StreamWriter::started_with(key, nonce, out, max_chunks, buf) {
-            Ok(writer) => Ok(writer),
-            Err(refused) => Err(refused.fault()),
-        }
-    }
-
-    /// Makes a writer of the payload with this nonce under this file key. It allocates its buffer,
-    /// and then writes the nonce. `started` says more about the sink after an error.
-    ///
-    /// # Errors
-    /// `Memory` if the allocation was refused: nothing was written. `Write` if the sink failed: a
-    /// prefix of the nonce was written.
-    pub fn new(
-        alloc: Global,
-        key: &FileKey,
-        nonce: &[u8; 16],
-        out: &'a mut W,
-        max_chunks: u128,
-    ) -> Result<StreamWriter<'a, W>, StreamFault>
-        requires low { 1 ≤ max_chunks }
-        requires high { max_chunks ≤ most_chunks }
-        ensures same_reference { IfOk result
-            (λ writer. writer.out.ghost_name ≡ out.entry.ghost_name) }
-        // The nonce was written, and chunk 0 is next.
-        ensures starts { IfOk result (λ writer. StartsWriter W.taken W.failed key.now nonce.now
-            max_chunks out.old writer.out.now (Ok writer.sealer)) }
-        // As for `started`, but of some state of the sink, which is not returned.
-        ensures loses { IfErr result (λ fault. (last : W) × (IsRefusedMemory out.old last fault
-            ⊎ StartsWriter W.taken W.failed key.now nonce.now max_chunks out.old last
-            (Err fault))) }
-    {
-        match StreamWriter::started(alloc, key, nonce, out, max_chunks) {
-            Ok(writer) => Ok(writer),
-            Err(refused) => Err(refused.fault()),
-        }
+        StreamWriter::with_buf(key, nonce, out, max_chunks, buf)
     }
 
     /// Appends one more piece to the plaintext, and writes the chunks that are full and not the

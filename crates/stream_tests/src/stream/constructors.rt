@@ -26,7 +26,9 @@ fn failed_nonce_is_not_written_again(rt: HostRuntime) {
                 writer.abandon();
                 assert!(rt; false, "with_buf: {with_buf}");
             }
-            Err(fault) => assert!(rt; fault == StreamFault::Write, "with_buf: {with_buf}"),
+            Err(refused) => {
+                assert!(rt; refused.fault() == StreamFault::Write, "with_buf: {with_buf}");
+            }
         }
         assert_eq!(rt; sink.calls, 1, "with_buf: {with_buf}");
         assert_eq!(rt; sink.failures(), 1, "with_buf: {with_buf}");
@@ -40,13 +42,17 @@ fn failed_read_of_the_nonce_is_the_last(rt: HostRuntime) {
     let alloc = rt.alloc();
     for failing in 1..5 {
         let mut source = FailingSource::new(&EMPTY, 4, failing);
-        let met = StreamReader::new(alloc, &KEY, &mut source, MOST).err();
+        let met = StreamReader::new(alloc, &KEY, &mut source, MOST)
+            .err()
+            .map(|refused| refused.fault());
         assert!(rt; met == Some(StreamFault::Read), "read {failing}");
         assert_eq!(rt; source.reads, failing);
         assert_eq!(rt; source.failures(), 1, "read {failing}");
     }
     let mut source = FailingSource::new(&NONCE[..15], 4, 0);
-    let met = StreamReader::new(alloc, &KEY, &mut source, MOST).err();
+    let met = StreamReader::new(alloc, &KEY, &mut source, MOST)
+            .err()
+            .map(|refused| refused.fault());
     assert!(rt; met == Some(StreamFault::NonceTruncated));
     assert!(rt; source.rest.is_empty());
     assert_eq!(rt; source.failures(), 0);
@@ -70,7 +76,9 @@ fn refused_ranges_read_no_further(rt: HostRuntime) {
         let reads = Cell::new(0);
         let front = bytes.as_slice().get(..len).unwrap_or(b"");
         let mut dev = CountingReadAt::new(front, &reads, failing);
-        let met = RangeReader::open(alloc, &KEY, &mut dev, 9, max).err();
+        let met = RangeReader::open(alloc, &KEY, &mut dev, 9, max)
+            .err()
+            .map(|refused| refused.fault());
         assert!(rt; met == Some(fault), "{fault:?} of {len} bytes");
         assert!(rt; dev.given() <= most, "{fault:?} of {len} bytes");
         assert!(rt; reads.get() <= 2, "{fault:?} of {len} bytes");

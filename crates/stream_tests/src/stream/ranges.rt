@@ -148,7 +148,10 @@ fn failed_read_leaves_the_chunks_before_it(rt: HostRuntime) {
                 );
                 expect_range(&rt, alloc, &mut reader, whole, Ok(140_000), 140_000);
             }
-            Err(fault) => assert!(rt; failing < 3 && fault == StreamFault::Read, "read {failing}"),
+            Err(refused) => {
+                let fault = refused.fault();
+                assert!(rt; failing < 3 && fault == StreamFault::Read, "read {failing}");
+            }
         }
         assert_eq!(rt; dev.failures(), 1, "read {failing}");
         let mut reader = RangeReader::open(alloc, &KEY, &mut dev, 9, 3).expect(&rt, "no fault");
@@ -181,7 +184,9 @@ fn damaged_chunk_leaves_the_others_readable(rt: HostRuntime) {
                     expect_range(&rt, alloc, &mut reader, (131_072, 8_928), Ok(8_928), 8_928);
                 }
             }
-            Err(met) => assert!(rt; damaged == 2 && met == fault, "chunk {damaged}"),
+            Err(refused) => {
+                assert!(rt; damaged == 2 && refused.fault() == fault, "chunk {damaged}");
+            }
         }
     }
 }
@@ -302,7 +307,9 @@ fn open_returns_the_first_fault(rt: HostRuntime) {
         let mut dev = MemAt::new(bytes.as_slice());
         match RangeReader::open(alloc, &KEY, &mut dev, from, max) {
             Ok(_) => assert!(rt; false, "{max} chunks from {from} on"),
-            Err(met) => assert_eq!(rt; met, fault, "{max} chunks from {from} on"),
+            Err(refused) => {
+                assert_eq!(rt; refused.fault(), fault, "{max} chunks from {from} on");
+            }
         }
     }
 }

@@ -1,6 +1,6 @@
 use Rattle.age_file.proofs.Common.{inl, inr, rules, flow_by}
 use Rattle.age_file.proofs.FrontLemmas.{front_gave}
-use Rattle.age_file.proofs.decryptor.Decryptor+S.started.Goals as goal
+use Rattle.age_file.proofs.decryptor.Decryptor+S.new.Goals as goal
 
 pub returns-in-Err-clause-refuses : goal.returns-in-Err-clause-refuses
 returns-in-Err-clause-refuses g c =

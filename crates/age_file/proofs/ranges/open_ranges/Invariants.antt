@@ -1,4 +1,4 @@
-use Rattle.age_file.proofs.ranges.opened_ranges.Given as goal
+use Rattle.age_file.proofs.ranges.open_ranges.Given as goal
 
 abbrev pub ghosts-header_at : goal.ghosts-header_at
 ghosts-header_at g a = record {
