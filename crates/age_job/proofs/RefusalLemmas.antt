@@ -20,22 +20,7 @@ of_file job role name faults.OutOfMemory is h = tt
 of_file job role name (faults.CannotOpen named) is h = (role, rw h is)
 of_file job role name (faults.Unidentified named) is h = tt
 of_file job role name (faults.StandardInputTwice one other) is h = tt
-of_file job role name faults.Write is h = absurd h
-of_file job role name faults.KeyChoice is h = absurd h
-of_file job role name faults.NewKeyChoice is h = absurd h
-of_file job role name faults.AtomicAlone is h = absurd h
-of_file job role name faults.KeyLength is h = absurd h
-of_file job role name faults.SeedLength is h = absurd h
-of_file job role name faults.FileKeyLength is h = absurd h
-of_file job role name faults.PassphraseLength is h = absurd h
-of_file job role name faults.NoPassphrase is h = absurd h
-of_file job role name faults.UntypedPassphrase is h = absurd h
-of_file job role name faults.OutputIsTerminal is h = absurd h
-of_file job role name (faults.CannotCreate named) is h = absurd h
-of_file job role name (faults.OutputExists named) is h = absurd h
-of_file job role name (faults.OutputIsSpecial named) is h = absurd h
-of_file job role name (faults.NewFileExists named) is h = absurd h
-of_file job role name (faults.OutputIsRead other named) is h = absurd h
+of_file job role name fault is h = absurd h
 
 -- a file key or a seed, which must have one length
 pub of_seed : (job : Job) (fault : Fault) → MakesHeader job
@@ -70,24 +55,7 @@ of_passphrase : (job : Job) (fault : Fault) → MakesHeader job → IsSome job.p
 of_passphrase job faults.PassphraseLength makes some h = some
 of_passphrase job faults.NoPassphrase makes some h = (makes, some)
 of_passphrase job faults.UntypedPassphrase makes some h = (makes, some)
-of_passphrase job faults.Read makes some h = absurd h
-of_passphrase job faults.OutOfMemory makes some h = absurd h
-of_passphrase job faults.Write makes some h = absurd h
-of_passphrase job faults.KeyChoice makes some h = absurd h
-of_passphrase job faults.NewKeyChoice makes some h = absurd h
-of_passphrase job faults.AtomicAlone makes some h = absurd h
-of_passphrase job faults.KeyLength makes some h = absurd h
-of_passphrase job faults.SeedLength makes some h = absurd h
-of_passphrase job faults.FileKeyLength makes some h = absurd h
-of_passphrase job faults.OutputIsTerminal makes some h = absurd h
-of_passphrase job (faults.CannotOpen named) makes some h = absurd h
-of_passphrase job (faults.Unidentified named) makes some h = absurd h
-of_passphrase job (faults.CannotCreate named) makes some h = absurd h
-of_passphrase job (faults.OutputExists named) makes some h = absurd h
-of_passphrase job (faults.OutputIsSpecial named) makes some h = absurd h
-of_passphrase job (faults.NewFileExists named) makes some h = absurd h
-of_passphrase job (faults.OutputIsRead one other) makes some h = absurd h
-of_passphrase job (faults.StandardInputTwice one other) makes some h = absurd h
+of_passphrase job fault makes some h = absurd h
 
 -- the files of the secret, to open a file
 pub of_files : (job : Job) (from : SecretFiles) (fault : Fault)
@@ -131,22 +99,4 @@ pub of_same : (job : Job) (name : List ℕ) (fault : Fault) → IsOutput job.out
     → MayRefuse job fault
 of_same job name (faults.Unidentified named) is h = tt
 of_same job name (faults.OutputIsRead role named) is h = rw h is
-of_same job name faults.Read is h = absurd h
-of_same job name faults.OutOfMemory is h = absurd h
-of_same job name faults.Write is h = absurd h
-of_same job name faults.KeyChoice is h = absurd h
-of_same job name faults.NewKeyChoice is h = absurd h
-of_same job name faults.AtomicAlone is h = absurd h
-of_same job name faults.KeyLength is h = absurd h
-of_same job name faults.SeedLength is h = absurd h
-of_same job name faults.FileKeyLength is h = absurd h
-of_same job name faults.PassphraseLength is h = absurd h
-of_same job name faults.NoPassphrase is h = absurd h
-of_same job name faults.UntypedPassphrase is h = absurd h
-of_same job name faults.OutputIsTerminal is h = absurd h
-of_same job name (faults.CannotOpen named) is h = absurd h
-of_same job name (faults.CannotCreate named) is h = absurd h
-of_same job name (faults.OutputExists named) is h = absurd h
-of_same job name (faults.OutputIsSpecial named) is h = absurd h
-of_same job name (faults.NewFileExists named) is h = absurd h
-of_same job name (faults.StandardInputTwice one other) is h = absurd h
+of_same job name fault is h = absurd h
