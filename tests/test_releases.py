@@ -27,12 +27,12 @@ def setUpModule():
 
 class PastReleases(unittest.TestCase):
     def test_commits(self):
-        """Each release in CHANGELOG.md has a commit, that of its heading or the one in docs/PACKAGES.md,
+        """Each release in CHANGELOG.md has a commit, that of its heading or the one in CONTRIBUTING.md,
         whose program has this version. Since then the lists of the library's names and of its layout have lost
         no line, and no name was added with the number of that release."""
         if run("git", *HERE, "rev-parse", "--is-shallow-repository") == "true\n":
             self.skipTest("the repository is shallow")
-        rows = dict(re.findall(r"^\| ([\d.]+) \| `(\w+)` \|$", (ROOT / "docs/PACKAGES.md").read_text(), re.MULTILINE))
+        rows = dict(re.findall(r"^\| ([\d.]+) \| `(\w+)` \|$", (ROOT / "CONTRIBUTING.md").read_text(), re.MULTILINE))
         versions = re.findall(r"^## (\d[\d.]*)", (ROOT / "CHANGELOG.md").read_text(), re.MULTILINE)
         self.assertEqual(set(rows) - set(versions), set())
         for version in versions:
