@@ -13,7 +13,7 @@ pub struct ErrorStream<W> {
 }
 
 impl<W: Write + IsTerminal> ErrorStream<W> {
-    /// Makes a sink to this writer. Its count of failures is 0.
+    /// Makes a sink to this writer.
     pub fn new(writer: W) -> ErrorStream<W>
         // The bytes written so far are the writer's contents.
         ensures bytes { ⟦<ErrorStream<W> as Sink>⟧.taken result ≡ W.contents writer }

@@ -17,7 +17,7 @@ pub(crate) struct LossLines<'a, 'b, E> {
     pub(crate) err: &'a mut E,
     pub(crate) input: Name<'b>,
     pub(crate) run: Option<LostRun>,
-    /// Whether the line on progress may be shown, which a line printed here replaces.
+    /// Whether the line on progress may be shown. A line printed here replaces it.
     pub(crate) is_shown: bool,
 }
 

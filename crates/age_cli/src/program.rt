@@ -76,14 +76,15 @@ pub fn run<
         × ((fault : Fault) × RunsOn F.File.remaining F.File.contents job
         (R.remaining input.old) (move_by W.contents out.old out.new) (Err fault)))) }
     // Status 1: the words ask for a text, or `err` got the line of refused memory, or that of the
-    // fault that ended the job of these words.
+    // fault that ended the job of these words: of its work or, if `out` is unchanged, one that its
+    // options allow.
     ensures told { let err = stream_by E.taken E.failed err.old err.new in
         result ≡ 1 → AskForText (texts words.now)
         ⊎ (Tells false (codes "out of memory") err
         ⊎ ((job : Job) × Makes (texts words.now) job × Told F.File.remaining F.File.contents job
         (R.remaining input.old) (move_by W.contents out.old out.new) err)) }
-    // No standard input is read if the words make a job that names IN, and nothing is written to
-    // standard output if it names OUT; neither is without a job, but for a text that they ask for.
+    // If the words make a job, `input` is not read if it names IN, and nothing is written to `out`
+    // if it names OUT. Otherwise `input` is not read, and only a text that they ask for is written.
     ensures streams { (AskForText (texts words.now) × (input.new ≡ input.old))
         ⊎ (((input.new ≡ input.old) × (out.new ≡ out.old))
         ⊎ ((job : Job) × Makes (texts words.now) job × (job.input ≢ None → input.new ≡ input.old)
@@ -113,7 +114,7 @@ pub fn run_job<
     // bounds the number of bytes written.
     ensures finishes { result ≡ 0 → RunsOn F.File.remaining F.File.contents job.now
         (R.remaining input.old) (move_by W.contents out.old out.new) (Ok tt) }
-    // No standard input is read if the job names IN.
+    // If the job names IN, `input` is not read.
     ensures input { job.now.input ≢ None → input.new ≡ input.old }
     // If the job names OUT, nothing is written to standard output.
     ensures output { job.now.output ≢ None → out.new ≡ out.old }
@@ -122,8 +123,9 @@ pub fn run_job<
     ensures begins { result ≡ 1 → Stays (move_by W.contents out.old out.new)
         ⊎ ((fault : Fault) × RunsOn F.File.remaining F.File.contents job.now
         (R.remaining input.old) (move_by W.contents out.old out.new) (Err fault)) }
-    // Status 1, but not of `salvage`: `err` got the line of the fault that ended the job. After a
-    // failed write it has a prefix of that line, and with `--verbose` more may follow the line.
+    // Status 1, but not of `salvage`: `err` got the line of the fault that ended the job: of its
+    // work or, if `out` is unchanged, one that its options allow. After a failed write it has a
+    // prefix of that line, and with `--verbose` more may follow the line.
     ensures told { result ≡ 1 → Told F.File.remaining F.File.contents job.now
         (R.remaining input.old) (move_by W.contents out.old out.new)
         (stream_by E.taken E.failed err.old err.new) }

@@ -50,7 +50,7 @@ pub(crate) fn file_source<R: Read + Drop>(
     buffered_source(alloc, HEADER_BUFFER_LEN, input)
 }
 
-/// Makes a source over this reader, for a damaged file. If `skips`, it goes on behind what cannot
+/// Makes a source over this reader, for a damaged file. If `skips`, it continues after what cannot
 /// be read.
 pub(crate) fn skipping_source<R: Read + Seek + Drop, K: Begun>(
     alloc: Global,

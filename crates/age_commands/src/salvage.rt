@@ -29,9 +29,9 @@ pub trait Report: Losses {
         ensures { Self.lost self.new ≡ Self.lost self.old };
 }
 
-/// Saves what is left of the reader to the sink with the identity of this secret. Of a named IN it
-/// goes on behind what cannot be read. Reports each lost chunk. If the result is not whole, or not
-/// all was read, reports that too; the fault is then `BadChunk` with the number of pieces.
+/// Saves the damaged file in the reader to the sink, with the identity of this secret. If IN is
+/// named, continues after what cannot be read. Reports each lost chunk. If the result is not whole,
+/// or not all was read, reports that too; the fault is then `BadChunk` with the number of pieces.
 #[tactic(auto, using(crate::proofs::TaskLemmas::no_source))]
 pub(crate) fn salvage_all<R: Read + Seek, W: Sink, L: Report, K: Begun>(
     alloc: Global,

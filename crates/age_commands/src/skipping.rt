@@ -1,4 +1,4 @@
-//! A source that goes on behind what cannot be read.
+//! A source that continues after what cannot be read.
 ghost use Rattle.std.specs.Prelude.{◌≡◌, ◌≤◌, ◌<◌, ◌+◌, ◌-◌, ◌^◌, [], None, true, min, IfSome, length, replicate, take};
 ghost use Rattle.age_header.specs.Device.{Known};
 ghost use Rattle.age_commands.specs.Skipping.{HasRead, come_by, is_end, unread_len};
@@ -46,7 +46,7 @@ pub(crate) enum Reached {
 pub(crate) struct SkippingSource<R, K: Begun> {
     reader: R,
     failures: u64,
-    /// Whether it goes on behind a failed read.
+    /// Whether it continues after a failed read.
     skips: bool,
     /// Whether a chunk was asked for. A header is read byte by byte.
     is_at_chunks: bool,
@@ -56,8 +56,8 @@ pub(crate) struct SkippingSource<R, K: Begun> {
 }
 
 impl<R: Read + Seek, K: Begun> SkippingSource<R, K> {
-    /// Makes a source over this reader, which is at its start. If `skips`, it goes on behind failed
-    /// reads of chunks.
+    /// Makes a source over this reader, which is at its start. If `skips`, it continues after
+    /// failed reads of chunks.
     pub(crate) fn new(reader: R, skips: bool) -> SkippingSource<R, K>
         requires { K.start ≡ R.remaining reader }
         ensures to_come { ⟦<SkippingSource<R, K> as Source>⟧.to_come result
@@ -89,8 +89,8 @@ impl<R: Read + Seek, K: Begun> SkippingSource<R, K> {
         self.unread
     }
 
-    /// Goes on behind a read that failed for this reason, if it may, and notes for how many bytes
-    /// it returns zeros.
+    /// Continues after a read that failed for this reason, if it may, and counts the bytes for
+    /// which it returns zeros.
     fn skip(&mut self, buf: &mut [u8], reason: io::Error) -> Option<usize>
         ensures len { length buf.new ≡ length buf.old }
         ensures zeros { IfSome result
@@ -122,10 +122,10 @@ impl<R: Read + Seek, K: Begun> SkippingSource<R, K> {
     }
 }
 
-/// Writes zeros into the buffer in place of the bytes at which a read failed, and goes on behind
-/// them. Returns the offset of the first and their number: all for which there is room but one,
-/// because a chunk is read together with the first byte of the next. None at the end of the file,
-/// or if the reader has no offsets.
+/// Writes zeros into the buffer in place of the bytes at which a read failed, and moves the reader
+/// past them. Returns the offset of the first and their number, at most one less than there is room
+/// for, because a chunk is read together with the first byte of the next. None at the end of the
+/// file, or if the reader has no offsets.
 fn pass_over<R: Seek>(reader: &mut R, buf: &mut [u8]) -> Option<(u64, usize)>
     ensures len { length buf.new ≡ length buf.old }
     ensures zeros { IfSome result

@@ -138,7 +138,7 @@ pub struct MemSink {
 }
 
 impl MemSink {
-    /// Makes a sink that appends to this vector. Its count of failures is 0.
+    /// Makes a sink that appends to this vector.
     pub fn new(out: Vec<u8>) -> MemSink
         // The bytes written so far are those of the vector.
         ensures bytes { ⟦<MemSink as Sink>⟧.taken result ≡ Some out.items }
@@ -198,7 +198,7 @@ pub struct ReadSource<R> {
 }
 
 impl<R: Read> ReadSource<R> {
-    /// Makes a source of this reader's bytes. Its count of failures is 0.
+    /// Makes a source of this reader's bytes.
     pub fn new(reader: R) -> ReadSource<R>
         // The bytes to come are those of the reader.
         ensures bytes { ⟦<ReadSource<R> as Source>⟧.to_come result ≡ R.remaining reader }
@@ -249,7 +249,7 @@ pub struct WriteSink<W> {
 }
 
 impl<W: Write> WriteSink<W> {
-    /// Makes a sink to this writer. Its count of failures is 0.
+    /// Makes a sink to this writer.
     pub fn new(writer: W) -> WriteSink<W>
         // The bytes written so far are the writer's contents.
         ensures bytes { ⟦<WriteSink<W> as Sink>⟧.taken result ≡ W.contents writer }

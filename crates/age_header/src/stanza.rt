@@ -103,7 +103,7 @@ impl Stanza {
     }
 }
 
-/// The first fault of these arguments.
+/// Refuses the first bad argument.
 #[tactic(auto, using(crate::proofs::StanzaLemmas::args_take, std::proofs::lemmas::Grind::common_steps))]
 fn check_arguments(args: &[&str]) -> Result<(), StanzaError>
     ensures ok { OnOk result (AreArguments (map (λ a. a.now) args.now)) }

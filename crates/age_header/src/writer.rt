@@ -17,7 +17,7 @@ use base64::engine::general_purpose::GeneralPurpose;
 
 /// Writes the header's text (C2SP `age.md`, "Header"). On an error a prefix of it was written.
 pub fn write_header<W: Sink>(header: &Header, out: &mut W) -> Result<(), DeviceFault>
-    // On Ok the header's text was written, after a failed write a prefix of it.
+    // On Ok the header's text was written; after a failed write, a prefix of it.
     ensures text { (h : Bytes) × Head header.now.stanzas header.now.mac h
         × Writes (move_by W.taken out.old out.new) result h }
     // A failed write raised the sink's count of failures by one. Otherwise the count is unchanged.

@@ -63,7 +63,7 @@ impl<'a> Failure<'a> {
         Failure::with(fault, Detail::System(operation, Name(name), reason))
     }
 
-    /// A fault and what more is known about it.
+    /// Makes a failure of this fault, with what is known about it.
     pub fn with(fault: Fault<'a>, detail: Detail<'a>) -> Failure<'a>
         // The fault that was passed.
         ensures fault { result.fault ≡ fault.entry }

@@ -1,4 +1,4 @@
-//! How much was sealed or opened.
+//! The counts that sealing and opening return.
 
 /// How much was sealed or opened.
 #[derive(Clone, Copy, Debug, Drop, PartialEq, Eq)]

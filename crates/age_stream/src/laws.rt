@@ -71,7 +71,7 @@ pub fn salvage_is_sliced()
     ensures slice { (file_key : FileKey) (text xs : Bytes) (at : ℕ)
         → IsSlice (payload_key file_key (take nonce_size text)) (drop nonce_size text) at xs
         → xs ≡ take (length xs) (drop at (salvaged_text (payload_parts file_key text))) }
-    // The length, with the padding behind the last chunk, is that of the plaintext, as a reader of
+    // The length, with the padding after the last chunk, is that of the plaintext, as a reader of
     // ranges finds it.
     ensures len { (file_key : FileKey) (text : Bytes)
         → length (salvaged_text (payload_parts file_key text))

@@ -54,8 +54,8 @@ fn read_after<D: ReadAt>(
     dev.read_at(offset, hole)
 }
 
-/// Reads the first `end` bytes of `buf`, in as many reads as it takes; false if the source ends
-/// before.
+/// Fills the first `end` bytes of `buf` from offset `at` of the source, in as many reads as needed;
+/// false if the source ends before.
 pub(crate) fn read_full<D: ReadAt>(
     dev: &mut D,
     at: u64,

@@ -67,8 +67,8 @@ impl ChunkOpener {
         buf: ChunkBuf,
     ) -> Result<ChunkOpener, StreamFault>
         requires { max_chunks ≤ most_chunks }
-        // On Ok the nonce was read, and piece 0 is next under it. Otherwise there is no whole
-        // nonce, or a read failed.
+        // On Ok the nonce was read, and piece 0 comes next. Otherwise there is no whole nonce, or a
+        // read failed.
         ensures starts { Starts key.now max_chunks (flow_by S.to_come S.gave source.old source.new)
             result }
         // Unless a read failed, at most 16 bytes were read.
@@ -89,8 +89,7 @@ impl ChunkOpener {
         })
     }
 
-    /// The text of the piece that was opened last. It is empty before the first piece, after false,
-    /// and after a fault.
+    /// Lends the text. It is empty before the first piece, after false, and after a fault.
     pub fn text(&self) -> &[u8]
         // The text of the piece that was opened last.
         ensures text { result.now ≡ self.now.text }

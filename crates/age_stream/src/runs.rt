@@ -14,7 +14,7 @@ pub struct LostRun {
     pub last: u128,
     /// The offset of the first byte.
     pub start: u128,
-    /// The offset behind the last byte.
+    /// The offset after the last byte.
     pub end: u128,
 }
 

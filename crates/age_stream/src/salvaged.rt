@@ -9,7 +9,7 @@ pub enum Saved {
     Chunk,
     /// The last chunk.
     LastChunk,
-    /// The last chunk, once this many bytes behind it are taken off.
+    /// The last chunk, once this many bytes after it are taken off.
     Padded(usize),
     /// A chunk that is marked as the last and may not be: more follows, or it is empty and others
     /// stand before it.
@@ -21,7 +21,7 @@ pub enum Saved {
 }
 
 impl Saved {
-    /// The number of bytes behind the last chunk that are no part of it, in the same piece.
+    /// The number of bytes in the last piece after the last chunk.
     pub fn padding(self) -> usize
         ensures { result ≡ padding self }
     {
@@ -71,7 +71,7 @@ impl Salvaged {
     }
 
     /// Whether the payload is cut short. A last piece that has no text and does not open is the
-    /// start of a chunk that was cut, but after an early chunk it is bytes behind the end. If zeros
+    /// start of a chunk that was cut, but after an early chunk it is bytes after the end. If zeros
     /// stand for the last piece, this is not known, and the result is false.
     pub fn is_cut(&self) -> bool
         ensures { result ≡ is_cut self.now }

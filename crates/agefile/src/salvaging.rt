@@ -16,7 +16,7 @@ use age_stream::{Saved, TAG_SIZE, save_piece};
 /// the last or not; if they open as neither, with as many zeros. The report has the length of
 /// either and, as its place, what was saved: 1 a chunk that others follow, 2 the last chunk, 3 a
 /// chunk that is marked as the last and may not be, 4 zeros, 5 nothing, because there are at most
-/// 16 bytes, which do not open, 6 the last chunk without up to 4,095 bytes behind it. The payload
+/// 16 bytes, which do not open, 6 the last chunk without up to 4,095 bytes after it. The payload
 /// continues after the chunk. Allocates nothing.
 ///
 /// # Errors

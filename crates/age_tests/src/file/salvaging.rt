@@ -268,7 +268,7 @@ fn chunk_at_another_place_is_lost(rt: HostRuntime) {
 }
 
 /// A chunk marked as the last comes before others, or before a few bytes; or it is empty and comes
-/// after others. A byte behind the last chunk, which is not full, costs nothing.
+/// after others. A byte after the last chunk, which is not full, costs nothing.
 #[test]
 fn early_last_chunk_is_saved(rt: HostRuntime) {
     let alloc = rt.alloc();
