@@ -156,7 +156,8 @@ static inline const char *agefile_detail(uint64_t detail)
 typedef struct agefile_report {
     uint64_t len;
     uint64_t place;  /* the line or chunk of a fault, or what the call's comment says, else 0 */
-    uint64_t detail; /* on AGEFILE_MALFORMED the part of the stanza, see agefile_detail, else 0 */
+    uint64_t detail; /* on AGEFILE_MALFORMED the part of the stanza, see agefile_detail; or what the
+                      * call's comment says, else 0 */
 } agefile_report;
 
 /* ---- Sufficient sizes of buffers, UINT64_MAX if they exceed 64 bits: for a file with one stanza
@@ -252,9 +253,10 @@ enum agefile_state {
 
 typedef struct agefile_payload {
     uint8_t key[32];
-    uint64_t number;   /* of the next chunk */
-    uint64_t state;    /* an agefile_state */
-    uint64_t spare[2]; /* 0 */
+    uint64_t number; /* of the next chunk */
+    uint64_t state;  /* an agefile_state */
+    uint64_t lost;   /* for agefile_salvage_next: 1 if a chunk is lost, else 0 */
+    uint64_t early;  /* for the same: the number of the latest early chunk and 1, or 0 */
 } agefile_payload;
 
 /* Begins a file. Writes its header, as agefile_header does, and its nonce to the start of `out`,
@@ -326,12 +328,16 @@ enum agefile_saved {
     AGEFILE_SAVED_PADDED = 6 /* the text of the last chunk, and up to 4,095 bytes follow it */
 };
 
+/* What the plaintext is after the last chunk, or 0 if it is neither: */
+enum agefile_verdict {
+    AGEFILE_WHOLE = 1, /* complete and genuine: agefile_open_next opens all chunks */
+    AGEFILE_CUT = 2    /* cut short: chunks that are not there followed the last one */
+};
+
 /* Opens the next sealed chunk in place, whether it is marked as the last or not. On 0 report.len
  * bytes at the start of the chunk are its text, or zeros if it does not open, report.place is an
- * agefile_saved, and the payload continues after the chunk. Otherwise the chunk is unchanged.
- *
- * Each text is genuine. The plaintext is whole exactly if agefile_open_next opens all chunks: the
- * last one is then an AGEFILE_SAVED_LAST, and every other one an AGEFILE_SAVED_CHUNK. */
+ * agefile_saved, and the payload continues after the chunk; report.detail is an agefile_verdict if
+ * the chunk is the last, else 0. Otherwise the chunk is unchanged. Each text is genuine. */
 uint32_t agefile_salvage_next(
     agefile_payload *payload, uint8_t *chunk, size_t chunk_len, bool last, agefile_report *report)
     AGEFILE_CALL((1, 5));

@@ -221,7 +221,7 @@ class Struct:
         struct.pack_into(f"<32s{len(self.names)}Q", self.data, 0, self.key, *(getattr(self, name) for name in self.names))
 
 
-payload_of = functools.partial(Struct, names=("number", "state"))
+payload_of = functools.partial(Struct, names=("number", "state", "lost", "early"))
 part_of = functools.partial(Struct, names=("number", "left", "state"))
 ranges_of = functools.partial(Struct, names=("first", "sealed_len", "state"))
 
@@ -365,6 +365,7 @@ def next_of_part(data, chunk, state):
 part_open_next = functools.partial(next_of_part, state=READING)
 part_seal_next = functools.partial(next_of_part, state=WRITING)
 SAVED_CHUNK, SAVED_LAST, SAVED_EARLY, SAVED_ZEROS, SAVED_NONE, SAVED_PADDED = range(1, 7)
+WHOLE, CUT = 1, 2
 
 
 def saved(key, number, is_last, data):
@@ -382,6 +383,14 @@ def saved(key, number, is_last, data):
     return bytes(max(len(data) - TAG, 0)), SAVED_ZEROS if len(data) > TAG else SAVED_NONE
 
 
+def verdict(payload, kind):
+    """What the plaintext is after its last chunk, of which this was saved."""
+    if kind == SAVED_LAST and not payload.lost and not payload.early:
+        return WHOLE
+    follows_the_end = payload.early and payload.early >= payload.number
+    return CUT if kind == SAVED_CHUNK or kind == SAVED_NONE and not follows_the_end else 0
+
+
 def salvage_next(data, chunk, is_last):
     payload, is_last = payload_of(data), bool(is_last)
     if payload.state != READING or not is_chunk_length(len(chunk), is_last):
@@ -392,10 +401,13 @@ def salvage_next(data, chunk, is_last):
         raise Fault(TOO_MANY_CHUNKS)
     text, kind = saved(payload.key, payload.number, is_last, bytes(chunk))
     chunk[: len(text)] = text
+    payload.lost = 1 if kind == SAVED_ZEROS else payload.lost
+    payload.early = payload.number + 1 if kind == SAVED_EARLY else payload.early
+    detail = verdict(payload, kind) if is_last else 0
     payload.number += 1
     payload.state = ENDED if is_last else READING
     payload.write()
-    return OK, (len(text), kind, 0)
+    return OK, (len(text), kind, detail)
 
 
 def last_index(sealed):

@@ -43,7 +43,8 @@ class Part(ctypes.Structure):
 
 
 class Payload(ctypes.Structure):
-    _fields_ = [("key", byte * 32), ("number", number), ("state", number), ("spare", number * 2)]
+    _fields_ = [("key", byte * 32), ("number", number), ("state", number), ("lost", number),
+                ("early", number)]
 
 
 class Ranges(ctypes.Structure):

@@ -3,9 +3,9 @@
 //!
 //!     stream [-e] KEY_FILE
 
-use std::fs::{self, File};
+use std::fs::File;
 use std::io::{self, BufRead, BufReader, Write};
-use std::os::fd::AsFd;
+use std::os::unix::io::AsFd;
 use std::{env, process};
 
 use agefile::{Key, Reader, Writer};
@@ -23,8 +23,7 @@ fn main() -> io::Result<()> {
             process::exit(2);
         }
     };
-    let bytes = fs::read(name)?.try_into().map_err(|_| io::Error::other("a key has 32 bytes"))?;
-    let key = Key::new(bytes);
+    let key = Key::from_file(name)?;
     // As files: standard output of the library of Rust looks for the ends of lines.
     let input = File::from(io::stdin().as_fd().try_clone_to_owned()?);
     let mut output = File::from(io::stdout().as_fd().try_clone_to_owned()?);

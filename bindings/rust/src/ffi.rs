@@ -43,7 +43,8 @@ pub struct Payload {
     pub key: [u8; 32],
     pub number: u64,
     pub state: u64,
-    pub spare: [u64; 2],
+    pub lost: u64,
+    pub early: u64,
 }
 
 #[repr(C)]

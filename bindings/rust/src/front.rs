@@ -18,6 +18,12 @@ pub fn read_some(source: &mut impl Read, buf: &mut [u8]) -> io::Result<usize> {
     loop {
         match source.read(buf) {
             Err(error) if error.kind() == io::ErrorKind::Interrupted => {}
+            Ok(count) if count > buf.len() => {
+                return Err(io::Error::new(
+                    io::ErrorKind::Other,
+                    "the source returned more bytes than it was asked for",
+                ))
+            }
             result => return result,
         }
     }

@@ -73,10 +73,10 @@ fn in_parts<'a, 'b>(
     threads: usize,
     step: Step,
 ) -> Result<(&'a [u8], &'b mut [u8]), Error> {
-    let chunks = input.len().div_ceil(take).max(1) - 1;
+    let chunks = input.len().saturating_sub(1) / take;
     let (input, last) = input.split_at(chunks * take);
     let (output, rest) = output.split_at_mut(chunks * give);
-    let each = chunks.div_ceil(threads.max(1)).max(1);
+    let each = chunks.saturating_sub(1) / threads.max(1) + 1;
     let mut parts = Vec::new();
     for (input, output) in input.chunks(each * take).zip(output.chunks_mut(each * give)) {
         parts.push((ffi::take_part(payload, (input.len() / take) as u64)?.0, input, output));

@@ -121,14 +121,12 @@ impl<R: Read + Seek> Read for RangeReader<R> {
 impl<R: Read + Seek> Seek for RangeReader<R> {
     fn seek(&mut self, to: SeekFrom) -> io::Result<u64> {
         let position = match to {
-            SeekFrom::Start(at) => Some(at),
-            SeekFrom::End(by) => self.len.checked_add_signed(by),
-            SeekFrom::Current(by) => self.position.checked_add_signed(by),
+            SeekFrom::Start(at) => i128::from(at),
+            SeekFrom::End(by) => i128::from(self.len) + i128::from(by),
+            SeekFrom::Current(by) => i128::from(self.position) + i128::from(by),
         };
-        match position {
-            Some(position) => self.position = position,
-            None => return Err(io::Error::new(io::ErrorKind::InvalidInput, "seek before the beginning")),
-        }
+        let refused = |_| io::Error::new(io::ErrorKind::InvalidInput, "seek before the beginning");
+        self.position = u64::try_from(position).map_err(refused)?;
         Ok(self.position)
     }
 }

@@ -7,13 +7,13 @@ use crate::ffi::{self, Report, SEALED_CHUNK, TAG};
 use crate::front::{fill, Front};
 use crate::Identity;
 
-// What was saved of a chunk, by the numbers of `agefile.h`.
-const CHUNK: u64 = 1;
-const LAST: u64 = 2;
+// What was saved of a chunk, and what the plaintext is after the last, by the numbers of `agefile.h`.
 const EARLY: u64 = 3;
 const ZEROS: u64 = 4;
 const NONE: u64 = 5;
 const PADDED: u64 = 6;
+const WHOLE: u64 = 1;
+const CUT: u64 = 2;
 
 /// Chunks in a row that are lost. [`salvage`] has an example.
 #[derive(Clone, Debug, PartialEq, Eq)]
@@ -43,7 +43,8 @@ pub struct Salvaged {
     /// The number of bytes of the file after the early chunk, or after the last one if there is
     /// none.
     pub trailing: u64,
-    /// Whether the file is cut short. If its last chunk is lost, more may be missing too.
+    /// Whether the file is cut short. If its last chunk is lost, with or without up to 16 bytes after
+    /// it, more may be missing too.
     pub is_cut: bool,
     /// Whether the plaintext is complete and genuine. Exactly then [`decrypt`](crate::decrypt)
     /// returns it.
@@ -67,11 +68,11 @@ impl Salvaged {
         }
     }
 
-    /// Judges the file by its last chunk.
-    fn end(&mut self, last: u64) {
-        self.is_whole = last == LAST && self.lost.is_empty() && self.early.is_none();
-        let is_trailing = self.early.is_some_and(|early| early + 2 >= self.chunks);
-        self.is_cut = last == CHUNK || last == NONE && !is_trailing;
+    /// Takes the library's verdict. But bytes without text after a lost chunk may follow the end.
+    fn end(&mut self, last: &Report) {
+        let is_after_lost = self.lost.last().map_or(false, |run| run.chunks.end + 1 == self.chunks);
+        self.is_whole = last.detail == WHOLE;
+        self.is_cut = last.detail == CUT && !(last.place == NONE && is_after_lost);
     }
 }
 
@@ -120,7 +121,7 @@ pub fn salvage(source: impl Read + Seek, mut sink: impl Write, identities: &[&dy
         sink.write_all(&buf[..report.len as usize])?;
         saved.add(&report, len as u64, is_unread);
         if have == len {
-            saved.end(report.place);
+            saved.end(&report);
             sink.flush()?;
             return Ok(saved);
         }

@@ -12,7 +12,7 @@ use crate::Error;
 const STANZA_ROOM: usize = 128;
 
 /// The maximum size of a passphrase file in bytes.
-const MAX_BYTES: u64 = 65_536;
+const MAX_BYTES: usize = 65_536;
 
 /// The 16 bytes from which a file's keys are derived. [`Recipient`] and [`Identity`] have examples.
 #[derive(Clone, Copy, PartialEq, Eq)]
@@ -123,6 +123,13 @@ pub struct Passphrase {
 #[derive(Clone)]
 pub struct Key([u8; 32]);
 
+/// The bytes of a file, or `None` if it has more than `most`.
+fn read_at_most(path: impl AsRef<Path>, most: usize) -> io::Result<Option<Vec<u8>>> {
+    let mut bytes = Vec::new();
+    File::open(path)?.take(most as u64 + 1).read_to_end(&mut bytes)?;
+    Ok(Some(bytes).filter(|bytes| bytes.len() <= most))
+}
+
 impl Passphrase {
     /// Makes a passphrase with the usual work factors: 18 for new files, and at most 22 to open
     /// files.
@@ -137,11 +144,8 @@ impl Passphrase {
     /// # Errors
     /// That of the system, or `InvalidInput` if the file has more bytes.
     pub fn from_file(path: impl AsRef<Path>) -> io::Result<Passphrase> {
-        let mut text = Vec::new();
-        File::open(path)?.take(MAX_BYTES + 1).read_to_end(&mut text)?;
-        if text.len() as u64 > MAX_BYTES {
-            return Err(io::Error::new(io::ErrorKind::InvalidInput, "passphrase file is too long"));
-        }
+        let too_long = || io::Error::new(io::ErrorKind::InvalidInput, "passphrase file is too long");
+        let mut text = read_at_most(path, MAX_BYTES)?.ok_or_else(too_long)?;
         if text.last() == Some(&b'\n') {
             text.pop();
         }
@@ -167,6 +171,17 @@ impl Key {
     /// Makes a key of these bytes.
     pub fn new(key: [u8; 32]) -> Key {
         Key(key)
+    }
+
+    /// Reads a key file as `agep -k` does: 32 raw bytes.
+    ///
+    /// # Errors
+    /// That of the system, or `InvalidInput` if the file has another length.
+    pub fn from_file(path: impl AsRef<Path>) -> io::Result<Key> {
+        match read_at_most(path, 32)?.map(<[u8; 32]>::try_from) {
+            Some(Ok(key)) => Ok(Key(key)),
+            _ => Err(io::Error::new(io::ErrorKind::InvalidInput, "key file must hold 32 bytes")),
+        }
     }
 }
 

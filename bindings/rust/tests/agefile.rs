@@ -2,14 +2,13 @@
 
 mod common;
 
-use std::cell::Cell;
 use std::io::{self, BufRead, Cursor, ErrorKind, Read, Seek, SeekFrom, Write};
 
 use agefile::{
     decrypt, encrypt, inspect, library_version, rewrap, rewrap_copy, Error, FileKey, Header, Identity, Key, Opening,
     Part, Passphrase, RangeReader, Reader, Recipient, Stanza, Writer,
 };
-use common::{base64, fault, key, text};
+use common::{base64, fault, key, sealed, text, Call, Device, SEALED, TEXT};
 
 /// A file of `hello` for the empty passphrase, by `tests/reference.py` of this project.
 const EMPTY_PASSPHRASE: &[u8] = include_bytes!("empty_passphrase.age");
@@ -19,56 +18,6 @@ const SIZES: [usize; 8] = [0, 1, 16, 65535, 65536, 65537, 131072, 200000];
 
 fn passphrase() -> Passphrase {
     Passphrase::new("correct horse").with_work(3).with_max_work(12)
-}
-
-/// A source that a function reads.
-struct By<F>(F);
-
-impl<F: FnMut(&mut [u8]) -> io::Result<usize>> Read for By<F> {
-    fn read(&mut self, out: &mut [u8]) -> io::Result<usize> {
-        (self.0)(out)
-    }
-}
-
-/// A source that gives at most so many bytes at once.
-fn few(mut bytes: &[u8], most: usize) -> impl Read + '_ {
-    By(move |out: &mut [u8]| {
-        let n = out.len().min(most);
-        bytes.read(&mut out[..n])
-    })
-}
-
-/// A source whose reads fail.
-fn failing(kind: ErrorKind) -> impl Read {
-    By(move |_: &mut [u8]| Err(kind.into()))
-}
-
-/// A source that fails before each read that succeeds, after the quick ones.
-fn slow(mut source: impl Read, mut quick: usize, kind: ErrorKind) -> impl Read {
-    let mut waits = false;
-    By(move |out: &mut [u8]| {
-        waits = !waits && quick == 0;
-        quick = quick.saturating_sub(1);
-        match waits {
-            true => Err(kind.into()),
-            false => source.read(out),
-        }
-    })
-}
-
-/// Reads to the end, in pieces. Returns the text, and how often a read would block.
-fn read_slowly(reader: &mut impl Read) -> (Vec<u8>, usize) {
-    let (mut back, mut buf, mut blocked) = (Vec::new(), [0; 7000], 0);
-    loop {
-        match reader.read(&mut buf) {
-            Ok(0) => return (back, blocked),
-            Ok(count) => back.extend_from_slice(&buf[..count]),
-            Err(error) => {
-                assert_eq!(error.kind(), ErrorKind::WouldBlock);
-                blocked += 1;
-            }
-        }
-    }
 }
 
 fn streamed(plain: &[u8], recipient: &dyn Recipient, piece: usize) -> Vec<u8> {
@@ -116,7 +65,7 @@ fn streams_and_whole_files_are_the_same_format() {
             let file = streamed(&plain, &key(), piece);
             assert_eq!(decrypt(&file, &[&key()]).unwrap(), plain);
             let mut back = Vec::new();
-            Reader::new(few(&file, piece), &[&key()]).unwrap().read_to_end(&mut back).unwrap();
+            Reader::new(Device::new(&file[..]).by(piece), &[&key()]).unwrap().read_to_end(&mut back).unwrap();
             assert_eq!(back, plain);
         }
     }
@@ -165,17 +114,27 @@ fn great_header_is_listed_in_a_tenth_of_a_second() {
     assert!(least < 100_000_000, "{least} ns");
 }
 
+/// A source that must not need more than ten seconds of the processor, which would be too much by far.
+struct Timed(Device, i64);
+
+impl Read for Timed {
+    fn read(&mut self, out: &mut [u8]) -> io::Result<usize> {
+        assert!(processor_time() - self.1 < 10_000_000_000);
+        self.0.read(out)
+    }
+}
+
 #[test]
 fn great_header_may_come_in_single_bytes() {
     let stanzas = [b"-> a ", &[b'x'; 16000][..], b"\n\n"].concat().repeat(4);
     let header = [b"age-encryption.org/v1\n", &stanzas[..], b"--- ", &[b'A'; 43][..], b"\n"].concat();
-    let began = processor_time();
-    let failed = Reader::new(few(&header[..header.len() - 44], 1), &[&key()]).unwrap_err();
-    assert_eq!(fault(failed), Error::HeaderTruncated);
-    let source = slow(few(&header, 1), header.len(), ErrorKind::WouldBlock);
-    assert_eq!(fault(Reader::new(source, &[&key()]).unwrap_err()), Error::NoMatch);
-    let taken = processor_time() - began;
-    assert!(taken < 1_000_000_000, "{taken} ns");
+    let source =
+        |bytes: &[u8]| Device::new(bytes).by(1).failing(Call::Read, header.len()..usize::MAX, ErrorKind::WouldBlock);
+    let cut = header.len() - 44;
+    for (bytes, error) in [(&header[..cut], Error::HeaderTruncated), (&header, Error::NoMatch)] {
+        let failed = Reader::new(Timed(source(bytes), processor_time()), &[&key()]).unwrap_err();
+        assert_eq!(fault(failed), error);
+    }
 }
 
 #[test]
@@ -299,7 +258,7 @@ fn passphrase_files_are_those_of_the_program() {
     let path = std::env::temp_dir().join(format!("passphrase.{}", std::process::id()));
     let read = |bytes: &[u8]| {
         std::fs::write(&path, bytes).unwrap();
-        Passphrase::from_file(&path).map(|passphrase| passphrase.with_work(1))
+        Passphrase::from_file(&path).map(|passphrase| passphrase.with_work(1).with_max_work(22))
     };
     let opens = |bytes: &[u8], text: &[u8]| {
         let file = encrypt(b"text", &[&Passphrase::new(text).with_work(1)]).unwrap();
@@ -329,60 +288,6 @@ fn passphrase_files_are_those_of_the_program() {
     assert_eq!(Passphrase::from_file(&path).unwrap_err().kind(), ErrorKind::NotFound);
 }
 
-/// The passphrase, as an identity that counts how often it is asked.
-struct Counting<'a>(&'a Cell<usize>);
-
-impl Identity for Counting<'_> {
-    fn unlock(&self, header: &Header) -> Result<Option<FileKey>, Error> {
-        self.0.set(self.0.get() + 1);
-        passphrase().unlock(header)
-    }
-}
-
-/// Opens a source that would block now and then, and returns its text and how often it would block.
-fn opened_slowly(source: impl Read, identity: &dyn Identity) -> (Vec<u8>, usize) {
-    let (mut opening, mut waited) = (Opening::new(source), 0);
-    while let Err(error) = opening.read(&[identity]) {
-        assert_eq!(error.kind(), ErrorKind::WouldBlock);
-        waited += 1;
-    }
-    let (back, blocked) = read_slowly(&mut opening.finish().unwrap());
-    (back, waited + blocked)
-}
-
-#[test]
-fn source_that_would_block_can_go_on() {
-    for (len, quick, at_a_time) in
-        [(10, 0, 1), (1000, 0, 100), (300000, 0, 20000), (300000, 2, 20000), (300000, 5, 20000)]
-    {
-        let plain = text(len);
-        let file = encrypt(&plain, &[&passphrase()]).unwrap();
-        let asked = Cell::new(0);
-        let source = slow(few(&file, at_a_time), quick, ErrorKind::WouldBlock);
-        let (back, blocked) = opened_slowly(source, &Counting(&asked));
-        assert!(back == plain && blocked > 5, "{len} bytes after {quick} quick reads");
-        assert_eq!(asked.get(), 1);
-    }
-}
-
-#[test]
-fn each_byte_of_a_chunk_may_come_alone() {
-    let plain = text(70000);
-    let file = encrypt(&plain, &[&key()]).unwrap();
-    let (front, payload) = file.split_at(inspect(&file).unwrap().text().len() + 16);
-    let source = front.chain(slow(few(payload, 1), 0, ErrorKind::WouldBlock));
-    assert_eq!(read_slowly(&mut Reader::new(source, &[&key()]).unwrap()).0, plain);
-}
-
-#[test]
-fn interrupted_source_is_read_again() {
-    let file = encrypt(&text(70000), &[&key()]).unwrap();
-    let mut reader = Reader::new(slow(&file[..], 0, ErrorKind::Interrupted), &[&key()]).unwrap();
-    let mut all = vec![0; 80000];
-    assert_eq!((reader.read(&mut all).unwrap(), reader.read(&mut all[65536..]).unwrap()), (65536, 70000 - 65536));
-    assert_eq!(all[..70000], text(70000));
-}
-
 #[test]
 fn opening_goes_on_with_another_key() {
     let file = encrypt(b"text", &[&key()]).unwrap();
@@ -393,7 +298,7 @@ fn opening_goes_on_with_another_key() {
     opening.finish().unwrap().read_to_end(&mut back).unwrap();
     assert_eq!(back, b"text");
     let (header, rest) = file.split_at(inspect(&file).unwrap().text().len());
-    let mut opening = Opening::new(header.chain(slow(few(rest, 16), 0, ErrorKind::WouldBlock)));
+    let mut opening = Opening::new(header.chain(Device::new(rest).by(16).blocking(0)));
     assert_eq!(fault(opening.read(&[&Key::new([8; 32])]).unwrap_err()), Error::WrongKey);
     assert_eq!(opening.read(&[&key()]).unwrap_err().kind(), ErrorKind::WouldBlock);
     opening.read(&[]).unwrap();
@@ -406,7 +311,8 @@ fn opening_goes_on_with_another_key() {
 /// A text that comes in two pieces, of which the second is read to its end, has this error before more is read.
 fn is_refused_at_once(text: &[u8], cut: usize, identities: &[&dyn Identity], error: Error) {
     let (first, second) = text.split_at(cut);
-    let failed = Reader::new(first.chain(second).chain(failing(ErrorKind::WouldBlock)), identities).unwrap_err();
+    let blocked = Device::new([]).blocking(0);
+    let failed = Reader::new(first.chain(second).chain(blocked), identities).unwrap_err();
     assert_ne!(failed.kind(), ErrorKind::WouldBlock, "{error}: waits after {cut} of {} bytes", text.len());
     assert_eq!(fault(failed), error);
 }
@@ -440,99 +346,19 @@ fn no_byte_is_awaited_that_is_not_needed() {
     (bad.len() - 6..bad.len()).for_each(|cut| is_refused_at_once(&bad, cut, &[wrong], Error::BadLine(3)));
 }
 
+/// A file has each chunk once it is full and a byte follows it.
 #[test]
-fn unfinished_files_are_refused() {
-    for len in [0, 10, 65536, 200000] {
+fn unfinished_files_are_cut_after_their_full_chunks() {
+    for len in [0, 10, TEXT, TEXT + 1, 2 * TEXT, 200000] {
         let mut file = Vec::new();
         let mut writer = Writer::new(&mut file, &[&key()]).unwrap();
         writer.write_all(&text(len)).unwrap();
         drop(writer);
-        assert!(decrypt(&file, &[&key()]).is_err());
+        let chunks = len.saturating_sub(1) / TEXT;
+        assert_eq!(file.len(), sealed(b"").1 + chunks * SEALED);
+        let error = if chunks == 0 { Error::ChunkShort(0) } else { Error::BadChunk(chunks as u64 - 1) };
+        assert_eq!(decrypt(&file, &[&key()]), Err(error));
     }
-}
-
-#[test]
-fn failed_write_gives_the_sink_back_without_an_end() {
-    let mut room = [0; 100000];
-    let mut writer = Writer::new(&mut room[..], &[&key()]).unwrap();
-    assert!(writer.write_all(&text(300000)).is_err());
-    let error = writer.write(b"more").unwrap_err();
-    assert_eq!((error.kind(), fault(error)), (ErrorKind::Other, Error::Incomplete));
-    let (error, sink) = writer.finish().unwrap_err().into_parts();
-    assert_eq!((fault(error), sink.len()), (Error::Incomplete, 0));
-    assert!(decrypt(&room, &[&key()]).is_err());
-}
-
-/// A sink that takes at most so many bytes at once, is interrupted before each write, and counts its flushes
-/// and what was there at the last one.
-#[derive(Debug, Default)]
-struct Sink {
-    bytes: Vec<u8>,
-    at_a_time: usize,
-    interrupts: bool,
-    flushes: usize,
-    flushed: usize,
-    flush_fails: bool,
-}
-
-impl Write for Sink {
-    fn write(&mut self, text: &[u8]) -> io::Result<usize> {
-        self.interrupts = !self.interrupts;
-        if self.interrupts {
-            return Err(ErrorKind::Interrupted.into());
-        }
-        let count = text.len().min(self.at_a_time);
-        self.bytes.extend_from_slice(&text[..count]);
-        Ok(count)
-    }
-
-    fn flush(&mut self) -> io::Result<()> {
-        self.flushes += 1;
-        self.flushed = self.bytes.len();
-        match self.flush_fails {
-            true => Err(ErrorKind::TimedOut.into()),
-            false => Ok(()),
-        }
-    }
-}
-
-#[test]
-fn sink_that_takes_few_bytes_has_them_all_flushed() {
-    for at_a_time in [1, 1000, usize::MAX] {
-        let mut writer = Writer::new(Sink { at_a_time, ..Sink::default() }, &[&key()]).unwrap();
-        writer.write_all(&text(70000)).unwrap();
-        let sink = writer.finish().unwrap();
-        assert_eq!((sink.flushes, sink.flushed), (1, sink.bytes.len()));
-        assert_eq!(decrypt(&sink.bytes, &[&key()]).unwrap(), text(70000));
-    }
-}
-
-#[test]
-fn flush_reaches_the_sink() {
-    let mut writer = Writer::new(io::BufWriter::new(Sink { at_a_time: 1000, ..Sink::default() }), &[&key()]).unwrap();
-    writer.write_all(&text(70000)).unwrap();
-    writer.flush().unwrap();
-    let buffered = writer.finish().unwrap();
-    assert_eq!(buffered.get_ref().flushes, 2);
-    let mut writer = Writer::new(Sink { at_a_time: 1000, flush_fails: true, ..Sink::default() }, &[&key()]).unwrap();
-    assert_eq!(writer.flush().unwrap_err().kind(), ErrorKind::TimedOut);
-}
-
-#[test]
-fn sink_that_takes_nothing_or_fails_to_flush() {
-    let refused = Writer::new(Sink::default(), &[&key()]).unwrap_err();
-    assert_eq!(refused.kind(), ErrorKind::WriteZero);
-    let mut writer = Writer::new(Sink { at_a_time: 1000, flush_fails: true, ..Sink::default() }, &[&key()]).unwrap();
-    writer.write_all(b"text").unwrap();
-    let failed = writer.finish().unwrap_err();
-    assert_eq!((failed.error().kind(), failed.to_string()), (ErrorKind::TimedOut, failed.error().to_string()));
-    let (error, sink) = failed.into_parts();
-    assert_eq!((error.kind(), sink.flushed), (ErrorKind::TimedOut, sink.bytes.len()));
-    let mut room = [0; 180];
-    let failed = Writer::new(&mut room[..], &[&key()]).unwrap().finish().unwrap_err();
-    let (text, kind) = (failed.to_string(), failed.error().kind());
-    let error = io::Error::from(failed);
-    assert_eq!((error.to_string(), error.kind()), (text, kind));
 }
 
 #[test]
@@ -541,20 +367,14 @@ fn copy_under_a_new_header_is_what_rewrap_makes() {
     for plain in SIZES.map(text) {
         let old = encrypt(&plain, &[&key()]).unwrap();
         let header_len = inspect(&old).unwrap().text().len();
-        for at_a_time in [1, 1000, usize::MAX] {
-            let mut sink = Sink { at_a_time, ..Sink::default() };
-            rewrap_copy(slow(&old[..], 0, ErrorKind::Interrupted), &mut sink, &[&key()], &[&other, &key()]).unwrap();
-            assert_eq!((sink.flushes, sink.flushed), (1, sink.bytes.len()));
-            assert_eq!(decrypt(&sink.bytes, &[&other]).unwrap(), plain);
-            let new_len = inspect(&sink.bytes).unwrap().text().len();
-            assert!(sink.bytes[new_len..] == old[header_len..]);
+        for most in [1, 1000, usize::MAX] {
+            let mut sink = Device::new([]).by(most);
+            rewrap_copy(Device::new(&old[..]).by(most), &mut sink, &[&key()], &[&other, &key()]).unwrap();
+            let new = sink.contents();
+            assert_eq!((sink.calls[Call::Flush as usize], sink.flushed), (1, new.len()));
+            assert_eq!(decrypt(new, &[&other]).unwrap(), plain);
+            assert!(new[inspect(new).unwrap().text().len()..] == old[header_len..]);
         }
-        let mut cut = Vec::new();
-        let failed =
-            rewrap_copy(old[..old.len() - 1].chain(failing(ErrorKind::TimedOut)), &mut cut, &[&key()], &[&other])
-                .unwrap_err();
-        assert_eq!(failed.kind(), ErrorKind::TimedOut);
-        assert!(decrypt(&cut, &[&other]).is_err());
     }
 }
 
@@ -566,19 +386,17 @@ fn copy_under_a_new_header_writes_nothing_before_it_is_known() {
     let rows: [Row; 7] = [
         (&old, wrong, &[&key()], Error::WrongKey),
         (&old, none, &[&key()], Error::NoMatch),
-        (&old, &Wrong, &[&key()], Error::BadMac),
+        (&old, &WRONG, &[&key()], Error::BadMac),
         (&old, &key(), &[], Error::NoRecipients),
         (&old, &key(), &[&key(), &passphrase()], Error::MixedPassphrase),
         (&old[..60], &key(), &[&key()], Error::HeaderTruncated),
         (b"hello", &key(), &[&key()], Error::NotAge),
     ];
     for (file, identity, recipients, error) in rows {
-        let mut sink = Sink { at_a_time: 1000, ..Sink::default() };
+        let mut sink = Device::new([]);
         assert_eq!(fault(rewrap_copy(file, &mut sink, &[identity], recipients).unwrap_err()), error);
-        assert_eq!((sink.bytes.len(), sink.flushes), (0, 0));
+        assert_eq!(sink.calls, [0; 4]);
     }
-    let mut sink = Sink { at_a_time: 1000, flush_fails: true, ..Sink::default() };
-    assert_eq!(rewrap_copy(&old[..], &mut sink, &[&key()], &[&key()]).unwrap_err().kind(), ErrorKind::TimedOut);
 }
 
 #[test]
@@ -597,9 +415,9 @@ fn nothing_is_written_before_the_header_is_known() {
         (&[&key(), &Passphrase::new("")], Error::EmptyPassphrase),
     ];
     for (recipients, error) in refusing {
-        let mut sink = Sink { at_a_time: 1000, ..Sink::default() };
+        let mut sink = Device::new([]);
         assert_eq!(fault(Writer::new(&mut sink, recipients).unwrap_err()), error);
-        assert_eq!((sink.bytes.len(), sink.flushes), (0, 0));
+        assert_eq!(sink.calls, [0; 4]);
     }
 }
 
@@ -611,7 +429,7 @@ fn rewrapped_file_is_for_the_new_recipients() {
     assert_eq!(decrypt(&new, &[&other]).unwrap(), plain);
     assert_eq!(decrypt(&new, &[&passphrase()]), Err(Error::NoMatch));
     assert_eq!(rewrap(&old, &[&Passphrase::new("x")], &[&key()]), Err(Error::WrongKey));
-    assert_eq!(rewrap(&old, &[&Wrong], &[&key()]), Err(Error::BadMac));
+    assert_eq!(rewrap(&old, &[&WRONG], &[&key()]), Err(Error::BadMac));
 }
 
 #[test]
@@ -664,12 +482,34 @@ fn usual_work_factors_are_18_and_at_most_22() {
     assert_eq!(accepted(23), Err(Error::Malformed(Part::WorkFactorTooHigh)));
 }
 
-/// An identity that finds another file key.
-struct Wrong;
+/// An identity that finds this in each header.
+struct Says(Result<Option<FileKey>, Error>);
 
-impl Identity for Wrong {
+impl Identity for Says {
     fn unlock(&self, _: &Header) -> Result<Option<FileKey>, Error> {
-        Ok(Some(FileKey([0; 16])))
+        self.0
+    }
+}
+
+/// One that finds another file key.
+const WRONG: Says = Says(Ok(Some(FileKey([0; 16]))));
+
+/// The first match and the first error but of a miss end the search. Of misses a wrong key counts most.
+#[test]
+fn each_three_identities_find_what_the_first_or_the_gravest_finds() {
+    let file = encrypt(b"", &[&Plain]).unwrap();
+    let file_key = Plain.unlock(&inspect(&file).unwrap()).unwrap();
+    let misses = [Ok(None), Err(Error::NoMatch), Err(Error::WrongKey)];
+    let all = [misses[0], misses[1], misses[2], Err(Error::Refused), Err(Error::OutOfMemory), Ok(file_key)];
+    for numbers in 0..all.len().pow(3) {
+        let three = [0, 1, 2].map(|place| Says(all[numbers / all.len().pow(place) % all.len()]));
+        let end = three.iter().find(|says| !misses.contains(&says.0));
+        let gravest = Error::WrongKey;
+        let is_wrong = three.iter().any(|says| says.0 == Err(gravest));
+        let miss = Says(Err(if is_wrong { gravest } else { Error::NoMatch }));
+        let expected = end.unwrap_or(&miss).0.map(|_| vec![]);
+        let identities: Vec<&dyn Identity> = three.iter().map(|says| says as &dyn Identity).collect();
+        assert_eq!(decrypt(&file, &identities), expected, "{:?}", three.map(|says| says.0.is_ok()));
     }
 }
 
@@ -679,25 +519,27 @@ fn callers_own_recipients_and_identities() {
     assert_eq!(decrypt(&file, &[&Plain]).unwrap(), b"text");
     assert_eq!(decrypt(&file, &[&Key::new([8; 32]), &Plain]).unwrap(), b"text");
     assert_eq!(decrypt(&file, &[&key()]).unwrap(), b"text");
-    assert_eq!(decrypt(&file, &[&Wrong]), Err(Error::BadMac));
+    assert_eq!(decrypt(&file, &[&WRONG]), Err(Error::BadMac));
     let alone = encrypt(b"", &[&passphrase()]).unwrap();
     let (stanzas, mac) = alone.split_at(inspect(&alone).unwrap().text().len() - 48);
     let (first, stanza) = stanzas.split_at(22);
     for mixed in [[stanzas, b"-> other\n\n", mac].concat(), [first, b"-> other\n\n", stanza, mac].concat()] {
         assert_eq!(decrypt(&mixed, &[&Plain]), Err(Error::MixedPassphrase));
     }
-    struct Named<'a>(&'a [&'a str]);
+    struct Named<'a>(&'a [&'a str], usize);
     impl Recipient for Named<'_> {
         fn wrap(&self, _: &FileKey) -> Result<Vec<Stanza>, Error> {
-            Ok(vec![Stanza { args: self.0.iter().map(|arg| arg.to_string()).collect(), body: vec![] }])
+            Ok(vec![Stanza { args: self.0.iter().map(|arg| arg.to_string()).collect(), body: text(self.1) }])
         }
     }
     for args in [&[""][..], &["a b"], &["ü"], &["a\n"], &["a", ""]] {
-        assert_eq!(fault(encrypt(b"", &[&Named(args)]).unwrap_err()), Error::BadArguments);
+        assert_eq!(fault(encrypt(b"", &[&Named(args, 0)]).unwrap_err()), Error::BadArguments);
     }
-    let long = "x".repeat(500);
-    let file = encrypt(b"", &[&Named(&[&long, &long])]).unwrap();
-    assert_eq!(inspect(&file).unwrap().stanzas()[0].args, [long.clone(), long]);
+    for len in (0..200).chain([1700, 10_000, 40_000]) {
+        let args = ["x".repeat(len % 500 + 1), "x".to_string()];
+        let file = encrypt(b"", &[&Named(&[&args[0], &args[1]], len)]).unwrap();
+        assert_eq!(inspect(&file).unwrap().stanzas(), [Stanza { args: args.to_vec(), body: text(len) }]);
+    }
 }
 
 #[test]

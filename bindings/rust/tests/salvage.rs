@@ -5,11 +5,13 @@
 mod common;
 
 use std::fs::File;
-use std::io::{self, Cursor, Error, ErrorKind, Read, Seek, SeekFrom, Write};
+use std::io::{self, Cursor, Read, Seek, Write};
 use std::ops::Range;
+use std::os::unix::io::OwnedFd;
+use std::os::unix::net::UnixStream;
 
 use agefile::{encrypt, salvage, Key, Salvaged};
-use common::{fault, key, sealed, text, SEALED, TEXT};
+use common::{fault, key, sealed, text, Call, Device, SEALED, TEXT};
 
 const CHUNKS: usize = 5;
 
@@ -43,54 +45,9 @@ fn assert_lost(source: impl Read + Seek, runs: &[(Range<usize>, bool)]) {
     assert_eq!((report.early, report.trailing, report.is_cut), (None, 0, false));
 }
 
-/// A file in which some bytes cannot be read. A read ends before them and fails in them, or fails
-/// as soon as it reaches them.
-struct Disk {
-    file: Cursor<Vec<u8>>,
-    bad: Vec<(usize, usize)>,
-    can_seek: bool,
-    hides_end: bool,
-    ends_before: bool,
-    kind: ErrorKind,
-    failures: usize,
-}
-
-impl Disk {
-    fn new(file: Vec<u8>, bad: &[(usize, usize)]) -> Disk {
-        Disk {
-            file: Cursor::new(file),
-            bad: bad.to_vec(),
-            can_seek: true,
-            hides_end: false,
-            ends_before: true,
-            kind: ErrorKind::Other,
-            failures: usize::MAX,
-        }
-    }
-}
-
-impl Read for Disk {
-    fn read(&mut self, out: &mut [u8]) -> io::Result<usize> {
-        let at = self.file.position() as usize;
-        let reached = if self.ends_before { at + 1 } else { at + out.len() };
-        if self.failures > 0 && self.bad.iter().any(|bad| bad.0 < reached && at < bad.1) {
-            self.failures -= 1;
-            return Err(Error::new(self.kind, "bad block"));
-        }
-        let next = self.bad.iter().map(|bad| bad.0).filter(|start| *start > at).min().unwrap_or(usize::MAX);
-        let len = out.len().min(next - at);
-        self.file.read(&mut out[..len])
-    }
-}
-
-impl Seek for Disk {
-    fn seek(&mut self, to: SeekFrom) -> io::Result<u64> {
-        match to {
-            _ if !self.can_seek => Err(Error::other("no seek")),
-            SeekFrom::End(0) if self.hides_end => Ok(0),
-            _ => self.file.seek(to),
-        }
-    }
+/// A file in which some bytes cannot be read.
+fn disk(file: &[u8], bad: &[Range<usize>]) -> Device {
+    Device { bad: bad.to_vec(), ..Device::new(file) }
 }
 
 #[test]
@@ -104,8 +61,8 @@ fn damaged_and_whole_files() {
     assert_lost(Cursor::new(&damaged), &[(0..1, false), (2..4, false)]);
     // From a file object's position on.
     let bad = 1000 + front + 3 * SEALED + 9;
-    let mut later = Disk::new([vec![1; 1000], damaged].concat(), &[(bad, bad + 1)]);
-    later.seek(SeekFrom::Start(1000)).unwrap();
+    let mut later = disk(&[vec![1; 1000], damaged].concat(), &[bad..bad + 1]);
+    later.file.set_position(1000);
     assert_lost(later, &[(0..1, false), (2..3, false), (3..4, true)]);
 }
 
@@ -121,6 +78,15 @@ fn cut_and_too_long_files() {
     assert_eq!(facts([&file[..], &[0; 512]].concat()), (plain.len(), None, 512, false, false));
     let full = encrypt(&plain[..TEXT], &[&key()]).unwrap();
     assert_eq!(facts([&full[..], b"\n"].concat()), (TEXT, Some(0), 1, false, false));
+    // What follows a lost chunk may follow the end; what follows a chunk that is not the last may not.
+    for tail in 1..17 {
+        let end = front + 3 * SEALED;
+        for (lost, is_cut) in [(0, true), (1, true), (2, false)] {
+            let mut file = [&file[..end], &[0; 16][..tail]].concat();
+            file[front + lost * SEALED] ^= 1;
+            assert_eq!(facts(file), (3 * TEXT, None, 0, is_cut, false), "{tail} bytes, chunk {lost}");
+        }
+    }
     assert_eq!(
         facts([&full[..], &file[front + SEALED..]].concat()),
         (plain.len(), Some(0), (file.len() - front - SEALED) as u64, false, false)
@@ -138,73 +104,39 @@ fn bad_blocks_cost_their_chunks() {
         // Zeros in place of a last byte that is zero would lose nothing.
         let places = [start, start + 1, start + 500, end - 17, end - 1];
         for at in places.into_iter().filter(|at| *at > 4096 && file[*at] != 0) {
-            assert_lost(Disk::new(file.clone(), &[(at, at + 1)]), &[(chunk..chunk + 1, true)]);
-            assert_lost(Disk::new(file.clone(), &[(at, end)]), &[(chunk..chunk + 1, true)]);
-            let all_or_none = Disk { ends_before: false, ..Disk::new(file.clone(), &[(at, at + 1)]) };
-            assert_lost(all_or_none, &[(chunk..chunk + 1, true)]);
+            for (to, all_or_none) in [(at + 1, false), (end, false), (at + 1, true)] {
+                assert_lost(Device { all_or_none, ..disk(&file, &[at..to]) }, &[(chunk..chunk + 1, true)]);
+            }
         }
     }
-    let blocks = [(front + SEALED - 17, front + SEALED + 1), (front + 3 * SEALED + 9, front + 3 * SEALED + 10)];
-    assert_lost(Disk::new(file.clone(), &blocks), &[(0..2, true), (3..4, true)]);
-    assert_lost(Disk::new(file.clone(), &[(4096, file.len())]), &[(0..CHUNKS, true)]);
+    let blocks = [front + SEALED - 17..front + SEALED + 1, front + 3 * SEALED + 9..front + 3 * SEALED + 10];
+    assert_lost(disk(&file, &blocks), &[(0..2, true), (3..4, true)]);
+    let (all, end) = (4096..file.len(), file.len()..file.len() + 1);
+    assert_lost(disk(&file, &[all]), &[(0..CHUNKS, true)]);
+    assert_lost(disk(&file, &[end]), &[]);
 }
 
 #[test]
-fn errors() {
-    let (plain, file, front) = file();
-    let bad = [(front + 2 * SEALED + 9, front + 2 * SEALED + 10)];
-    // A read in the header, and a source that cannot seek.
-    let error = saved(Disk::new(file.clone(), &[(0, 1)])).unwrap_err();
-    assert_eq!(error.to_string(), "bad block");
-    let mut out = Vec::new();
-    let pipe = Disk { can_seek: false, ..Disk::new(file.clone(), &bad) };
-    assert_eq!(salvage(pipe, &mut out, &[&key()]).unwrap_err().to_string(), "bad block");
-    assert!(out == plain[..2 * TEXT]);
-    // A device that does not tell where it ends.
-    let endless = Disk { hides_end: true, ..Disk::new(file.clone(), &bad) };
+fn errors_of_the_header_and_of_a_disk_without_an_end() {
+    let (_, file, front) = file();
+    let bad = front + 2 * SEALED + 9;
+    let endless = disk(&file, &[bad..bad + 1]).failing(Call::Seek, 1..2, None);
     assert_eq!(saved(endless).unwrap_err().to_string(), "bad block");
-    // Nothing is lost if a read fails at the end.
-    assert_lost(Disk::new(file.clone(), &[(file.len(), file.len() + 1)]), &[]);
-    // An interrupted read is repeated, and one that would block is an error.
-    let interrupted = Disk { kind: ErrorKind::Interrupted, failures: 3, ..Disk::new(file.clone(), &bad) };
-    assert_lost(interrupted, &[]);
-    let blocked = Disk { kind: ErrorKind::WouldBlock, failures: 1, ..Disk::new(file.clone(), &bad) };
-    assert_eq!(saved(blocked).unwrap_err().kind(), ErrorKind::WouldBlock);
-    // Errors of the header, and of the sink.
+    let mut out = Vec::new();
     let wrong = salvage(Cursor::new(&file), &mut out, &[&Key::new([8; 32])]).unwrap_err();
-    assert_eq!((fault(wrong), out.len()), (agefile::Error::WrongKey, 2 * TEXT));
+    assert_eq!((fault(wrong), out.len()), (agefile::Error::WrongKey, 0));
     let mut changed = file.clone();
     changed[front - 20] ^= 1;
-    assert_eq!(fault(saved(Cursor::new(&changed)).unwrap_err()), agefile::decrypt(&changed, &[&key()]).unwrap_err());
-    assert_eq!(salvage(Cursor::new(&file), &mut [0; 9][..], &[&key()]).unwrap_err().kind(), ErrorKind::WriteZero);
-    assert_eq!(salvage(Cursor::new(&file), Unflushed, &[&key()]).unwrap_err().to_string(), "no flush");
+    assert_eq!(fault(saved(Cursor::new(&changed)).unwrap_err()), agefile::Error::BadMac);
 }
 
-struct Unflushed;
-
-impl Write for Unflushed {
-    fn write(&mut self, data: &[u8]) -> io::Result<usize> {
-        Ok(data.len())
-    }
-
-    fn flush(&mut self) -> io::Result<()> {
-        Err(Error::other("no flush"))
-    }
-}
-
-/// A pipe is a file that cannot seek.
+/// As a pipe, a socket is a file that cannot seek.
 #[test]
 fn a_pipe() {
     let (plain, file, _) = file();
-    let mut child = std::process::Command::new("cat")
-        .stdin(std::process::Stdio::piped())
-        .stdout(std::process::Stdio::piped())
-        .spawn()
-        .unwrap();
-    let (mut input, output) = (child.stdin.take().unwrap(), child.stdout.take().unwrap());
+    let (mut input, output) = UnixStream::pair().unwrap();
     let writer = std::thread::spawn(move || input.write_all(&file));
-    let (found, report) = saved(File::from(std::os::fd::OwnedFd::from(output))).unwrap();
+    let (found, report) = saved(File::from(OwnedFd::from(output))).unwrap();
     writer.join().unwrap().unwrap();
-    child.wait().unwrap();
     assert!(found == plain && report.is_whole);
 }

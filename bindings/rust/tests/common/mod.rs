@@ -1,7 +1,8 @@
-//! What the tests share. No test has all of it.
+//! What the tests share: plaintexts, files, and a model of devices. No test has all of it.
 #![allow(dead_code)]
 
-use std::io;
+use std::io::{self, Cursor, ErrorKind, Read, Seek, SeekFrom, Write};
+use std::ops::Range;
 
 use agefile::{Error, Key};
 
@@ -19,8 +20,13 @@ pub fn text(len: usize) -> Vec<u8> {
 /// The age file of these bytes, and where its chunks begin.
 pub fn sealed(plain: &[u8]) -> (Vec<u8>, usize) {
     let file = agefile::encrypt(plain, &[&key()]).unwrap();
-    let front = agefile::inspect(&file).unwrap().text().len() + 16;
+    let front = front_len(&file);
     (file, front)
+}
+
+/// The length of a file's header and nonce.
+pub fn front_len(file: &[u8]) -> usize {
+    agefile::inspect(file).unwrap().text().len() + 16
 }
 
 pub fn fault(error: io::Error) -> Error {
@@ -33,4 +39,134 @@ pub fn base64(bytes: &[u8]) -> String {
     let bit = |at: usize| bytes.get(at / 8).map_or(0, |byte| byte >> (7 - at % 8) & 1) as usize;
     let digit = |first: usize| (first..first + 6).fold(0, |digit, at| digit << 1 | bit(at));
     (0..bytes.len() * 8).step_by(6).map(|first| DIGITS[digit(first)] as char).collect()
+}
+
+#[derive(Clone, Copy, Debug, PartialEq, Eq)]
+pub enum Call {
+    Read,
+    Write,
+    Seek,
+    Flush,
+}
+
+/// How a call fails: with an error, or, if it is `None`, by returning more than it was asked for, or
+/// 0 from a seek.
+pub type Failure = Option<ErrorKind>;
+
+/// The calls of one kind that fail: every `step`th of these, counted from 0.
+#[derive(Clone, Debug)]
+pub struct Fault {
+    pub call: Call,
+    pub numbers: Range<usize>,
+    pub step: usize,
+    pub failure: Failure,
+}
+
+/// A file, a pipe or a disk, as a source or as a sink.
+#[derive(Clone, Debug)]
+pub struct Device {
+    pub file: Cursor<Vec<u8>>,
+    /// The most bytes that one call reads or writes.
+    pub most: usize,
+    pub faults: Vec<Fault>,
+    /// These bytes cannot be read. A read that begins before them ends there or, if all or none of
+    /// its bytes are read, fails.
+    pub bad: Vec<Range<usize>>,
+    pub all_or_none: bool,
+    /// How many calls of each kind were made, where those that failed found the file, and how many
+    /// bytes it had at the last flush.
+    pub calls: [usize; 4],
+    pub failed: Vec<usize>,
+    pub flushed: usize,
+}
+
+impl Device {
+    pub fn new(bytes: impl Into<Vec<u8>>) -> Device {
+        Device {
+            file: Cursor::new(bytes.into()),
+            most: usize::MAX,
+            faults: vec![],
+            bad: vec![],
+            all_or_none: false,
+            calls: [0; 4],
+            failed: vec![],
+            flushed: 0,
+        }
+    }
+
+    /// At most so many bytes a call.
+    pub fn by(self, most: usize) -> Device {
+        Device { most, ..self }
+    }
+
+    pub fn failing(mut self, call: Call, numbers: Range<usize>, failure: impl Into<Failure>) -> Device {
+        self.faults.push(Fault { call, numbers, step: 1, failure: failure.into() });
+        self
+    }
+
+    /// Would block before each read that succeeds, from this one on.
+    pub fn blocking(mut self, from: usize) -> Device {
+        let failure = Some(ErrorKind::WouldBlock);
+        self.faults.push(Fault { call: Call::Read, numbers: from..usize::MAX, step: 2, failure });
+        self
+    }
+
+    pub fn contents(&self) -> &[u8] {
+        self.file.get_ref()
+    }
+
+    /// Counts a call on `len` bytes. Returns the wrong count that it returns, if any.
+    fn called(&mut self, call: Call, len: usize) -> io::Result<Option<usize>> {
+        let number = self.calls[call as usize];
+        self.calls[call as usize] += 1;
+        let fails = |fault: &&Fault| {
+            fault.call == call && fault.numbers.contains(&number) && (number - fault.numbers.start) % fault.step == 0
+        };
+        let Some(fault) = self.faults.iter().find(fails) else { return Ok(None) };
+        self.failed.push(self.file.position() as usize);
+        match fault.failure {
+            Some(kind) => Err(io::Error::new(kind, format!("{call:?} {number}"))),
+            None => Ok(Some(len + 1)),
+        }
+    }
+}
+
+impl Read for Device {
+    fn read(&mut self, out: &mut [u8]) -> io::Result<usize> {
+        if let Some(count) = self.called(Call::Read, out.len())? {
+            return Ok(count);
+        }
+        let at = self.file.position() as usize;
+        let len = out.len().min(self.most);
+        let reached = if self.all_or_none { at + len } else { at + 1 };
+        if self.bad.iter().any(|bad| bad.start < reached && at < bad.end) {
+            return Err(io::Error::new(ErrorKind::Other, "bad block"));
+        }
+        let next = self.bad.iter().map(|bad| bad.start).filter(|start| *start > at).min().unwrap_or(usize::MAX);
+        self.file.read(&mut out[..len.min(next - at)])
+    }
+}
+
+impl Write for Device {
+    fn write(&mut self, bytes: &[u8]) -> io::Result<usize> {
+        match self.called(Call::Write, bytes.len())? {
+            Some(count) => Ok(count),
+            None => self.file.write(&bytes[..bytes.len().min(self.most)]),
+        }
+    }
+
+    fn flush(&mut self) -> io::Result<()> {
+        self.called(Call::Flush, 0)?;
+        self.flushed = self.contents().len();
+        Ok(())
+    }
+}
+
+impl Seek for Device {
+    fn seek(&mut self, to: SeekFrom) -> io::Result<u64> {
+        match self.called(Call::Seek, 0)? {
+            Some(_) => Ok(0),
+            None => self.file.seek(to),
+        }
+    }
 }
