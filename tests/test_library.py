@@ -15,6 +15,7 @@ from pathlib import Path
 sys.path += [str(Path(__file__).resolve().parent.parent / "share/generate"), str(Path(__file__).resolve().parent / "library")]
 import codes
 import header
+import model
 
 import test_damaged_files
 import test_vectors
@@ -31,6 +32,19 @@ SONAME = "libagefile.so.1"
 WARNINGS = ("-Wall", "-Wextra", "-Wpedantic", "-Werror")
 REFUSING = ("-Wl,--wrap=malloc,--wrap=realloc,--wrap=free",)
 SIZES = (0, 1, 65535, 65536, 65537, 131072, 131073, 200000)
+# A program of the loop in docs/C.md, with a key and a file key of zeros.
+AROUND_THE_LOOP = """
+int main(void)
+{
+    static const uint8_t key[32], fresh[48];
+    uint8_t stanza[AGEFILE_STANZA_ROOM], front[AGEFILE_HEADER_ROOM];
+    agefile_payload payload;
+    agefile_report report;
+    return agefile_wrap_key(fresh, key, fresh + 32, stanza, sizeof stanza, &report) != AGEFILE_OK ||
+        agefile_begin(stanza, report.len, fresh, fresh + 16, front, sizeof front, &payload, &report) != AGEFILE_OK ||
+        fwrite(front, 1, report.len, stdout) != report.len || !seal(&payload, stdin, stdout);
+}
+"""
 USAGE = """usage: ./install [--uninstall] [PREFIX]
        ./install --library [--libdir=DIR] [--uninstall] [PREFIX]
 """
@@ -325,6 +339,15 @@ class Languages(unittest.TestCase):
                     words = (*WARNINGS, "-Wno-long-long", f"-std={standard}", f"-I{prefix()}/include", "-x", "c++" if plus else "c", "-", "-x", "none")
                     source = b"#include <agefile.h>\nint main(void) { return *agefile_message(agefile_version() == 0); }\n"
                     run(compiler, *words, archive(), "-o", work() / "language", input=source, status=0)
+
+
+    def test_examples(self):
+        """The examples compile as C99, C11 and C17, too, where a header declares only what is asked for."""
+        for compiler in (name for name in compilers() if not name.endswith("++")):
+            for standard in ("c99", "c11", "c17"):
+                for source in sorted(EXAMPLES.glob("*.c")):
+                    with self.subTest(f"{compiler} {standard} {source.name}"):
+                        run(compiler, *WARNINGS, f"-std={standard}", f"-I{prefix()}/include", "-fsyntax-only", source, status=0)
 
 
 class Declarations(unittest.TestCase):
@@ -663,7 +686,7 @@ class Document(unittest.TestCase):
     def test_program(self):
         """The program in docs/C.md decrypts, built by both of its command lines, and reports errors."""
         text = (ROOT / "docs/C.md").read_text()
-        (work() / "program.c").write_text(re.search(r"```c\n(.*?)```", text, re.S)[1])
+        (work() / "program.c").write_text(re.findall(r"```c\n(.*?)```", text, re.S)[0])
         lines = re.findall(r"^cc .* program\.c .*", text, re.M)
         self.assertEqual(len(lines), 2)
         plain = b"some text\n" * 200000
@@ -682,6 +705,21 @@ class Document(unittest.TestCase):
                     done = run("./program", "pass", input=file[:cut], cwd=work(), env=environment, status=1)
                     self.assertEqual((done.stdout, done.stderr.decode()), (b"", f"{said_of}\n"))
                 self.assertEqual(run("./program", "nowhere", input=file, cwd=work(), env=environment, status=2).stdout, b"")
+
+    def test_loop(self):
+        """The loop in docs/C.md seals plaintexts of each size, and ends with a failed read."""
+        loop = re.findall(r"```c\n(.*?)```", (ROOT / "docs/C.md").read_text(), re.S)[1]
+        (work() / "loop.c").write_text(f"#include <agefile.h>\n#include <stdio.h>\n{loop}{AROUND_THE_LOOP}")
+        for standard in ("c99", "gnu17"):
+            sealing = built("loop", f"-std={standard}", *sanitizers(), source=work() / "loop.c")
+            for size in SIZES:
+                with self.subTest(f"{size} bytes, {standard}"):
+                    plain, back = os.urandom(size), bytearray(size)
+                    made = run(sealing, input=plain, status=0).stdout
+                    self.assertEqual(model.decrypt_key(bytearray(made), bytes(32), back), (0, (size, 0, 0)))
+                    self.assertEqual(back, plain)
+            for length in (0, 65536, 65537):
+                self.assertEqual(run(built("breaks", "-O2"), length, sealing).returncode, 1)
 
 
 if __name__ == "__main__":

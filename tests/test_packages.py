@@ -64,13 +64,6 @@ def run(*words, **options):
 
 # Commands and modules without which ./package makes no Debian packages.
 DEBIAN, MODULES = ("dpkg-buildpackage", "dh", "dh_python3", "unzip"), ("build", "setuptools", "wheel")
-CARGO = (1, 80)
-
-
-def is_older_cargo():
-    """Whether cargo is too old for the crate for Rust, as Debian 12's is."""
-    found = shutil.which("cargo") and re.match(r"cargo (\d+)\.(\d+)", subprocess.check_output(["cargo", "--version"], text=True))
-    return bool(found) and (int(found[1]), int(found[2])) < CARGO
 
 
 def needs(*tools):
@@ -78,7 +71,6 @@ def needs(*tools):
     words = ("/usr/bin/python3", "-c", "import importlib, sys; importlib.import_module(sys.argv[1])")
     modules = {tool for tool in tools if tool in MODULES and subprocess.run([*words, tool], capture_output=True).returncode == 0}
     missing = [tool for tool in tools if shutil.which(tool) is None and tool not in modules]
-    missing += ["cargo 1.80"] * ("cargo" in tools and is_older_cargo())
     return unittest.skipIf(missing, f"{' and '.join(missing)} missing")
 
 
@@ -401,15 +393,14 @@ class Packages(unittest.TestCase):
         self.assertEqual(said, f"{self.for_python}\n")
 
     def test_the_crate(self):
+        """A program takes it by the commands in its README.md, and runs."""
         root = self.unpacked("libagefile-dev*.deb", "libagefile[0-9]*.deb")
         tree = Path(tempfile.mkdtemp(dir=self.work))
-        run("tar", "-xf", self.one("*.crate"), "-C", tree)
-        (tree / "user/src").mkdir(parents=True)
-        (tree / "user/Cargo.toml").write_text(
-            '[package]\nname = "user"\nversion = "0.1.0"\nedition = "2021"\n'
-            f'[dependencies]\nagefile = {{ path = "../agefile-{self.version}" }}\n'
-        )
-        (tree / "user/src/main.rs").write_text(
+        shutil.copy(self.one("*.crate"), tree)
+        commands = re.search(r"^```sh\n(.*?)^```$", (ROOT / "bindings/rust/README.md").read_text(), re.M | re.S)[1]
+        (tree / "src").mkdir()
+        (tree / "Cargo.toml").write_text('[package]\nname = "user"\nversion = "0.1.0"\nedition = "2021"\n')
+        (tree / "src/main.rs").write_text(
             "fn main() {\n    let key = agefile::Key::new([7; 32]);\n"
             '    let file = agefile::encrypt(b"text", &[&key]).unwrap();\n'
             '    assert_eq!(agefile::decrypt(&file, &[&key]).unwrap(), b"text");\n}\n'
@@ -418,7 +409,7 @@ class Packages(unittest.TestCase):
             "AGEFILE_LIB_DIR": str(root / "usr/lib/x86_64-linux-gnu"),
             "CARGO_TARGET_DIR": str(tree / "target"),
         }
-        run("cargo", "run", "--offline", "--quiet", cwd=tree / "user", env=environment)
+        run("sh", "-ec", f"{commands}cargo run --offline --quiet", cwd=tree, env=environment)
 
     def test_the_tarball(self):
         """Installed in a home, by the commands of docs/PACKAGES.md."""
@@ -697,6 +688,21 @@ class ForRust(unittest.TestCase):
             names = {f"CARGO_CFG_TARGET_{part}": name for part, name in zip(("OS", "ARCH", "ENV"), platform)}
             done = subprocess.run([script], env=self.environment | names, capture_output=True, text=True)
             self.assertEqual((done.returncode, done.stderr), (1, "agefile: the library is for Linux on x86-64 with the GNU C library alone\n"))
+
+        def is_built_anew():
+            words = ["cargo", "check", "--offline", "--message-format=json"]
+            return '"fresh":false' in subprocess.check_output(words, cwd=ROOT / "bindings/rust", env=self.environment, text=True)
+
+        is_built_anew()
+        self.assertFalse(is_built_anew())
+        (self.tree / "lib/libagefile.a").touch()
+        self.assertTrue(is_built_anew())
+
+    @needs("/usr/bin/cargo", "/usr/bin/rustc")
+    def test_debians_compiler(self):
+        """It compiles the crate, its tests and its example; that of Debian 12 is the oldest that Cargo.toml allows."""
+        environment = self.environment | {"RUSTC": "/usr/bin/rustc", "CARGO_TARGET_DIR": str(self.tree / "debian")}
+        run("/usr/bin/cargo", "check", "--offline", "--all-features", "--all-targets", cwd=ROOT / "bindings/rust", env=environment)
 
     def test_each_function_is_called(self):
         """The tests of the crate call each public function: if all are deprecated, the compiler warns of each."""

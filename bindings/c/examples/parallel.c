@@ -2,6 +2,7 @@
  * bytes of KEY_FILE are the key. Use OUT only after status 0. cc -O2 -pthread -o parallel
  * parallel.c $(pkg-config --cflags --libs agefile) */
 #define _FILE_OFFSET_BITS 64
+#define _POSIX_C_SOURCE 200809L
 #include <agefile.h>
 #include <fcntl.h>
 #include <pthread.h>

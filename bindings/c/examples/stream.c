@@ -1,6 +1,7 @@
 /* Decrypts standard input to standard output, or encrypts it with -e, in constant memory:
  * stream [-e] KEY_FILE, whose 32 bytes are the key. Use the output only after status 0.
  * cc -O2 -o stream stream.c $(pkg-config --cflags --libs agefile) */
+#define _POSIX_C_SOURCE 200809L
 #include <agefile.h>
 #include <stdio.h>
 #include <string.h>

@@ -30,13 +30,10 @@ fn streamed(plain: &[u8], recipient: &dyn Recipient, piece: usize) -> Vec<u8> {
 }
 
 #[test]
-fn lines_of_a_file() {
+fn buffer_is_one_chunk_and_never_empty_before_the_end() {
     let plain = b"some words\n".repeat(20000);
     let mut file = streamed(&plain, &key(), 1000);
-    let expected: Vec<&[u8]> = plain[..plain.len() - 1].split(|byte| *byte == b'\n').collect();
-    let lines: Vec<Vec<u8>> = Reader::new(&file[..], &[&key()]).unwrap().split(b'\n').map(Result::unwrap).collect();
-    assert_eq!(lines, expected);
-
+    assert!(Reader::new(&file[..], &[&key()]).unwrap().lines().all(|line| line.unwrap() == "some words"));
     *file.last_mut().unwrap() ^= 1;
     let mut reader = Reader::new(&file[..], &[&key()]).unwrap();
     let mut verified: Vec<u8> = Vec::new();
@@ -51,53 +48,28 @@ fn lines_of_a_file() {
 }
 
 #[test]
-fn whole_files_come_back() {
-    for plain in SIZES.map(text) {
-        assert_eq!(decrypt(&encrypt(&plain, &[&key()]).unwrap(), &[&key()]).unwrap(), plain);
-        assert_eq!(decrypt(&encrypt(&plain, &[&passphrase()]).unwrap(), &[&passphrase()]).unwrap(), plain);
-    }
-}
-
-#[test]
-fn streams_and_whole_files_are_the_same_format() {
-    for plain in SIZES.map(text) {
-        for piece in [999, 65536, 1 << 20] {
-            let file = streamed(&plain, &key(), piece);
+fn each_way_makes_and_opens_the_same_format() {
+    for plain in SIZES.map(text).into_iter().chain([text(40 * TEXT + 3)]) {
+        let mut files = vec![encrypt(&plain, &[&key()]).unwrap()];
+        files.extend([999, TEXT, 1 << 20].map(|piece| streamed(&plain, &key(), piece)));
+        #[cfg(feature = "parallel")]
+        for threads in [0, 1, 2, 3, 8, 1000, usize::MAX] {
+            files.push(agefile::parallel::encrypt(&plain, &[&key()], threads).unwrap());
+            assert_eq!(agefile::parallel::decrypt(&files[0], &[&key()], threads).unwrap(), plain);
+        }
+        for (i, file) in files.into_iter().enumerate() {
             assert_eq!(decrypt(&file, &[&key()]).unwrap(), plain);
             let mut back = Vec::new();
-            Reader::new(Device::new(&file[..]).by(piece), &[&key()]).unwrap().read_to_end(&mut back).unwrap();
+            Reader::new(Device::new(file).by(1 << (9 + i)), &[&key()]).unwrap().read_to_end(&mut back).unwrap();
             assert_eq!(back, plain);
         }
     }
 }
 
-#[cfg(feature = "parallel")]
-#[test]
-fn threads_make_the_same_files() {
-    for plain in SIZES.map(text).into_iter().chain([text(40 * 65536 + 3)]) {
-        for threads in [0, 1, 2, 3, 8, 1000] {
-            let file = agefile::parallel::encrypt(&plain, &[&key()], threads).unwrap();
-            assert_eq!(decrypt(&file, &[&key()]).unwrap(), plain);
-            assert_eq!(agefile::parallel::decrypt(&file, &[&key()], threads).unwrap(), plain);
-        }
-    }
-}
-
 /// The processor time of this thread in nanoseconds.
-fn processor_time() -> i64 {
-    #[repr(C)]
-    struct Time {
-        seconds: i64,
-        nanoseconds: i64,
-    }
-    extern "C" {
-        fn clock_gettime(clock: i32, time: *mut Time) -> i32;
-    }
-    const THREAD: i32 = 3;
-    let mut time = Time { seconds: 0, nanoseconds: 0 };
-    // SAFETY: the struct is the one of C.
-    assert_eq!(unsafe { clock_gettime(THREAD, &mut time) }, 0);
-    time.seconds * 1_000_000_000 + time.nanoseconds
+fn processor_time() -> u64 {
+    let line = std::fs::read_to_string("/proc/thread-self/schedstat").unwrap();
+    line.split(' ').next().unwrap().parse().unwrap()
 }
 
 #[test]
@@ -115,7 +87,7 @@ fn great_header_is_listed_in_a_tenth_of_a_second() {
 }
 
 /// A source that must not need more than ten seconds of the processor, which would be too much by far.
-struct Timed(Device, i64);
+struct Timed(Device, u64);
 
 impl Read for Timed {
     fn read(&mut self, out: &mut [u8]) -> io::Result<usize> {
@@ -165,97 +137,27 @@ fn ranges_are_slices() {
 }
 
 #[test]
-fn each_fault_has_its_text_and_its_kind() {
-    use ErrorKind::{InvalidData, InvalidInput, Other, OutOfMemory, UnexpectedEof};
-    for (kind, error, text) in [
-        (InvalidData, Error::NotAge, "not an age file"),
-        (InvalidData, Error::BadLine(1), "bad header line 1"),
-        (UnexpectedEof, Error::HeaderTruncated, "header is cut short"),
-        (InvalidData, Error::HeaderTooLarge, "header is too large"),
-        (InvalidData, Error::MixedPassphrase, "a passphrase stanza must stand alone"),
-        (InvalidInput, Error::NoMatch, "no key fits this file"),
-        (InvalidInput, Error::WrongKey, "wrong passphrase or key"),
-        (InvalidData, Error::Malformed(Part::ArgumentCount), "malformed stanza: argument count"),
-        (InvalidData, Error::Malformed(Part::Salt), "malformed stanza: salt"),
-        (InvalidData, Error::Malformed(Part::WorkFactor), "malformed stanza: work factor"),
-        (InvalidData, Error::Malformed(Part::WorkFactorTooHigh), "malformed stanza: work factor is too high"),
-        (InvalidData, Error::Malformed(Part::BodyLength), "malformed stanza: body length"),
-        (InvalidData, Error::BadMac, "header check failed"),
-        (UnexpectedEof, Error::NonceTruncated, "payload nonce is cut short"),
-        (InvalidData, Error::ChunkShort(1), "chunk 1 is cut short"),
-        (InvalidData, Error::EmptyFinal(1), "chunk 1 is empty"),
-        (InvalidData, Error::BadChunk(1), "chunk 1 is damaged"),
-        (InvalidData, Error::TooManyChunks, "too many chunks"),
-        (OutOfMemory, Error::OutOfMemory, "out of memory"),
-        (InvalidInput, Error::NoRecipients, "no recipients"),
-        (InvalidInput, Error::EmptyPassphrase, "passphrase is empty"),
-        (InvalidInput, Error::WorkFactor, "work factor must be 1 to 30"),
-        (InvalidInput, Error::BadArguments, "stanza arguments must be visible ASCII, one space apart"),
-        (Other, Error::Refused, "recipient refused"),
-        (Other, Error::Incomplete, "an earlier write failed"),
-        (InvalidData, Error::Other(99), "code 99"),
+fn each_fault_has_its_kind_and_those_of_this_crate_their_text() {
+    use Error::*;
+    let of_input = [NoMatch, WrongKey, NoRecipients, EmptyPassphrase, UntypedPassphrase, WorkFactor, BadArguments];
+    let of_data = [NotAge, BadLine(1), HeaderTooLarge, MixedPassphrase, Malformed(Part::Salt), BadMac];
+    let of_chunks = [ChunkShort(1), EmptyFinal(1), BadChunk(1), TooManyChunks, Other(99)];
+    for (kind, errors) in [
+        (ErrorKind::InvalidInput, &of_input[..]),
+        (ErrorKind::InvalidData, &[&of_data[..], &of_chunks].concat()),
+        (ErrorKind::UnexpectedEof, &[HeaderTruncated, NonceTruncated]),
+        (ErrorKind::OutOfMemory, &[OutOfMemory]),
+        (ErrorKind::Other, &[Refused, Incomplete]),
     ] {
-        assert_eq!(error.to_string(), text);
-        assert_eq!(io::Error::from(error).kind(), kind, "{text}");
+        errors.iter().for_each(|error| assert_eq!(io::Error::from(*error).kind(), kind, "{error}"));
     }
+    let texts = [Refused, Incomplete, Other(99)].map(|error| error.to_string());
+    assert_eq!(texts, ["recipient refused", "an earlier write failed", "code 99"]);
 }
 
 #[test]
-fn faults_have_their_place_and_their_kind() {
-    let file = encrypt(&text(200000), &[&key()]).unwrap();
-    let front = inspect(&file).unwrap().text().len() + 16;
-    let other = Key::new([8; 32]);
-    type Case<'a> = (&'a [u8], &'a dyn Identity, Error, ErrorKind);
-    let cases: [Case; 8] = [
-        (b"hello", &key(), Error::NotAge, ErrorKind::InvalidData),
-        (b"age-encryption.org/v1\nbad\n", &key(), Error::BadLine(2), ErrorKind::InvalidData),
-        (&file[..30], &key(), Error::HeaderTruncated, ErrorKind::UnexpectedEof),
-        (&file, &other, Error::WrongKey, ErrorKind::InvalidInput),
-        (&file, &passphrase(), Error::NoMatch, ErrorKind::InvalidInput),
-        (&file[..front - 1], &key(), Error::NonceTruncated, ErrorKind::UnexpectedEof),
-        (&file[..front], &key(), Error::ChunkShort(0), ErrorKind::InvalidData),
-        (&file[..file.len() - 1], &key(), Error::BadChunk(3), ErrorKind::InvalidData),
-    ];
-    for (bytes, identity, error, kind) in cases {
-        assert_eq!(decrypt(bytes, &[identity]).unwrap_err(), error);
-        let failed =
-            Reader::new(bytes, &[identity]).and_then(|mut reader| reader.read_to_end(&mut Vec::new())).unwrap_err();
-        assert_eq!((failed.kind(), failed.to_string()), (kind, error.to_string()));
-        assert_eq!(fault(failed), error);
-    }
-    let file = encrypt(b"", &[&passphrase()]).unwrap();
-    let weak = Passphrase::new("correct horse").with_max_work(2);
-    assert_eq!(decrypt(&file, &[&weak]), Err(Error::Malformed(Part::WorkFactorTooHigh)));
-    assert_eq!(fault(encrypt(b"", &[]).unwrap_err()), Error::NoRecipients);
-    assert_eq!(fault(encrypt(b"", &[&key(), &passphrase()]).unwrap_err()), Error::MixedPassphrase);
-    assert_eq!(fault(encrypt(b"", &[&passphrase().with_work(31)]).unwrap_err()), Error::WorkFactor);
-}
-
-#[test]
-fn read_of_no_bytes_returns_none_after_a_fault() {
-    let mut file = encrypt(&text(70000), &[&key()]).unwrap();
-    let first = inspect(&file).unwrap().text().len() + 16;
-    file[first] ^= 1;
-    let mut reader = Reader::new(&file[..], &[&key()]).unwrap();
-    assert_eq!(fault(reader.read(&mut [0; 9]).unwrap_err()), Error::BadChunk(0));
-    assert_eq!(reader.read(&mut []).unwrap(), 0);
-    assert_eq!(RangeReader::new(Cursor::new(file), &[&key()]).unwrap().read(&mut []).unwrap(), 0);
-}
-
-#[test]
-fn empty_passphrase_opens_old_files_and_makes_none() {
-    let empty = Passphrase::new("").with_work(3);
-    assert_eq!(fault(encrypt(b"", &[&empty]).unwrap_err()), Error::EmptyPassphrase);
-    let error = Writer::new(Vec::new(), &[&empty]).unwrap_err();
-    assert_eq!((error.kind(), error.to_string().as_str()), (ErrorKind::InvalidInput, "passphrase is empty"));
-    let old = encrypt(b"", &[&key()]).unwrap();
-    assert_eq!(rewrap(&old, &[&key()], &[&empty]), Err(Error::EmptyPassphrase));
-    assert_eq!(decrypt(EMPTY_PASSPHRASE, &[&empty]).unwrap(), b"hello\n");
-}
-
-#[test]
-fn passphrase_files_are_those_of_the_program() {
-    let path = std::env::temp_dir().join(format!("passphrase.{}", std::process::id()));
+fn files_of_secrets_are_those_of_the_program() {
+    let path = std::env::temp_dir().join(format!("secret.{}", std::process::id()));
     let read = |bytes: &[u8]| {
         std::fs::write(&path, bytes).unwrap();
         Passphrase::from_file(&path).map(|passphrase| passphrase.with_work(1).with_max_work(22))
@@ -264,28 +166,35 @@ fn passphrase_files_are_those_of_the_program() {
         let file = encrypt(b"text", &[&Passphrase::new(text).with_work(1)]).unwrap();
         assert_eq!(decrypt(&file, &[&read(bytes).unwrap()]).unwrap(), b"text");
     };
-    for (bytes, text) in
-        [(&b"word"[..], &b"word"[..]), (b"word\n", b"word"), (b"\n\n", b"\n"), (b"a\nb\n", b"a\nb"), (b"\xff", b"\xff")]
-    {
+    let rows: [(&[u8], &[u8]); 5] =
+        [(b"word", b"word"), (b"word\n", b"word"), (b"\n\n", b"\n"), (b"a\nb\n", b"a\nb"), (b"\xff", b"\xff")];
+    for (bytes, text) in rows {
         opens(bytes, text);
         let file = encrypt(b"text", &[&read(bytes).unwrap()]).unwrap();
         assert_eq!(decrypt(&file, &[&Passphrase::new(text)]).unwrap(), b"text");
     }
-    for (bytes, text) in
-        [(&b"word\r"[..], &b"word\r"[..]), (b"word\r\n", b"word\r"), (b"\xef\xbb\xbfword\n", b"\xef\xbb\xbfword")]
-    {
+    assert_eq!(decrypt(EMPTY_PASSPHRASE, &[&read(b"\n").unwrap()]).unwrap(), b"hello\n");
+    let untyped: [(&[u8], &[u8]); 3] =
+        [(b"word\r", b"word\r"), (b"word\r\n", b"word\r"), (b"\xef\xbb\xbfword\n", b"\xef\xbb\xbfword")];
+    for (bytes, text) in untyped {
         opens(bytes, text);
-        let error = Writer::new(Vec::new(), &[&read(bytes).unwrap()]).unwrap_err();
-        let said = "passphrase ends in CR or begins with a byte-order mark";
-        assert_eq!((error.kind(), error.to_string().as_str()), (ErrorKind::InvalidInput, said));
+        let error = encrypt(b"", &[&read(bytes).unwrap()]).unwrap_err();
+        assert_eq!(error.to_string(), "passphrase ends in CR or begins with a byte-order mark");
     }
-    let most = [b'a'; 65_536];
-    opens(&most, &most);
+    opens(&[b'a'; 65_536], &[b'a'; 65_536]);
     assert_eq!(read(&[b'a'; 65_537]).unwrap_err().kind(), ErrorKind::InvalidInput);
+    for len in [0, 31, 32, 33, 64] {
+        std::fs::write(&path, vec![7; len]).unwrap();
+        match Key::from_file(&path) {
+            Ok(found) => assert!(len == 32 && decrypt(&sealed(b"").0, &[&found]).is_ok(), "{len} bytes"),
+            Err(error) => assert!(len != 32 && error.kind() == ErrorKind::InvalidInput, "{len} bytes: {error}"),
+        }
+    }
+    let both = || [Passphrase::from_file(&path).map(drop), Key::from_file(&path).map(drop)];
     std::fs::File::create(&path).unwrap().set_len(1 << 40).unwrap();
-    assert_eq!(Passphrase::from_file(&path).unwrap_err().kind(), ErrorKind::InvalidInput);
+    assert_eq!(both().map(|result| result.unwrap_err().kind()), [ErrorKind::InvalidInput; 2]);
     std::fs::remove_file(&path).unwrap();
-    assert_eq!(Passphrase::from_file(&path).unwrap_err().kind(), ErrorKind::NotFound);
+    assert_eq!(both().map(|result| result.unwrap_err().kind()), [ErrorKind::NotFound; 2]);
 }
 
 #[test]
@@ -362,39 +271,32 @@ fn unfinished_files_are_cut_after_their_full_chunks() {
 }
 
 #[test]
-fn copy_under_a_new_header_is_what_rewrap_makes() {
-    let other = Key::new([8; 32]);
-    for plain in SIZES.map(text) {
-        let old = encrypt(&plain, &[&key()]).unwrap();
-        let header_len = inspect(&old).unwrap().text().len();
-        for most in [1, 1000, usize::MAX] {
-            let mut sink = Device::new([]).by(most);
-            rewrap_copy(Device::new(&old[..]).by(most), &mut sink, &[&key()], &[&other, &key()]).unwrap();
-            let new = sink.contents();
-            assert_eq!((sink.calls[Call::Flush as usize], sink.flushed), (1, new.len()));
-            assert_eq!(decrypt(new, &[&other]).unwrap(), plain);
-            assert!(new[inspect(new).unwrap().text().len()..] == old[header_len..]);
-        }
-    }
-}
-
-#[test]
-fn copy_under_a_new_header_writes_nothing_before_it_is_known() {
+fn nothing_is_written_before_the_header_is_known() {
     let old = encrypt(b"text", &[&key()]).unwrap();
     let (wrong, none): (&dyn Identity, &dyn Identity) = (&Key::new([8; 32]), &passphrase());
-    type Row<'a> = (&'a [u8], &'a dyn Identity, &'a [&'a dyn Recipient], Error);
-    let rows: [Row; 7] = [
-        (&old, wrong, &[&key()], Error::WrongKey),
-        (&old, none, &[&key()], Error::NoMatch),
-        (&old, &WRONG, &[&key()], Error::BadMac),
-        (&old, &key(), &[], Error::NoRecipients),
-        (&old, &key(), &[&key(), &passphrase()], Error::MixedPassphrase),
-        (&old[..60], &key(), &[&key()], Error::HeaderTruncated),
-        (b"hello", &key(), &[&key()], Error::NotAge),
-    ];
-    for (file, identity, recipients, error) in rows {
+    let refused = |file: &[u8], identity: &dyn Identity, recipients: &[&dyn Recipient], error: Error| {
         let mut sink = Device::new([]);
         assert_eq!(fault(rewrap_copy(file, &mut sink, &[identity], recipients).unwrap_err()), error);
+        assert_eq!(rewrap(file, &[identity], recipients), Err(error));
+        assert_eq!(sink.calls, [0; 4]);
+    };
+    refused(&old, wrong, &[&key()], Error::WrongKey);
+    refused(&old, none, &[&key()], Error::NoMatch);
+    refused(&old, &WRONG, &[&key()], Error::BadMac);
+    refused(&old[..60], &key(), &[&key()], Error::HeaderTruncated);
+    refused(b"hello", &key(), &[&key()], Error::NotAge);
+    let refusing: [(&[&dyn Recipient], Error); 5] = [
+        (&[], Error::NoRecipients),
+        (&[&key(), &passphrase()], Error::MixedPassphrase),
+        (&[&key(), &passphrase().with_work(31)], Error::WorkFactor),
+        (&[&passphrase().with_work(0)], Error::WorkFactor),
+        (&[&key(), &Passphrase::new("")], Error::EmptyPassphrase),
+    ];
+    for (recipients, error) in refusing {
+        refused(&old, &key(), recipients, error);
+        assert_eq!(fault(encrypt(b"", recipients).unwrap_err()), error);
+        let mut sink = Device::new([]);
+        assert_eq!(fault(Writer::new(&mut sink, recipients).unwrap_err()), error);
         assert_eq!(sink.calls, [0; 4]);
     }
 }
@@ -407,29 +309,12 @@ fn sources_come_back() {
 }
 
 #[test]
-fn nothing_is_written_before_the_header_is_known() {
-    let refusing: [(&[&dyn Recipient], Error); 4] = [
-        (&[], Error::NoRecipients),
-        (&[&key(), &passphrase()], Error::MixedPassphrase),
-        (&[&key(), &passphrase().with_work(31)], Error::WorkFactor),
-        (&[&key(), &Passphrase::new("")], Error::EmptyPassphrase),
-    ];
-    for (recipients, error) in refusing {
-        let mut sink = Device::new([]);
-        assert_eq!(fault(Writer::new(&mut sink, recipients).unwrap_err()), error);
-        assert_eq!(sink.calls, [0; 4]);
-    }
-}
-
-#[test]
 fn rewrapped_file_is_for_the_new_recipients() {
     let (plain, other) = (text(100000), Key::new([8; 32]));
     let old = encrypt(&plain, &[&passphrase()]).unwrap();
     let new = rewrap(&old, &[&passphrase()], &[&key(), &other]).unwrap();
     assert_eq!(decrypt(&new, &[&other]).unwrap(), plain);
     assert_eq!(decrypt(&new, &[&passphrase()]), Err(Error::NoMatch));
-    assert_eq!(rewrap(&old, &[&Passphrase::new("x")], &[&key()]), Err(Error::WrongKey));
-    assert_eq!(rewrap(&old, &[&WRONG], &[&key()]), Err(Error::BadMac));
 }
 
 #[test]
@@ -439,8 +324,7 @@ fn headers_are_shown() {
     assert_eq!((header.text().len(), header.stanzas().len()), (150, 1));
     assert_eq!((header.stanzas()[0].args[0].as_str(), header.stanzas()[0].args[2].as_str()), ("scrypt", "10"));
     assert_eq!(header.stanzas()[0].body.len(), 32);
-    let Some(line) = header.text().rsplit(|byte| *byte == b'\n').nth(1) else { panic!("a header has lines") };
-    assert_eq!(line, [b"--- ", base64(header.mac()).as_bytes()].concat());
+    assert!(header.text().ends_with(format!("\n--- {}\n", base64(header.mac())).as_bytes()));
     assert!(library_version() >= (0, 4, 0));
 }
 
@@ -463,23 +347,27 @@ impl Identity for Plain {
 }
 
 #[test]
-fn usual_work_factors_are_18_and_at_most_22() {
-    let header = inspect(&encrypt(b"", &[&Passphrase::new("x")]).unwrap()).unwrap();
-    assert_eq!(header.stanzas()[0].args[2], "18");
+fn work_factors_are_18_and_at_most_22_or_those_that_were_set() {
     let path = std::env::temp_dir().join(format!("usual.{}", std::process::id()));
     std::fs::write(&path, "x").unwrap();
-    let of_file = Passphrase::from_file(&path).unwrap();
+    let new = Passphrase::new("x");
+    let rows = [
+        (Passphrase::from_file(&path).unwrap().with_work(1), 1, 22),
+        (new.clone().with_max_work(17), 18, 17),
+        (new.clone().with_work(2).with_max_work(3), 2, 3),
+        (new.clone().with_max_work(3).with_work(2), 2, 3),
+    ];
     std::fs::remove_file(&path).unwrap();
-    // The length of the body is looked at after the work factor, and before scrypt.
-    let accepted = |work: u8| {
-        let stanza = format!("-> scrypt AAAAAAAAAAAAAAAAAAAAAA {work}\n{}\n", "A".repeat(42));
-        let file = format!("age-encryption.org/v1\n{stanza}--- {}\n", "A".repeat(43));
-        let found = decrypt(file.as_bytes(), &[&Passphrase::new("x")]);
-        assert_eq!(decrypt(file.as_bytes(), &[&of_file]), found);
-        found
-    };
-    assert_eq!(accepted(22), Err(Error::Malformed(Part::BodyLength)));
-    assert_eq!(accepted(23), Err(Error::Malformed(Part::WorkFactorTooHigh)));
+    for (passphrase, work, most) in rows {
+        let header = inspect(&encrypt(b"", &[&passphrase]).unwrap()).unwrap();
+        assert_eq!(header.stanzas()[0].args[2], work.to_string());
+        // The length of the body is looked at after the work factor, and before scrypt.
+        for (work, part) in [(most, Part::BodyLength), (most + 1, Part::WorkFactorTooHigh)] {
+            let stanza = format!("-> scrypt AAAAAAAAAAAAAAAAAAAAAA {work}\n{}\n", "A".repeat(42));
+            let file = format!("age-encryption.org/v1\n{stanza}--- {}\n", "A".repeat(43));
+            assert_eq!(decrypt(file.as_bytes(), &[&passphrase]), Err(Error::Malformed(part)));
+        }
+    }
 }
 
 /// An identity that finds this in each header.
@@ -503,10 +391,9 @@ fn each_three_identities_find_what_the_first_or_the_gravest_finds() {
     let all = [misses[0], misses[1], misses[2], Err(Error::Refused), Err(Error::OutOfMemory), Ok(file_key)];
     for numbers in 0..all.len().pow(3) {
         let three = [0, 1, 2].map(|place| Says(all[numbers / all.len().pow(place) % all.len()]));
+        let is_wrong = three.iter().any(|says| says.0 == misses[2]);
+        let miss = Says(Err(if is_wrong { Error::WrongKey } else { Error::NoMatch }));
         let end = three.iter().find(|says| !misses.contains(&says.0));
-        let gravest = Error::WrongKey;
-        let is_wrong = three.iter().any(|says| says.0 == Err(gravest));
-        let miss = Says(Err(if is_wrong { gravest } else { Error::NoMatch }));
         let expected = end.unwrap_or(&miss).0.map(|_| vec![]);
         let identities: Vec<&dyn Identity> = three.iter().map(|says| says as &dyn Identity).collect();
         assert_eq!(decrypt(&file, &identities), expected, "{:?}", three.map(|says| says.0.is_ok()));
@@ -553,16 +440,10 @@ fn no_secret_is_printed() {
     reader.read_exact(&mut [0]).unwrap();
     ranges.read_exact(&mut [0]).unwrap();
     writer.write_all(&[7; 64]).unwrap();
-    let shown = [
-        format!("{opening:?}").replace(&file.len().to_string(), "all"),
-        format!("{:?}", key()),
-        format!("{:?}", passphrase()),
-        format!("{:?}", FileKey([7; 16])),
-        format!("{reader:?} {ranges:?} {writer:?}"),
-    ];
-    for text in shown {
-        assert!(!text.contains('7') && !text.contains("horse"), "{text}");
-    }
+    let opening = format!("{opening:?}").replace(&file.len().to_string(), "all");
+    let secrets = format!("{:?} {:?} {:?}", key(), passphrase(), FileKey([7; 16]));
+    let text = format!("{opening} {secrets} {reader:?} {ranges:?} {writer:?}");
+    assert!(!text.contains('7') && !text.contains("horse"), "{text}");
 }
 
 #[test]

@@ -3,27 +3,27 @@
 
 mod common;
 
-use std::io::{self, ErrorKind, Read, Seek, SeekFrom, Write};
+use std::cell::Cell;
+use std::io::{self, Cursor, ErrorKind, Read, Seek, SeekFrom, Write};
 use std::panic::{catch_unwind, AssertUnwindSafe};
 
-use agefile::{rewrap_copy, salvage, Error, Opening, RangeReader, Reader, Writer};
-use common::{key, sealed, text, Call, Device, Failure, SEALED, TEXT};
+use agefile::{
+    decrypt, rewrap_copy, salvage, Error, FileKey, Header, Identity, Key, Opening, RangeReader, Reader, Writer,
+};
+use common::{fault, key, sealed, text, Call, Device, Failure, SEALED, TEXT};
 
 /// Each kind of error that the system or a caller's own device may have.
 fn kinds() -> Vec<ErrorKind> {
     use ErrorKind::{InvalidData, Other, UnexpectedEof, WriteZero};
-    let of_system = (1..134).map(|number| io::Error::from_raw_os_error(number).kind());
     let mut kinds = vec![InvalidData, Other, UnexpectedEof, WriteZero];
-    of_system.for_each(|kind| {
-        if !kinds.contains(&kind) {
-            kinds.push(kind)
-        }
-    });
+    for kind in (1..134).map(|number| io::Error::from_raw_os_error(number).kind()) {
+        kinds.extend(Some(kind).filter(|kind| !kinds.contains(kind)));
+    }
     kinds
 }
 
-/// How calls of one kind fail, once or from then on.
-#[derive(Clone, Copy, Debug)]
+/// How calls of one kind fail: once, or from then on.
+#[derive(Debug)]
 struct Case {
     call: Call,
     at: usize,
@@ -32,38 +32,40 @@ struct Case {
 }
 
 impl Case {
-    /// Whether a caller must not notice.
+    /// Whether the call is made again, so that nobody notices.
     fn is_repeated(&self) -> bool {
         self.failure == Some(ErrorKind::Interrupted) && matches!(self.call, Call::Read | Call::Write)
     }
 
-    /// The error must be the device's own or, if it returned too much, say so.
+    /// Where the first failure was that must be noticed.
+    fn noticed(&self, device: &Device) -> Option<usize> {
+        device.failed.first().copied().filter(|_| !self.is_repeated())
+    }
+
+    /// The error must be the device's own or, if that returned too much, say so.
     fn assert_error(&self, error: &io::Error) {
+        let own = format!("{:?} ", self.call);
+        let said = if self.failure.is_some() { &own } else { "the source returned more" };
+        assert!(error.to_string().starts_with(said), "{self:?}: {error}");
         assert_eq!(error.kind(), self.failure.unwrap_or(ErrorKind::Other), "{self:?}");
-        let of_device = format!("{:?} ", self.call);
-        assert!(
-            error.to_string().starts_with(if self.failure.is_some() { &of_device } else { "the source" }),
-            "{self:?}"
-        );
     }
 }
 
 /// Makes a run over a device, and then one with each of these calls failing in each way.
-fn each_failure(device: &Device, calls: &[Call], run: impl Fn(&mut Device, Option<Case>)) {
+fn each_failure(device: &Device, calls: &[Call], run: impl Fn(&mut Device, &Case)) {
     let mut whole = device.clone();
-    run(&mut whole, None);
+    let unnoticed = Some(ErrorKind::Interrupted);
+    run(&mut whole, &Case { call: Call::Read, at: usize::MAX, is_once: true, failure: unnoticed });
     for call in calls.iter().copied() {
         let count = whole.calls[call as usize];
         assert!((1..100).contains(&count), "{count} times {call:?}");
-        for at in 0..count {
-            let counts = if call == Call::Read { &[None][..] } else { &[] };
-            for failure in kinds().into_iter().map(Some).chain(counts.iter().copied()) {
-                for is_once in [true, false] {
-                    let case = Case { call, at, is_once, failure };
-                    let often = if case.is_repeated() { 3 } else { usize::MAX - at };
-                    let numbers = at..at + if is_once { 1 } else { often };
-                    run(&mut device.clone().failing(call, numbers, failure), Some(case));
-                }
+        let too_much = Some(None).filter(|_: &Failure| call == Call::Read);
+        for failure in kinds().into_iter().map(Some).chain(too_much) {
+            for (at, is_once) in (0..count).flat_map(|at| [(at, true), (at, false)]) {
+                let case = Case { call, at, is_once, failure };
+                let end = if case.is_repeated() { at + 3 } else { usize::MAX };
+                let numbers = at..if is_once { at + 1 } else { end };
+                run(&mut device.clone().failing(call, numbers, failure), &case);
             }
         }
     }
@@ -75,18 +77,29 @@ fn opened(len: usize, front: usize) -> usize {
     len.saturating_sub(front + 1) / SEALED * TEXT
 }
 
-/// The text that comes from a source, and the errors, of which the third ends the work.
-fn read_on(source: &mut Device) -> (Vec<u8>, Vec<io::Error>) {
+/// The key, as an identity that counts how often it is asked.
+struct Asked(Cell<usize>);
+
+impl Identity for Asked {
+    fn unlock(&self, header: &Header) -> Result<Option<FileKey>, Error> {
+        self.0.set(self.0.get() + 1);
+        key().unlock(header)
+    }
+}
+
+/// The text that comes from a source, and the errors, so many of which end the work.
+fn read_on(source: &mut Device, most: usize) -> (Vec<u8>, Vec<io::Error>) {
     let (mut came, mut errors, mut piece) = (Vec::new(), Vec::new(), [0; 7000]);
-    let mut opening = Opening::new(source);
-    while let Err(error) = opening.read(&[&key()]) {
+    let (mut opening, asked) = (Opening::new(source), Asked(Cell::new(0)));
+    while let Err(error) = opening.read(&[&asked]) {
         errors.push(error);
-        if errors.len() == 3 {
+        if errors.len() == most {
             return (came, errors);
         }
     }
+    assert_eq!(asked.0.get(), 1);
     let mut reader = opening.finish().unwrap();
-    while errors.len() < 3 {
+    while errors.len() < most {
         match reader.read(&mut piece) {
             Ok(0) => break,
             Ok(count) => came.extend_from_slice(&piece[..count]),
@@ -102,13 +115,12 @@ fn reader_goes_on_after_each_failed_read() {
         let plain = text(len);
         let (file, front) = sealed(&plain);
         each_failure(&Device::new(file).by(most), &[Call::Read], |device, case| {
-            let (came, errors) = read_on(device);
-            errors.iter().for_each(|error| case.unwrap().assert_error(error));
-            let (count, end) = match case {
-                Some(case) if case.is_repeated() => (0, len),
-                Some(case) if case.is_once => (1, len),
-                Some(_) => (3, opened(device.file.position() as usize, front)),
+            let (came, errors) = read_on(device, 3);
+            errors.iter().for_each(|error| case.assert_error(error));
+            let (count, end) = match case.noticed(device) {
                 None => (0, len),
+                Some(_) if case.is_once => (1, len),
+                Some(given) => (3, opened(given, front)),
             };
             assert!(errors.len() == count && came == plain[..end], "{case:?}: {} bytes, {errors:?}", came.len());
         });
@@ -119,18 +131,9 @@ fn reader_goes_on_after_each_failed_read() {
 fn reader_goes_on_however_often_its_source_would_block() {
     for (len, most, from) in [(1000, 100, 0), (70_000, 1, 0), (300_000, 20_000, 0), (300_000, 20_000, 5)] {
         let plain = text(len);
-        let mut source = Device::new(sealed(&plain).0).by(most).blocking(from);
-        let (mut came, mut opening, mut piece) = (Vec::new(), Opening::new(&mut source), [0; 7000]);
-        while opening.read(&[&key()]).is_err() {}
-        let mut reader = opening.finish().unwrap();
-        loop {
-            match reader.read(&mut piece) {
-                Ok(0) => break,
-                Ok(count) => came.extend_from_slice(&piece[..count]),
-                Err(error) => assert_eq!(error.kind(), ErrorKind::WouldBlock),
-            }
-        }
-        assert!(came == plain && source.failed.len() > 5, "{len} bytes");
+        let (came, errors) = read_on(&mut Device::new(sealed(&plain).0).by(most).blocking(from), usize::MAX);
+        assert!(came == plain && errors.len() > 5, "{len} bytes, {} errors", errors.len());
+        assert!(errors.iter().all(|error| error.kind() == ErrorKind::WouldBlock));
     }
 }
 
@@ -139,29 +142,27 @@ fn reader_goes_on_however_often_its_source_would_block() {
 fn ranges_are_right_after_each_failed_call() {
     let plain = text(2 * TEXT + 100);
     let (file, _) = sealed(&plain);
-    let places = [0, TEXT, 5, TEXT + 5, 2 * TEXT, 9, 2 * TEXT + 9, TEXT - 4, TEXT, 0];
     for most in [40_000, usize::MAX] {
         each_failure(&Device::new(&file[..]).by(most), &[Call::Read, Call::Seek], |device, case| {
             let mut reader = match RangeReader::new(&mut *device, &[&key()]) {
                 Ok(reader) => reader,
-                Err(error) => return case.unwrap().assert_error(&error),
+                Err(error) => return case.assert_error(&error),
             };
             let mut errors = 0;
-            for at in places {
+            for at in [0, TEXT, 5, TEXT + 5, 2 * TEXT, 9, 2 * TEXT + 9, TEXT - 4, TEXT, 0] {
                 let (mut out, end) = ([0; 10], (at / TEXT + 1) * TEXT);
                 reader.seek(SeekFrom::Start(at as u64)).unwrap();
                 match reader.read(&mut out) {
-                    Ok(count) => assert_eq!(out[..count], plain[at..end.min(at + 10).min(plain.len())], "{case:?}"),
+                    Ok(count) => assert_eq!(out[..count], plain[at..end.min(at + 10)], "{case:?}"),
                     Err(error) => {
-                        case.unwrap().assert_error(&error);
+                        case.assert_error(&error);
                         assert_eq!(reader.stream_position().unwrap(), at as u64);
                         errors += 1;
                     }
                 }
             }
-            let is_noticed = case.map_or(false, |case| !case.is_repeated());
-            assert!(if is_noticed { errors > 0 } else { errors == 0 }, "{case:?}: {errors}");
-            assert!(errors < 2 || !case.unwrap().is_once, "{case:?}: {errors}");
+            let expected = if case.noticed(device).is_some() { 1..if case.is_once { 2 } else { 11 } } else { 0..1 };
+            assert!(expected.contains(&errors), "{case:?}: {errors}");
         });
     }
 }
@@ -174,29 +175,26 @@ fn salvage_loses_the_chunks_whose_reads_fail() {
         each_failure(&Device::new(&file[..]).by(most), &[Call::Read], |device, case| {
             let mut came = Vec::new();
             let result = salvage(&mut *device, &mut came, &[&key()]);
-            let failed = device.failed.first().copied().filter(|_| !case.unwrap().is_repeated());
-            let is_error = |case: Case| case.failure.map_or(true, |kind| kind == ErrorKind::WouldBlock);
-            if failed.map_or(false, |at| at < front || is_error(case.unwrap())) {
-                case.unwrap().assert_error(&result.unwrap_err());
-                assert!(came == plain[..opened(failed.unwrap(), front)], "{case:?}: {} bytes", came.len());
-                return;
+            let says_nothing_of_the_disk = matches!(case.failure, None | Some(ErrorKind::WouldBlock));
+            let (mut expected, mut lost) = (plain.clone(), None);
+            match case.noticed(device) {
+                Some(at) if at < front || says_nothing_of_the_disk => {
+                    case.assert_error(&result.unwrap_err());
+                    return assert!(came == plain[..opened(at, front)], "{case:?}: {} bytes", came.len());
+                }
+                Some(at) if at < file.len() => {
+                    let first = (at - front) / SEALED;
+                    let end = if case.is_once { first + 1 } else { 3 };
+                    let bytes = first * TEXT..plain.len().min(end * TEXT);
+                    expected[bytes.clone()].fill(0);
+                    lost = Some((first as u64..end as u64, bytes.start as u64..bytes.end as u64, true));
+                }
+                _ => {}
             }
-            let mut expected = plain.clone();
-            let lost = failed.filter(|at| *at < file.len()).map(|at| {
-                let first = (at - front) / SEALED;
-                let last = if case.unwrap().is_once { first } else { 2 };
-                let bytes = first * TEXT..plain.len().min((last + 1) * TEXT);
-                expected[bytes.clone()].fill(0);
-                (first as u64..last as u64 + 1, bytes.start as u64..bytes.end as u64, true)
-            });
             let saved = result.unwrap();
-            let found: Vec<_> = saved.lost.into_iter().map(|run| (run.chunks, run.bytes, run.is_unread)).collect();
-            assert!(came == expected, "{case:?}");
-            assert_eq!(
-                (saved.is_whole, saved.is_cut, found),
-                (lost.is_none(), false, Vec::from_iter(lost)),
-                "{case:?}"
-            );
+            let runs: Vec<_> = saved.lost.into_iter().map(|run| (run.chunks, run.bytes, run.is_unread)).collect();
+            assert!(came == expected && (saved.is_whole, saved.is_cut) == (lost.is_none(), false), "{case:?}");
+            assert_eq!(runs, Vec::from_iter(lost), "{case:?}");
         });
     }
 }
@@ -209,82 +207,111 @@ fn salvage_ends_if_it_cannot_seek() {
     each_failure(&Device { bad: vec![bad], ..Device::new(file) }, &[Call::Seek], |device, case| {
         let mut came = Vec::new();
         let result = salvage(&mut *device, &mut came, &[&key()]);
-        match case {
-            None => assert_eq!(result.unwrap().lost.len(), 1),
+        match case.at {
+            usize::MAX => return assert_eq!(result.unwrap().lost.len(), 1),
             // A source that does not tell its position is a pipe.
-            Some(Case { at: 0, .. }) => assert_eq!(result.unwrap_err().to_string(), "bad block"),
-            Some(case) => case.assert_error(&result.unwrap_err()),
+            0 => assert_eq!(result.unwrap_err().to_string(), "bad block"),
+            _ => case.assert_error(&result.unwrap_err()),
         }
-        assert!(came.len() == if case.is_none() { plain.len() } else { TEXT } && came[..TEXT] == plain[..TEXT]);
+        assert!(came == plain[..TEXT], "{case:?}");
     });
 }
 
 #[test]
 fn copy_under_a_new_header_ends_with_each_failed_read() {
-    let plain = text(2 * TEXT + 100);
-    let (file, front) = sealed(&plain);
-    for most in [40_000, usize::MAX] {
-        each_failure(&Device::new(&file[..]).by(most), &[Call::Read], |device, case| {
+    let other = Key::new([8; 32]);
+    for (len, most) in [(2 * TEXT + 100, 40_000), (2 * TEXT + 100, usize::MAX), (10, 1)] {
+        let plain = text(len);
+        let (file, front) = sealed(&plain);
+        each_failure(&Device::new(&file[..]).by(most.max(front)), &[Call::Read], |device, case| {
             let mut sink = Device::new([]);
-            let copied = AssertUnwindSafe(|| rewrap_copy(&mut *device, &mut sink, &[&key()], &[&key()]));
-            let result = catch_unwind(copied);
-            if case.map_or(true, |case| case.is_repeated()) {
-                result.unwrap().unwrap();
-                assert_eq!((sink.calls[Call::Flush as usize], sink.flushed), (1, file.len()));
-                assert!(agefile::decrypt(sink.contents(), &[&key()]).unwrap() == plain);
-                return;
-            }
+            let copied = AssertUnwindSafe(|| rewrap_copy(&mut *device, &mut sink, &[&key()], &[&other]));
             // The standard library ends a copy by a panic if the source returns too much.
-            if let Ok(result) = result {
-                case.unwrap().assert_error(&result.unwrap_err());
-            }
-            let given = device.failed[0];
-            assert_eq!(
-                (sink.calls[Call::Flush as usize], sink.contents().len()),
-                (0, if given < front { 0 } else { given })
-            );
-            assert!(sink.contents().is_empty() || sink.contents()[front - 16..] == file[front - 16..given], "{case:?}");
+            let result = catch_unwind(copied)
+                .unwrap_or_else(|_| Err(io::Error::new(ErrorKind::Other, "the source returned more")));
+            let given = match case.noticed(device) {
+                None => return assert!(result.is_ok() && decrypt(sink.contents(), &[&other]).unwrap() == plain),
+                Some(given) => given,
+            };
+            case.assert_error(&result.unwrap_err());
+            let expected = if given < front { &[] } else { &file[front - 16..given] };
+            assert_eq!(sink.calls[Call::Flush as usize], 0);
+            assert!(&sink.contents()[sink.contents().len().min(front - 16)..] == expected, "{case:?}");
         });
     }
 }
 
-/// Writes a file to a sink, and goes on after errors. Returns these, and how the file ended.
-fn write_on(plain: &[u8], sink: &mut Device) -> (Vec<io::Error>, io::Result<()>) {
-    let mut writer = match Writer::new(sink, &[&key()]) {
-        Ok(writer) => writer,
-        Err(error) => return (vec![], Err(error)),
-    };
+/// Writes a file, and goes on after the first error, which it returns.
+fn written(plain: &[u8], sink: &mut Device) -> io::Result<()> {
+    let mut writer = Writer::new(sink, &[&key()])?;
     let mut errors: Vec<_> = plain.chunks(9999).filter_map(|piece| writer.write_all(piece).err()).collect();
-    errors.extend(writer.flush().err());
-    (errors, writer.finish().map(drop).map_err(io::Error::from))
+    match writer.finish() {
+        Ok(_) => assert!(errors.is_empty(), "a file is complete after {errors:?}"),
+        Err(failed) => {
+            let said = (failed.error().kind(), failed.to_string());
+            let (error, _) = failed.into_parts();
+            assert_eq!(said, (error.kind(), error.to_string()));
+            errors.push(error);
+        }
+    }
+    let mut errors = errors.into_iter();
+    let first = errors.next();
+    errors.for_each(|error| assert_eq!(fault(error), Error::Incomplete));
+    first.map_or(Ok(()), Err)
+}
+
+fn rewrapped(plain: &[u8], sink: &mut Device) -> io::Result<()> {
+    rewrap_copy(&sealed(plain).0[..], sink, &[&key()], &[&key()])
+}
+
+fn salvaged(plain: &[u8], sink: &mut Device) -> io::Result<()> {
+    salvage(Cursor::new(sealed(plain).0), sink, &[&key()]).map(drop)
 }
 
 #[test]
 fn no_file_is_complete_after_a_failed_write() {
-    for (len, most) in [(2 * TEXT, usize::MAX), (2 * TEXT + 100, 40_000), (0, 100)] {
-        let (plain, front) = (text(len), sealed(b"").1);
-        each_failure(&Device::new([]).by(most), &[Call::Write, Call::Flush], |device, case| {
-            let (errors, end) = write_on(&plain, device);
-            let is_failed = !device.failed.is_empty() && !case.unwrap().is_repeated();
-            if is_failed {
-                let all: Vec<_> = errors.iter().chain(end.as_ref().err()).collect();
-                case.unwrap().assert_error(all[0]);
-                let is_told = |error: &&io::Error| error.to_string() == Error::Incomplete.to_string();
-                let is_lasting = case.unwrap().call == Call::Flush;
-                assert!(is_lasting || end.is_err() && all[1..].iter().all(is_told), "{case:?}: {all:?}");
-            }
-            // A sink that fails to flush once has all the same.
-            let has_all = !is_failed || case.unwrap().call == Call::Flush;
-            let expects_end = !is_failed || has_all && case.unwrap().is_once && case.unwrap().at == 0;
-            assert_eq!(end.is_ok(), expects_end, "{case:?}");
-            let mut came = Vec::new();
-            let read = Reader::new(device.contents(), &[&key()]).and_then(|mut reader| reader.read_to_end(&mut came));
-            assert_eq!(read.is_ok(), has_all, "{case:?}");
-            if has_all {
-                assert!(came == plain && (!expects_end || device.flushed == device.contents().len()), "{case:?}");
-            } else {
-                assert!(came == plain[..opened(device.contents().len(), front)], "{case:?}");
-            }
-        });
+    type Way = fn(&[u8], &mut Device) -> io::Result<()>;
+    let front = sealed(b"").1;
+    for (way, is_sealed) in [(written as Way, true), (rewrapped, true), (salvaged, false)] {
+        for (len, most) in [(2 * TEXT, usize::MAX), (2 * TEXT + 100, 40_000), (10, 100)] {
+            let plain = text(len);
+            each_failure(&Device::new([]).by(most), &[Call::Write, Call::Flush], |sink, case| {
+                let result = way(&plain, sink);
+                let is_noticed = case.noticed(sink).is_some();
+                if let Err(error) = &result {
+                    case.assert_error(error);
+                }
+                assert_eq!(result.is_err(), is_noticed, "{case:?}");
+                let has_all = !is_noticed || case.call == Call::Flush;
+                let (mut came, bytes) = (Vec::new(), sink.contents());
+                if is_sealed {
+                    let read = Reader::new(bytes, &[&key()]).and_then(|mut reader| reader.read_to_end(&mut came));
+                    assert_eq!(read.is_ok(), has_all, "{case:?}");
+                    assert!(came == plain[..if has_all { len } else { opened(bytes.len(), front) }], "{case:?}");
+                } else {
+                    assert!(plain.starts_with(bytes) && (bytes.len() == len) == has_all, "{case:?}");
+                }
+                assert!(is_noticed || (sink.calls[Call::Flush as usize], sink.flushed) == (1, bytes.len()), "{case:?}");
+            });
+        }
     }
+}
+
+#[test]
+fn sinks_that_fail_to_flush_that_take_nothing_and_that_take_too_much() {
+    let plain = text(100_000);
+    for kind in kinds() {
+        let mut sink = Device::new([]).failing(Call::Flush, 0..1, kind);
+        let mut writer = Writer::new(&mut sink, &[&key()]).unwrap();
+        writer.write_all(&plain[..70_000]).unwrap();
+        assert_eq!(writer.flush().unwrap_err().kind(), kind);
+        writer.write_all(&plain[70_000..]).unwrap();
+        writer.finish().unwrap();
+        assert!(sink.flushed == sink.contents().len() && decrypt(sink.contents(), &[&key()]).unwrap() == plain);
+    }
+    assert_eq!(Writer::new(Device::new([]).by(0), &[&key()]).unwrap_err().kind(), ErrorKind::WriteZero);
+    // The standard library ends a write by a panic if the sink takes too much.
+    let mut writer = Writer::new(Device::new([]).failing(Call::Write, 1..2, None), &[&key()]).unwrap();
+    catch_unwind(AssertUnwindSafe(|| writer.write_all(&plain))).unwrap_err();
+    assert_eq!(fault(writer.finish().unwrap_err().into()), Error::Incomplete);
 }

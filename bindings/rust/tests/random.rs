@@ -20,6 +20,8 @@ struct System {
     /// after these give all that they are asked for.
     ends: Vec<Result<usize, i32>>,
     given: Vec<u8>,
+    /// The flags of all calls: 0 waits until the system's bytes are random.
+    flags: u32,
 }
 
 thread_local! {
@@ -27,11 +29,13 @@ thread_local! {
 }
 
 #[no_mangle]
-extern "C" fn getrandom(buf: *mut u8, len: usize, _flags: u32) -> isize {
+extern "C" fn getrandom(buf: *mut u8, len: usize, flags: u32) -> isize {
     extern "C" {
         fn __errno_location() -> *mut i32;
     }
-    SYSTEM.with_borrow_mut(|system| match system.ends.pop().unwrap_or(Ok(len)) {
+    let mut system = SYSTEM.with(RefCell::take);
+    system.flags |= flags;
+    let result = match system.ends.pop().unwrap_or(Ok(len)) {
         Ok(most) => {
             let count = most.min(len);
             for at in 0..count {
@@ -48,7 +52,9 @@ extern "C" fn getrandom(buf: *mut u8, len: usize, _flags: u32) -> isize {
             unsafe { *__errno_location() = number };
             -1
         }
-    })
+    };
+    SYSTEM.with(|it| it.replace(system));
+    result
 }
 
 /// Makes a file of `text` or `hello` for these recipients.
@@ -75,8 +81,11 @@ fn made(
     ends: Vec<Result<usize, i32>>,
     out: &mut Vec<u8>,
 ) -> io::Result<System> {
-    SYSTEM.set(System { ends, given: vec![] });
-    way(recipients, out).map(|()| SYSTEM.take())
+    SYSTEM.with(|it| it.replace(System { ends, ..System::default() }));
+    let result = way(recipients, out);
+    let system = SYSTEM.with(RefCell::take);
+    assert_eq!(system.flags, 0);
+    result.map(|()| system)
 }
 
 /// A key's recipient, which notes the file key.

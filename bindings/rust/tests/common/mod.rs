@@ -20,13 +20,8 @@ pub fn text(len: usize) -> Vec<u8> {
 /// The age file of these bytes, and where its chunks begin.
 pub fn sealed(plain: &[u8]) -> (Vec<u8>, usize) {
     let file = agefile::encrypt(plain, &[&key()]).unwrap();
-    let front = front_len(&file);
+    let front = agefile::inspect(&file).unwrap().text().len() + 16;
     (file, front)
-}
-
-/// The length of a file's header and nonce.
-pub fn front_len(file: &[u8]) -> usize {
-    agefile::inspect(file).unwrap().text().len() + 16
 }
 
 pub fn fault(error: io::Error) -> Error {
@@ -63,7 +58,7 @@ pub struct Fault {
 }
 
 /// A file, a pipe or a disk, as a source or as a sink.
-#[derive(Clone, Debug)]
+#[derive(Clone, Debug, Default)]
 pub struct Device {
     pub file: Cursor<Vec<u8>>,
     /// The most bytes that one call reads or writes.
@@ -82,16 +77,7 @@ pub struct Device {
 
 impl Device {
     pub fn new(bytes: impl Into<Vec<u8>>) -> Device {
-        Device {
-            file: Cursor::new(bytes.into()),
-            most: usize::MAX,
-            faults: vec![],
-            bad: vec![],
-            all_or_none: false,
-            calls: [0; 4],
-            failed: vec![],
-            flushed: 0,
-        }
+        Device { file: Cursor::new(bytes.into()), most: usize::MAX, ..Device::default() }
     }
 
     /// At most so many bytes a call.
@@ -120,13 +106,15 @@ impl Device {
         let number = self.calls[call as usize];
         self.calls[call as usize] += 1;
         let fails = |fault: &&Fault| {
-            fault.call == call && fault.numbers.contains(&number) && (number - fault.numbers.start) % fault.step == 0
+            let Fault { numbers, step, .. } = fault;
+            fault.call == call && numbers.contains(&number) && (number - numbers.start) % step == 0
         };
-        let Some(fault) = self.faults.iter().find(fails) else { return Ok(None) };
-        self.failed.push(self.file.position() as usize);
-        match fault.failure {
-            Some(kind) => Err(io::Error::new(kind, format!("{call:?} {number}"))),
-            None => Ok(Some(len + 1)),
+        let failure = self.faults.iter().find(fails).map(|fault| fault.failure);
+        self.failed.extend(failure.map(|_| self.file.position() as usize));
+        match failure {
+            Some(Some(kind)) => Err(io::Error::new(kind, format!("{call:?} {number}"))),
+            Some(None) => Ok(Some(len + 1)),
+            None => Ok(None),
         }
     }
 }
