@@ -8,7 +8,8 @@ use crate::header::stanzas_text;
 use crate::{Error, FileKey, Recipient};
 
 /// Encrypts the bytes written to it, chunk by chunk, in constant memory. Only [`Writer::finish`]
-/// completes the file: without it, or after a failed write, every reader refuses the file.
+/// completes the file: without it, or after a failed write to the sink, even one that would block,
+/// every reader refuses the file.
 ///
 /// ```
 /// # fn main() -> std::io::Result<()> {
