@@ -32,7 +32,7 @@ pub struct Unread {
 /// How far a source has read.
 #[derive(Clone, Copy, Drop, PartialEq, Eq)]
 pub(crate) enum Reached {
-    /// It has returned the bytes up to a place in the file, each as it was read.
+    /// It has returned the bytes up to some offset, each as it was read.
     Place,
     /// The same up to the end of the file.
     End,

@@ -81,7 +81,7 @@ impl Chunks {
         self.layout
     }
 
-    /// The number of chunks that were opened so far, saturating at the largest `u64`.
+    /// The number of times that a chunk was read to be opened, saturating at the largest `u64`.
     pub(crate) fn opened(&self) -> u64
         ensures { result ≡ self.now.opened }
     {

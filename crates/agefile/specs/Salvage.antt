@@ -19,7 +19,7 @@ saved_number Zeros = 4
 saved_number Nothing = 5
 saved_number (Padded k) = 6
 
--- what a payload notes of a chunk: that one is lost, or the latest early one, by its number and 1
+-- what a payload notes of a chunk: that one is lost, or the number of an early one, plus 1
 abbrev pub noted : (p : Payload) (saved : Saved) → Payload
 noted p Zeros = record p { lost = 1 }
 noted p Early = record p { early = p.number + 1 }
