@@ -12,9 +12,9 @@
 //!
 //! Nothing here opens a file or prints: the crate `age_cli` does both.
 //!
-//! *What a contract sees.* A task is a command with its secrets, and these are what
-//! `specs/Secret.antt` says of a recipient or an identity. The input is a source, known or by what
-//! it gave. A `WatchedSink` is its writer, and its count of failures.
+//! *What a contract sees.* A task is a command with its secrets. `specs/Secret.antt` says which
+//! recipient or identity a secret means. The input is a source: the bytes to come, if they are
+//! known, and those that it returned. A `WatchedSink` is its writer, and its count of failures.
 #![tactic(auto)]
 
 mod buffering;

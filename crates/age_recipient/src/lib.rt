@@ -16,9 +16,9 @@
 //!
 //! *What a contract sees.* A recipient or identity is its meaning, a ghost function: `wraps` of a
 //! file key, `meaning` of a list of stanzas, `the_labels`. So a list of boxes is a list of
-//! meanings. A passphrase's are the records `PassSecret` and `PassGuess`, a key's are `KeySecret`
-//! and the key's bytes, and a set of labels is the list of its texts in order. For which stanzas an
-//! identity may return out of memory is its `may_run_out`.
+//! meanings. The recipient and identity of a passphrase are the records `PassSecret` and
+//! `PassGuess`, those of a key `KeySecret` and the key's bytes. A set of labels is the list of its
+//! texts in order. `may_run_out` says for which stanzas an identity may return out of memory.
 //!
 //! Limits: work factors are 1 to 30 (`passphrase/work.rt`, `specs/PassphraseHolders.antt`). There
 //! are no X25519, SSH or plugin recipients.

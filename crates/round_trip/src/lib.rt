@@ -5,12 +5,12 @@
 //! let text = key_there_and_back(alloc, key, salt, plain, &fresh, &limits)?; // equals `plain`
 //! ```
 //!
-//! *What a contract sees.* Everything is in memory. A plaintext and a file are lists of bytes. A
-//! pair is the meanings of its recipient and its identity. A loss is the reason why no plaintext
-//! came back.
+//! *What a contract sees.* A plaintext and a file are lists of bytes in memory. A pair is the
+//! meanings of its recipient and its identity. A loss is the reason why no plaintext came back. A
+//! list of calls works over any source.
 //!
-//! Limits: one recipient, and everything in memory. The only errors of a passphrase's or a key's
-//! round trip are work factors out of range, too many chunks, and a refused allocation.
+//! Limits: a round trip has one recipient. The only errors of a passphrase's or a key's round trip
+//! are work factors out of range, too many chunks, and a refused allocation.
 #![tactic(auto)]
 
 mod file;
