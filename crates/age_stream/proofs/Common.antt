@@ -30,7 +30,7 @@ pub use Rattle.age_stream.specs.Ranges.{HasPlain, IsOpenFault, IsSound, IsThere,
 pub use Rattle.age_stream.specs.Reader.{StartsReader}
 pub use Rattle.age_stream.specs.Reading.{Reading, after_first, first_fault, first_outcome, outcomes, payload_reading, piece_opening, plaintext_of, reading_from, stop, whole}
 unfoldable pub use Rattle.age_stream.specs.Reading.{outcome}
-pub use Rattle.age_stream.specs.Salvage.{EndsSaving, KnownLosses, Part, Reports, Salvages, SavesParts, SavesPayload, early_after, first_part, in_place, is_whole, is_whole_to, last_saved, latest_early, loss, losses, losses_of, lost_part, opening_or, out_of_place, part, parts, payload_parts, salvaged_text, summary, with_part, closed_part, padding}
+pub use Rattle.age_stream.specs.Salvage.{EndsSaving, KnownLosses, Part, Reports, Salvages, SavesParts, SavesPayload, early_after, first_part, in_place, is_whole, is_whole_to, last_saved, latest_early, loss, losses, losses_of, lost_part, opening_or, out_of_place, part, parts, payload_parts, salvaged_text, saved_before, summary, with_part, closed_part, padding}
 unfoldable pub use Rattle.age_stream.specs.Salvage.{padded_part}
 pub use Rattle.age_stream.specs.Sealing.{Fed, Fills, FinishesBy, IsFed, SealerState, SealsAll, Stopped, StopsIn, TakesAll, WroteAtLeast, at_start, sealed_chunks_after}
 pub use Rattle.age_stream.specs.Sizes.{chunk_buf_size, chunk_size, nonce_size, sealed_chunk_size, max_padding}

@@ -1,5 +1,5 @@
 -- The parts of pieces that are saved one after another.
-use Rattle.age_stream.proofs.Common.{◌≡◌, ◌⊎◌, ◌∙◌, ◌++◌, ◌∷◌, ◌+◌, ◌-◌, ◌*◌, ◌<◌, ◌≤◌, ℕ, List, [], length, take, drop, ap, sym, arith, append_assoc, append-nil, length-append, refl, Bool, not, inl, inr, None, Some, Result, Ok, Err, nat_le, min, suc, IfErr, Appends, IsAtEnd, Appends-trans, Appends-nil, le-leb, lt-leb, cases_lt, drop-append-le, take_all, take_at, drop_at, take-append-le, length-take-le, length-drop, Bytes, opened_text, Gave, GaveSome, Known, OfGiven, Seen, WritesPart, flow, move_of, FileKey, StreamFault, NonceTruncated, TooManyChunks, Read, Write, Memory, chunk_size, sealed_chunk_size, chunk_buf_size, gave_more, gave_none, gave_then, of_any, of_ended, of_map, of_more, of_then, LostChunk, Salvaged, Saved, Nothing, Zeros, length-sealed_text, opened_is, EndsAt, GivesNonce, chunk_nonce, payload_key, pieces, piece_opening, EndsSaving, KnownLosses, Part, ReadsAhead, Reports, Salvages, SavesParts, SavesPayload, early_after, first_part, in_place, last_saved, latest_early, loss, losses, lost_part, part, parts, payload_parts, salvaged_text, summary, losses_of, with_part, Option, concat-append, map-append, map, zero, true, false, take-take, Padded, closed_part, opening_or, out_of_place, padded_part, padding, max_padding, cases_Option}
+use Rattle.age_stream.proofs.Common.{◌≡◌, ◌⊎◌, ◌∙◌, ◌++◌, ◌∷◌, ◌+◌, ◌-◌, ◌*◌, ◌<◌, ◌≤◌, ℕ, List, [], length, take, drop, ap, sym, arith, append_assoc, append-nil, length-append, refl, Bool, not, inl, inr, None, Some, Result, Ok, Err, nat_le, min, suc, IfErr, Appends, IsAtEnd, Appends-trans, Appends-nil, le-leb, lt-leb, cases_lt, drop-append-le, take_all, take_at, drop_at, take-append-le, length-take-le, length-drop, Bytes, opened_text, Gave, GaveSome, Known, OfGiven, Seen, WritesPart, flow, move_of, FileKey, StreamFault, NonceTruncated, TooManyChunks, Read, Write, Memory, chunk_size, sealed_chunk_size, chunk_buf_size, gave_more, gave_none, gave_then, of_any, of_ended, of_map, of_more, of_then, LostChunk, Salvaged, Saved, Nothing, Zeros, length-sealed_text, opened_is, EndsAt, GivesNonce, chunk_nonce, payload_key, pieces, piece_opening, EndsSaving, KnownLosses, Part, ReadsAhead, Reports, Salvages, SavesParts, SavesPayload, early_after, first_part, in_place, last_saved, latest_early, loss, losses, lost_part, part, parts, payload_parts, salvaged_text, saved_before, Chunk, summary, losses_of, with_part, Option, concat-append, map-append, map, zero, true, false, take-take, Padded, closed_part, opening_or, out_of_place, padded_part, padding, max_padding, cases_Option}
 use Rattle.age_stream.proofs.PayloadLemmas.{length_each}
 use Rattle.age_stream.proofs.CuttingLemmas.{cut_last}
 use Rattle.age_stream.proofs.OpeningLemmas.{take_most}
@@ -132,6 +132,15 @@ last_snoc [] y = refl
 last_snoc (x ∷ []) y = refl
 last_snoc (x ∷ z ∷ xs) y = last_snoc (z ∷ xs) y
 
+pub before_snoc : (before : Saved) (x : Part) (xs : List Part) (y : Part)
+    → saved_before before (x ∷ (xs ++ y ∷ [])) ≡ last_saved (x ∷ xs)
+before_snoc before x [] y = refl
+before_snoc before x (z ∷ xs) y = before_snoc x.saved z xs y
+
+pub first_snoc : (xs : List Part) (y : Part) → saved_before Chunk (xs ++ y ∷ []) ≡ last_saved xs
+first_snoc [] y = refl
+first_snoc (x ∷ xs) y = before_snoc Chunk x xs y
+
 pub early_snoc : (i : ℕ) (before : Option ℕ) (xs : List Part) (y : Part)
     → latest_early i before (xs ++ y ∷ []) ≡ early_after y.saved (i + length xs) (latest_early i before xs)
 early_snoc i before [] y = let none : i + 0 ≡ i = omega arith in rw none refl
@@ -211,6 +220,7 @@ snoc_summary done y =
     let n : s.chunks + 1 ≡ length (done ++ y ∷ []) = omega (arith, length-append done (y ∷ [])) in
     let zero : length done ≡ 0 + length done = omega arith in
     let early = ap (λ k. early_after y.saved k s.early) zero ∙ sym (early_snoc 0 None done y) in
+    let before = first_snoc done y in
     let last = last_snoc done y in
     cc
 

@@ -89,11 +89,17 @@ losses i at (p ∷ more) =
     loss p.saved (record { chunk = i; start = at; len = length p.text })
     ++ losses (i + 1) (at + length p.text) more
 
--- what was saved of the last piece
+-- what was saved of the last piece; of none, a chunk that others follow
 abbrev pub last_saved : List Part → Saved
-last_saved [] = Nothing
+last_saved [] = Chunk
 last_saved (p ∷ []) = p.saved
 last_saved (p ∷ q ∷ more) = last_saved (q ∷ more)
+
+-- what was saved of the piece before the last, if this was saved of the one before the first
+abbrev pub saved_before : (before : Saved) → List Part → Saved
+saved_before before [] = before
+saved_before before (p ∷ []) = before
+saved_before before (p ∷ q ∷ more) = saved_before p.saved (q ∷ more)
 
 -- the latest early chunk, if chunk i comes after those before
 abbrev pub early_after : (saved : Saved) (i : ℕ) (before : Option ℕ) → Option ℕ
@@ -106,26 +112,26 @@ latest_early i before [] = before
 latest_early i before (p ∷ more) = latest_early (i + 1) (early_after p.saved i before) more
 
 -- the number of bytes, of pieces and of lost chunks, the latest early chunk, and what was saved of
--- the last piece
+-- the last two pieces
 abbrev pub summary : (parts : List Part) → Salvaged
 summary parts = record {
   bytes = length (salvaged_text parts);
   chunks = length parts;
   lost = length (losses 0 0 parts);
   early = latest_early 0 None parts;
+  before = saved_before Chunk parts;
   last = last_saved parts;
 }
 
--- The last piece opens as a chunk that is not the last; or it has no text and does not open, and
--- the chunk before it is not early.
-abbrev pub is_cut_to : (last : Saved) (early : Option ℕ) (chunks : ℕ) → Bool
-is_cut_to Chunk early chunks = true
-is_cut_to Nothing None chunks = true
-is_cut_to Nothing (Some i) chunks = nat_lt i (chunks - 2)
-is_cut_to _ early chunks = false
+-- The last piece opens as a chunk that is not the last. Or it has no text and does not open, and it
+-- is the first, or the one before it opens as a chunk that is not the last.
+abbrev pub is_cut_to : (last before : Saved) → Bool
+is_cut_to Chunk before = true
+is_cut_to Nothing Chunk = true
+is_cut_to _ before = false
 
 abbrev pub is_cut : (s : Salvaged) → Bool
-is_cut s = is_cut_to s.last s.early s.chunks
+is_cut s = is_cut_to s.last s.before
 
 -- no chunk is lost or early, and the last piece is the last chunk
 abbrev pub is_whole_to : (last : Saved) (lost : ℕ) (early : Option ℕ) → Bool
@@ -220,5 +226,6 @@ with_part s len saved = record {
   chunks = s.chunks + 1;
   lost = s.lost + length (loss saved (record { chunk = s.chunks; start = s.bytes; len = len }));
   early = early_after saved s.chunks s.early;
+  before = s.last;
   last = saved;
 }

@@ -54,6 +54,8 @@ pub struct Salvaged {
     pub lost: u128,
     /// The number of the latest early chunk.
     pub early: Option<u128>,
+    /// What was saved of the piece before the last; `Saved::Chunk` if there is none.
+    pub before: Saved,
     /// What was saved of the last piece.
     pub last: Saved,
 }
@@ -72,13 +74,13 @@ impl Salvaged {
 
     /// Whether the payload is cut short. A last piece that has no text and does not open is the
     /// start of a chunk that was cut, but after an early chunk it is bytes after the end. If zeros
-    /// stand for the last piece, this is not known, and the result is false.
+    /// stand for the last piece, or for the one before such a piece, this is not known, and the
+    /// result is false.
     pub fn is_cut(&self) -> bool
         ensures { result ≡ is_cut self.now }
     {
-        match (self.last, self.early) {
-            (Saved::Chunk, _) | (Saved::Nothing, None) => true,
-            (Saved::Nothing, Some(early)) => early < self.chunks.saturating_sub(2),
+        match (self.last, self.before) {
+            (Saved::Chunk, _) | (Saved::Nothing, Saved::Chunk) => true,
             _ => false,
         }
     }

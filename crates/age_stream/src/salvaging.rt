@@ -68,7 +68,8 @@ const NOTHING_SAVED: Salvaged = Salvaged {
     chunks: 0,
     lost: 0,
     early: None,
-    last: Saved::Nothing,
+    before: Saved::Chunk,
+    last: Saved::Chunk,
 };
 
 /// Saves what it can of the pieces that are left in the source.
@@ -237,5 +238,6 @@ fn note<L: Losses>(done: &mut Salvaged, losses: &mut L, len: usize, saved: Saved
     }
     done.bytes += len as u128;
     done.chunks += 1;
+    done.before = done.last;
     done.last = saved;
 }

@@ -1,18 +1,18 @@
 -- What runs of calls that save chunks give.
-use Rattle.agefile.proofs.Common.{◌≡◌, ℕ, ◌+◌, ◌<◌, List, [], ◌∷◌, ◌∙◌, ap, sym, length, take, map, Bool, true, false, refl, arith, inl, inr, take-append_seam, append-nil, length-append, ap₂, suc, zero, Option, Some, None, is_end, pieces, before_first, after_chunk, sealed_chunk_size, Bytes, Payload, Report, phase_reading}
-use Rattle.agefile.specs.Words.{nat_eq}
+use Rattle.agefile.proofs.Common.{◌≡◌, ℕ, ◌+◌, ◌<◌, List, [], ◌∷◌, ◌++◌, ◌∙◌, ap, sym, length, take, map, Bool, true, false, refl, arith, inl, inr, take-append_seam, length-append, Option, Some, None, is_end, pieces, before_first, after_chunk, sealed_chunk_size, Bytes, Payload, Report, phase_reading}
+use Rattle.agefile.specs.Words.{nat_eq, nat_le}
 use Rattle.std.proofs.lemmas.Bool.{ne_eqb}
 use Rattle.age_stream.proofs.ReadingLemmas.{is_end_cut}
 use Rattle.age_stream.specs.declared.salvaged.LostChunk.{LostChunk}
 use Rattle.age_stream.specs.declared.salvaged.Saved.{Saved}
-use Rattle.age_stream.specs.declared.salvaged.Saved.TheVariants.{Chunk, LastChunk, Padded, Early, Zeros, Nothing}
-use Rattle.age_stream.specs.Salvage.{Part, early_after, last_saved, latest_early, loss, losses, part, parts, summary}
-use Rattle.agefile.specs.Salvage.{Given, SavesAs, SavesRun, detail_of, early_of, given_of, noted, verdict_of, verdict_to}
+use Rattle.age_stream.specs.declared.salvaged.Saved.TheVariants.{Chunk, LastChunk, Early, Zeros, Nothing}
+use Rattle.age_stream.specs.Salvage.{Part, early_after, is_cut_to, is_whole_to, last_saved, latest_early, loss, losses, part, parts, saved_before, summary}
+use Rattle.agefile.specs.Salvage.{Given, SavesAs, SavesRun, damage, detail_of, given_of, judged, noted, saved_number, verdict_of, verdict_to}
 use Rattle.agefile.proofs.RunLemmas.{at_chunk, fitting}
 
 -- a payload before chunk i, which has noted this
-abbrev pub noting : (key : Bytes) (i lost early : ℕ) → Payload
-noting key i lost early = record (at_chunk key i phase_reading) { lost = lost; early = early }
+abbrev pub noting : (key : Bytes) (i damaged before : ℕ) → Payload
+noting key i damaged before = record (at_chunk key i phase_reading) { damaged = damaged; before = before }
 
 one_saved : (p new : Payload) (last : Bool) (c after : Bytes) (report : Report) → SavesAs p new last c after report 0
     → ◌≡◌ {A = Given} (record { text = take report.len after; number = report.place })
@@ -32,105 +32,74 @@ saved_state : (p new : Payload) (last : Bool) (c after : Bytes) (report : Report
 saved_state p new last c after report (inl (within, gives, state)) = state
 saved_state p new last c after report (inr (many, refused, state)) = absurd (omega (arith, refused.returned))
 
--- what is noted of a chunk: the next payload, whether one is lost, and the latest early one
-noted_next : (saved : Saved) (key : Bytes) (i lost early : ℕ)
-    → after_chunk (noted (noting key i lost early) saved) false 0
-    ≡ noting key (i + 1) (noted (noting key i lost early) saved).lost (noted (noting key i lost early) saved).early
-noted_next Chunk key i lost early = refl
-noted_next LastChunk key i lost early = refl
-noted_next (Padded k) key i lost early = refl
-noted_next Early key i lost early = refl
-noted_next Zeros key i lost early = refl
-noted_next Nothing key i lost early = refl
+-- what is noted of a chunk: whether one is lost or early, and whether more chunks should follow
+damage_same : (saved : Saved) (damaged n i : ℕ) (early : Option ℕ) (x : LostChunk)
+    → nat_eq damaged 0 ≡ is_whole_to LastChunk n early
+    → nat_eq (damage damaged saved) 0
+    ≡ is_whole_to LastChunk (n + length (loss saved x)) (early_after saved i early)
+damage_same Zeros damaged n i None x same = sym (ne_eqb (n + 1) 0 (λ e. omega (arith, e)))
+damage_same Zeros damaged n i (Some j) x same = refl
+damage_same Early damaged n i early x same = refl
+damage_same saved damaged n i early x same =
+    same ∙ ap (λ (m : ℕ). is_whole_to LastChunk m early) (omega arith)
 
-none_more : (lost n : ℕ) → nat_eq lost 0 ≡ nat_eq n 0 → nat_eq lost 0 ≡ nat_eq (n + 0) 0
-none_more lost n same = same ∙ ap (λ (m : ℕ). nat_eq m 0) (omega arith)
-
-noted_lost : (saved : Saved) (key : Bytes) (i lost n early : ℕ) (x : LostChunk) → nat_eq lost 0 ≡ nat_eq n 0
-    → nat_eq (noted (noting key i lost early) saved).lost 0 ≡ nat_eq (n + length (loss saved x)) 0
-noted_lost Chunk key i lost n early x same = none_more lost n same
-noted_lost LastChunk key i lost n early x same = none_more lost n same
-noted_lost (Padded k) key i lost n early x same = none_more lost n same
-noted_lost Early key i lost n early x same = none_more lost n same
-noted_lost Zeros key i lost n early x same = sym (ne_eqb (n + 1) 0 (λ e. omega (arith, e)))
-noted_lost Nothing key i lost n early x same = none_more lost n same
-
-noted_early : (saved : Saved) (key : Bytes) (i lost early : ℕ)
-    → early_of (noted (noting key i lost early) saved).early ≡ early_after saved i (early_of early)
-noted_early Chunk key i lost early = refl
-noted_early LastChunk key i lost early = refl
-noted_early (Padded k) key i lost early = refl
-noted_early Early key i lost early = ap early_of (one_more i)
-  where
-    one_more : (n : ℕ) → n + 1 ≡ suc n
-    one_more n = omega arith
-noted_early Zeros key i lost early = refl
-noted_early Nothing key i lost early = refl
-
--- only whether a chunk is lost matters
-verdict_same : (saved : Saved) (lost n chunks : ℕ) (early : Option ℕ) → nat_eq lost 0 ≡ nat_eq n 0
-    → verdict_to saved lost early chunks ≡ verdict_to saved n early chunks
-verdict_same Chunk lost n chunks early same = refl
-verdict_same LastChunk lost n chunks None same = rw same refl
-verdict_same LastChunk lost n chunks (Some i) same = refl
-verdict_same (Padded k) lost n chunks early same = refl
-verdict_same Early lost n chunks early same = refl
-verdict_same Zeros lost n chunks early same = refl
-verdict_same Nothing lost n chunks early same = refl
+next_seen : (saved : Saved) → nat_le (saved_number saved) 1 ≡ is_cut_to Nothing saved
+next_seen Chunk = refl
+next_seen saved = refl
 
 -- what the last call reports of these parts, after n lost chunks
-abbrev pub told : (i n at : ℕ) (early : Option ℕ) (ps : List Part) → ℕ
-told i n at early ps =
-    verdict_to (last_saved ps) (n + length (losses i at ps)) (latest_early i early ps) (i + length ps)
+abbrev pub told : (i n at : ℕ) (early : Option ℕ) (b : Saved) (ps : List Part) → ℕ
+told i n at early b ps =
+    verdict_to (n + length (losses i at ps)) (latest_early i early ps) (saved_before b ps) (last_saved ps)
 
-last_told : (q : Part) (key : Bytes) (i lost n early at : ℕ) → nat_eq lost 0 ≡ nat_eq n 0
-    → detail_of (noting key i lost early) true q.saved ≡ told i n at (early_of early) (q ∷ [])
-last_told q key i lost n early at same =
-    let x : LostChunk = record { chunk = i; start = at; len = length q.text } in
-    rw (append-nil (loss q.saved x), noted_early q.saved key i lost early)
-    (verdict_same q.saved (noted (noting key i lost early) q.saved).lost (n + length (loss q.saved x)) (i + 1)
-    (early_after q.saved i (early_of early)) (noted_lost q.saved key i lost n early x same))
+last_told : (saved b : Saved) (damaged before i n : ℕ) (early : Option ℕ) (x : LostChunk)
+    → nat_eq damaged 0 ≡ is_whole_to LastChunk n early → nat_le before 1 ≡ is_cut_to Nothing b
+    → judged saved damaged before ≡ verdict_to (n + length (loss saved x ++ [])) (early_after saved i early) b saved
+last_told LastChunk b damaged before i n early x same seen =
+    let none : n + 0 ≡ n = omega arith in rw (none, same) refl
+last_told Nothing b damaged before i n early x same seen = rw seen refl
+last_told saved b damaged before i n early x same seen = refl
 
-next_told : (q r : Part) (i n at : ℕ) (early : Option ℕ) (more : List Part)
+next_told : (q r : Part) (i n at : ℕ) (early : Option ℕ) (b : Saved) (more : List Part)
     → told (i + 1) (n + length (loss q.saved (record { chunk = i; start = at; len = length q.text })))
-    (at + length q.text) (early_after q.saved i early) (r ∷ more)
-    ≡ told i n at early (q ∷ r ∷ more)
-next_told q r i n at early more =
+    (at + length q.text) (early_after q.saved i early) q.saved (r ∷ more)
+    ≡ told i n at early b (q ∷ r ∷ more)
+next_told q r i n at early b more =
     let x : List LostChunk = loss q.saved (record { chunk = i; start = at; len = length q.text }) in
     let rest : List LostChunk = losses (i + 1) (at + length q.text) (r ∷ more) in
-    ap₂ (λ (m k : ℕ). verdict_to (last_saved (r ∷ more)) m
-    (latest_early (i + 1) (early_after q.saved i early) (r ∷ more)) k)
-    (omega (arith, length-append x rest)) (omega arith)
+    ap (λ (m : ℕ). verdict_to m (latest_early (i + 1) (early_after q.saved i early) (r ∷ more))
+    (saved_before q.saved (r ∷ more)) (last_saved (r ∷ more))) (omega (arith, length-append x rest))
 
-run_judges : (key : Bytes) (i lost n early at : ℕ) (c : Bytes) (more : List Bytes) (given : List Given) (detail : ℕ)
-    → nat_eq lost 0 ≡ nat_eq n 0 → SavesRun (noting key i lost early) (c ∷ more) given detail
-    → detail ≡ told i n at (early_of early) (parts key i (c ∷ more))
-run_judges key i lost n early at c [] given detail same (new, after, report, step, rest, is, ends, run) =
-    ends refl ∙ saved_detail (noting key i lost early) new true c after report (fitting step)
-    ∙ last_told (part key i true c) key i lost n early at same
-run_judges key i lost n early at c (d ∷ more) given detail same (new, after, report, step, rest, is, ends, run) =
+run_judges : (key : Bytes) (i damaged before n at : ℕ) (early : Option ℕ) (b : Saved) (c : Bytes) (more : List Bytes)
+    (given : List Given) (detail : ℕ) → nat_eq damaged 0 ≡ is_whole_to LastChunk n early
+    → nat_le before 1 ≡ is_cut_to Nothing b → SavesRun (noting key i damaged before) (c ∷ more) given detail
+    → detail ≡ told i n at early b (parts key i (c ∷ more))
+run_judges key i damaged before n at early b c [] given detail same seen
+    (new, after, report, step, rest, is, ends, run) =
+    let q : Part = part key i true c in
+    ends refl ∙ saved_detail (noting key i damaged before) new true c after report (fitting step)
+    ∙ last_told q.saved b damaged before i n early (record { chunk = i; start = at; len = length q.text }) same seen
+run_judges key i damaged before n at early b c (d ∷ more) given detail same seen
+    (new, after, report, step, rest, is, ends, run) =
     let q : Part = part key i false c in
     let x : LostChunk = record { chunk = i; start = at; len = length q.text } in
-    let state = saved_state (noting key i lost early) new false c after report (fitting step)
-    ∙ noted_next q.saved key i lost early in
-    let told_so = run_judges key (i + 1) (noted (noting key i lost early) q.saved).lost (n + length (loss q.saved x))
-    (noted (noting key i lost early) q.saved).early (at + length q.text) d more rest detail
-    (noted_lost q.saved key i lost n early x same) (rw state at run) in
-    (rw (noted_early q.saved key i lost early) at told_so)
-    ∙ next_told q (part key (i + 1) (is_end more) d) i n at (early_of early) (parts key (i + 1 + 1) more)
+    let state = saved_state (noting key i damaged before) new false c after report (fitting step) in
+    run_judges key (i + 1) (damage damaged q.saved) (saved_number q.saved) (n + length (loss q.saved x))
+        (at + length q.text) (early_after q.saved i early) q.saved d more rest detail
+        (damage_same q.saved damaged n i early x same) (next_seen q.saved) (rw state at run)
+    ∙ next_told q (part key (i + 1) (is_end more) d) i n at early b (parts key (i + 1 + 1) more)
 
-run_saves : (key : Bytes) (i lost early : ℕ) (cs : List Bytes) (given : List Given) (detail : ℕ)
-    → SavesRun (noting key i lost early) cs given detail → given ≡ map given_of (parts key i cs)
-run_saves key i lost early [] given detail run = run
-run_saves key i lost early (c ∷ []) given detail (new, after, report, step, rest, is, ends, run) =
-    rw (is, run, one_saved (noting key i lost early) new true c after report (fitting step)) refl
-run_saves key i lost early (c ∷ d ∷ more) given detail (new, after, report, step, rest, is, ends, run) =
+run_saves : (key : Bytes) (i damaged before : ℕ) (cs : List Bytes) (given : List Given) (detail : ℕ)
+    → SavesRun (noting key i damaged before) cs given detail → given ≡ map given_of (parts key i cs)
+run_saves key i damaged before [] given detail run = run
+run_saves key i damaged before (c ∷ []) given detail (new, after, report, step, rest, is, ends, run) =
+    rw (is, run, one_saved (noting key i damaged before) new true c after report (fitting step)) refl
+run_saves key i damaged before (c ∷ d ∷ more) given detail (new, after, report, step, rest, is, ends, run) =
     let q : Part = part key i false c in
-    let state = saved_state (noting key i lost early) new false c after report (fitting step)
-    ∙ noted_next q.saved key i lost early in
-    let next = run_saves key (i + 1) (noted (noting key i lost early) q.saved).lost
-    (noted (noting key i lost early) q.saved).early (d ∷ more) rest detail (rw state at run) in
-    rw (is, one_saved (noting key i lost early) new false c after report (fitting step), next) refl
+    let state = saved_state (noting key i damaged before) new false c after report (fitting step) in
+    let next = run_saves key (i + 1) (damage damaged q.saved) (saved_number q.saved) (d ∷ more) rest detail
+    (rw state at run) in
+    rw (is, one_saved (noting key i damaged before) new false c after report (fitting step), next) refl
 
 all_saved : (key : Bytes) (cs : List Bytes) (given : List Given) (detail : ℕ) → is_end cs ≡ false
     → SavesRun (before_first key phase_reading) cs given detail
@@ -139,8 +108,8 @@ all_saved key [] given detail some run = absurd (cc)
 all_saved key (c ∷ more) given detail some run =
     let ps : List Part = parts key 0 (c ∷ more) in (
       run_saves key 0 0 0 (c ∷ more) given detail run,
-      run_judges key 0 0 0 0 0 c more given detail refl run
-          ∙ ap₂ (λ (m k : ℕ). verdict_to (last_saved ps) m (latest_early 0 None ps) k) (omega arith) (omega arith),
+      run_judges key 0 0 0 0 0 None Chunk c more given detail refl refl run
+          ∙ ap (λ (m : ℕ). verdict_to m (latest_early 0 None ps) (saved_before Chunk ps) (last_saved ps)) (omega arith),
     )
 
 pub steps_save : (key rest : Bytes) (given : List Given) (detail : ℕ)

@@ -44,7 +44,14 @@ TakesPart old new count part report code =
 
 -- a part as a payload, without its count
 abbrev pub payload_of : Part → Payload
-payload_of p = record { key = p.key; number = p.number; state = p.state; lost = 0; early = 0 }
+payload_of p = record {
+  key = p.key;
+  number = p.number;
+  state = p.state;
+  damaged = 0;
+  before = 0;
+  held = 0;
+}
 
 -- a part after a call on its payload: after an accepted chunk it has one less, and after its last
 -- chunk it has ended

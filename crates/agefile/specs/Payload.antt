@@ -65,13 +65,14 @@ closed_payload = record {
   key = replicate 32 0;
   number = 0;
   state = phase_closed;
-  lost = 0;
-  early = 0;
+  damaged = 0;
+  before = 0;
+  held = 0;
 }
 
 -- a payload before chunk 0, for reading or writing
 abbrev pub before_first : (key : Bytes) (phase : ℕ) → Payload
-before_first key phase = record { key = key; number = 0; state = phase; lost = 0; early = 0 }
+before_first key phase = record closed_payload { key = key; state = phase }
 
 -- a payload after an accepted chunk, or after a fault
 abbrev pub after_chunk : (p : Payload) (last : Bool) (code : ℕ) → Payload

@@ -1,6 +1,6 @@
 -- Saving what is left of a payload, one sealed chunk after another.
-use Rattle.std.specs.Prelude.{◌≡◌, ◌⊎◌, ◌+◌, ◌<◌, ◌≤◌, ◌∷◌, ◌++◌, Option, Some, zero, suc, if◌then◌else◌}
-use Rattle.agefile.specs.Words.{ℕ, List, [], None, true, Bool, length, take, drop, Bytes, TooManyChunks, is_end, Payload, Report}
+use Rattle.std.specs.Prelude.{◌≡◌, ◌⊎◌, ◌<◌, ◌≤◌, ◌∷◌, ◌++◌, Option, if◌then◌else◌}
+use Rattle.agefile.specs.Words.{ℕ, List, [], true, Bool, nat_eq, nat_le, length, take, drop, Bytes, TooManyChunks, is_end, Payload, Report}
 use Rattle.age_stream.specs.declared.salvaged.Saved.{Saved}
 use Rattle.age_stream.specs.declared.salvaged.Saved.TheVariants.{Chunk, LastChunk, Padded, Early, Zeros, Nothing}
 use Rattle.age_stream.specs.Salvage.{Part, is_cut_to, is_whole_to, part}
@@ -19,31 +19,34 @@ saved_number Zeros = 4
 saved_number Nothing = 5
 saved_number (Padded k) = 6
 
--- what a payload notes of a chunk: that one is lost, or the number of an early one, plus 1
-abbrev pub noted : (p : Payload) (saved : Saved) → Payload
-noted p Zeros = record p { lost = 1 }
-noted p Early = record p { early = p.number + 1 }
-noted p _ = p
+-- 1 once a chunk is lost or early
+abbrev pub damage : (before : ℕ) (saved : Saved) → ℕ
+damage before Zeros = 1
+damage before Early = 1
+damage before _ = before
 
--- the chunk that was noted as early
-abbrev pub early_of : ℕ → Option ℕ
-early_of zero = None
-early_of (suc i) = Some i
+-- what a payload notes of a chunk: whether one is lost or early, and what was saved of this one
+abbrev pub noted : (p : Payload) (saved : Saved) → Payload
+noted p saved = record p { damaged = damage p.damaged saved; before = saved_number saved }
 
 -- 1 if the plaintext is whole, 2 if it is cut short, else 0
-abbrev pub verdict_to : (saved : Saved) (lost : ℕ) (early : Option ℕ) (chunks : ℕ) → ℕ
-verdict_to saved lost early chunks =
-    if is_whole_to saved lost early then 1 else if is_cut_to saved early chunks then 2 else 0
+abbrev pub verdict_to : (lost : ℕ) (early : Option ℕ) (before last : Saved) → ℕ
+verdict_to lost early before last =
+    if is_whole_to last lost early then 1 else if is_cut_to last before then 2 else 0
 
 abbrev pub verdict_of : Salvaged → ℕ
-verdict_of s = verdict_to s.last s.lost s.early s.chunks
+verdict_of s = verdict_to s.lost s.early s.before s.last
+
+-- the same by what a payload noted
+abbrev pub judged : (last : Saved) (damaged before : ℕ) → ℕ
+judged LastChunk damaged before = if nat_eq damaged 0 then 1 else 0
+judged Chunk damaged before = 2
+judged Nothing damaged before = if nat_le before 1 then 2 else 0
+judged _ damaged before = 0
 
 -- the report's detail after a chunk
 abbrev pub detail_of : (p : Payload) (last : Bool) (saved : Saved) → ℕ
-detail_of p last saved =
-    if last then verdict_to saved (noted p saved).lost (early_of (noted p saved).early)
-    (p.number + 1)
-    else 0
+detail_of p last saved = if last then judged saved p.damaged p.before else 0
 
 -- the chunk's buffer begins with the text of this part, and the rest of it is unchanged; the report
 -- has the length of the text, what was saved and, after the last chunk, what the whole is

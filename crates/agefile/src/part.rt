@@ -47,8 +47,9 @@ impl Part {
             key: self.key,
             number: self.number,
             state: self.state,
-            lost: 0,
-            early: 0,
+            damaged: 0,
+            before: 0,
+            held: 0,
         }
     }
 

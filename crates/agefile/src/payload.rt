@@ -19,10 +19,12 @@ pub struct Payload {
     pub number: u64,
     /// 0 not open, 1 reading, 2 writing, 3 after the last chunk, 4 after a fault.
     pub state: u64,
-    /// Of the calls that save: 1 if a chunk is lost, else 0.
-    pub lost: u64,
-    /// Of the calls that save: the number of the latest early chunk and 1, or 0.
-    pub early: u64,
+    /// Of the calls that save: 1 if a chunk is lost or early, else 0.
+    pub damaged: u32,
+    /// Of the calls that save: what was saved of the chunk before, or 0.
+    pub before: u32,
+    /// 0, reserved for later versions: the number of bytes that are kept of a chunk.
+    pub held: u64,
 }
 
 impl Payload {
@@ -34,8 +36,9 @@ impl Payload {
             key: [0; 32],
             number: 0,
             state: CLOSED,
-            lost: 0,
-            early: 0,
+            damaged: 0,
+            before: 0,
+            held: 0,
         }
     }
 
@@ -47,8 +50,9 @@ impl Payload {
             key,
             number: 0,
             state: phase,
-            lost: 0,
-            early: 0,
+            damaged: 0,
+            before: 0,
+            held: 0,
         }
     }
 

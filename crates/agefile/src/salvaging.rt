@@ -2,7 +2,7 @@
 
 ghost use Rattle.std.specs.Prelude.{◌≡◌, ◌+◌, ◌^◌, ◌<◌, ◌≤◌};
 ghost use Rattle.agefile.specs.Words.{length, sealed_chunk_size};
-ghost use Rattle.agefile.specs.Salvage.{SavesAs, SavesNext, early_of, noted, saved_number, verdict_to};
+ghost use Rattle.agefile.specs.Salvage.{SavesAs, SavesNext, judged, noted, saved_number};
 
 use crate::code::{OK, OUT_OF_ORDER};
 use crate::limits::MAX_CHUNKS;
@@ -52,46 +52,40 @@ fn save_as(payload: &mut Payload, last: bool, chunk: &mut [u8], report: &mut Rep
     let len = chunk.len();
     let saved = save_piece(&payload.key, payload.number as u128, last, chunk, len);
     let text = len.saturating_sub(TAG_SIZE).saturating_sub(saved.padding());
-    note(payload, saved);
     *report = Report::of_len(text as u64);
-    report.place = saved_number(saved);
+    report.place = saved_number(saved) as u64;
     if last {
         report.detail = verdict(payload, saved);
     }
+    note(payload, saved);
     go_on(payload, last, OK);
     OK
 }
 
-/// Notes a lost chunk or an early one.
+/// Notes what was saved of a chunk.
 fn note(payload: &mut Payload, saved: Saved)
-    requires { payload.old.number + 1 < 2 ^ 64 }
-    ensures notes { payload.new ≡ noted payload.old saved }
-    ensures number { payload.new.number ≡ payload.old.number }
+    ensures { payload.new ≡ noted payload.old saved }
 {
-    match saved {
-        Saved::Zeros => payload.lost = 1,
-        Saved::Early => payload.early = payload.number + 1,
-        _ => {}
+    if let Saved::Zeros | Saved::Early = saved {
+        payload.damaged = 1;
     }
+    payload.before = saved_number(saved);
 }
 
 /// What the whole is after its last chunk: 1 whole, 2 cut short, else 0.
 fn verdict(payload: &Payload, last: Saved) -> u64
-    requires { payload.now.number + 1 < 2 ^ 64 }
-    ensures { result ≡ verdict_to last payload.now.lost (early_of payload.now.early)
-        (payload.now.number + 1) }
+    ensures { result ≡ judged last payload.now.damaged payload.now.before }
 {
-    let early = payload.early;
     match last {
-        Saved::LastChunk if payload.lost == 0 && early == 0 => 1,
+        Saved::LastChunk if payload.damaged == 0 => 1,
         Saved::Chunk => 2,
-        Saved::Nothing if early == 0 || early < payload.number => 2,
+        Saved::Nothing if payload.before <= 1 => 2,
         _ => 0,
     }
 }
 
 /// What was saved of a chunk, by the numbers of `agefile.h`.
-fn saved_number(saved: Saved) -> u64
+fn saved_number(saved: Saved) -> u32
     ensures { result ≡ saved_number saved }
 {
     match saved {
