@@ -52,8 +52,8 @@ pub record AreLines (ls : List Bytes) (b : Bytes) : Type 0 where
   pub each : AllByRecursion IsLineText ls
   pub prefix : b ≡ lines_text ls ++ rest
 
--- The least number of first lines of b that are a header or not viable. Fewer lines are viable and
--- not a header.
+-- The first lines of b, as few as are a header or not viable: any fewer are viable and not a
+-- header.
 pub record Decides (ls : List Bytes) (b : Bytes) : Type 0 where
   pub lines : AreLines ls b
   pub decided : IsHeader (lines_text ls) ⊎ (IsViable (lines_text ls) → ⊥)

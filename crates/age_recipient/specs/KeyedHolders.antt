@@ -19,7 +19,7 @@ pub record KeySecret : Type 0 where
 abbrev pub key_wraps : (r : KeySecret) (file_key : FileKey) → Result (List StanzaParts) ℕ
 key_wraps r file_key = Ok (keyed_stanza r.key r.salt file_key ∷ [])
 
--- Among the `example.org/key` stanzas the first decides that opens or fails a check, with the first
+-- The first `example.org/key` stanza that opens or fails a check decides; the fault is the first
 -- check that it fails. If none does, `Failed` if there was one, else `NotMine`.
 abbrev pub key_unwraps : (key : Key) (stanzas : List StanzaParts) → Unwrapped
 key_unwraps key stanzas = decision (map (keyed_answer key) stanzas)

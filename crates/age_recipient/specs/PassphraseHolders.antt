@@ -45,7 +45,7 @@ IsPassError fits Memory = fits
 abbrev pub pass_wraps : (r : PassSecret) (file_key : FileKey) → Result (List StanzaParts) ℕ
 pass_wraps r file_key = Ok (pass_stanza r.pass r.work r.salt file_key ∷ [])
 
--- Among the `scrypt` stanzas the first decides that opens or fails a check, with the first check
--- that it fails. If none does, `Failed` if there was one, else `NotMine`.
+-- The first `scrypt` stanza that opens or fails a check decides; the fault is the first check that
+-- it fails. If none does, `Failed` if there was one, else `NotMine`.
 abbrev pub pass_unwraps : (i : PassGuess) (stanzas : List StanzaParts) → Unwrapped
 pass_unwraps i stanzas = decision (map (pass_answer i.pass i.max) stanzas)

@@ -178,8 +178,8 @@ impl ChunkSealer {
     }
 }
 
-/// Reads all bytes left in the source, after the first `len` bytes, and writes the chunks that are
-/// full and not the last. Returns the number of bytes that are then held.
+/// Reads all bytes left in the source into the buffer, whose first `len` bytes are held, and writes
+/// each full chunk that is not the last. Returns the number of bytes held in the end.
 fn feed<S: Source, W: Sink>(
     plain: &mut S,
     out: &mut W,

@@ -56,7 +56,7 @@ abbrev pub all_of : List (List Bytes) → List Bytes
 all_of [] = []
 all_of (chunks ∷ more) = chunks ++ all_of more
 
--- a call sealed this text, which 16 bytes follow, not as the last
+-- a call sealed this text, before 16 bytes of room, as a chunk that others follow
 abbrev pub Seals : (old new : Payload) (text out : Bytes) → Type 0
 Seals old new text out =
     (room : Bytes) × (length room ≡ tag_size)
@@ -71,7 +71,7 @@ PartSeals old new text out =
 abbrev pub SealsGroups : (old new : Payload) (groups : List (List Bytes)) (out : Bytes) → Type 0
 SealsGroups old new groups out = Runs (TakesSome Seals PartSeals) old new groups out
 
--- a call opened this piece, not as the last
+-- a call opened this piece as a chunk that others follow
 abbrev pub OpensPiece : (old new : Payload) (piece text : Bytes) → Type 0
 OpensPiece old new piece text =
     (after : Bytes) × (report : Report) × OpensNext old new piece after false report ok
