@@ -65,8 +65,8 @@ IsPassphraseFault faults.NoPassphrase = ⊤
 IsPassphraseFault faults.UntypedPassphrase = ⊤
 IsPassphraseFault fault = ⊥
 
--- A fault with which the job may be refused. No clause ties to the job which file the system does
--- not identify, the role of the file that is also OUT, and the roles of standard input.
+-- A fault with which the job may be refused. Three things are not tied to the job: which file the
+-- system does not identify, the role of the file that is also OUT, and the roles of standard input.
 abbrev pub MayRefuse : (job : Job) (fault : Fault) → Type 0
 MayRefuse job faults.Read = ⊤
 MayRefuse job faults.Write = ⊥
