@@ -1,4 +1,5 @@
-//! The commands of `agep`, from any source to any sink, and the sink that keeps why a write failed.
+//! The commands of `agep`, from any source to any sink, and the sink that keeps the reason of a
+//! failed write.
 //!
 //! ```
 //! let task = Task::Decrypt(Secret::Passphrase(passphrase));

@@ -44,7 +44,7 @@ abbrev pub is_work_factor : Bytes → Bool
 is_work_factor [] = false
 is_work_factor (c ∷ digits) = nat_le 49 c && nat_le c 57 && list_all is_digit digits
 
--- the number that decimal digits spell after n
+-- the number that n and then these digits spell in decimal
 abbrev pub number_from : (n : ℕ) (digits : Bytes) → ℕ
 number_from n [] = n
 number_from n (c ∷ digits) = number_from (n * 10 + (c - 48)) digits

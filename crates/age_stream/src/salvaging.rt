@@ -18,10 +18,10 @@ use std::alloc::Global;
 
 /// Saves what it can of a payload that is left in the source. Writes, at its offset, the text of
 /// every chunk that opens, and zeros in place of every chunk that does not, which it reports to
-/// `losses`. A chunk may open as the last or as another, wherever it stands.
+/// `losses`. A chunk may open as the last one or as one that others follow, wherever it is.
 ///
-/// Each chunk that was saved is genuine, and stands where it stood in its plaintext. The plaintext
-/// as a whole is genuine exactly if the result is whole (`Salvaged::is_whole`).
+/// Each chunk that was saved is genuine, and is at its offset in the plaintext. The plaintext as a
+/// whole is genuine exactly if the result is whole (`Salvaged::is_whole`).
 ///
 /// # Errors
 /// `Memory` if the allocation was refused: nothing was read. `NonceTruncated` if the source returns
