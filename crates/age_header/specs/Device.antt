@@ -72,8 +72,8 @@ CountsFaultIf is_own old new fault =
     new ≡ (if is_own fault then min (old + 1) (2 ^ 64 - 1) else old)
 
 -- A fault of the device's own kind (`Read` of a source, `Write` of a sink) raised its count of
--- failures by one, saturating at the largest u64. Any other result left the count unchanged. So
--- that fault is returned if the count rose.
+-- failures by one, saturating at the largest u64. Any other result left the count unchanged. So if
+-- the count rose, that fault is returned.
 abbrev pub CountsIf : {A E : Type 0} (is_own : E → Bool) (old new : ℕ) (r : Result A E) → Type 0
 CountsIf is_own old new r = MatchResult r (λ _. new ≡ old) (CountsFaultIf is_own old new)
 

@@ -60,13 +60,12 @@ impl Unwrapped {
     /// # Errors
     /// The next answer, if it decides. No later answer counts then.
     pub fn followed_by(self, next: Unwrapped) -> Result<Unwrapped, Unwrapped>
-        // If the next answer does not decide, the combined one stands for both before later
-        // answers.
+        // On Ok the answer returned stands for both, whatever answers follow.
         ensures continues { IfOk result (λ both.
             (more : List Unwrapped) → decision_from self (next ∷ more) ≡ decision_from both more) }
-        // Then the next answer does not decide.
+        // On Ok the next answer does not decide.
         ensures undecided { IfOk result (λ _. decides next ≡ false) }
-        // If the next answer is a key or a malformed stanza, it decides, whatever follows.
+        // On an error the next answer, a key or a malformed stanza, decides, whatever follows.
         ensures decides { IfErr result (λ decision.
             (more : List Unwrapped) → decision_from self (next ∷ more) ≡ decision) }
     {

@@ -58,9 +58,9 @@ pub trait ReadAt {
         ensures bound { ReadsAtMost result buf.new }
         // The offsets of known contents fit a u64.
         ensures offsets { HasOffsets (bytes self.old) }
-        // On Ok the bytes from the offset on. With a nonempty buffer there are none only at or past
-        // the end of the known contents, and of the size that was found: an earlier end is an
-        // error.
+        // On Ok the bytes from the offset on are at the start of the buffer. A nonempty buffer gets
+        // none only at or past the end of the known contents and of the size that was found: an
+        // earlier end is an error.
         ensures bytes { GivesAt (bytes self.old) (found self.old) at result buf.new }
         // What was read before stays read.
         ensures stays_given { StaysGiven (gave self.old) (gave self.new) }

@@ -22,9 +22,9 @@ pub struct RangeCall {
 pub fn make_calls<D: ReadAt>(reader: &mut RangeReader<'_, D>, calls: &mut [RangeCall])
     ensures same_reference { (source_at_of reader.new).ghost_name
         ≡ (source_at_of reader.old).ghost_name }
-    // Each call's result is the slice of the plaintext exactly if every chunk that it touches
-    // opens, by what the source and the reader's chunks were before the first call. It reads and
-    // opens no more than these chunks. None returns that memory was refused.
+    // Each call returns its slice of the plaintext if every chunk that it touches opens, otherwise
+    // the first that does not, or a failed read; the contents and the chunks before the first call
+    // decide. It reads and opens only these chunks. No call returns that memory was refused.
     ensures made { FoldsTo (Makes D.bytes D.given D.failed D.gave (source_at_of reader.old).now
         (chunks_of reader.old)) ((source_at_of reader.old).now, chunks_of reader.old)
         (zip calls.old calls.new) ((source_at_of reader.new).now, chunks_of reader.new) }
