@@ -241,6 +241,25 @@ class Promises(unittest.TestCase):
                 done = subprocess.run([ROOT + "/share/promises", name], capture_output=True, text=True)
                 self.assertEqual(done.stdout.split("\n")[-2].replace(", ", " in "), count)
 
+    def test_named(self):
+        """Each clause and law that these pages name exists, and each contract in the table of README.md is in a
+        crate named beside it."""
+        crates = [folder.split("/")[-3] for folder in glob.glob(ROOT + "/crates/*/src/lib.rt")]
+        clauses = {(f"`{crate}`", clause.function, clause.label) for crate in crates for clause in PROMISES.clauses(crate)}
+        named = set()
+        for page in ("README", "docs/PROMISES", "docs/PROOFS"):
+            text = " ".join(text_of(f"{ROOT}/{page}.md").split())
+            for name, labels in re.findall(r"`([\w:]+)`? \[([\w, ]+)\](?!\()", text):
+                named |= {("", name, label) for label in labels.split(", ")}
+            named |= {("", name, "") for name in re.findall(r"`(laws::\w+)`", text)}
+        for crates, contracts in re.findall(r"^\| .* \| (`\w+`.*) \| (.*) \|$", text_of(ROOT + "/README.md"), re.MULTILINE):
+            named |= {(crates, name, "") for name in re.findall(r"`([\w:]*[a-z\d])[` ]", contracts)}
+        self.assertGreater(len(named), 60)
+        for crates, name, label in sorted(named):
+            with self.subTest(f"{crates} {name} [{label}]"):
+                found = {(crate, has) for crate, function, has in clauses if f"::{name}".endswith("::" + function)}
+                self.assertTrue(any(crate in (crates or crate) and label in ("", has) for crate, has in found))
+
 
 def planted_bugs():
     """For each planted bug its crate (None if it is one of the program), its name and its lines."""

@@ -26,8 +26,8 @@ abbrev pub unread_len : Option Unread → ℕ
 unread_len None = 0
 unread_len (Some unread) = unread.bytes
 
--- P holds of some bytes. Of those to come, if they are known, it does so too if IN is not named, or
--- if all its bytes were read.
+-- P holds of some bytes. It holds of the bytes to come as well, if they are known and IN is not
+-- named or was read to its end.
 abbrev pub OfRead : {A : Type 0} (input : Option A) (is_read : Bool) (from : Known)
     (P : Bytes → Type 0) → Type 0
 OfRead input is_read from P =
