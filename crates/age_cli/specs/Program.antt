@@ -68,8 +68,8 @@ RunsOn {F} remaining contents job from sink result =
     × IsDevice (λ (file : F × F). move_by contents file.0 file.1) job.output sink target
     × Runs job source target result)
 
--- A job failed before its work, by a refusal that its options allow, or when its named OUT was
--- ended. Nothing was written to its standard output.
+-- A job failed before its work, by a refusal that its options allow, or at the end of its named
+-- OUT. Nothing was written to its standard output.
 abbrev pub FailsBeside : (job : Job) (sink : Moved) (failure : JobFailure) → Type 0
 FailsBeside job sink failure =
     Stays sink

@@ -31,15 +31,14 @@ abbrev pub stream_by : {E : Type 0} (taken : E → Known) (failed : E → ℕ) (
 stream_by taken failed old new =
     record { bytes = move_by taken old new; before = failed old; after = failed new }
 
--- The line was printed whole. Or a prefix of it was and a write failed: the count of failed writes
--- rose by one, saturating at the largest u64.
+-- The line was printed whole. Or a write failed, and a prefix of the line was printed: the count of
+-- failed writes rose by one, saturating at the largest u64.
 abbrev pub Prints : (err : Stream) (line : Bytes) → Type 0
 Prints err line =
     Took err.bytes line
     ⊎ (WritesPart err.bytes line × (err.after ≡ min (err.before + 1) (2 ^ 64 - 1)))
 
--- A line was printed, and whole if all went well. It is this one, if it is known, or that of
--- refused memory.
+-- A line was printed, whole if all went well: this one, if it is known, or that of refused memory.
 abbrev pub Says : (known : Known) (err : Stream) (all : Bool) → Type 0
 Says known err all =
     (line : Bytes) × Prints err line × (all ≡ true → Took err.bytes line)

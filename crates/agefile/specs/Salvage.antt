@@ -61,7 +61,7 @@ Gives p last q chunk after report code =
     })
     × (after ≡ q.text ++ drop (length q.text) chunk)
 
--- returns the part for this chunk at its number, and goes on after it; or the number exceeds the
+-- returns the part for this chunk at its number, and continues after it; or the number exceeds the
 -- maximum and the chunk is unchanged
 abbrev pub SavesAs : (old new : Payload) (last : Bool) (chunk after : Bytes) (report : Report)
     (code : ℕ) → Type 0

@@ -16,7 +16,8 @@ use age_stream::{Saved, TAG_SIZE, save_piece};
 /// the last or not; if they open as neither, with as many zeros. The report has the length of
 /// either and, as its place, what was saved: 1 a chunk that others follow, 2 the last chunk, 3 a
 /// chunk that is marked as the last and may not be, 4 zeros, 5 nothing, because there are at most
-/// 16 bytes, which do not open, 6 the last chunk without up to 4,095 bytes after it. The payload
+/// 16 bytes, which do not open, 6 the last chunk without up to 4,095 bytes after it. For the last
+/// chunk its detail is 1 if the plaintext is whole, 2 if it is cut short, else 0. The payload
 /// continues after the chunk. Allocates nothing.
 ///
 /// # Errors
@@ -72,7 +73,8 @@ fn note(payload: &mut Payload, saved: Saved)
     payload.before = saved_number(saved);
 }
 
-/// What the whole is after its last chunk: 1 whole, 2 cut short, else 0.
+/// What is known of the plaintext after its last chunk: 1 if it is whole, 2 if it is cut short,
+/// else 0.
 fn verdict(payload: &Payload, last: Saved) -> u64
     ensures { result ≡ judged last payload.now.damaged payload.now.before }
 {
