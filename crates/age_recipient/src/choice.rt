@@ -52,7 +52,7 @@ pub fn unlock(
     }
 }
 
-/// The first of these identities' results that decides.
+/// The first result of these identities that decides.
 #[tactic(auto, using(crate::proofs::AnswerLemmas::decisions))]
 fn first_decided(
     alloc: Global,
