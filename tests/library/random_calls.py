@@ -4,11 +4,12 @@
 usage: tests/library/random_calls.py DRIVER [COUNT [SEED]]
 
 DRIVER is tests/library/driver.c, built with the library and the calls of header.py. First, each pointer that
-a length follows is null, with length 0 and with another length. Then files, headers, structs, lengths and
-numbers are right or wrong in many ways; structs come from earlier calls, or are random. Each buffer lies at
-the end or at the start of its pages, shifted by up to 15 bytes. Some calls are made on eight threads at once,
-some with each allocation refused in turn, and last so a successful call of each function. Prints how many
-calls returned each code. If the results differ, it prints the call, and the status is 1.
+a length follows is null, with length 0 and with another length. Then last chunks of each kind are salvaged.
+Then files, headers, structs, lengths and numbers are right or wrong in many ways; structs come from earlier
+calls, or are random. Each buffer lies at the end or at the start of its pages, shifted by up to 15 bytes.
+Some calls are made on eight threads at once, some with each allocation refused in turn, and last so a
+successful call of each function. Prints how many calls returned each code. If the results differ, it prints
+the call, and the status is 1.
 """
 
 import collections
@@ -368,6 +369,14 @@ class Maker:
                     arguments[at] = NULL(length)
                     yield name, 0, arguments, [0] * len(kinds)
 
+    def salvaging_calls(self):
+        """Last chunks of each kind after chunks of each kind, in the form of `call`."""
+        for number, lost, early in itertools.product((0, 1, 3), (0, 1), range(5)):
+            payload = struct.pack("<32s4Q", self.keys[0], number, model.READING, lost, early)
+            sealed = [reference.sealed_chunk(self.keys[0], number, is_last, text) for is_last in (False, True) for text in (b"", b"text")]
+            for chunk in (*sealed, sealed[3] + b"\n", bytes(17), bytes(16), b""):
+                yield "salvage_next", 0, [bytearray(payload), bytearray(chunk), 1], [0, 0, 0]
+
     def call(self):
         """The name of a call, its flags, arguments and shifts."""
         name = self.choice(*CALLS)
@@ -438,7 +447,7 @@ def expected(name, arguments):
 
 def main(program, count=2000, seed=1):
     maker, driver, codes = Maker(seed), Driver(program), collections.Counter()
-    calls = itertools.chain(maker.null_calls(), (maker.call() for _ in range(count)), maker.refused_calls())
+    calls = itertools.chain(maker.null_calls(), maker.salvaging_calls(), (maker.call() for _ in range(count)), maker.refused_calls())
     for number, (name, flags, arguments, shifts) in enumerate(calls):
         result, is_well, report, after, refusals, out_of_memory = driver.call(name, flags, arguments, shifts)
         is_silent = name in CHUNKS or name in NUMBERS

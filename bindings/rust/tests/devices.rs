@@ -203,7 +203,7 @@ fn salvage_loses_the_chunks_whose_reads_fail() {
 fn salvage_ends_if_it_cannot_seek() {
     let plain = text(2 * TEXT + 1000);
     let (file, front) = sealed(&plain);
-    let bad = front + SEALED + 9..front + SEALED + 10;
+    let bad = (front + SEALED + 9, front + SEALED + 10);
     each_failure(&Device { bad: vec![bad], ..Device::new(file) }, &[Call::Seek], |device, case| {
         let mut came = Vec::new();
         let result = salvage(&mut *device, &mut came, &[&key()]);
@@ -260,17 +260,11 @@ fn written(plain: &[u8], sink: &mut Device) -> io::Result<()> {
     first.map_or(Ok(()), Err)
 }
 
-fn rewrapped(plain: &[u8], sink: &mut Device) -> io::Result<()> {
-    rewrap_copy(&sealed(plain).0[..], sink, &[&key()], &[&key()])
-}
-
-fn salvaged(plain: &[u8], sink: &mut Device) -> io::Result<()> {
-    salvage(Cursor::new(sealed(plain).0), sink, &[&key()]).map(drop)
-}
-
 #[test]
 fn no_file_is_complete_after_a_failed_write() {
     type Way = fn(&[u8], &mut Device) -> io::Result<()>;
+    let rewrapped: Way = |plain, sink| rewrap_copy(&sealed(plain).0[..], sink, &[&key()], &[&key()]);
+    let salvaged: Way = |plain, sink| salvage(Cursor::new(sealed(plain).0), sink, &[&key()]).map(drop);
     let front = sealed(b"").1;
     for (way, is_sealed) in [(written as Way, true), (rewrapped, true), (salvaged, false)] {
         for (len, most) in [(2 * TEXT, usize::MAX), (2 * TEXT + 100, 40_000), (10, 100)] {

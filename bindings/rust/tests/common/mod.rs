@@ -66,7 +66,7 @@ pub struct Device {
     pub faults: Vec<Fault>,
     /// These bytes cannot be read. A read that begins before them ends there or, if all or none of
     /// its bytes are read, fails.
-    pub bad: Vec<Range<usize>>,
+    pub bad: Vec<(usize, usize)>,
     pub all_or_none: bool,
     /// How many calls of each kind were made, where those that failed found the file, and how many
     /// bytes it had at the last flush.
@@ -127,10 +127,10 @@ impl Read for Device {
         let at = self.file.position() as usize;
         let len = out.len().min(self.most);
         let reached = if self.all_or_none { at + len } else { at + 1 };
-        if self.bad.iter().any(|bad| bad.start < reached && at < bad.end) {
+        if self.bad.iter().any(|bad| bad.0 < reached && at < bad.1) {
             return Err(io::Error::new(ErrorKind::Other, "bad block"));
         }
-        let next = self.bad.iter().map(|bad| bad.start).filter(|start| *start > at).min().unwrap_or(usize::MAX);
+        let next = self.bad.iter().map(|bad| bad.0).filter(|start| *start > at).min().unwrap_or(usize::MAX);
         self.file.read(&mut out[..len.min(next - at)])
     }
 }
