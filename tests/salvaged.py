@@ -36,7 +36,8 @@ def expected(payload):
                  if is_last and not padding and (i < end or i > 0 and not text)), default=None)
     _, last, padding = found[end]
     trailing = padding if early is None else max(len(payload) - 16 - (early + 1) * SEALED, 0)
-    is_cut = last is False or (last is None and not texts[end] and (early is None or early < end - 1))
+    # After a lost chunk, a few bytes may follow the end.
+    is_cut = last is False or (last is None and not texts[end] and end - 1 not in (early, *lost))
     listed = tuple((run, sum(map(len, texts[: run[0]])), sum(len(texts[i]) for i in run), False) for run in runs(lost))
     return b"".join(texts), (sum(map(len, texts)), end + 1, listed, early, trailing, is_cut,
                              bool(last) and not (padding or lost) and early is None)

@@ -12,7 +12,6 @@ import subprocess
 import sys
 import tempfile
 import unittest
-import unittest.mock
 from pathlib import Path
 
 import fixture
@@ -652,15 +651,6 @@ class ForRust(unittest.TestCase):
                 each()
             process.stdin.close()
             self.assertEqual(process.wait(), 0)
-
-    def test_no_threads(self):
-        """If the system starts no thread, because each would need a stack of 4 EiB, one thread does the work."""
-        file = fixture.for_keys(fixture.PLAIN, fixture.KEY)
-        (self.tree / "key").write_bytes(fixture.KEY)
-        with unittest.mock.patch.dict(os.environ, {"RUST_MIN_STACK": str(1 << 62)}):
-            self.assertEqual(self.convert("threads", "decrypt", "-k", "key", file=file), fixture.PLAIN)
-            made = self.convert("threads", "encrypt", "-k", "key", file=fixture.PLAIN)
-        self.assertEqual(self.convert("whole", "decrypt", "-k", "key", file=made), fixture.PLAIN)
 
     def test_folder_of_the_library(self):
         """It is the folder that AGEFILE_LIB_DIR names, else the one that pkg-config knows, else
