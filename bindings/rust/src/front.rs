@@ -13,20 +13,23 @@ const MARGIN: usize = 4096;
 /// The length of a header's last line.
 const LAST_LINE: usize = 48;
 
-/// Reads once, and repeats an interrupted read.
-pub fn read_some(source: &mut impl Read, buf: &mut [u8]) -> io::Result<usize> {
+/// Repeats a call that is interrupted.
+pub fn again<T>(mut call: impl FnMut() -> io::Result<T>) -> io::Result<T> {
     loop {
-        match source.read(buf) {
+        match call() {
             Err(error) if error.kind() == io::ErrorKind::Interrupted => {}
-            Ok(count) if count > buf.len() => {
-                return Err(io::Error::new(
-                    io::ErrorKind::Other,
-                    "the source returned more bytes than it was asked for",
-                ))
-            }
             result => return result,
         }
     }
+}
+
+/// Reads once, and repeats an interrupted read.
+pub fn read_some(source: &mut impl Read, buf: &mut [u8]) -> io::Result<usize> {
+    let count = again(|| source.read(buf))?;
+    if count > buf.len() {
+        return Err(io::Error::new(io::ErrorKind::Other, "the source returned more bytes than it was asked for"));
+    }
+    Ok(count)
 }
 
 /// Fills the buffer from `have` on, until it is full or the source ends. Adds the bytes read to

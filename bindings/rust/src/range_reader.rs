@@ -4,7 +4,7 @@ use std::io::{self, Read, Seek, SeekFrom};
 use std::ops::Range;
 
 use crate::ffi::{self, Ranges, SEALED_CHUNK, TEXT_CHUNK};
-use crate::front::{fill, Front};
+use crate::front::{again, fill, Front};
 use crate::{Error, Identity};
 
 /// Reads any part of the plaintext of an age file, by [`Read`] and [`Seek`].
@@ -41,8 +41,8 @@ impl<R: Read + Seek> RangeReader<R> {
     /// Reads the header, finds the file key with the first identity that matches, and opens the
     /// last chunk. The source must be the whole file, and the file must not change.
     pub fn new(mut source: R, identities: &[&dyn Identity]) -> io::Result<RangeReader<R>> {
-        let file_len = source.seek(SeekFrom::End(0))?;
-        source.rewind()?;
+        let file_len = again(|| source.seek(SeekFrom::End(0)))?;
+        again(|| source.rewind())?;
         let mut front = Front::default();
         front.read(&mut source, identities)?;
         let (ranges, last) = ffi::ranges_open(&front.bytes, file_len, &front.file_key()?.0)?;
@@ -64,7 +64,7 @@ impl<R: Read + Seek> RangeReader<R> {
     /// Reads a sealed chunk over the one kept.
     fn read_sealed(&mut self, number: u64, place: u64, len: usize) -> io::Result<()> {
         self.number = None;
-        self.source.seek(SeekFrom::Start(place))?;
+        again(|| self.source.seek(SeekFrom::Start(place)))?;
         let mut have = 0;
         fill(&mut self.source, &mut self.buf[..len], &mut have)?;
         if have < len {

@@ -4,7 +4,7 @@ use std::io::{self, Read, Seek, SeekFrom, Write};
 use std::ops::Range;
 
 use crate::ffi::{self, Report, SEALED_CHUNK, TAG};
-use crate::front::{fill, Front};
+use crate::front::{again, fill, read_some, Front};
 use crate::Identity;
 
 // What was saved of a chunk, and what the plaintext is after the last, by the numbers of `agefile.h`.
@@ -144,7 +144,7 @@ struct Skipping<R> {
 
 impl<R: Read + Seek> Skipping<R> {
     fn new(mut source: R) -> Skipping<R> {
-        let start = source.stream_position();
+        let start = again(|| source.stream_position());
         let (can_seek, at) = (start.is_ok(), start.unwrap_or(0));
         Skipping { source, can_seek, at, first: None, zeros: 0, unread: Vec::new() }
     }
@@ -158,19 +158,19 @@ impl<R: Read + Seek> Skipping<R> {
 
     /// Moves the source to the next chunk or to its end. Returns the error if it cannot.
     fn skip(&mut self, error: io::Error) -> io::Result<()> {
-        // These say nothing of the disk.
-        let is_retried = matches!(error.kind(), io::ErrorKind::Interrupted | io::ErrorKind::WouldBlock);
+        // This says nothing of the disk.
+        let is_retried = error.kind() == io::ErrorKind::WouldBlock;
         let first = match self.first {
             Some(first) if self.can_seek && !is_retried => first,
             _ => return Err(error),
         };
-        let end = self.source.seek(SeekFrom::End(0))?;
+        let end = again(|| self.source.seek(SeekFrom::End(0)))?;
         if end < self.at {
             return Err(error);
         }
         let number = (self.at - first) / SEALED_CHUNK as u64;
         let next = (first + (number + 1) * SEALED_CHUNK as u64).min(end);
-        self.zeros = self.source.seek(SeekFrom::Start(next))? - self.at;
+        self.zeros = again(|| self.source.seek(SeekFrom::Start(next)))? - self.at;
         self.unread.push(number);
         Ok(())
     }
@@ -182,7 +182,7 @@ impl<R: Read + Seek> Read for Skipping<R> {
             // A read ends where its chunk does, so that its failure costs no other.
             let left = |first| SEALED_CHUNK - ((self.at - first) % SEALED_CHUNK as u64) as usize;
             let len = out.len().min(self.first.map_or(usize::MAX, left));
-            match self.source.read(&mut out[..len]) {
+            match read_some(&mut self.source, &mut out[..len]) {
                 Ok(count) => {
                     self.at += count as u64;
                     return Ok(count);
