@@ -319,7 +319,6 @@ fn headers_are_shown() {
 }
 
 /// A caller's own: the file key stands in the stanza as it is.
-#[derive(Debug)]
 struct Plain;
 
 impl Recipient for Plain {

@@ -9,7 +9,6 @@ use std::io::{self, Write};
 use agefile::{encrypt, inspect, rewrap, rewrap_copy, Error, FileKey, Passphrase, Recipient, Stanza, Writer};
 use common::{base64, key};
 
-/// A file for the empty passphrase.
 const OLD: &[u8] = include_bytes!("empty_passphrase.age");
 const INTERRUPTED: i32 = 4;
 const FAILED: i32 = 5;
@@ -33,28 +32,28 @@ extern "C" fn getrandom(buf: *mut u8, len: usize, flags: u32) -> isize {
     extern "C" {
         fn __errno_location() -> *mut i32;
     }
-    let mut system = SYSTEM.with(RefCell::take);
-    system.flags |= flags;
-    let result = match system.ends.pop().unwrap_or(Ok(len)) {
-        Ok(most) => {
-            let count = most.min(len);
-            for at in 0..count {
-                // No two of 256 bytes are equal.
-                let byte = (system.given.len() * 37 + 11) as u8;
-                system.given.push(byte);
-                // SAFETY: the caller's buffer has `len` bytes.
-                unsafe { *buf.add(at) = byte };
+    SYSTEM.with(|it| {
+        let system = &mut *it.borrow_mut();
+        system.flags |= flags;
+        match system.ends.pop().unwrap_or(Ok(len)) {
+            Ok(most) => {
+                let count = most.min(len);
+                for at in 0..count {
+                    // No two of 256 bytes are equal.
+                    let byte = (system.given.len() * 37 + 11) as u8;
+                    system.given.push(byte);
+                    // SAFETY: the caller's buffer has `len` bytes.
+                    unsafe { *buf.add(at) = byte };
+                }
+                count as isize
             }
-            count as isize
+            Err(number) => {
+                // SAFETY: it is this thread's.
+                unsafe { *__errno_location() = number };
+                -1
+            }
         }
-        Err(number) => {
-            // SAFETY: it is this thread's.
-            unsafe { *__errno_location() = number };
-            -1
-        }
-    };
-    SYSTEM.with(|it| it.replace(system));
-    result
+    })
 }
 
 /// Makes a file of `text` or `hello` for these recipients.
