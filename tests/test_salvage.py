@@ -42,6 +42,7 @@ def saved(payload, is_changed=False):
         text += plain
     is_rest = is_last is None and not plain
     is_behind = is_rest and early is not None and early == i - 1
+    is_behind_lost = is_rest and i > 0 and losses[-1:] and losses[-1][0] == i - 1
     lines = [*lost_lines(losses), *[CHANGED] * is_changed]
     if early == i:
         lines.append(f"chunk {early} is empty: only an empty plaintext ends with an empty chunk")
@@ -49,12 +50,14 @@ def saved(payload, is_changed=False):
         lines.append(f"up to 16 bytes follow chunk {early}, which is the last")
     elif early is not None:
         lines.append(f"chunk {early} is marked as the last, and more follows: bytes after the end, or another file")
-    if is_last is False or (is_rest and not is_behind):
+    if is_last is False or (is_rest and not is_behind and not is_behind_lost):
         lines.append(f"the file is cut short: the plaintext from byte {len(text)} on is missing")
     elif padding:
         lines.append(f"chunk {i} is the last; bytes after it: {padding}")
     elif is_last is None and plain and early is None:
         lines.append(f"the file ends after {len(piece)} bytes of chunk {i}: more may be missing")
+    elif is_behind_lost and early is None:
+        lines.append(f"up to 16 bytes follow chunk {i - 1}: more may be missing")
     return text, lines
 
 

@@ -253,10 +253,11 @@ enum agefile_state {
 
 typedef struct agefile_payload {
     uint8_t key[32];
-    uint64_t number; /* of the next chunk */
-    uint64_t state;  /* an agefile_state */
-    uint64_t lost;   /* for agefile_salvage_next: 1 if a chunk is lost, else 0 */
-    uint64_t early;  /* for the same: the number of the latest early chunk and 1, or 0 */
+    uint64_t number;  /* of the next chunk */
+    uint64_t state;   /* an agefile_state */
+    uint32_t damaged; /* for agefile_salvage_next: 1 if a chunk is lost or early, else 0 */
+    uint32_t before;  /* for the same: the agefile_saved of the chunk before, or 0 */
+    uint64_t held;    /* 0, reserved */
 } agefile_payload;
 
 /* Begins a file. Writes its header, as agefile_header does, and its nonce to the start of `out`,

@@ -11,7 +11,7 @@ STRUCT = re.compile(r"^#\[repr\(C\)\]\n(?:#\[.*\n)*pub struct (\w+) \{\n((?:    
 TYPE = re.compile(r"(&(?:mut )?)?(?:\[(\w+)(?:; (\d+))?\]|(\w+))")
 SIZES = {"u8": 1, "bool": 1, "u32": 4, "u64": 8, "usize": 8}
 IN_C = {"u8": "uint8_t", "bool": "bool", "u32": "uint32_t", "u64": "uint64_t", "usize": "size_t"}
-IN_PYTHON = {"u8": "byte", "bool": "ctypes.c_bool", "u64": "number", "usize": "size"}
+IN_PYTHON = {"u8": "byte", "bool": "ctypes.c_bool", "u32": "ctypes.c_uint32", "u64": "number", "usize": "size"}
 SYMBOLS, LAYOUT = "share/debian/libagefile.symbols", "share/debian/libagefile.layout"
 
 

@@ -211,17 +211,16 @@ def zero(data):
 class Struct:
     """A struct that a call changes: its fields, in the memory of the call."""
 
-    def __init__(self, data, names):
-        self.data, self.names = data, names
-        self.key = bytes(data[:32])
-        for name, value in zip(names, struct.unpack_from(f"<{len(names)}Q", data, 32)):
+    def __init__(self, data, names, numbers="QQQ"):
+        self.data, self.names, self.layout = data, names, f"<32s{numbers}"
+        for name, value in zip(("key", *names), struct.unpack_from(self.layout, data)):
             setattr(self, name, value)
 
     def write(self):
-        struct.pack_into(f"<32s{len(self.names)}Q", self.data, 0, self.key, *(getattr(self, name) for name in self.names))
+        struct.pack_into(self.layout, self.data, 0, self.key, *(getattr(self, name) for name in self.names))
 
 
-payload_of = functools.partial(Struct, names=("number", "state", "lost", "early"))
+payload_of = functools.partial(Struct, names=("number", "state", "damaged", "before", "held"), numbers="QQIIQ")
 part_of = functools.partial(Struct, names=("number", "left", "state"))
 ranges_of = functools.partial(Struct, names=("first", "sealed_len", "state"))
 
@@ -385,10 +384,9 @@ def saved(key, number, is_last, data):
 
 def verdict(payload, kind):
     """What the plaintext is after its last chunk, of which this was saved."""
-    if kind == SAVED_LAST and not payload.lost and not payload.early:
+    if kind == SAVED_LAST and not payload.damaged:
         return WHOLE
-    follows_the_end = payload.early and payload.early >= payload.number
-    return CUT if kind == SAVED_CHUNK or kind == SAVED_NONE and not follows_the_end else 0
+    return CUT if kind == SAVED_CHUNK or kind == SAVED_NONE and payload.before <= SAVED_CHUNK else 0
 
 
 def salvage_next(data, chunk, is_last):
@@ -401,9 +399,9 @@ def salvage_next(data, chunk, is_last):
         raise Fault(TOO_MANY_CHUNKS)
     text, kind = saved(payload.key, payload.number, is_last, bytes(chunk))
     chunk[: len(text)] = text
-    payload.lost = 1 if kind == SAVED_ZEROS else payload.lost
-    payload.early = payload.number + 1 if kind == SAVED_EARLY else payload.early
     detail = verdict(payload, kind) if is_last else 0
+    payload.damaged = 1 if kind in (SAVED_ZEROS, SAVED_EARLY) else payload.damaged
+    payload.before = kind
     payload.number += 1
     payload.state = ENDED if is_last else READING
     payload.write()

@@ -371,8 +371,8 @@ class Maker:
 
     def salvaging_calls(self):
         """Last chunks of each kind after chunks of each kind, in the form of `call`."""
-        for number, lost, early in itertools.product((0, 1, 3), (0, 1), range(5)):
-            payload = struct.pack("<32s4Q", self.keys[0], number, model.READING, lost, early)
+        for number, damaged, before in itertools.product((0, 1, 3), (0, 1), range(7)):
+            payload = struct.pack("<32s2Q2IQ", self.keys[0], number, model.READING, damaged, before, 0)
             sealed = [reference.sealed_chunk(self.keys[0], number, is_last, text) for is_last in (False, True) for text in (b"", b"text")]
             for chunk in (*sealed, sealed[3] + b"\n", bytes(17), bytes(16), b""):
                 yield "salvage_next", 0, [bytearray(payload), bytearray(chunk), 1], [0, 0, 0]

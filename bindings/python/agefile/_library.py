@@ -43,8 +43,8 @@ class Part(ctypes.Structure):
 
 
 class Payload(ctypes.Structure):
-    _fields_ = [("key", byte * 32), ("number", number), ("state", number), ("lost", number),
-                ("early", number)]
+    _fields_ = [("key", byte * 32), ("number", number), ("state", number),
+                ("damaged", ctypes.c_uint32), ("before", ctypes.c_uint32), ("held", number)]
 
 
 class Ranges(ctypes.Structure):

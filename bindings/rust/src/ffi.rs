@@ -43,8 +43,9 @@ pub struct Payload {
     pub key: [u8; 32],
     pub number: u64,
     pub state: u64,
-    pub lost: u64,
-    pub early: u64,
+    pub damaged: u32,
+    pub before: u32,
+    pub held: u64,
 }
 
 #[repr(C)]

@@ -10,7 +10,6 @@ use crate::Identity;
 // What was saved of a chunk, and what the plaintext is after the last, by the numbers of `agefile.h`.
 const EARLY: u64 = 3;
 const ZEROS: u64 = 4;
-const NONE: u64 = 5;
 const PADDED: u64 = 6;
 const WHOLE: u64 = 1;
 const CUT: u64 = 2;
@@ -68,11 +67,9 @@ impl Salvaged {
         }
     }
 
-    /// Takes the library's verdict. But bytes without text after a lost chunk may follow the end.
+    /// Takes the library's verdict.
     fn end(&mut self, last: &Report) {
-        let is_after_lost = self.lost.last().map_or(false, |run| run.chunks.end + 1 == self.chunks);
-        self.is_whole = last.detail == WHOLE;
-        self.is_cut = last.detail == CUT && !(last.place == NONE && is_after_lost);
+        (self.is_whole, self.is_cut) = (last.detail == WHOLE, last.detail == CUT);
     }
 }
 

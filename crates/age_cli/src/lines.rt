@@ -82,7 +82,7 @@ impl<'a, 'b, E: Sink> LossLines<'a, 'b, E> {
             Saved::Early => self.print(&format_args!(
                 "chunk {chunk} is empty: only an empty plaintext ends with an empty chunk"
             )),
-            Saved::Nothing if !saved.is_cut() => self.print(&format_args!(
+            Saved::Nothing if saved.before == Saved::Early => self.print(&format_args!(
                 "up to {TAG_SIZE} bytes follow chunk {chunk}, which is the last"
             )),
             _ => self.print(&format_args!(
@@ -127,6 +127,7 @@ impl<'a, 'b, E: Sink> Report for LossLines<'a, 'b, E> {
             bytes,
             chunks,
             early,
+            before,
             last,
             ..
         } = payload;
@@ -139,13 +140,23 @@ impl<'a, 'b, E: Sink> Report for LossLines<'a, 'b, E> {
             ));
         }
         let number = chunks.saturating_sub(1);
-        if let Saved::Padded(padding) = last {
-            self.print(&format_args!("chunk {number} is the last; bytes after it: {padding}"));
-        } else if early.is_none() && last == Saved::Zeros {
-            let len = bytes.saturating_sub(1) % CHUNK_SIZE as u128 + 1 + TAG_SIZE as u128;
-            self.print(&format_args!(
-                "the file ends after {len} bytes of chunk {number}: more may be missing"
-            ));
+        match (before, last) {
+            (_, Saved::Padded(padding)) => {
+                self.print(&format_args!("chunk {number} is the last; bytes after it: {padding}"));
+            }
+            (_, Saved::Zeros) if early.is_none() => {
+                let len = bytes.saturating_sub(1) % CHUNK_SIZE as u128 + 1 + TAG_SIZE as u128;
+                self.print(&format_args!(
+                    "the file ends after {len} bytes of chunk {number}: more may be missing"
+                ));
+            }
+            (Saved::Zeros, Saved::Nothing) if early.is_none() => {
+                let number = number.saturating_sub(1);
+                self.print(&format_args!(
+                    "up to {TAG_SIZE} bytes follow chunk {number}: more may be missing"
+                ));
+            }
+            _ => {}
         }
     }
 

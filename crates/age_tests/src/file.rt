@@ -9,7 +9,6 @@ mod ranges;
 mod rewrapping;
 mod salvaging;
 mod steps;
-mod texts;
 
 use age_file::{Done, Fault, Fresh, Limits, decrypt, encrypt};
 use age_header::{MemSink, MemSource};

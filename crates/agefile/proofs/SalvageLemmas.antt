@@ -85,8 +85,8 @@ run_judges key i damaged before n at early b c (d ∷ more) given detail same se
     let x : LostChunk = record { chunk = i; start = at; len = length q.text } in
     let state = saved_state (noting key i damaged before) new false c after report (fitting step) in
     run_judges key (i + 1) (damage damaged q.saved) (saved_number q.saved) (n + length (loss q.saved x))
-        (at + length q.text) (early_after q.saved i early) q.saved d more rest detail
-        (damage_same q.saved damaged n i early x same) (next_seen q.saved) (rw state at run)
+    (at + length q.text) (early_after q.saved i early) q.saved d more rest detail
+    (damage_same q.saved damaged n i early x same) (next_seen q.saved) (rw state at run)
     ∙ next_told q (part key (i + 1) (is_end more) d) i n at early b (parts key (i + 1 + 1) more)
 
 run_saves : (key : Bytes) (i damaged before : ℕ) (cs : List Bytes) (given : List Given) (detail : ℕ)

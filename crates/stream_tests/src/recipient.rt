@@ -205,23 +205,3 @@ fn passphrase_pair_unwraps_what_it_wraps(rt: HostRuntime) {
     assert!(rt; PassIdentity::new(alloc, b"", 0).err() == refused);
     assert!(rt; PassIdentity::new(alloc, b"", 31).err() == refused);
 }
-
-#[test]
-fn each_stanza_fault_has_its_text(rt: HostRuntime) {
-    for (fault, text) in [
-        (StanzaFault::ArgCount, "argument count"),
-        (StanzaFault::Salt, "salt"),
-        (StanzaFault::WorkFactorText, "work factor"),
-        (StanzaFault::WorkFactorTooHigh, "work factor is too high"),
-        (StanzaFault::BodyLength, "body length"),
-        (StanzaFault::Other(7), "code 7"),
-    ] {
-        assert_eq!(rt;
-            format!(in rt.alloc(); "{fault}")
-                .expect(&rt, "memory")
-                .as_str(),
-            text,
-            "{text}"
-        );
-    }
-}

@@ -257,10 +257,14 @@ fn payload_or_starves(alloc: Global) -> bool {
         Err(fault) => fault == StreamFault::Memory && out.into_vec().is_empty(),
     };
     let mut source = MemSource::new(payload);
-    let read = StreamReader::new(alloc, key, &mut source, 1).err().map(|refused| refused.fault());
+    let read = StreamReader::new(alloc, key, &mut source, 1)
+        .err()
+        .map(|refused| refused.fault());
     let reads = read.is_none() || read == Some(StreamFault::Memory) && source.rest().len() == 32;
     let mut dev = MemAt::new(payload);
-    let opened = RangeReader::open(alloc, key, &mut dev, 0, 1).err().map(|refused| refused.fault());
+    let opened = RangeReader::open(alloc, key, &mut dev, 0, 1)
+        .err()
+        .map(|refused| refused.fault());
     let opens = opened.is_none() || opened == Some(StreamFault::Memory) && dev.given() == 0;
     writes && reads && opens
 }

@@ -5,9 +5,7 @@
 use super::devices::FailingSink;
 use super::failing::FILE;
 use super::key_identities;
-use age_file::{
-    Fault, Limits, Losses, LostChunk, Salvaged, SalvagedFile, Saved, Sink, Source, salvage,
-};
+use age_file::{Fault, Limits, Losses, LostChunk, SalvagedFile, Sink, Source, salvage};
 use age_header::{MemSink, MemSource};
 use sha2::{Digest, Sha256};
 use std::alloc::Global;
@@ -33,30 +31,8 @@ const THIRD: Piece = (
     b"\xdb\x86\xeb\x5d\x62\xa5\xe2\xb6\x3c\xb0\xda\x6b\x53\xd3\xba\xd4\x35\x3c\xa2\x8f\xfb\x29",
 );
 
-/// A full first chunk, marked as the last.
-const FIRST_AS_LAST: Piece = (
-    65_536,
-    b"\xa9\x14\xea\xc4\xcc\x44\x82\xc3\xd3\x39\x35\xa5\x28\x58\xa3\x0c",
-);
-
-/// An empty second chunk, marked as the last.
-const EMPTY_LAST: Piece = (
-    0,
-    b"\x3c\x40\x93\x80\x8b\x7a\xa9\x9c\x47\x9f\x3f\x33\x8f\x00\xdc\x6d",
-);
-
-/// The second chunk without its first byte.
-const SECOND_REST: Piece = (
-    65_535,
-    b"\x3f\x69\x3c\x9a\xad\x0e\x54\x7d\xac\xb8\xe2\x61\x54\xd5\x42\x5b",
-);
-
-const BYTE: Piece = (0, b"x");
-
-/// Chunks that open under no number, of the sizes of those three.
+/// A full chunk that opens under no number.
 const DAMAGED: Piece = (65_552, b"");
-
-const DAMAGED_THIRD: Piece = (22, b"");
 
 /// The SHA-256 of those texts.
 const TEXTS: [[u8; 32]; 3] = [
@@ -75,11 +51,6 @@ const TEXTS: [[u8; 32]; 3] = [
         0xd2, 0x1b, 0xb4, 0xfc, 0x71, 0x63, 0xaf, 0x34, 0xd0, 0x82, 0x86, 0xa2, 0xe8, 0x46, 0xf6,
         0xbe, 0x03,
     ],
-];
-
-const FIRST_AS_LAST_TEXT: [u8; 32] = [
-    0x3e, 0x14, 0x65, 0x59, 0xe5, 0x4c, 0x94, 0xbc, 0xfb, 0x9d, 0xd9, 0x9e, 0x6f, 0x77, 0x90, 0x6b,
-    0xf9, 0x82, 0x8c, 0xbf, 0xb7, 0x1a, 0x41, 0x20, 0x9c, 0x8b, 0x44, 0x4c, 0x96, 0xc8, 0xbe, 0x0e,
 ];
 
 /// Keeps the reports.
@@ -155,137 +126,6 @@ fn expect_text(rt: &impl Abort, text: &[u8], texts: &[[u8; 32]; 3], losses: &[Lo
         };
         assert!(rt; is_right, "chunk {i} of {} bytes", text.len());
     }
-}
-
-/// Checks the saved text and the reports for the file of these pieces, none of which is early.
-fn expect(
-    rt: &impl Abort,
-    alloc: Global,
-    pieces: &[Piece],
-    texts: &[[u8; 32]; 3],
-    end: (usize, u128, Saved),
-    losses: &[LostChunk],
-) {
-    expect_early(rt, alloc, pieces, texts, end, losses, None);
-}
-
-/// The same with the latest early chunk.
-fn expect_early(
-    rt: &impl Abort,
-    alloc: Global,
-    pieces: &[Piece],
-    texts: &[[u8; 32]; 3],
-    (bytes, chunks, last): (usize, u128, Saved),
-    losses: &[LostChunk],
-    early: Option<u128>,
-) {
-    let file = file_of(rt, alloc, pieces);
-    let mut sink = MemSink::new(Vec::new(alloc));
-    let mut source = MemSource::new(file.as_slice());
-    let (answer, reported) = salvaged(rt, alloc, &mut source, &mut sink, &Limits::default());
-    let payload = Salvaged {
-        bytes: bytes as u128,
-        chunks,
-        lost: losses.len() as u128,
-        early,
-        last,
-    };
-    let saved = SalvagedFile {
-        has_right_mac: true,
-        payload,
-    };
-    assert_eq!(rt; answer, Ok(saved));
-    let text = sink.into_vec();
-    assert_eq!(rt; text.len(), bytes);
-    expect_text(rt, text.as_slice(), texts, losses);
-    assert!(rt; reported.as_slice() == losses, "{bytes} bytes");
-}
-
-/// A whole file, and damaged chunks: one in its text, two in their tags, and all of them.
-#[test]
-fn damaged_chunks_are_zeros_and_reported(rt: HostRuntime) {
-    let alloc = rt.alloc();
-    let all = (131_078, 3, Saved::LastChunk);
-    expect(&rt, alloc, &[FIRST, SECOND, THIRD], &TEXTS, all, &[]);
-    let pieces = [FIRST, BYTE, SECOND_REST, THIRD];
-    expect(&rt, alloc, &pieces, &TEXTS, all, &[lost(1, 65_536)]);
-    let both = [lost(0, 65_536), lost(1, 65_536)];
-    expect(&rt, alloc, &[DAMAGED, DAMAGED, THIRD], &TEXTS, all, &both);
-    let all = (131_078, 3, Saved::Zeros);
-    let three = [lost(0, 65_536), lost(1, 65_536), lost(2, 6)];
-    expect(
-        &rt,
-        alloc,
-        &[DAMAGED, DAMAGED, DAMAGED_THIRD],
-        &TEXTS,
-        all,
-        &three,
-    );
-}
-
-/// A file that is cut after its nonce, between two chunks, and within a piece without text.
-#[test]
-fn cut_file_is_saved_up_to_its_end(rt: HostRuntime) {
-    let alloc = rt.alloc();
-    let (_, bytes) = THIRD;
-    let tag = (0, &bytes[..16]);
-    let nothing = (0, 1, Saved::Nothing);
-    expect(&rt, alloc, &[], &TEXTS, nothing, &[]);
-    expect(&rt, alloc, &[tag], &TEXTS, nothing, &[]);
-    let one = (65_536, 1, Saved::Chunk);
-    expect(&rt, alloc, &[FIRST], &TEXTS, one, &[]);
-    let one = (65_536, 2, Saved::Nothing);
-    expect(&rt, alloc, &[FIRST, tag], &TEXTS, one, &[]);
-    let two = (131_072, 2, Saved::Chunk);
-    expect(&rt, alloc, &[FIRST, SECOND], &TEXTS, two, &[]);
-}
-
-/// A file that is cut within a chunk: whether that was the last one is not known.
-#[test]
-fn cut_chunk_is_lost(rt: HostRuntime) {
-    let alloc = rt.alloc();
-    let (_, bytes) = THIRD;
-    let cut = (0, &bytes[..17]);
-    let one = (1, 1, Saved::Zeros);
-    expect(&rt, alloc, &[cut], &TEXTS, one, &[lost(0, 1)]);
-    let two = (65_537, 2, Saved::Zeros);
-    expect(&rt, alloc, &[FIRST, cut], &TEXTS, two, &[lost(1, 1)]);
-    let (_, tag) = FIRST;
-    let pieces = [(65_536, &tag[..15])];
-    let one = (65_535, 1, Saved::Zeros);
-    expect(&rt, alloc, &pieces, &TEXTS, one, &[lost(0, 65_535)]);
-}
-
-/// Two chunks that are swapped, and one that occurs twice.
-#[test]
-fn chunk_at_another_place_is_lost(rt: HostRuntime) {
-    let alloc = rt.alloc();
-    let all = (131_078, 3, Saved::LastChunk);
-    let both = [lost(0, 65_536), lost(1, 65_536)];
-    expect(&rt, alloc, &[SECOND, FIRST, THIRD], &TEXTS, all, &both);
-    let second = [lost(1, 65_536)];
-    expect(&rt, alloc, &[FIRST, FIRST, THIRD], &TEXTS, all, &second);
-}
-
-/// A chunk marked as the last comes before others, or before a few bytes; or it is empty and comes
-/// after others. A byte after the last chunk, which is not full, costs nothing.
-#[test]
-fn early_last_chunk_is_saved(rt: HostRuntime) {
-    let alloc = rt.alloc();
-    let mut texts = TEXTS;
-    texts[0] = FIRST_AS_LAST_TEXT;
-    let all = (131_078, 3, Saved::LastChunk);
-    let pieces = [FIRST_AS_LAST, SECOND, THIRD];
-    expect_early(&rt, alloc, &pieces, &texts, all, &[], Some(0));
-    let one = (65_536, 2, Saved::Nothing);
-    let pieces = [FIRST_AS_LAST, BYTE];
-    expect_early(&rt, alloc, &pieces, &texts, one, &[], Some(0));
-    let empty = (65_536, 2, Saved::Early);
-    let pieces = [FIRST, EMPTY_LAST];
-    expect_early(&rt, alloc, &pieces, &TEXTS, empty, &[], Some(1));
-    let all = (131_078, 3, Saved::Padded(1));
-    let pieces = [FIRST, SECOND, THIRD, BYTE];
-    expect(&rt, alloc, &pieces, &TEXTS, all, &[]);
 }
 
 /// More chunks than are allowed: the allowed ones are saved, and those lost among them reported.

@@ -27,7 +27,10 @@ fn failed_nonce_is_not_written_again(rt: HostRuntime) {
                 assert!(rt; false, "with_buf: {with_buf}");
             }
             Err(refused) => {
-                assert!(rt; refused.fault() == StreamFault::Write, "with_buf: {with_buf}");
+                assert!(rt;
+                    refused.fault() == StreamFault::Write,
+                    "with_buf: {with_buf}"
+                );
             }
         }
         assert_eq!(rt; sink.calls, 1, "with_buf: {with_buf}");
@@ -51,8 +54,8 @@ fn failed_read_of_the_nonce_is_the_last(rt: HostRuntime) {
     }
     let mut source = FailingSource::new(&NONCE[..15], 4, 0);
     let met = StreamReader::new(alloc, &KEY, &mut source, MOST)
-            .err()
-            .map(|refused| refused.fault());
+        .err()
+        .map(|refused| refused.fault());
     assert!(rt; met == Some(StreamFault::NonceTruncated));
     assert!(rt; source.rest.is_empty());
     assert_eq!(rt; source.failures(), 0);
