@@ -73,8 +73,7 @@ class Out(Files):
                 self.changes_nothing("Unidentified: standard input", f"{command} -o old <&-")
 
     def test_no_metadata(self):
-        """If the system does not tell which file is which, only an existing OUT and the default seed are
-        refused."""
+        """If the system does not tell which file is which, only an existing OUT is refused."""
         def without(name, line, more=None, number=0):
             env = {"LD_PRELOAD": preload("calls"), "CALL": "statx", "NUMBER": str(number), "DO": error}
             if name:
@@ -96,7 +95,11 @@ class Out(Files):
                         without("Unidentified: old", f"{form} -v -o old", f"identifying old: {reason}")
                         without("Unidentified: old", f"{form} -v --atomic -o old", f"identifying old: {reason}")
             with self.subTest(f"the default seed, {reason}"):
-                without("Unidentified: /dev/urandom", "encrypt -v -k key hello", f"identifying /dev/urandom: {reason}")
+                ran = without(None, "encrypt -v -k key hello")
+                write("made", ran.out)
+                self.assert_ended(ran, out=None)
+                self.assert_ended(self.run_line("decrypt -k key made"), out=HELLO)
+                os.remove("made")
         error, said = IO_ERROR, set()
         for number in range(1, 9):
             said.add(without(None, "decrypt -v -k key -o old key.age", number=number).err.decode())

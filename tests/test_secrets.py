@@ -104,7 +104,7 @@ class FreshParts(ProgramCase):
 class Passphrases(ProgramCase):
     TEXTS = {
         "all": bytes(range(256)),
-        "all backwards": bytes(range(255, -1, -1)),
+        "all backwards": bytes(range(254, -1, -1)),
         "nul": b"\0",
         "nuls before": b"\0\0correct horse",
         "line ends before": b"\n\r\ncorrect horse",
@@ -112,7 +112,7 @@ class Passphrases(ProgramCase):
         "nfc": unicodedata.normalize("NFC", "p\xe4ssw\xf6rd \u2603 \U0001f986").encode(),
         "nfd": unicodedata.normalize("NFD", "p\xe4ssw\xf6rd \u2603 \U0001f986").encode(),
         "latin": "p\xe4ssw\xf6rd".encode("latin1"),
-        "no utf8": b"\xff\xfe\xc0\xaf\xed\xa0\x80",
+        "no utf8": b"\xc0\xaf\xff\xfe\xed\xa0\x80",
         "mark behind": b"correct\xef\xbb\xbfhorse\xef\xbb\xbf",
         "cr before": b"\rcorrect\rhorse",
         "upper": b"CORRECT HORSE",
@@ -123,7 +123,13 @@ class Passphrases(ProgramCase):
         "mark": b"\xef\xbb\xbfcorrect horse",
         "mark and cr": b"\xef\xbb\xbfcorrect horse\r",
         "mark alone": b"\xef\xbb\xbf",
+        "mark of UTF-16": b"\xff\xfec\0o\0r\0",
+        "mark of UTF-16, high bytes first": b"\xfe\xff\0c\0o\0r",
+        "mark of UTF-16 alone": b"\xff\xfe",
         "cr alone": b"\r",
+        "lf after": b"correct horse\n",
+        "cr and lf after": b"correct horse\r\n",
+        "lf alone": b"\n",
     }
 
     def test_bytes(self):
@@ -145,10 +151,10 @@ class Passphrases(ProgramCase):
                 self.writes(HELLO, "decrypt", "-p", "secret", "made")
 
     def test_untyped(self):
-        """A CR at the end and a byte-order mark are refused for a new file, but open a file made with them."""
+        """A CR or LF at the end and a byte-order mark are refused for a new file, but open a file made with them."""
         for name, text in self.UNTYPED.items():
             write("made", fixture.for_passphrase(HELLO, text, 4))
-            for end in (b"", b"\n"):
+            for end in (b"\n",) if text.endswith(b"\n") else (b"", b"\n"):
                 write("secret", text + end)
                 with self.subTest(f"{name}, then {end!r}"):
                     self.says(message("UntypedPassphrase"), "encrypt", "-p", "secret", "-w", "4", "hello")

@@ -147,6 +147,7 @@ class SmallFiles(Verbose):
         for name, text, why in (
             ("cr", b"word\r", "ends in CR"), ("cr.lf", b"word\r\n", "ends in CR"), ("mark", MARK + b"word\n", f"begins with {A_MARK}"),
             ("both", MARK + b"word\r\n", f"begins with {A_MARK} and ends in CR"), ("lines", MARK + b"word\n\n", f"begins with {A_MARK} and ends in LF"),
+            ("lf", b"word\n\n", "ends in LF"), ("utf16", "word\r\n".encode("utf-16"), f"begins with {A_MARK}"),
         ):
             write(name, text)
             self.explains("UntypedPassphrase", f"passphrase file {name}: the passphrase {why}", f"encrypt -p {name} hello")

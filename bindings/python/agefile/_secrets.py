@@ -13,6 +13,7 @@ from typing import Any, Callable, NamedTuple, Protocol, TypeVar, Union, cast, ru
 
 _Call = TypeVar("_Call", bound=Callable[..., Any])
 _MARK = b"\xef\xbb\xbf"
+_MARKS = _MARK, b"\xff\xfe", b"\xfe\xff"
 
 from . import _library as lib
 from ._errors import AgeError, Code, count_of
@@ -128,7 +129,7 @@ class Passphrase(_Secret):
     def from_file(cls, file: Any, *, work: int = 18, max_work: int = 22) -> Passphrase:
         """Reads a passphrase file as `agep -p` does: at most 65,536 bytes, without one LF at the
         end. `file` is a path, a descriptor or a binary file object. A passphrase that ends in CR or
-        begins with a byte-order mark, which nobody types, can open files but not make them:
+        LF, or begins with a byte-order mark, which nobody types, can open files but not make them:
         ValueError."""
         room = bytearray(lib.TEXT_CHUNK + 1)
         with reading(file) as source:
@@ -136,11 +137,11 @@ class Passphrase(_Secret):
         if length > lib.TEXT_CHUNK:
             raise ValueError(f"a passphrase file has at most {lib.TEXT_CHUNK} bytes")
         made = cls(bytes(room[:length]).removesuffix(b"\n"), work=work, max_work=max_work)
-        made._untyped = made._secret.startswith(_MARK) or made._secret.endswith(b"\r")
+        made._untyped = made._secret.startswith(_MARKS) or made._secret.endswith((b"\r", b"\n"))
         return made
 
     def _wrong(self) -> str:
-        found = ["begins with a byte-order mark"] if self._secret.startswith(_MARK) else []
+        found = ["begins with a byte-order mark"] if self._secret.startswith(_MARKS) else []
         ends = (b"\r", "ends in CR"), (b"\n", "ends in LF")
         found += [text for end, text in ends if self._secret.endswith(end)]
         return super()._wrong() + (f" (the passphrase {' and '.join(found)})" if found else "")
@@ -148,7 +149,7 @@ class Passphrase(_Secret):
     @_interruptible
     def _text(self, file_key: bytes) -> bytes:
         if self._untyped:
-            raise ValueError("passphrase ends in CR or begins with a byte-order mark")
+            raise ValueError("passphrase ends in CR or LF, or begins with a byte-order mark")
         salt = os.urandom(lib.SALT)
         with lib.Bytes(self._secret) as secret, lib.Bytes(file_key) as key, lib.Bytes(salt) as fresh:
             return _text_of("wrap_passphrase", key.address, *secret.pair, self._work, fresh.address)

@@ -239,7 +239,10 @@ class Programs(InFolder):
 
     def test_passphrase_files_that_nobody_types(self):
         """They make no file in any way, as in agep, and open files that others made."""
-        for data in (b"word\r", b"word\r\n", b"\r", b"\xef\xbb\xbfword", b"\xef\xbb\xbfword\n", b"\xef\xbb\xbfword\r\n"):
+        for data in (
+            b"word\r", b"word\r\n", b"\r", b"\xef\xbb\xbfword", b"\xef\xbb\xbfword\n", b"\xef\xbb\xbfword\r\n", b"word\n\n", b"\n\n",
+            b"\xff\xfew\0", b"\xfe\xff\0w",
+        ):
             secret = Passphrase.from_file(io.BytesIO(data), work=1)
             for number, call in enumerate((
                 lambda secret: agefile.encrypt(b"text", recipients=secret),
@@ -248,7 +251,7 @@ class Programs(InFolder):
                 lambda secret: agefile.rewrap(agefile.encrypt(b"", recipients=KEY), identities=KEY, recipients=secret),
                 lambda secret: pickle.loads(pickle.dumps(secret)).wrap(bytes(16)),
             )):
-                with self.subTest(f"{data!r}, {number}"), self.assertRaisesRegex(ValueError, "passphrase ends in CR or begins with a byte-order mark"):
+                with self.subTest(f"{data!r}, {number}"), self.assertRaisesRegex(ValueError, "passphrase ends in CR or LF, or begins with a byte-order mark"):
                     call(secret)
             self.assertFalse(os.path.exists("made"))
             file = agefile.encrypt(b"text", recipients=Passphrase(data.removesuffix(b"\n"), work=1))

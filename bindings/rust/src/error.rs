@@ -61,8 +61,8 @@ pub enum Error {
     // end of variants of errors
     /// A passphrase for a new file is empty: anyone could open the file.
     EmptyPassphrase,
-    /// The passphrase of a passphrase file, for a new file, ends in CR or begins with a byte-order
-    /// mark: whoever types it could not open the file.
+    /// The passphrase of a passphrase file, for a new file, ends in CR or LF, or begins with a
+    /// byte-order mark: whoever types it could not open the file.
     UntypedPassphrase,
     /// A work factor is not 1 to 30.
     WorkFactor,
@@ -204,7 +204,7 @@ impl fmt::Display for Error {
             Error::EmptyPassphrase => write!(f, "passphrase is empty"),
             // end of texts of errors
             Error::UntypedPassphrase => {
-                write!(f, "passphrase ends in CR or begins with a byte-order mark")
+                write!(f, "passphrase ends in CR or LF, or begins with a byte-order mark")
             }
             Error::Refused => write!(f, "recipient refused"),
             Error::Incomplete => write!(f, "an earlier write failed"),

@@ -138,8 +138,8 @@ impl Passphrase {
     }
 
     /// Reads a passphrase file as `agep -p` does: at most 65,536 bytes, without one LF at the end. A
-    /// passphrase that ends in CR or begins with a byte-order mark, which nobody types, can open
-    /// files but not make them ([`Error::UntypedPassphrase`]).
+    /// passphrase that ends in CR or LF, or begins with a byte-order mark, which nobody types, can
+    /// open files but not make them ([`Error::UntypedPassphrase`]).
     ///
     /// # Errors
     /// That of the system, or `InvalidInput` if the file has more bytes.
@@ -149,7 +149,9 @@ impl Passphrase {
         if text.last() == Some(&b'\n') {
             text.pop();
         }
-        let is_untyped = text.starts_with(b"\xef\xbb\xbf") || text.ends_with(b"\r");
+        let marks = [&b"\xef\xbb\xbf"[..], b"\xff\xfe", b"\xfe\xff"];
+        let is_marked = marks.iter().any(|mark| text.starts_with(mark));
+        let is_untyped = is_marked || text.ends_with(b"\r") || text.ends_with(b"\n");
         Ok(Passphrase { is_untyped, ..Passphrase::new(text) })
     }
 

@@ -1,5 +1,5 @@
 -- The faults with which a job may be refused, by its options.
-use Rattle.std.specs.Prelude.{◌≡◌, ◌⊎◌, ◌<◌, ℕ, List, Option, None, Some, IsSome, String, ⊤, codes, length, true}
+use Rattle.std.specs.Prelude.{◌≡◌, ◌⊎◌, ◌<◌, ℕ, Bool, List, Option, None, Some, IsSome, String, ⊤, codes, false, length, true}
 use Rattle.std.specs.String.{string_bytes}
 use Rattle.age_job.specs.declared.fault.Fault.{Fault}
 use Rattle.age_job.specs.declared.fault.Fault.TheVariants as faults
@@ -38,6 +38,11 @@ IsRead job roles.NewKey name = IsNamed job.new_key name ⊎ (0 < length job.more
 IsRead job roles.Seed name = MakesHeader job × (name ≡ string_bytes job.seed)
 IsRead job roles.FileKey name = (job.command ≡ command.Inspect) × IsNamed job.file_key name
 
+-- a new OUT may take the place of IN, but not of a secret
+abbrev pub may_be_replaced : Role → Bool
+may_be_replaced roles.Input = true
+may_be_replaced _ = false
+
 -- a fault of a file that is read under this name
 abbrev pub IsFileFault : (name : List ℕ) (fault : Fault) → Type 0
 IsFileFault name faults.Read = ⊤
@@ -56,6 +61,7 @@ IsSameFault name fault = ⊥
 -- the same, or it cannot be replaced
 abbrev pub IsFoundFault : (name : List ℕ) (fault : Fault) → Type 0
 IsFoundFault name (faults.OutputIsSpecial named) = named.0.now ≡ name
+IsFoundFault name (faults.CannotCreate named) = named.0.now ≡ name
 IsFoundFault name fault = IsSameFault name fault
 
 -- a fault of the contents of a passphrase file

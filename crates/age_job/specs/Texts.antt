@@ -50,5 +50,6 @@ fault_text fault.SeedLength = codes "seed file must hold 48 bytes"
 fault_text fault.FileKeyLength = codes "file key file must hold 16 bytes"
 fault_text fault.PassphraseLength = codes "passphrase file is too long"
 fault_text fault.NoPassphrase = codes "passphrase file is empty"
-fault_text fault.UntypedPassphrase = codes "passphrase ends in CR or begins with a byte-order mark"
+fault_text fault.UntypedPassphrase =
+    codes "passphrase ends in CR or LF, or begins with a byte-order mark"
 fault_text fault.OutputIsTerminal = codes "standard output is a terminal"

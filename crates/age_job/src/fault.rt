@@ -43,7 +43,7 @@ pub enum Fault<'a> {
     PassphraseLength,
     /// The passphrase for encrypting is empty.
     NoPassphrase,
-    /// The passphrase for encrypting ends in CR or begins with a byte-order mark.
+    /// The passphrase for encrypting ends in CR or LF, or begins with a byte-order mark.
     UntypedPassphrase,
     /// An age file would be written to a terminal.
     OutputIsTerminal,
@@ -97,7 +97,7 @@ impl fmt::Display for Fault<'_> {
             Fault::PassphraseLength => f.write_str("passphrase file is too long"),
             Fault::NoPassphrase => f.write_str("passphrase file is empty"),
             Fault::UntypedPassphrase => {
-                f.write_str("passphrase ends in CR or begins with a byte-order mark")
+                f.write_str("passphrase ends in CR or LF, or begins with a byte-order mark")
             }
             Fault::OutputIsTerminal => f.write_str("standard output is a terminal"),
         }

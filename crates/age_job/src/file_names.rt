@@ -3,6 +3,7 @@
 ghost use Rattle.std.specs.Prelude.{◌≡◌, Some, false};
 ghost use Rattle.std.specs.Fmt.{WritesOnOk};
 ghost use Rattle.age_job.specs.Names.{directs_writing, escaped_name, escaped_char, needs_quotes, quoted_name};
+ghost use Rattle.age_job.specs.Refusal.{may_be_replaced};
 ghost use Rattle.age_job.specs.Texts.{role_text, role_words};
 
 use std::fmt;
@@ -33,6 +34,17 @@ impl Role {
             Role::NewKey => "new key file",
             Role::Seed => "seed file",
             Role::FileKey => "file key file",
+        }
+    }
+
+    /// Whether a new OUT may take the place of the file in this role. A secret would be lost.
+    pub(crate) fn may_be_replaced(self) -> bool
+        ensures { result ≡ may_be_replaced self }
+    {
+        match self {
+            Role::Input => true,
+            Role::Passphrase | Role::Key | Role::Seed | Role::FileKey => false,
+            Role::NewPassphrase | Role::NewKey => false,
         }
     }
 }

@@ -258,7 +258,7 @@ impl<'a> ReadFiles<'a> {
         ensures { IfErr result (λ failure. IsSameFault name.now failure.fault) }
     {
         for file in self.files.as_slice() {
-            if file.named.role != Role::Input {
+            if !file.named.role.may_be_replaced() {
                 file.refuse(out, name)?;
             }
         }

@@ -29,6 +29,8 @@ pub struct Output<F> {
     is_regular: bool,
     /// Whether this is a regular file that may still have its old contents.
     is_stale: bool,
+    /// The number of bytes written.
+    written: u64,
 }
 
 /// Checks the options about OUT before anything is read: refuses `--atomic` without OUT and, with
@@ -64,7 +66,7 @@ pub(crate) fn open_in_place<'a, F: Files>(
     match options.open(rt, name) {
         Ok(file) => return Ok(Output::over(file, true)),
         Err(reason) if reason.kind() != ErrorKind::AlreadyExists => {
-            return Err(cannot_create(name, reason));
+            return Err(cannot_create(name, name, reason));
         }
         Err(_) if job.no_clobber => return Err(Fault::OutputExists(Name(name)).into()),
         Err(_) => {}
@@ -72,7 +74,7 @@ pub(crate) fn open_in_place<'a, F: Files>(
     options.create_new(false).create(true);
     let file = match options.open(rt, name) {
         Ok(file) => file,
-        Err(reason) => return Err(cannot_create(name, reason)),
+        Err(reason) => return Err(cannot_create(name, name, reason)),
     };
     let inode = match Inode::of_open(&file) {
         Ok(inode) => inode,
@@ -89,13 +91,14 @@ pub(crate) fn new_file(mode: u32) -> OpenOptions {
     options
 }
 
-pub(crate) fn cannot_create<'a>(name: &'a str, reason: io::Error) -> Failure<'a>
+/// The file of this name cannot be created, because the file `new` cannot.
+pub(crate) fn cannot_create<'a>(name: &'a str, new: &'a str, reason: io::Error) -> Failure<'a>
     ensures { result.fault ≡ Fault.CannotCreate (record { 0 = name.entry }) }
 {
     Failure::of_system(
         Fault::CannotCreate(Name(name)),
         Operation::Creating,
-        name,
+        new,
         reason,
     )
 }
@@ -132,7 +135,13 @@ impl<F: OpenFile> Output<F> {
             file,
             is_regular,
             is_stale: is_regular,
+            written: 0,
         }
+    }
+
+    /// Returns the number of bytes written.
+    pub fn written(&self) -> u64 {
+        self.written
     }
 
     /// Truncates a file that may still have its old contents.
@@ -203,7 +212,9 @@ impl<F: Write + OpenFile> Write for Output<F> {
 
     fn write(&mut self, buf: &[u8]) -> io::Result<usize> {
         self.make_room(buf)?;
-        self.file.write(buf)
+        let n = self.file.write(buf)?;
+        self.written = self.written.saturating_add(n as u64);
+        Ok(n)
     }
 
     fn flush(&mut self) -> io::Result<()> {

@@ -1,7 +1,7 @@
 //! Secrets, and how they are read from the bytes of a file.
 
 ghost use Rattle.std.specs.Prelude.{◌≡◌, ◌≢◌, length, IfSome, IfNone};
-ghost use Rattle.age_job.specs.Passphrase.{begins_with_mark, ends_in_return, passphrase_of};
+ghost use Rattle.age_job.specs.Passphrase.{begins_with_mark, ends_in_line_end, passphrase_of};
 
 /// The length of a seed in bytes: the file key, the nonce and the salt, 16 each.
 pub const SEED_LEN: usize = 48;
@@ -32,13 +32,15 @@ pub(crate) fn begins_with_mark(bytes: &[u8]) -> bool
     ensures { result ≡ begins_with_mark bytes.now }
 {
     bytes.starts_with(b"\xef\xbb\xbf")
+        || bytes.starts_with(b"\xff\xfe")
+        || bytes.starts_with(b"\xfe\xff")
 }
 
-/// Whether these bytes end in CR.
-pub(crate) fn ends_in_return(bytes: &[u8]) -> bool
-    ensures { result ≡ ends_in_return bytes.now }
+/// Whether these bytes end in CR or LF.
+pub(crate) fn ends_in_line_end(bytes: &[u8]) -> bool
+    ensures { result ≡ ends_in_line_end bytes.now }
 {
-    bytes.ends_with(b"\r")
+    bytes.ends_with(b"\r") || bytes.ends_with(b"\n")
 }
 
 /// What messages say of the ends of a passphrase.

@@ -15,10 +15,10 @@ use crate::job::{Command, Job};
 use crate::output::refuse_terminal;
 use crate::ranges::DEFAULT_SEED;
 use crate::secret::{
-    Ends, SEED_LEN, Secret, begins_with_mark, ends_in_return, exactly, without_line_end,
+    Ends, SEED_LEN, Secret, begins_with_mark, ends_in_line_end, exactly, without_line_end,
 };
 use std::fs::OpenFile;
-use std::io::IsTerminal;
+use std::io::{IsTerminal, Seek, SeekFrom};
 use std::rt::Files;
 
 /// Reads the secret of a command that has only one.
@@ -50,7 +50,7 @@ pub fn read_encrypt_secrets<'a, F: Files + AllocGlobal, W: IsTerminal>(
     // one or more keys, not more than there are key files.
     ensures secret { IfOk result
         (λ read. IsSecretOf job.now.pass job.now.key job.now.more_keys.items read.0) }
-    // No new passphrase is empty, ends in CR or begins with a byte-order mark.
+    // No new passphrase is empty, ends in CR or LF, or begins with a byte-order mark.
     ensures new { IfOk result (λ read. IsNewSecret read.0) }
     ensures fault { job.now.command ≡ Command.Encrypt
         → IfErr result (λ failure. MayRefuse job.now failure.fault) }
@@ -77,7 +77,7 @@ pub fn read_rewrap_secrets<'a, F: Files + AllocGlobal, W: IsTerminal>(
     // The new secret is a passphrase or keys by its options, as for `read_secret`.
     ensures other { IfOk result (λ read. IsSecretOf job.now.new_pass job.now.new_key
         job.now.more_new_keys.items read.1) }
-    // No new passphrase is empty, ends in CR or begins with a byte-order mark.
+    // No new passphrase is empty, ends in CR or LF, or begins with a byte-order mark.
     ensures new { IfOk result (λ read. IsNewSecret read.1) }
     ensures fault { job.now.command ≡ Command.Rewrap
         → IfErr result (λ failure. MayRefuse job.now failure.fault) }
@@ -209,14 +209,15 @@ fn read_new_from<'a, F: Files + AllocGlobal>(
 }
 
 /// Reads the passphrase of a new file. Refuses an empty one, which a failed command would have
-/// written: anyone could open the file. Refuses one that ends in CR or begins with a byte-order
-/// mark, which an editor wrote: whoever types the passphrase could not open the file.
+/// written: anyone could open the file. Refuses one that ends in CR or LF, or begins with a
+/// byte-order mark, which an editor wrote: whoever types the passphrase could not open the file.
 fn read_new_passphrase<'a, F: Files + AllocGlobal>(
     rt: &F,
     read: &mut ReadFiles<'a>,
     named: NamedFile<'a>,
 ) -> Result<Vec<u8>, Failure<'a>>
-    // The passphrase is not empty, does not end in CR and does not begin with a byte-order mark.
+    // The passphrase is not empty, does not end in CR or LF, and does not begin with a byte-order
+    // mark.
     ensures passphrase { IfOk result (λ passphrase. IsNewPassphrase passphrase.items) }
     ensures fault { IfErr result (λ failure. IsFileFault named.entry.name.now failure.fault
         ⊎ IsPassphraseFault failure.fault) }
@@ -227,7 +228,7 @@ fn read_new_passphrase<'a, F: Files + AllocGlobal>(
     if bytes.is_empty() {
         return Err(Failure::with(Fault::NoPassphrase, Detail::NoPassphrase(role, Name(name))));
     }
-    if begins_with_mark(bytes) || ends_in_return(bytes) {
+    if begins_with_mark(bytes) || ends_in_line_end(bytes) {
         let detail = Detail::UntypedPassphrase(role, Name(name), Ends::of(bytes));
         return Err(Failure::with(Fault::UntypedPassphrase, detail));
     }
@@ -297,9 +298,9 @@ fn read_seed<'a, F: Files + AllocGlobal>(
     let name = job.seed.as_str();
     let role = Role::Seed;
     let named = NamedFile { role, name };
-    let file = read.open_small(rt, named)?;
+    let mut file = read.open_small(rt, named)?;
     if name == DEFAULT_SEED {
-        refuse_ordinary(&file, name)?;
+        refuse_ordinary(&mut file, name)?;
     }
     let bytes = read_prefix(rt.alloc(), named, file, SEED_LEN)?;
     match exactly(bytes.as_slice()) {
@@ -311,8 +312,9 @@ fn read_seed<'a, F: Files + AllocGlobal>(
     }
 }
 
-/// Refuses a seed file that is not a character device.
-fn refuse_ordinary<'a, F: OpenFile>(file: &F, name: &'a str) -> Result<(), Failure<'a>>
+/// Refuses a seed file that is not a character device. If the system does not tell, a file that has
+/// no end, as the default one, is accepted.
+fn refuse_ordinary<'a, F: OpenFile + Seek>(file: &mut F, name: &'a str) -> Result<(), Failure<'a>>
     ensures { IfErr result (λ failure. IsFileFault name.now failure.fault) }
 {
     match Inode::of_open(file) {
@@ -321,7 +323,10 @@ fn refuse_ordinary<'a, F: OpenFile>(file: &F, name: &'a str) -> Result<(), Failu
             Fault::CannotOpen(Name(name)),
             Detail::NoDevice(Role::Seed, Name(name)),
         )),
-        Err(reason) => Err(unidentified(name, reason)),
+        Err(reason) => match file.seek(SeekFrom::End(0)) {
+            Ok(0) => Ok(()),
+            _ => Err(unidentified(name, reason)),
+        },
     }
 }
 

@@ -13,7 +13,7 @@ use crate::output::{
     Output, PLAINTEXT_MODE, cannot_create, failed_write, new_file, new_mode, open_in_place,
     refuse_output,
 };
-use std::fs::{Metadata, OpenFile, Permissions};
+use std::fs::{Metadata, OpenFile, OpenOptions, Permissions};
 use std::io::ErrorKind;
 use std::os::unix::fs::{MetadataExt, PermissionsExt, lchown};
 use std::rt::Files;
@@ -75,16 +75,21 @@ impl Target {
         };
         match found {
             Ok(replacement) => replacement.create(rt, job, read, name),
-            Err(reason) if reason.kind() == ErrorKind::OutOfMemory => Err(
-                Fault::OutOfMemory.into(),
-            ),
-            Err(reason) => Err(cannot_create(name, *reason)),
+            Err(reason) => match reason.kind() {
+                ErrorKind::OutOfMemory => Err(Fault::OutOfMemory.into()),
+                ErrorKind::NotFound
+                | ErrorKind::NotADirectory
+                | ErrorKind::InvalidFilename
+                | ErrorKind::FilesystemLoop => Err(cannot_create(name, name, *reason)),
+                _ => Err(unidentified(name, *reason)),
+            },
         }
     }
 
-    /// Ends the output after success, and gives a new file the name of OUT.
+    /// Ends the output: syncs what was written, gives a new file the name of OUT, and syncs its
+    /// folder. If this fails before OUT is replaced, the new file is removed.
     pub fn finish<'a, F: Files>(
-        &self,
+        &'a self,
         rt: &F,
         job: &'a Job,
         output: Output<F::File>,
@@ -92,25 +97,37 @@ impl Target {
     ) -> Result<(), Failure<'a>>
         ensures { IfErr result (λ failure. MayEnd job.now failure.fault) }
     {
-        let ended = match output.finish(name) {
+        let replaced = match output.finish(name) {
             Ok(()) => self.replace(rt, job, name),
             Err(failure) => Err(failure),
         };
-        if ended.is_err() {
-            self.discard(rt);
+        match replaced {
+            Ok(Some(folder)) => folder.sync(),
+            Ok(None) => Ok(()),
+            Err(failure) => {
+                self.discard(rt);
+                Err(failure)
+            }
         }
-        ended
     }
 
-    fn replace<'a, F: Files>(&self, rt: &F, job: &'a Job, name: &'a str) -> Result<(), Failure<'a>>
+    /// Gives a new file the name of OUT. Returns its folder, if there is a new file and the folder
+    /// may be read.
+    fn replace<'a, F: Files>(
+        &'a self,
+        rt: &F,
+        job: &'a Job,
+        name: &'a str,
+    ) -> Result<Option<Folder<'a, F::File>>, Failure<'a>>
         ensures { IfErr result (λ failure. MayEnd job.now failure.fault) }
     {
         let Target::Replaced(Ok(Replacement { old, new })) = self else {
-            return Ok(());
+            return Ok(None);
         };
         refuse_output(rt, job)?;
+        let folder = Folder::of(rt, old.as_str())?;
         match fs::rename(rt, new.as_str(), old.as_str()) {
-            Ok(()) => Ok(()),
+            Ok(()) => Ok(folder),
             Err(reason) => Err(failed_write(Operation::Replacing, name, reason)),
         }
     }
@@ -119,6 +136,44 @@ impl Target {
     pub fn discard<F: Files>(&self, rt: &F) {
         if let Target::Replaced(Ok(replacement)) = self {
             let _ = fs::remove_file(rt, replacement.new.as_str());
+        }
+    }
+}
+
+/// The folder of a file that is replaced.
+#[derive(Drop)]
+struct Folder<'a, F> {
+    name: &'a str,
+    file: F,
+}
+
+impl<'a, F: OpenFile> Folder<'a, F> {
+    /// Opens the folder of this file. None if it may be written, but not read.
+    fn of<R: Files<File = F>>(rt: &R, path: &'a str) -> Result<Option<Folder<'a, F>>, Failure<'a>>
+        ensures { IfErr result (λ failure. failure.fault ≡ Fault.Write) }
+    {
+        let name = match path.rsplit_once('/') {
+            None => ".",
+            Some(("", _)) => "/",
+            Some((name, _)) => name,
+        };
+        match fs::open(rt, name) {
+            Ok(file) => Ok(Some(Folder { name, file })),
+            Err(reason) if reason.kind() == ErrorKind::PermissionDenied => Ok(None),
+            Err(reason) => Err(failed_write(Operation::Syncing, name, reason)),
+        }
+    }
+
+    /// Syncs the folder, so that the name of a file in it survives a power cut. Some file systems
+    /// refuse this.
+    fn sync(&self) -> Result<(), Failure<'a>>
+        ensures { IfErr result (λ failure. failure.fault ≡ Fault.Write) }
+    {
+        match self.file.sync_all() {
+            Err(reason) if reason.kind() != ErrorKind::InvalidInput => {
+                Err(failed_write(Operation::Syncing, self.name, reason))
+            }
+            _ => Ok(()),
         }
     }
 }
@@ -147,25 +202,26 @@ impl Replacement {
             Some(_) => PLAINTEXT_MODE,
             None => new_mode(job.command),
         };
-        let file = match new_file(mode).open(rt, self.new.as_str()) {
+        let new = self.new.as_str();
+        let file = match new_file(mode).open(rt, new) {
             Ok(file) => file,
             Err(reason) if reason.kind() == ErrorKind::AlreadyExists => {
-                let new = Name(self.new.as_str());
+                let new = Name(new);
                 return Err(Failure::with(Fault::NewFileExists(new), Detail::NewFile(new)));
             }
-            Err(reason) => return Err(cannot_create(name, reason)),
+            Err(reason) => return Err(cannot_create(name, new, reason)),
         };
         if let Some(found) = &found
             && let Err(reason) = self.keep_owner(rt, &file, found)
         {
-            let _ = fs::remove_file(rt, self.new.as_str());
-            return Err(cannot_create(name, reason));
+            let _ = fs::remove_file(rt, new);
+            return Err(cannot_create(name, new, reason));
         }
         Ok(Output::over(file, true))
     }
 
-    /// What is known of the file to replace, if there is one. It must be regular, and not the file
-    /// of a secret.
+    /// What is known of the file to replace, if there is one. It must be regular, not the file of
+    /// a secret, and one that may be written, as without `--atomic`.
     fn found<'a, F: Files>(
         &self,
         rt: &F,
@@ -184,7 +240,10 @@ impl Replacement {
             return Err(Fault::OutputIsSpecial(Name(name)).into());
         }
         read.refuse_secrets(&inode, name)?;
-        Ok(Some(found))
+        match OpenOptions::new().write(true).open(rt, self.old.as_str()) {
+            Ok(_) => Ok(Some(found)),
+            Err(reason) => Err(cannot_create(name, name, reason)),
+        }
     }
 
     /// Gives the new file the permissions of the file that it replaces and, if the system allows
@@ -198,10 +257,12 @@ impl Replacement {
     }
 }
 
-/// The file to which a symbolic link leads; any other name stays as it is.
+/// The file to which a symbolic link leads; any other name stays as it is. No file has an empty
+/// name.
 fn followed<F: Files + AllocGlobal>(rt: &F, name: &str) -> io::Result<String> {
     match fs::symlink_metadata(rt, name) {
         Ok(found) if found.is_symlink() => Ok(rt.canonicalize(rt.alloc(), name)?.into_string()),
+        Err(reason) if name.is_empty() || reason.kind() != ErrorKind::NotFound => Err(reason),
         _ => Ok(String::from_str(rt.alloc(), name)?),
     }
 }
