@@ -6,10 +6,15 @@
 
 ghost use Rattle.std.specs.Prelude.{◌≤◌};
 
+use std::env::FillError;
 use std::fs::File;
 use std::os::fd::AsRawFd;
 use std::process::ExitCode;
-use std::{env, io};
+use std::rt::Env;
+use std::{env, io, str};
+
+/// The maximum length of an argument that a message names, in bytes.
+const MAX_NAME: usize = 4_096;
 
 fn main(rt: HostRuntime) -> ExitCode {
     let status = match arguments(&rt) {
@@ -64,15 +69,18 @@ fn hold_streams(rt: &HostRuntime) -> Option<[Option<File>; 3]> {
     ])
 }
 
-/// Whether standard output and standard error are open: the ends of a pipe get the lowest free
-/// descriptors.
+/// Whether standard output and standard error are open: the ends of a pipe, or a directory if only
+/// one descriptor is free, get the lowest free descriptors.
 fn are_open(rt: &HostRuntime) -> bool {
     match io::pipe(rt) {
         Ok((reader, writer)) => {
             let (lower, upper) = (reader.as_raw_fd(), writer.as_raw_fd());
             lower > 2 || (lower == 0 && upper > 2)
         }
-        Err(_) => false,
+        Err(_) => match open_folder(rt) {
+            Some(folder) => folder.as_raw_fd() > 2,
+            None => false,
+        },
     }
 }
 
@@ -94,8 +102,22 @@ fn refuse(rt: &HostRuntime, kind: io::ErrorKind) -> u8
         let _ = eprintln!(rt; "agep: out of memory");
         return 1;
     }
+    let mut room = [0u8; MAX_NAME];
+    let name = wrong_argument(rt, &mut room).escape_ascii();
     let _ = eprintln!(rt;
-        "agep: an argument is not UTF-8; < and > read and write files with such names"
+        "agep: an argument is not UTF-8: {name}; < and > read and write files with such names"
     );
     2
+}
+
+/// The first argument that is not UTF-8 and fits the buffer.
+fn wrong_argument<'a>(rt: &HostRuntime, room: &'a mut [u8]) -> &'a [u8] {
+    for i in 0..usize::MAX {
+        match rt.arg(i, room) {
+            Ok(len) if str::from_utf8(&room[..len]).is_err() => return &room[..len],
+            Err(FillError::NotPresent) => break,
+            _ => {}
+        }
+    }
+    &[]
 }
