@@ -167,6 +167,15 @@ class Headers(Verbose):
             *((f"cut.{size}", key_age[:size]) for size in (1, 21, 120)),
         ):
             write(name, text)
+        others = {
+            "gpg": (b"-----BEGIN PGP MESSAGE-----\n", b"\x85\x01\x0c\x03", b"\x84\x5e\x03", b"\x8c\x0d\x04\x09", b"\xc3\x2e\x04", b"\xc1\xc0\x4c\x03"),
+            "openssl enc": (b"Salted__" + PLAIN[:8],),
+        }
+        for program, fronts in others.items():
+            for at, front in enumerate(fronts):
+                write(f"other.{at}", front + PLAIN[:100])
+                why = f"other.{at}: it begins as files of {program} do, which decrypts them"
+                self.explains("NotAge", why, f"decrypt -k key other.{at}", f"inspect other.{at}")
         first_line = "the first line of an age file is age-encryption.org/v1"
         for fault, name, why in (
             ("HeaderTruncated", "empty", "the file is empty"),
