@@ -1,14 +1,16 @@
 """`--atomic` and `--no-clobber`: whatever fails, OUT is the old file or the complete new one, and no other
 file stays."""
 
+import itertools
 import os
 import shutil
 import signal
 import subprocess
 import time
+import unittest
 
 import fixture
-from fixture import HELLO, KEY, NEW_KEY
+from fixture import HELLO, KEY, NEW_KEY, with_other_mac
 from messages import message
 from program import AGEP, IO_ERROR, OPENING, ProgramCase, fault, preload, read, write
 from test_calls import YESTERDAY, CallCase
@@ -41,15 +43,58 @@ class Calls(CallCase):
         self.assertNotEqual(ran.status, 0)
         self.is_old_or_new(ran, job, form)
 
+    def is_unsynced(self, ran, job, form):
+        """A judge: OUT is the old file, or the new one if its folder could not be synced."""
+        if f"fsync {NEW} -1" in read("trace").decode():
+            self.is_old(ran, job, form)
+        else:
+            self.assert_ended(ran, 1, fault(message("Write")))
+            self.assert_bytes(self.made, job.expected, "OUT")
+            self.assertFalse(os.path.exists(NEW), "the new file was left")
+
     def test_failing(self):
         """Each system call fails in turn."""
         for job in self.jobs:
             if job.has_out:
-                for kind in ("open", "read", "write", "ftruncate", "fsync", "fchmod", "rename"):
-                    self.each_call(kind, IO_ERROR, job, ATOMIC, self.is_old)
+                for kind in ("open", "read", "write", "ftruncate", "fchmod", "rename"):
+                    if (job.words[0], kind) != ("salvage", "read"):
+                        self.each_call(kind, IO_ERROR, job, ATOMIC, self.is_old)
                 for kind in ("statx", "lchown"):
                     self.each_call(kind, IO_ERROR, job, ATOMIC, self.is_old_or_new)
+                self.each_call("fsync", IO_ERROR, job, ATOMIC, self.is_unsynced)
         self.each_call("lseek", IO_ERROR, self.jobs[3], ATOMIC, self.is_old)
+
+    def test_saved(self):
+        """After a failed read, OUT is what it is without the option: what `salvage` saved, or the old file."""
+        def salvaged(options, source, number):
+            write("made", YESTERDAY)
+            env = {"LD_PRELOAD": preload("calls"), "CALL": "read", "NUMBER": str(number), "DO": IO_ERROR}
+            ran = self.run_line(f"salvage -k key {options} made {source}", env=env)
+            return ran.status, ran.err, read("made")
+
+        for source in ("key.age", "<key.age"):
+            for number in itertools.count(1):
+                with self.subTest(f"{source}, read {number}"):
+                    expected = salvaged("-o", source, number)
+                    self.assertEqual(salvaged("--atomic -o", source, number), expected)
+                    self.assertFalse(os.path.exists(NEW))
+                if not expected[0]:
+                    break
+            self.assertGreater(number, 5)
+
+    def test_link(self):
+        """If the system fails to tell what OUT is, a link stays one to its file."""
+        def judge(ran, job, form):
+            self.assertEqual(os.readlink("made"), "target")
+            self.is_old_or_new(ran, job, form)
+
+        if os.path.exists("made"):
+            os.remove("made")
+        os.symlink("target", "made")
+        for error in (IO_ERROR, "1", "38"):
+            self.each_call("statx", error, self.jobs[1], ATOMIC, judge)
+        os.remove("made")
+        os.remove("target")
 
     def test_short(self):
         """A short write is followed by another one."""
@@ -58,12 +103,15 @@ class Calls(CallCase):
                 self.each_call("write", "one", job, ATOMIC, self.is_whole)
 
     def test_order(self):
-        """The new file is written, synced and renamed, in this order; OUT is not touched."""
+        """The new file is written, synced and renamed, in this order, and then its folder is synced; OUT is not
+        touched."""
         self.is_whole(self.run_job(self.jobs[1], ATOMIC), self.jobs[1], ATOMIC)
-        kinds = [line.split()[0] for line in read("trace").decode().splitlines() if NEW in line]
+        lines = read("trace").decode().splitlines()
+        kinds = [line.split()[0] for line in lines if NEW in line]
         self.assertEqual([kinds[0], *kinds[-2:]], ["ftruncate", "fsync", "rename"])
         self.assertEqual(set(kinds[1:-2]), {"write"})
         self.assertNotIn(" made ", read("trace").decode())
+        self.assertEqual(lines[-2:], [f"rename {NEW} 0", f"fsync {os.path.basename(self.folder)} 0"])
 
     def test_left(self):
         """A new file that cannot be removed stays, and the next run is refused until it is removed."""
@@ -85,13 +133,14 @@ class Calls(CallCase):
 
     def test_explained(self):
         """With -v the second line says what failed."""
-        for call, name, more in (
-            ("open", message("CannotCreate", "made"), "creating made"), ("fchmod", message("CannotCreate", "made"), "creating made"),
-            ("fsync", message("Write"), "syncing made"), ("rename", message("Write"), "replacing made"),
+        for call, number, name, more in (
+            ("open", 3, message("CannotCreate", "made"), "creating made"), ("open", 4, message("CannotCreate", "made"), f"creating {NEW}"),
+            ("fchmod", 1, message("CannotCreate", "made"), f"creating {NEW}"), ("fsync", 1, message("Write"), "syncing made"),
+            ("open", 5, message("Write"), "syncing ."), ("rename", 1, message("Write"), "replacing made"), ("fsync", 2, message("Write"), "syncing ."),
         ):
-            with self.subTest(call):
+            with self.subTest(f"{call} {number}"):
                 write("made", YESTERDAY)
-                env = {"LD_PRELOAD": preload("calls"), "CALL": call, "NUMBER": "3" if call == "open" else "1", "DO": IO_ERROR}
+                env = {"LD_PRELOAD": preload("calls"), "CALL": call, "NUMBER": str(number), "DO": IO_ERROR}
                 words = "decrypt", "-v", "-k", "key", "--atomic", "-o", "made", "key.age"
                 self.says(name, *words, more=f"{more}: Input/output error", env=env)
 
@@ -169,11 +218,46 @@ class Atomic(Files):
             for out in ("yesterday", "absent_out"):
                 with self.subTest(f"{line}, {out}"):
                     self.changes_nothing(name, f"{line} --atomic -o {out}")
-        with self.subTest("a loss of salvage"):
+
+    def test_losses(self):
+        """What `salvage` saved takes the place of OUT, although chunks are lost. Without a saved chunk OUT is as
+        it was."""
+        write("lost.age", fixture.changed(read("two.age"), 160))
+        lost = "chunk 1 is lost: bytes 65536 to 65536 of the plaintext", "the file ends after 17 bytes of chunk 1: more may be missing"
+        none = "chunks 0 to 1 are lost: bytes 0 to 65536 of the plaintext", lost[1]
+        header = "the header was changed: the chunks were tried with the key that fits"
+        write("changed.age", with_other_mac(read("two.age")))
+        plain = read("two_chunks")
+        for name, lines, expected in (
+            ("damaged_two.age", lost, plain[:65536] + b"\0"), ("changed.age", (header,), plain), ("lost.age", none, None), ("damaged.age", None, None),
+        ):
+            for old in (YESTERDAY, None):
+                with self.subTest(f"{name}, {'an' if old else 'no'} OUT was there"):
+                    if old:
+                        write("made", old)
+                    ran = self.run_line(f"salvage -k key --atomic -o made {name}")
+                    if lines:
+                        self.assert_ended(ran, 1, "".join(map(fault, lines)))
+                    self.assertEqual(ran.status, 1)
+                    self.assertFalse(os.path.exists(NEW))
+                    if expected or old:
+                        self.assert_file("made", expected or old)
+                        os.remove("made")
+                    self.assertFalse(os.path.exists("made"))
+        with self.subTest("IN is OUT"):
+            write("made", read("damaged_two.age"))
+            self.assert_ended(self.run_line("salvage -k key --atomic -o made made"), 1, "".join(map(fault, lost)))
+            self.assert_file("made", plain[:65536] + b"\0")
+        with self.subTest("OUT was made meanwhile"):
+            os.remove("made")
+            with open("damaged_two.age", "rb") as file:
+                damaged = file.read()
+            run = subprocess.Popen([AGEP, "salvage", "-k", "key", "-n", "--atomic", "-o", "made"], stdin=subprocess.PIPE, stderr=subprocess.PIPE)
+            wait_for(lambda: os.path.exists(NEW))
             write("made", YESTERDAY)
-            self.assertEqual(self.run_line("salvage -k key --atomic -o made damaged_two.age").status, 1)
+            said = run.communicate(damaged)[1].decode()
+            self.assertEqual((said, run.returncode), ("".join(map(fault, (*lost, message("OutputExists", "made")))), 1))
             self.assert_file("made", YESTERDAY)
-            self.assertFalse(os.path.exists(NEW))
 
     def test_in(self):
         """IN may be OUT, by any name; a secret may not."""
@@ -259,13 +343,48 @@ class Atomic(Files):
     def test_special(self):
         """A folder, a device or a pipe is refused, and so is a name that cannot be created."""
         os.mkfifo("made")
-        rows = [("OutputIsSpecial", name) for name in ("folder", "folder/", ".", "/dev/null", "/dev/full", "made")]
-        rows += [("CannotCreate", name) for name in ("absent/made", "/dev/stdout", "x" * 250)]
-        for line, name in rows:
+        for name in ("folder", "folder/", ".", "/dev/null", "/dev/full", "made"):
+            with self.subTest(name):
+                self.changes_nothing(f"OutputIsSpecial: {name}", f"decrypt -k key --atomic -o {name} key.age")
+        long = "x" * 250
+        for name, made, reason in (
+            ("absent/made", "absent/made.agep-new", "No such file or directory"), ("", '""', "No such file or directory"),
+            ("hello/made", "hello/made", "Not a directory"), ("hello/", "hello/", "Not a directory"),
+            (long, f"{long}.agep-new", "File name too long"), (long + long, long + long, "File name too long"),
+        ):
             with self.subTest(name[:20]):
-                self.changes_nothing(f"{line}: {name}", f"decrypt -k key --atomic -o {name} key.age")
-        with self.subTest("no name"):
-            self.changes_nothing("Write", "decrypt -k key --atomic -o '' key.age")
+                self.changes_nothing(f"CannotCreate: {name}", f"decrypt -v -k key --atomic -o '{name}' key.age", more=f"creating {made}: {reason}")
+        with self.subTest("/dev/stdout"):
+            self.changes_nothing("CannotCreate: /dev/stdout", "decrypt -k key --atomic -o /dev/stdout key.age")
+        with self.subTest("a link to itself"):
+            os.symlink("linked", "linked")
+            more = "creating linked: Too many levels of symbolic links"
+            self.line_says("CannotCreate: linked", "decrypt -v -k key --atomic -o linked key.age", more=more)
+
+    @unittest.skipUnless(os.geteuid() == 0, "needs another user")
+    def test_forbidden(self):
+        """An OUT that may not be written is refused as without the option, and so is one in a folder in which
+        nothing may be created. A folder that may not be read is not synced."""
+        os.chmod(self.folder, 0o755)
+        os.mkdir("closed")
+        user = {"user": 65534, "group": 65534, "extra_groups": []}
+        write("closed/made", YESTERDAY)
+        write("made", YESTERDAY)
+        os.chown("closed/made", 65534, 65534)
+        os.chmod("made", 0o444)
+        os.chown("made", 65534, 65534)
+        for options, name, made in (
+            ("", "made", "made"), ("--atomic ", "made", "made"), ("", "closed/new", "closed/new"), ("--atomic ", "closed/new", "closed/new.agep-new"),
+            ("--atomic ", "closed/made", "closed/made.agep-new"),
+        ):
+            with self.subTest(f"{options}-o {name}"):
+                more = f"creating {made}: Permission denied"
+                self.changes_nothing(f"CannotCreate: {name}", f"decrypt -v -k key {options}-o {name} key.age", more=more, **user)
+        with self.subTest("a folder that may not be read"):
+            os.chmod("closed", 0o333)
+            self.assert_ended(self.run_line("decrypt -k key --atomic -o closed/made key.age", **user))
+            self.assert_file("closed/made", HELLO)
+        shutil.rmtree("closed")
 
     def test_alone(self):
         """It needs OUT."""

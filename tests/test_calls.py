@@ -4,6 +4,7 @@ output, and never with status 0 and an incomplete file."""
 
 import itertools
 import os
+import resource
 
 import fixture
 import reference
@@ -203,7 +204,8 @@ class UnreadChunks(CallCase):
         lines = list(lost_lines(losses))
         if 2 in lost:
             lines.append("the file ends after 117 bytes of chunk 2: more may be missing")
-        lines.append(f"reading IN.age: Input/output error; {unread} bytes were left out, the first at byte {first}")
+        left_out = "1 byte was" if unread == 1 else f"{unread} bytes were"
+        lines.append(f"reading IN.age: Input/output error; {left_out} left out, the first at byte {first}")
         self.assert_ended(ran, 1, "".join(map(fault, lines)), None)
         self.assert_bytes(self.made, text)
 
@@ -261,13 +263,13 @@ class UnreadChunks(CallCase):
                 self.assert_bytes(self.made, bytes(65536) + LONG_PLAIN[65536:])
 
     def test_fault_behind_it(self):
-        """They are told too if a write fails later."""
+        """They are told too, after the lost chunks, if a write fails later."""
         env = {"LD_PRELOAD": preload("calls"), "CALL": "read", "NUMBER": "4", "DO": IO_ERROR}
-        ran = self.run_agep("salvage", "-k", "key", "-o", "/dev/full", "IN.age", env=env)
-        line = f"reading IN.age: Input/output error; {HEAD + SEALED - 8192} bytes were left out, the first at byte 8192"
-        self.assertEqual(ran.status, 1)
-        self.assertIn(fault(line).encode(), ran.err)
-        self.assertIn(fault(message("Write")).encode(), ran.err)
+        limits = {"preexec_fn": lambda: resource.setrlimit(resource.RLIMIT_FSIZE, (100000, 100000)), "restore_signals": False}
+        ran = self.run_agep("salvage", "-k", "key", "-o", "limited", "IN.age", env=env, **limits)
+        lost = "chunk 0 is lost: bytes 0 to 65535 of the plaintext"
+        unread = f"reading IN.age: Input/output error; {HEAD + SEALED - 8192} bytes were left out, the first at byte 8192"
+        self.assert_ended(ran, 1, fault(lost) + fault(unread) + fault(message("Write")))
 
     def test_pipe(self):
         """Of a pipe and of standard input nothing follows."""

@@ -1,9 +1,10 @@
 -- The results of a job, from its input to its output.
-use Rattle.std.specs.Prelude.{◌≡◌, ◌≤◌, ◌⊎◌, ◌^◌, ℕ, ⊤, List, Option, None, Some, IsSome, Result, Ok, Err}
+use Rattle.std.specs.Prelude.{◌≡◌, ◌≤◌, ◌⊎◌, ◌^◌, ℕ, ⊤, Bool, false, List, Option, None, Some, IsSome, Result, Ok, Err}
 use Rattle.age_header.specs.Device.{Bytes, Known, Moved, Stays, move_by, move_of}
 use Rattle.age_stream.specs.Salvage.{LossesMoved}
 use Rattle.age_file.specs.AgeFile.{Bounds}
 use Rattle.age_file.specs.declared.fault.Fault.{Fault as FileFault}
+use Rattle.age_file.specs.declared.fault.Fault.TheVariants as file
 use Rattle.age_job.specs.declared.job.Command.TheVariants as command
 use Rattle.age_job.specs.declared.job.Job.{Job}
 use Rattle.age_job.specs.Refusal.{MayRefuse}
@@ -81,6 +82,13 @@ abbrev pub OfWork : (meaning : Result ⊤ FileFault → Type 0) (other : JobFail
 OfWork meaning other (Ok _) = meaning (Ok tt)
 OfWork meaning other (Err (AgeFile fault detail)) = meaning (Err fault)
 OfWork meaning other (Err (OfJob failure)) = other failure
+
+-- What was saved takes the place of OUT: a loss is no failure of the output. It does not after a
+-- failed write, or if nothing was saved.
+abbrev pub keeps_output : (failure : Failure) (has_saved : Bool) → Bool
+keeps_output (AgeFile file.Write detail) has_saved = false
+keeps_output (AgeFile fault detail) has_saved = has_saved
+keeps_output (OfJob failure) has_saved = false
 
 -- the limits set by the words
 abbrev pub word_limits : (words : List Bytes) → Bounds

@@ -6,9 +6,15 @@ use age_file::{
     CHUNK_SIZE, Losses, LostChunk, LostRun, Salvaged, SalvagedFile, Saved, Sink, TAG_SIZE,
     join_lost,
 };
-use age_job::{Detail, ERASE, Name, Operation};
+use age_job::{Bytes, Detail, ERASE, Name, Operation};
 use std::alloc::Global;
 use std::fmt;
+
+/// A receiver of reports that knows whether something was saved.
+pub(crate) trait Saving: Report {
+    /// Whether, of this many bytes written, one is of a chunk that was saved.
+    fn has_saved(&self, written: u64) -> bool;
+}
 
 /// Prints a line for each run of lost chunks as soon as it ends.
 #[derive(Drop)]
@@ -17,6 +23,10 @@ pub(crate) struct LossLines<'a, 'b, E> {
     pub(crate) err: &'a mut E,
     pub(crate) input: Name<'b>,
     pub(crate) run: Option<LostRun>,
+    /// The number of bytes of all lost chunks.
+    pub(crate) lost: u64,
+    /// Whether a line says what may have caused a loss up to the end.
+    pub(crate) verbose: bool,
     /// Whether the line on progress may be shown. A line printed here replaces it.
     pub(crate) is_shown: bool,
 }
@@ -37,6 +47,12 @@ impl Report for NoLines {
     fn damaged(&mut self, _saved: &SalvagedFile) {}
 
     fn unread(&mut self, _unread: &Unread) {}
+}
+
+impl Saving for NoLines {
+    fn has_saved(&self, _written: u64) -> bool {
+        false
+    }
 }
 
 /// A run of lost chunks. Its text follows `agep: ` on standard error.
@@ -92,6 +108,21 @@ impl<'a, 'b, E: Sink> LossLines<'a, 'b, E> {
         }
     }
 
+    /// Prints what may have caused the loss of all these chunks, up to the last one.
+    fn explain(&mut self, run: LostRun) {
+        let first = run.first;
+        if first == 0 {
+            self.print(
+                &"no chunk opens: the 16 bytes that follow the header may be damaged, or the header \
+                  may be that of another file",
+            );
+        } else if first < run.last {
+            self.print(&format_args!(
+                "no chunk opens from chunk {first} on: bytes may be missing there, or added"
+            ));
+        }
+    }
+
     /// Prints the last run.
     pub(crate) fn end(&mut self) {
         if let Some(run) = self.run {
@@ -107,6 +138,7 @@ impl<'a, 'b, E: Sink> Losses for LossLines<'a, 'b, E> {
     ghost lost = { λ _. None };
 
     fn lose(&mut self, chunk: LostChunk) {
+        self.lost = self.lost.saturating_add(chunk.len as u64);
         if chunk.start.checked_add(chunk.len as u128).is_none() {
             return;
         }
@@ -118,7 +150,14 @@ impl<'a, 'b, E: Sink> Losses for LossLines<'a, 'b, E> {
 
 impl<'a, 'b, E: Sink> Report for LossLines<'a, 'b, E> {
     fn damaged(&mut self, saved: &SalvagedFile) {
+        let run = self.run;
         self.end();
+        if let Some(run) = run
+            && self.verbose
+            && saved.payload.last == Saved::Zeros
+        {
+            self.explain(run);
+        }
         if !saved.has_right_mac {
             self.print(&"the header was changed: the chunks were tried with the key that fits");
         }
@@ -161,14 +200,21 @@ impl<'a, 'b, E: Sink> Report for LossLines<'a, 'b, E> {
     }
 
     fn unread(&mut self, unread: &Unread) {
+        self.end();
         let Unread {
             first,
             bytes,
             reason,
         } = *unread;
         let detail = Detail::System(Operation::Reading, self.input, reason);
-        self.print(&format_args!(
-            "{detail}; {bytes} bytes were left out, the first at byte {first}"
-        ));
+        let were = if bytes == 1 { "was" } else { "were" };
+        let bytes = Bytes(bytes as u128);
+        self.print(&format_args!("{detail}; {bytes} {were} left out, the first at byte {first}"));
+    }
+}
+
+impl<'a, 'b, E: Sink> Saving for LossLines<'a, 'b, E> {
+    fn has_saved(&self, written: u64) -> bool {
+        self.lost < written
     }
 }

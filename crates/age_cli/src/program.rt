@@ -5,18 +5,18 @@ ghost use Rattle.age_job.specs.Refusal.{MayRefuse};
 ghost use Rattle.age_job.specs.declared.target.Target.TheVariants.{InPlace};
 ghost use Rattle.age_args.specs.JobOf.{AreWrong, AskForText, Makes};
 ghost use Rattle.age_args.specs.Words.{texts};
-ghost use Rattle.age_cli.specs.Program.{AnswersRefusal, FailsBeside, IsDevice, IsTaskOf, OfWork, RunsOn, Works};
+ghost use Rattle.age_cli.specs.Program.{AnswersRefusal, FailsBeside, IsDevice, IsTaskOf, OfWork, RunsOn, Works, keeps_output};
 ghost use Rattle.age_cli.specs.Told.{Tells, Told, stream_by};
 ghost use Rattle.age_file.specs.Texts.{fault_text};
 ghost use Rattle.age_header.specs.Device.{Moved, Stays, move_by};
 
 use crate::error_stream::Parts;
 use crate::failure::Failure;
-use crate::lines::{LossLines, NoLines};
+use crate::lines::{LossLines, NoLines, Saving};
 use crate::messages::{say, tell};
 use crate::work::{input_name, kept_prefix, perform_to};
 use age_args::{ArgsFault, parse_args};
-use age_commands::{Report, Seed, Task, seed_of};
+use age_commands::{Seed, Task, seed_of};
 use age_file::{Fault, Sink, write_all};
 use age_job::{
     Command, Job, Lines, Pipe, ReadFiles, SEED_LEN, Shown, Target, Watched, read_encrypt_secrets,
@@ -144,6 +144,8 @@ pub fn run_job<
             err,
             input: input_name(job),
             run: None,
+            lost: 0,
+            verbose: job.verbose,
             is_shown,
         };
         let Err(failure) = perform(rt, &mut work, input, out, &mut lines) else {
@@ -183,7 +185,7 @@ struct Work<'a> {
 
 /// Reads the small files, opens the input, creates the output, performs the task, in this order.
 #[tactic(auto, using(crate::proofs::ProgramLemmas::completes))]
-fn perform<'a, F: Files + Clock + AllocGlobal, R: Read, W: Write + IsTerminal, L: Report>(
+fn perform<'a, F: Files + Clock + AllocGlobal, R: Read, W: Write + IsTerminal, L: Saving>(
     rt: &F,
     work: &mut Work<'a>,
     input: &mut R,
@@ -252,7 +254,7 @@ fn seed_from(bytes: &[u8; SEED_LEN]) -> Seed {
 }
 
 /// Creates the output, and performs the task on this input.
-fn perform_on<'a, F: Files + AllocGlobal, R: Read + Seek + Drop, W: Write, L: Report>(
+fn perform_on<'a, F: Files + AllocGlobal, R: Read + Seek + Drop, W: Write, L: Saving>(
     rt: &F,
     work: &Work<'a>,
     task: Task,
@@ -278,7 +280,11 @@ fn perform_on<'a, F: Files + AllocGlobal, R: Read + Seek + Drop, W: Write, L: Re
             match perform_to(rt.alloc(), job, task, &mut input, &mut output, lines) {
                 Ok(()) => Ok(target.finish(rt, job, output, name.as_str())?),
                 Err(failure) => {
-                    target.discard(rt);
+                    if is_kept(&failure, lines.has_saved(output.written())) {
+                        target.finish(rt, job, output, name.as_str())?;
+                    } else {
+                        target.discard(rt);
+                    }
                     Err(failure)
                 }
             }
@@ -287,6 +293,16 @@ fn perform_on<'a, F: Files + AllocGlobal, R: Read + Seek + Drop, W: Write, L: Re
             work.read.refuse_standard_output()?;
             perform_to(rt.alloc(), job, task, &mut input, out, lines)
         }
+    }
+}
+
+/// Whether what was written takes the place of OUT after this failure.
+fn is_kept(failure: &Failure<'_>, has_saved: bool) -> bool
+    ensures { result ≡ keeps_output failure.now has_saved }
+{
+    match failure {
+        Failure::AgeFile(Fault::Write, _) | Failure::Job(_) => false,
+        Failure::AgeFile(_, _) => has_saved,
     }
 }
 
