@@ -25,7 +25,9 @@ from ._files import open
 from ._library import version as library_version
 from ._reader import Reader, _reopen
 from ._salvage import LostChunks, Salvaged, salvage
-from ._secrets import Header, Identity, Key, Passphrase, Recipient, Stanza
+from ._secrets import Header, Identities as Identities, Identity, Key, Passphrase
+from ._secrets import Recipient, Recipients as Recipients, Stanza
+from ._sources import Progress as Progress
 from ._version import __version__
 from ._whole import copy, decrypt, encrypt, inspect, rewrap, rewrap_copy
 from ._writer import Writer

@@ -96,20 +96,23 @@ def _text(code: int, place: int, detail: int) -> str:
 class AgeError(Exception):
     """A file or a call was refused.
 
-    `code` is the code of the library. `place` is the line of a header, counted from 1, or the
-    chunk, counted from 0. `detail` is the part of a malformed stanza, 1 to 5. `place` and `detail`
-    are 0 if the error has none. `filename` is the path of the file, or the name of its object, or
-    None. `hint` is what `agep -v` would add, or None; from Python 3.11 on it is also a note.
+    `code` is the code of the library, or 0 if another library made this error from a text, as Dask
+    does. `place` is the line of a header, counted from 1, or the chunk, counted from 0. `detail` is
+    the part of a malformed stanza, 1 to 5. `place` and `detail` are 0 if the error has none.
+    `filename` is the path of the file, or the name of its object, or None. `hint` is what `agep -v`
+    would add, or None; from Python 3.11 on it is also a note.
 
     This is neither a ValueError nor an OSError: handlers of these expect bad JSON or an absent
     file, and modules such as `tarfile` and `zipfile` take an OSError for a file of another format.
     """
 
     def __init__(
-        self, code: int, place: int = 0, detail: int = 0, filename: Any = None, hint: str | None = None
+        self, code: int | str, place: int = 0, detail: int = 0, filename: Any = None,
+        hint: str | None = None,
     ) -> None:
-        super().__init__(_text(code, place, detail))
-        self.code, self.place, self.detail, self.filename = Code(code), place, detail, filename
+        super().__init__(code if isinstance(code, str) else _text(code, place, detail))
+        self.code = Code.OK if isinstance(code, str) else Code(code)
+        self.place, self.detail, self.filename = place, detail, filename
         self.hint = hint or _HINTS.get(self.code, "").format(place=place) or None
         if sys.version_info >= (3, 11) and self.hint:
             self.add_note(self.hint)
@@ -122,7 +125,7 @@ class AgeError(Exception):
         return f"{type(self).__name__}({str(self)!r})"
 
     def __reduce__(self) -> tuple[Any, ...]:
-        words = int(self.code), self.place, self.detail, self.filename, self.hint
+        words = int(self.code) or self.args[0], self.place, self.detail, self.filename, self.hint
         return type(self), words
 
     @staticmethod
@@ -136,14 +139,16 @@ class AgeMemoryError(AgeError, MemoryError):
     """An allocation was refused: code 17."""
 
 
-class AgeChangedError(AgeError, OSError):
+class AgeChangedError(AgeError):
     """The length of the file has changed since it was opened.
 
     The file was cut, so that a chunk could not be read whole; or it was opened again from a pickle
     and has been cut or has grown.
     """
 
-    def __init__(self, code: int = Code.CHUNK_SHORT, *rest: Any) -> None:
+    def __init__(self, code: int | str = Code.CHUNK_SHORT, *rest: Any) -> None:
         super().__init__(code, *rest)
+        if isinstance(code, str):
+            return
         what = "was cut while it was" if code == Code.CHUNK_SHORT else "has grown since it was"
         self.args = (f"the file {what} open: {self.args[0]}",)

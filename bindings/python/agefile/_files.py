@@ -27,7 +27,7 @@ def open(file: Any, mode: _ReadText, *, identities: Identities, encoding: _Word 
 def open(file: Any, mode: _WriteBytes, *, recipients: Recipients, atomic: bool = False) -> Writer: ...
 @overload
 def open(file: Any, mode: _WriteText, *, recipients: Recipients, encoding: _Word = None,
-         errors: _Word = None, newline: _Word = None, atomic: bool = False) -> io.TextIOWrapper: ...
+         errors: _Word = None, newline: _Word = None, atomic: bool = False) -> TextWriter: ...
 @overload
 def open(file: Any, mode: str, *, identities: Identities, encoding: _Word = None,
          errors: _Word = None, newline: _Word = None) -> Any: ...
@@ -59,7 +59,7 @@ def open(
     """
     kind = mode.replace("b", "").replace("t", "")
     if kind not in ("r", "w", "x") or len(mode) > 2 or {"b", "t"} <= set(mode):
-        raise ValueError(f"invalid mode: {mode!r}")
+        raise ValueError(f"invalid mode: {mode!r}: an age file is read, or written anew")
     words: dict[str, Any] = {"encoding": encoding, "errors": errors, "newline": newline}
     if "b" in mode and any(word is not None for word in words.values()):
         raise ValueError("a binary mode takes no encoding, errors or newline")

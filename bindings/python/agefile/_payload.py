@@ -56,9 +56,9 @@ class Front:
     def unlock(self, identities: Identities) -> tuple[bytes, bytes]:
         """Reads until the nonce is complete too, or the source has ended. Returns the text of the
         header, and its file key."""
-        length = self.header().length
-        text = bytes(self.bytes[:length])
-        file_key = unlock(text, identities)
+        header = self.header()
+        text = bytes(self.bytes[: header.length])
+        file_key = unlock(text, header, identities)
         while len(self.bytes) < len(text) + lib.NONCE and self.more():
             pass
         return text, file_key

@@ -32,6 +32,8 @@ class _Source:
             file.flush()
             self.length = os.fstat(self._raw.fileno()).st_size
         else:
+            if not getattr(file, "seekable", lambda: True)():
+                raise io.UnsupportedOperation("a file that cannot seek is read by agefile.copy")
             file.seek(0, os.SEEK_END)
             self.length = file.tell()
 

@@ -314,10 +314,10 @@ def _work_hint(detail: int, stanzas: Sequence[Stanza]) -> str | None:
     return f"its work factor is {work}; max_work={work} accepts it and takes {memory} of memory"
 
 
-def unlock(front: bytes, identities: Identities) -> bytes:
-    """The file key that the first matching identity finds. For a caller's own identity the MAC is
-    not verified yet: opening the payload does that."""
-    header, missed = read_header(front), Code.NO_MATCH
+def unlock(front: bytes, header: Header, identities: Identities) -> bytes:
+    """The file key that the first matching identity finds in a header. For a caller's own identity
+    the MAC is not verified yet: opening the payload does that."""
+    missed = Code.NO_MATCH
     if len(header.stanzas) > 1 and any(stanza.args[0] == "scrypt" for stanza in header.stanzas):
         raise AgeError(Code.MIXED_PASSPHRASE)
     secrets = as_list(identities, "unwrap")

@@ -95,7 +95,8 @@ def decrypt(data: Any, *, identities: Identities, threads: int = 1) -> bytes:
     threads = thread_count(threads)
     with lib.Bytes(data) as file:
         front = _front_of(file)
-        first, payload = open_payload(front, unlock(front[: read_header(front).length], identities))
+        header = read_header(front)
+        first, payload = open_payload(front, unlock(front[: header.length], header, identities))
         sink = _Collector(_opened_len(file.len - first))
         if threads == 1:
             with lib.Bytes(sink.out) as memory:

@@ -87,9 +87,12 @@ class _Sealer(io.RawIOBase):
     def is_parent(self) -> bool:
         return self._process == os.getpid()
 
-    def _check_usable(self) -> None:
+    def _check_ours(self) -> None:
         if not self.writable() or not self.is_parent():
             raise OSError("only the process that opened this file writes it")
+
+    def _check_usable(self) -> None:
+        self._check_ours()
         if self.failed:
             raise OSError("an earlier write failed, so this file stays without its end")
 
@@ -101,6 +104,11 @@ class _Sealer(io.RawIOBase):
         if self.closed:
             raise ValueError("I/O operation on closed file")
         return True
+
+    def expect_commit(self) -> None:
+        """Makes `close` complete the file, whatever exception is being handled."""
+        self._check_ours()
+        self.handled = sys.exc_info()[1:]
 
     def new_exception(self) -> BaseException | None:
         """The exception that is being handled, unless it was when the file was opened."""
@@ -147,12 +155,12 @@ class _Sealer(io.RawIOBase):
                     self._sink.close()
 
     def warn(self, why: str) -> None:
-        """Warns once, at the line that opened the file."""
+        """Warns once, at the line that opened the file, whatever filters of warnings are set."""
         if self.is_parent() and not self._is_told:
             self._is_told = True
             is_old = self._front or hasattr(self._sink, "replace_old")
             text = f"{self!r} {'was not written' if is_old else 'is not whole'}: {why}"
-            warnings.warn_explicit(text, RuntimeWarning, *self._place)
+            warnings.showwarning(RuntimeWarning(text), RuntimeWarning, *self._place)
 
     def lose(self, why: str) -> None:
         """Aborts, and warns, unless the file is closed."""
@@ -182,9 +190,9 @@ class Writer(io.BufferedIOBase):
     If a file was not closed, if a write to it failed or its `with` body raised, it has no last
     chunk, so every reader refuses it. The same holds if `close` is called while an exception is
     handled that was not being handled when the file was opened, as by `contextlib.closing`, a
-    `TextIOWrapper` over this object, or `fsspec.open`. After a failed write `close` raises. If no
-    exception reports the loss, a RuntimeWarning does. A forked child cannot write: it would seal
-    other bytes under the nonces of its parent.
+    `TextIOWrapper` over this object, or `fsspec.open`. There `commit` completes it. After a failed
+    write both raise. If no exception reports the loss, a RuntimeWarning does. A forked child cannot
+    write: it would seal other bytes under the nonces of its parent.
     """
 
     raw: _Sealer
@@ -225,16 +233,24 @@ class Writer(io.BufferedIOBase):
     def close(self) -> None:
         """Seals the last chunk, which completes the file. Raises after a failed write. While an
         exception is handled that was not being handled when the file was opened, this is `abort`
-        with a RuntimeWarning: the exception may have kept data from being written."""
+        with a RuntimeWarning: the exception may have kept data from being written. `commit` ignores
+        it. An exception in another thread is not noticed."""
         error = self.raw.new_exception()
         if error is not None:
-            return self.raw.lose(f"it was closed while {type(error).__name__} was handled")
+            why = f"it was closed while {type(error).__name__} was handled"
+            return self.raw.lose(f"{why} (if its data are complete, call commit instead)")
         try:
             if not self.closed and self.raw.is_parent():
                 # Under the lock of the buffer, so that no other thread's write is lost.
                 self._buffer.truncate()
         finally:
             self.raw.abort()
+
+    def commit(self) -> None:
+        """Seals the last chunk, whatever exception is being handled: for a file that is complete in
+        an `except` block, or as the last call in a `with` block, in another thread."""
+        self.raw.expect_commit()
+        self.close()
 
     def abort(self) -> None:
         """Closes the file without its last chunk, so that every reader refuses it."""
@@ -283,6 +299,11 @@ class TextWriter(io.TextIOWrapper):
         except BaseException:
             self.buffer.abort()
             raise
+
+    def commit(self) -> None:
+        """Does what `Writer.commit` does."""
+        self.buffer.raw.expect_commit()
+        self.close()
 
     def __exit__(self, kind: type[BaseException] | None, *rest: Any) -> None:
         if kind is None:

@@ -18,6 +18,7 @@ the pickle can read these files.
 from __future__ import annotations
 
 import contextlib
+import errno
 import io
 import os
 import shutil
@@ -30,7 +31,7 @@ from fsspec.utils import tokenize  # type: ignore[import]
 
 from ._errors import AgeError
 from ._files import open as open_file
-from ._paths import beside
+from ._paths import beside, created, is_path
 from ._reader import Reader, _reopen, open_reader
 from ._secrets import Identities, Recipients, as_list
 from ._sources import write_all
@@ -46,6 +47,9 @@ def _refuse_unknown(options: dict[str, Any], known: str) -> None:
         hint = "a secret is passed as identities or recipients"
         raise TypeError(f"unknown options: {', '.join(unknown)} ({hint})")
 
+
+# How a file that does not exist is reported.
+_ABSENT = FileNotFoundError, NotADirectoryError, IsADirectoryError
 
 # What is done by the file system below; `du` is the size of the files, encrypted.
 _BELOW = "mkdir makedirs rmdir rm rm_file created modified exists isfile isdir du ukey".split()
@@ -139,7 +143,9 @@ class AgeFileSystem(AbstractFileSystem):  # type: ignore[misc]
         opener, state = _Opener(self.fs, path, "rb"), str(self.fs.ukey(path))
         reader = self._reopened(opener, state)
         if reader is None:
-            reader = open_reader(opener, self._identities or [])
+            if self._identities is None:
+                raise TypeError("to read a file takes identities")
+            reader = open_reader(opener, self._identities)
             self._keys[path] = state, reader.again()[1]
         # fsspec's own files have this attribute.
         setattr(reader, "size", reader.length)
@@ -186,9 +192,38 @@ class AgeFileSystem(AbstractFileSystem):  # type: ignore[misc]
         else:
             self.fs.touch(self._strip_protocol(path), truncate=False)
 
+    def cat(self, path: Any, recursive: bool = False, on_error: str = "raise", **options: Any) -> Any:
+        """Leaves out, or returns as exceptions, only files that are absent. All other errors are
+        raised: users such as zarr take what is left out for zeros."""
+        how = on_error if on_error == "raise" else "return"
+        found = super().cat(path, recursive, how, **options)
+        if not isinstance(found, dict):
+            return found
+        errors = {name: value for name, value in found.items() if isinstance(value, Exception)}
+        for error in errors.values():
+            if not isinstance(error, _ABSENT):
+                raise error
+        return {name: found[name] for name in found if on_error != "omit" or name not in errors}
+
+    def cat_ranges(
+        self, paths: Any, starts: Any, ends: Any, max_gap: Any = None, on_error: str = "raise",
+        **options: Any,
+    ) -> Any:
+        """Raises each error, for the same reason."""
+        return super().cat_ranges(paths, starts, ends, max_gap, "raise", **options)
+
     def get_file(self, rpath: str, lpath: Any, *arguments: Any, **options: Any) -> None:
+        """Writes a local file, which keeps its contents until the new ones are complete: the caches
+        of fsspec take any file that exists for a complete one."""
         self._refuse_same(rpath, lpath)
-        super().get_file(rpath, lpath, *arguments, **options)
+        is_other = not is_path(lpath) or os.path.exists(lpath) and not os.path.isfile(lpath)
+        if is_other or self.isdir(rpath):
+            super().get_file(rpath, lpath, *arguments, **options)
+            return
+        os.makedirs(os.path.dirname(os.path.abspath(lpath)), exist_ok=True)
+        with created(lpath, "wb", atomic=True) as new:
+            super().get_file(rpath, new, *arguments, **options)
+            new.replace_old()
 
     def put_file(self, lpath: str, rpath: str, *arguments: Any, **options: Any) -> None:
         self._refuse_same(rpath, lpath)
@@ -264,6 +299,21 @@ class _Beside(io.RawIOBase):
             finally:
                 with contextlib.suppress(FileNotFoundError):
                     self._fs.rm_file(self._name)
+
+
+def mount(system: AgeFileSystem, folder: str, where: str) -> None:
+    """Mounts the plaintexts of a folder, to be read only, until `where` is unmounted. Needs fusepy."""
+    import fuse  # type: ignore[import]
+    from fsspec.fuse import FUSEr  # type: ignore[import]
+
+    class Operations(FUSEr):  # type: ignore[misc]
+        def __call__(self, name: str, *arguments: Any) -> Any:
+            try:
+                return super().__call__(name, *arguments)
+            except AgeError as error:
+                raise OSError(errno.EIO, str(error)) from error
+
+    fuse.FUSE(Operations(system, folder), where, foreground=True, nothreads=True, ro=True)
 
 
 def _restore(fs: Any, words: Any, keys: dict[str, tuple[str, bytes]], token: str) -> AgeFileSystem:

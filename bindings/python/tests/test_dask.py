@@ -3,6 +3,7 @@ variable AGEFILE_DASK_ROWS is the number of rows; 42,000,000 make a gigabyte."""
 
 import os
 import pickle
+import re
 import shutil
 import sys
 import tempfile
@@ -13,6 +14,7 @@ import agefile
 
 sys.path.insert(0, os.path.join(os.path.dirname(os.path.abspath(__file__)), "../examples"))
 try:
+    import dask.dataframe
     import dask.distributed
     import dask_sum
     import fsspec
@@ -128,6 +130,20 @@ class Tables(unittest.TestCase):
                 tasks = client.compute(blocks[:8])
                 failures = {index: failure_of(task.result) for index, task in enumerate(tasks)}
         self.assertEqual({index: text for index, text in failures.items() if text}, {2: said})
+
+    def test_a_table_that_cannot_be_opened(self):
+        """Dask raises the error again, with a text of its own."""
+        cut = self.name + ".cut.age"
+        self.addCleanup(os.remove, cut)
+        with open(self.name, "rb") as whole, open(cut, "wb") as file:
+            file.write(whole.read()[:-1])
+        for name, options, kind, said in (
+            (self.name, {"identities": agefile.Key(bytes(32))}, agefile.AgeError, message("NoMatch")),
+            (cut, self.options, agefile.AgeError, message("BadChunk", (self.length - 1) // TEXT)),
+            (self.name, {}, TypeError, "takes identities"),
+        ):
+            with self.assertRaisesRegex(kind, re.escape(said)):
+                dask.dataframe.read_csv("age://" + name, storage_options=options).compute()
 
     def test_a_file_is_unlocked_once(self):
         """The worker processes read with the key that was found when the file was first opened."""

@@ -27,7 +27,8 @@ class Kinds(InFolder):
                         read(agefile.open("a.age", identities=wrong))
                     except (ValueError, OSError, EOFError, LookupError, RuntimeError, zipfile.BadZipFile, tarfile.TarError) as error:
                         self.fail(f"taken for {type(error)}")
-        self.assertEqual(AgeError.__mro__[1:], Exception.__mro__)
+        for kind in (AgeError, agefile.AgeChangedError):
+            self.assertEqual({*kind.__mro__}, {kind, AgeError, *Exception.__mro__})
 
     def test_the_module(self):
         """Pickles and tracebacks name no private module."""
@@ -47,6 +48,14 @@ class Kinds(InFolder):
             other = pickle.loads(pickle.dumps(error))
             self.assertEqual((repr(other), other.hint, vars(other)), (f"{type(error).__name__}({str(error)!r})", error.hint, vars(error)))
         self.assertEqual(getattr(AgeError(13, hint="why"), "__notes__", ["why"]), ["why"])
+
+    def test_made_from_a_text(self):
+        """As Dask does, which raises each error again with a text of its own."""
+        for error in (AgeError(13, 4, 0, "a.age"), agefile.AgeMemoryError(17), agefile.AgeChangedError(13, 2)):
+            other = type(error)(f"while reading: {error}")
+            for each in (other, pickle.loads(pickle.dumps(other))):
+                found = type(each), str(each), each.code, each.place, each.detail, each.filename, each.hint
+                self.assertEqual(found, (type(error), f"while reading: {error}", Code.OK, 0, 0, None, None))
 
 
 class Hints(InFolder):

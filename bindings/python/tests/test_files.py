@@ -23,7 +23,7 @@ import warnings
 from unittest import mock
 
 import agefile
-from agefile import AgeError, Code, Key, Passphrase
+from agefile import AgeError, Code, Key, Passphrase, _library
 from support import KEY, InFolder, damaged, error_of, in_threads, message, text
 
 
@@ -116,6 +116,24 @@ class Reading(InFolder):
         csv.writer(plain).writerows(rows)
         with agefile.open("t.age", "rb", identities=KEY) as file:
             self.assertEqual(b"".join(file), plain.getvalue().encode())
+
+    def test_a_header_is_parsed_once(self):
+        self.made(b"text")
+        for name, call in (
+            ("open", lambda: self.read("a.age")), ("decrypt", lambda: agefile.decrypt(self.got("a.age"), identities=KEY)),
+            ("copy", lambda: agefile.copy("a.age", io.BytesIO(), identities=KEY)),
+        ):
+            with self.subTest(name), mock.patch.object(_library, "call", wraps=_library.call) as calls:
+                call()
+                self.assertEqual([each.args[0] for each in calls.mock_calls].count("inspect"), 1)
+
+    def test_a_pipe(self):
+        """It cannot be opened, and the error says what reads it."""
+        for make in (lambda pipe: pipe, lambda pipe: open(pipe, "rb"), lambda pipe: open(pipe, "rb", 0)):
+            read, write = os.pipe()
+            self.addCleanup(os.close, write)
+            file = make(read)
+            self.assertRaisesRegex(io.UnsupportedOperation, "agefile.copy", agefile.open, file, identities=KEY)
 
     def test_errors_name_their_file(self):
         """The text of an error and its `filename` name the file."""

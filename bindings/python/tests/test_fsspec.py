@@ -1,11 +1,14 @@
 """The file system for fsspec: files and keys, files that are not age files, chains, writing."""
 
 import contextlib
+import errno
 import gc
 import importlib.util
+import io
 import os
 import pickle
 import shutil
+import stat
 import subprocess
 import sys
 import time
@@ -33,7 +36,7 @@ except ImportError:
     zarr = None
 
 from agefile import AgeError, Code, Key, Passphrase, Stanza
-from support import KEY, TEXT, InFolder, broken, damaged, error_of, message, text
+from support import KEY, TEXT, InFolder, broken, damaged, error_of, in_time, message, text
 
 
 class Counted:
@@ -137,6 +140,64 @@ class Reads(InSystem):
             self.assertEqual(str(error_of(lambda: self.system.cat_file(path, begin, end))), f"{message('BadChunk', 2)}: {path!r}")
 
 
+    def test_what_may_be_left_out(self):
+        """Absent files, and nothing else: users take what is left out for zeros."""
+        path, absent = self.new("a.age", b"text"), [self.path("absent"), self.path("a.age/b"), self.folder]
+        for _, harm in self.harms(self.got("a.age")):
+            bad = self.path(self.put(harm, "bad.age"))
+            for how in ("raise", "omit", "return"):
+                self.assertRaises(AgeError, self.system.cat, [path, bad], on_error=how)
+        for error in (PermissionError, agefile.AgeChangedError):
+            with mock.patch.object(type(self.system), "cat_file", side_effect=error):
+                for how in ("omit", "return"):
+                    self.assertRaises(error, self.system.cat, [path, path], on_error=how)
+        self.assertEqual(self.system.cat([path, *absent], on_error="omit"), {path: b"text"})
+        found = self.system.cat([path, *absent], on_error="return")
+        self.assertEqual((sorted(found), found[path]), (sorted([path, *absent]), b"text"))
+        self.assertEqual([type(found[name]) for name in absent], [FileNotFoundError, NotADirectoryError, IsADirectoryError])
+        self.assertRaises(FileNotFoundError, self.system.cat, [path, absent[0]])
+        self.assertEqual(self.system.cat(path, on_error="omit"), b"text")
+
+    def harms(self, file):
+        yield "damaged", damaged(file, 0)
+        yield "cut", file[:-1]
+        yield "of another key", agefile.encrypt(b"", recipients=Key(bytes(32)))
+        yield "no age file", b"text"
+
+    def test_caches_of_damaged_files(self):
+        """No second read takes the part before a damaged chunk for the whole file."""
+        whole = agefile.encrypt(bytes(11 << 20), recipients=KEY)
+        path = self.path(self.put(damaged(whole, 170)))
+        for kind in ("simplecache", "filecache"):
+            words = {"age": {"identities": KEY}, kind: {"cache_storage": self.path(kind)}}
+            self.put(damaged(whole, 170))
+            for _ in range(2):
+                self.assertRaises(AgeError, fsspec.open(f"{kind}::age://{path}", **words).open)
+            self.put(whole)
+            for _ in range(2):
+                with fsspec.open(f"{kind}::age://{path}", **words) as file:
+                    self.assertEqual(file.read() == bytes(11 << 20), True)
+
+    def test_getting(self):
+        """A local file keeps its contents and its mode until the new ones are complete."""
+        path, bad = self.new("a.age", text(5 << 20)), self.path(self.put(damaged(self.got("a.age"), 79), "bad.age"))
+        self.assertRaises(AgeError, self.system.get, bad, self.path("plain"))
+        self.assertEqual(sorted(os.listdir()), ["a.age", "bad.age"])
+        self.put(b"old", "plain"), os.chmod("plain", 0o600), os.symlink("plain", "link")
+        self.assertRaises(AgeError, self.system.get, bad, self.path("link"))
+        self.assertEqual(self.got("plain"), b"old")
+        self.system.get(path, self.path("link"))
+        self.assertEqual((self.got("plain") == text(5 << 20), os.path.islink("link"), os.stat("plain").st_mode & 0o777), (True, True, 0o600))
+        self.system.get(path, "/dev/null")
+        self.assertTrue(stat.S_ISCHR(os.stat("/dev/null").st_mode))
+        os.mkdir("from"), self.new("from/b.age", b"b")
+        self.system.get(self.path("from"), self.path("to"), recursive=True)
+        self.system.get_file(self.path("from/b.age"), self.path("new/folder/b"))
+        self.assertEqual((self.got("to/b.age"), self.got("new/folder/b")), (b"b", b"b"))
+        self.system.get_file(path, out := io.BytesIO())
+        self.assertEqual(out.getvalue() == text(5 << 20), True)
+
+
 class Keys(InSystem):
     """A kept key belongs to the file as it was."""
 
@@ -215,8 +276,8 @@ class Keys(InSystem):
         path, other = self.new("a.age", b"one", KEY), Key(bytes(32))
         first, second = (fsspec.filesystem("age", identities=key) for key in (KEY, other))
         self.assertEqual(first.cat_file(path), b"one")
-        for system in second, fsspec.filesystem("age", recipients=KEY):
-            self.assertRaises(AgeError, system.cat_file, path)
+        self.assertRaises(AgeError, second.cat_file, path)
+        self.assertRaisesRegex(TypeError, "takes identities", fsspec.filesystem("age", recipients=KEY).cat_file, path)
         with self.assertRaises(AgeError), fsspec.open("age://" + path, identities=other) as file:
             file.read()
         self.assertFalse(type(first).cachable or first == second or hash(first) == hash(second))
@@ -299,9 +360,8 @@ try:
 except ImportError:
     import fusepy
     sys.modules["fuse"] = fusepy
-import agefile.fsspec, fsspec.fuse
-system = fsspec.filesystem("age", identities=agefile.Key(bytes(range(32))))
-fsspec.fuse.run(system, sys.argv[1], sys.argv[2], foreground=True, threads=False)
+import agefile.fsspec
+agefile.fsspec.mount(agefile.fsspec.AgeFileSystem(identities=agefile.Key(bytes(range(32)))), *sys.argv[1:])
 """
 
 
@@ -317,23 +377,32 @@ class Mounts(InSystem):
         plain = text(300000)
         os.mkdir("files"), os.mkdir("mount")
         self.new("files/whole", plain, KEY), self.put(damaged(self.got("files/whole"), 2), "files/bad")
+        self.put(self.got("files/whole")[:-1], "files/cut")
         words = [sys.executable, "-c", MOUNT, "files", "mount"]
-        with subprocess.Popen(words, stderr=subprocess.DEVNULL) as mount:
-            self.addCleanup(mount.kill)
-            self.addCleanup(subprocess.run, ["umount", "-l", self.path("mount")], capture_output=True)
-            for _ in range(600):
-                if os.path.ismount("mount"):
-                    break
-                time.sleep(0.05)
-            self.assertEqual(sorted(os.listdir("mount")), ["bad", "whole"])
-            self.assertEqual(os.path.getsize("mount/whole"), len(plain))
-            self.assertEqual(subprocess.run(["cat", "mount/whole"], capture_output=True).stdout == plain, True)
-            done = subprocess.run(["cat", "mount/bad"], capture_output=True)
-            self.assertEqual((done.returncode, plain.startswith(done.stdout)), (1, True))
-            with open("mount/bad", "rb") as file:
-                file.seek(4 * TEXT)
-                self.assertEqual(file.read(100), plain[4 * TEXT :][:100])
-            subprocess.run(["umount", "mount"], check=True)
+        mount = subprocess.Popen(words, stderr=subprocess.DEVNULL)
+        self.addCleanup(mount.wait), self.addCleanup(mount.kill)
+        self.addCleanup(subprocess.run, ["umount", "-l", self.path("mount")], capture_output=True)
+        for _ in range(600):
+            if os.path.ismount("mount"):
+                break
+            time.sleep(0.05)
+        self.assertEqual(sorted(os.listdir("mount")), ["bad", "cut", "whole"])
+        self.assertEqual(os.path.getsize("mount/whole"), len(plain))
+        self.assertEqual(subprocess.run(["cat", "mount/whole"], capture_output=True).stdout == plain, True)
+        done = subprocess.run(["cat", "mount/bad"], capture_output=True)
+        self.assertEqual((done.returncode, plain.startswith(done.stdout)), (1, True))
+        for name, place, call in (
+            ("bad", errno.EIO, lambda: self.got("mount/bad")), ("cut", errno.EIO, lambda: os.stat("mount/cut")),
+            ("whole", errno.EROFS, lambda: os.unlink("mount/whole")), ("new", errno.EROFS, lambda: open("mount/new", "wb")),
+            ("absent", errno.ENOENT, lambda: os.stat("mount/absent")),
+        ):
+            self.assertEqual(error_of(call, OSError).errno, place, name)
+        self.assertEqual(sorted(os.listdir("files")), ["bad", "cut", "whole"])
+        with open("mount/bad", "rb") as file:
+            file.seek(4 * TEXT)
+            self.assertEqual(file.read(100), plain[4 * TEXT :][:100])
+        subprocess.run(["umount", "mount"], check=True)
+        self.assertEqual(in_time(mount.wait), 0)
 
 
 class Writes(InSystem):
@@ -352,7 +421,7 @@ class Writes(InSystem):
             self.assertEqual(self.system.cat_file(path), written)
         self.assertRaises(FileExistsError, self.system.open, path, "xb")
         for mode in ("ab", "r+b", "a"):
-            self.assertRaises(ValueError, self.system.open, path, mode)
+            self.assertRaisesRegex(ValueError, "is read, or written anew", self.system.open, path, mode)
         self.system.pipe_file(path, plain)
         self.assertEqual(self.system.info(path)["size"], len(plain))
         self.put(plain, "plain")
@@ -426,7 +495,8 @@ class Writes(InSystem):
         for kind, name, call, asked in (
             (type(system.fs), "ls", lambda: system.ls("age:///old", refresh=True), mock.call("/old", detail=True, refresh=True)),
             (type(system), "open", lambda: system.touch("age:///old", recipients=KEY), mock.call("age:///old", "wb", recipients=KEY)),
-            (parent, "get_file", lambda: system.get_file("age:///old", "new", callback=1), mock.call("age:///old", "new", callback=1)),
+            (parent, "get_file", lambda: system.get_file("age:///old", sys.stdout, callback=1), mock.call("age:///old", sys.stdout, callback=1)),
+            (parent, "cat_ranges", lambda: system.cat_ranges(["/old"], [0], [1], None, "return", max=1), mock.call(["/old"], [0], [1], None, "raise", max=1)),
             (parent, "put_file", lambda: system.put_file("old", "age:///new", callback=1), mock.call("old", "age:///new", callback=1)),
         ):
             with self.subTest(name), mock.patch.object(kind, name) as below:
@@ -601,6 +671,24 @@ class Writes(InSystem):
             table = dask.array.from_array([factor * number for number in numbers], chunks=10000)
             dask.array.to_zarr(table, "age://" + self.path("d"), storage_options=words, overwrite=True)
             self.assertEqual(dask.array.from_zarr("age://" + self.path("d"), storage_options=words).sum().compute(), factor * sum(numbers))
+
+    @unittest.skipIf(zarr is None, "zarr is missing")
+    def test_zarr_of_damaged_files(self):
+        """Only an absent chunk has the fill value."""
+        words = {"identities": KEY, "recipients": KEY}
+
+        def total(**words):
+            return zarr.open(zarr.storage.FSStore("age://" + self.path("z"), **words), mode="r")[:].sum()
+
+        zarr.create(40, chunks=10, store=zarr.storage.FSStore("age://" + self.path("z"), **words))[:] = 7
+        os.unlink("z/0")
+        self.assertEqual(total(**words), 210)
+        self.assertRaises(TypeError, total, recipients=KEY)
+        for name, harm in Reads.harms(self, self.got("z/2")):
+            self.put(harm, "z/2")
+            with self.subTest(name):
+                self.assertRaises(AgeError, total, **words)
+                self.assertRaises(AgeError, dask.array.from_zarr("age://" + self.path("z"), storage_options=words).sum().compute)
 
     def test_a_pickled_system(self):
         """A worker writes for the same recipients, and replaces as its sender would."""

@@ -14,9 +14,11 @@ import subprocess
 import sys
 import unittest
 import warnings
+from unittest import mock
 
 import agefile
-from support import KEY, InFolder, in_time, text
+from agefile._writer import _Sealer
+from support import KEY, InFolder, in_child, in_time, text
 
 HEAD = """
 import atexit
@@ -48,6 +50,7 @@ LOST = {
     "a wrapper": "json.dump(DATA, io.TextIOWrapper(new('wb')))",
     "a wrapper and an exception": "try: json.dump([DATA, object()], io.TextIOWrapper(new('wb')))\nexcept TypeError: pass",
     "a buffer": "io.BufferedWriter(new('wb')).write(json.dumps(DATA).encode())",
+    "warnings ignored": "import warnings\nwarnings.filterwarnings('ignore')\njson.dump(DATA, new())",
     "warnings as errors": "import warnings\nwarnings.simplefilter('error')\njson.dump(DATA, new())",
     "a forked child": "file = new(); json.dump(DATA, file)\nif os.fork() == 0: sys.exit()\nos.wait()",
 }
@@ -64,9 +67,9 @@ def pythons():
 
 
 class Scripts(InFolder):
-    def run_with(self, python, code):
+    def run_with(self, python, code, filters=""):
         folder = os.path.dirname(os.path.dirname(agefile.__file__))
-        env = {**os.environ, "PYTHONPATH": folder, "PYTHONWARNINGS": ""}
+        env = {**os.environ, "PYTHONPATH": folder, "PYTHONWARNINGS": filters}
         return subprocess.run([python, "-c", code], env=env, capture_output=True, text=True, timeout=60)
 
     def test_what_is_lost_is_said(self):
@@ -88,9 +91,10 @@ class Scripts(InFolder):
 
     def test_each_loss_is_said(self):
         for python in pythons():
-            done = self.run_with(python, HEAD.format(data=1) + "for _ in range(3): json.dump(DATA, new())")
-            self.assertEqual(done.stderr.count("RuntimeWarning"), 3, done.stderr)
-            self.assertEqual(done.stderr.count("<string>:9:"), 3, done.stderr)
+            for filters in ("", "ignore", "error"):
+                done = self.run_with(python, HEAD.format(data=1) + "for _ in range(3): json.dump(DATA, new())", filters)
+                self.assertEqual(done.stderr.count("RuntimeWarning"), 3, done.stderr)
+                self.assertEqual(done.stderr.count("<string>:9:"), 3, done.stderr)
 
     def test_what_is_closed_is_not_mentioned(self):
         for python in pythons():
@@ -284,6 +288,51 @@ class Wrapped(InFolder):
                 except KeyError:
                     next(it, None)
                 self.check_whole()
+
+    def test_commit(self):
+        """It completes the file within a handler, and once only; `close` says that it is there."""
+        for mode, end in (("wb", b"end"), ("w", "end")):
+            for name in ("commit", "close"):
+                self.made(b"old", "w.age")
+                file = agefile.open("w.age", mode, recipients=KEY, atomic=True)
+                with contextlib.ExitStack() as stack:
+                    if name == "close":
+                        stack.enter_context(self.assertWarnsRegex(RuntimeWarning, "KeyError was handled .*call commit"))
+                    try:
+                        raise KeyError
+                    except KeyError:
+                        file.write(end)
+                        getattr(file, name)()
+                self.assertRaisesRegex(ValueError, "closed file", file.commit)
+                file.close()
+                self.assertEqual(self.read("w.age"), b"end" if name == "commit" else b"old")
+
+    def test_commit_of_what_failed(self):
+        for mode, data in (("wb", text(200000)), ("w", "x" * 200000)):
+            file = agefile.open("w.age", mode, recipients=KEY)
+            with mock.patch.object(_Sealer, "_put", side_effect=KeyboardInterrupt):
+                self.assertRaises(KeyboardInterrupt, file.write, data)
+            self.assertRaisesRegex(OSError, "an earlier write failed", file.commit)
+            self.assertTrue(file.closed)
+            file = agefile.open("w.age", mode, recipients=KEY)
+            self.assertEqual(in_child(lambda: self.assertRaises(OSError, file.commit)), 0)
+            file.commit()
+            self.assertEqual(self.read("w.age"), b"")
+
+    def test_commit_in_another_thread(self):
+        """The safe way to sync without blocking: `close` there would not see the exception."""
+        async def work(error):
+            with agefile.open("w.age", "wb", recipients=KEY) as file:
+                self.put_into(file)
+                if error:
+                    raise error
+                await asyncio.get_running_loop().run_in_executor(None, file.commit)
+
+        for _ in range(2):
+            asyncio.run(work(None))
+            self.check_whole()
+            self.assertRaises(ConnectionError, lambda: asyncio.run(work(ConnectionError())))
+            self.check_whole(False)
 
     def test_other_threads(self):
         """An exception of another thread does not concern this file."""

@@ -271,7 +271,6 @@ class Wrong(unittest.TestCase):
                 self.assertEqual((type(other), str(other), other.code), (type(error), str(error), error.code))
                 self.assertEqual((other.place, other.detail, other.filename, other.hint), (error.place, error.detail, error.filename, error.hint))
         self.assertIsInstance(AgeError.of(17), MemoryError)
-        self.assertIsInstance(agefile.AgeChangedError(11, 3), OSError)
 
     def test_help(self):
         """The example in the package's help is shown as it must be typed."""
@@ -383,6 +382,15 @@ class Devices(unittest.TestCase):
                         self.assertEqual(agefile.decrypt(sink.taken, identities=KEY) == self.PLAIN, True)
                     else:
                         self.assertIsInstance(found, error)
+
+    def test_a_source_that_returns_too_much(self):
+        """Nothing of it is dropped in silence."""
+        class Source:
+            def read(self, size):
+                return text(100000)
+
+        error = in_time(lambda: agefile.copy(Source(), io.BytesIO(), recipients=KEY))
+        self.assertEqual(str(error), "the read returned 100000, not 0 to 65536")
 
     def test_a_sink_of_short_writes_on_threads(self):
         """For each chunk of several batches, and the count is the sum."""

@@ -282,6 +282,18 @@ class Writing(InFolder):
             file.close()
             self.assertEqual(len(agefile.decrypt(self.got("f.age"), identities=KEY)), len(data))
 
+    def test_what_a_kill_costs(self):
+        """At most the last 128 KiB: a chunk, and a buffer of the same size."""
+        plain = text(400000)
+        with agefile.open("k.age", "wb", recipients=KEY) as file:
+            for at in range(0, 400000, 100):
+                file.write(plain[at : at + 100])
+                chunks = os.path.getsize("k.age") // 65552
+                self.assertLessEqual(at + 100 - chunks * 65536, 131072)
+            self.put(self.got("k.age"), "killed.age")
+        agefile.salvage("killed.age", "saved", identities=KEY)
+        self.assertEqual(self.got("saved"), plain[: chunks * 65536])
+
     def test_flush_reaches_the_file(self):
         """`flush` also flushes the buffer of the caller's sink, and `write` does not."""
         with open("s.age", "wb", 1 << 20) as below, agefile.open(below, "wb", recipients=KEY) as file:
@@ -664,6 +676,12 @@ class Writing(InFolder):
             self.assertRaisesRegex(OSError, "an earlier write failed", call)
         self.assertTrue(file.closed)
         self.assertRaises(AgeError, agefile.decrypt, full.taken, identities=KEY)
+        full = Full(0)
+        file = agefile.open(full, "wb", recipients=KEY)
+        self.assertRaises(OSError, file.flush)
+        full.room = 1 << 20
+        self.assertRaisesRegex(OSError, "an earlier write failed", file.close)
+        self.assertEqual(full.taken, b"")
         with self.assertRaisesRegex(OSError, "an earlier write failed"):
             with agefile.open(Full(100000), "w", recipients=KEY) as file, contextlib.suppress(OSError):
                 file.write("text" * 75000)
