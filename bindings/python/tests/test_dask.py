@@ -3,7 +3,6 @@ variable AGEFILE_DASK_ROWS is the number of rows; 42,000,000 make a gigabyte."""
 
 import os
 import pickle
-import re
 import shutil
 import sys
 import tempfile
@@ -14,7 +13,6 @@ import agefile
 
 sys.path.insert(0, os.path.join(os.path.dirname(os.path.abspath(__file__)), "../examples"))
 try:
-    import dask.dataframe
     import dask.distributed
     import dask_sum
     import fsspec
@@ -69,16 +67,6 @@ class Tables(unittest.TestCase):
         cls.options = {"identities": SECRET}
         cls.length = agefile.open(cls.name, identities=SECRET).length
 
-    def test_sizes_and_bytes(self):
-        system = fsspec.filesystem("age", **self.options)
-        with agefile.open(self.name, identities=SECRET) as file:
-            plain = file.read(300000)
-        self.assertEqual(system.info(self.name)["size"], self.length)
-        self.assertEqual(system.cat_file(self.name, start=70000, end=70100), plain[70000:70100])
-        again = pickle.loads(pickle.dumps(system))
-        self.assertEqual(again.cat_file(self.name, start=0, end=300000), plain)
-        self.assertIn(self.name, system.ls(os.path.dirname(self.name), detail=False))
-
     def test_an_opener(self):
         opener = fsspec.open(self.name, "rb")
         with agefile.open(opener, identities=SECRET) as file:
@@ -130,20 +118,6 @@ class Tables(unittest.TestCase):
                 tasks = client.compute(blocks[:8])
                 failures = {index: failure_of(task.result) for index, task in enumerate(tasks)}
         self.assertEqual({index: text for index, text in failures.items() if text}, {2: said})
-
-    def test_a_table_that_cannot_be_opened(self):
-        """Dask raises the error again, with a text of its own."""
-        cut = self.name + ".cut.age"
-        self.addCleanup(os.remove, cut)
-        with open(self.name, "rb") as whole, open(cut, "wb") as file:
-            file.write(whole.read()[:-1])
-        for name, options, kind, said in (
-            (self.name, {"identities": agefile.Key(bytes(32))}, agefile.AgeError, message("NoMatch")),
-            (cut, self.options, agefile.AgeError, message("BadChunk", (self.length - 1) // TEXT)),
-            (self.name, {}, TypeError, "takes identities"),
-        ):
-            with self.assertRaisesRegex(kind, re.escape(said)):
-                dask.dataframe.read_csv("age://" + name, storage_options=options).compute()
 
     def test_a_file_is_unlocked_once(self):
         """The worker processes read with the key that was found when the file was first opened."""

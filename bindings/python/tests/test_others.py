@@ -273,13 +273,6 @@ class Programs(InFolder):
         for text in ("00" * 32, ""):
             self.assertRaisesRegex(TypeError, "bytes.fromhex.*Key.from_file", Key, text)
 
-    @unittest.skipUnless(os.path.exists(AGEP), "agep is not built")
-    def test_rewrapped_for_agep(self):
-        file = self.run_on(text(70000), AGEP, "encrypt", "-k", "key")
-        self.put(bytes(32), "new")
-        new = agefile.rewrap(file, identities=KEY, recipients=Key(bytes(32)))
-        self.assertEqual(self.run_on(new, AGEP, "decrypt", "-k", "new"), text(70000))
-
     @unittest.skipUnless(shutil.which("age"), "age is missing")
     def test_age(self):
         secret = Passphrase(PASSPHRASE, work=10)

@@ -38,17 +38,6 @@ class WithAge(unittest.TestCase):
                 secret = file.read().split()[-1]
             cls.pairs.append((path, public, secret))
 
-    def test_files_of_age(self):
-        for path, public, secret in self.pairs:
-            file = age("-r", public, data=PLAIN)
-            self.assertEqual(agefile.decrypt(file, identities=x25519.X25519Identity(secret)), PLAIN)
-
-    def test_files_for_age(self):
-        recipients = [x25519.X25519Recipient(public) for _, public, _ in self.pairs]
-        file = agefile.encrypt(PLAIN, recipients=[agefile.Key(bytes(32)), *recipients])
-        for path, _, _ in self.pairs:
-            self.assertEqual(age("-d", "-i", path, data=file), PLAIN)
-
     def test_several_recipients(self):
         """Each of several recipients opens a file of age, as a whole and by ranges, and each finds
         its own stanza."""
@@ -76,24 +65,6 @@ class WithAge(unittest.TestCase):
         for path, _, secret in self.pairs:
             self.assertEqual(age("-d", "-i", path, data=file), PLAIN)
             self.assertEqual(agefile.decrypt(file, identities=x25519.X25519Identity(secret)), PLAIN)
-
-    def test_rewrapped_for_age(self):
-        """A file of age for one key is rewrapped for another, and age opens it."""
-        (first_path, one, first), (second_path, two, _) = self.pairs
-        identity, recipient = x25519.X25519Identity(first), x25519.X25519Recipient(two)
-        file = agefile.rewrap(age("-r", one, data=PLAIN), identities=identity, recipients=recipient)
-        self.assertEqual(age("-d", "-i", second_path, data=file), PLAIN)
-        self.assertRaises(subprocess.CalledProcessError, age, "-d", "-i", first_path, data=file)
-
-    def test_wrong_keys(self):
-        (first_path, one, _), (_, two, secret) = self.pairs
-        file = age("-r", one, data=PLAIN)
-        for identities in (x25519.X25519Identity(secret), [x25519.X25519Identity(secret), agefile.Key(bytes(32))]):
-            with self.assertRaises(agefile.AgeError) as caught:
-                agefile.decrypt(file, identities=identities)
-            self.assertEqual(caught.exception.code, agefile.Code.NO_MATCH)
-        other = agefile.encrypt(PLAIN, recipients=x25519.X25519Recipient(two))
-        self.assertRaises(subprocess.CalledProcessError, age, "-d", "-i", first_path, data=other)
 
     def test_malformed_stanzas(self):
         """A share of low order, and shares and bodies of wrong length, are refused as by age."""
