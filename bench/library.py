@@ -152,15 +152,16 @@ def headers(environment):
     return subprocess.check_output([sys.executable, "-c", code], env=environment, text=True).strip()
 
 
-# Microseconds for each call: rows of 20 bytes, written one by one and read as lines.
+# Microseconds for each call: rows of 20 bytes, written one by one and read as lines; and for each
+# file of 2 KiB, one written and read again and again, and 10,000 read one after the other.
 ROWS = """
-import agefile, gzip, sys, time
-KEY, COUNT = agefile.Key(bytes(32)), 500000
+import agefile, gzip, os, sys, time
+KEY, COUNT, FILES = agefile.Key(bytes(32)), 500000, 10000
 
-def took(work):
+def took(work, count=COUNT):
     began = time.process_time()
     work()
-    return f"{(time.process_time() - began) / COUNT * 1e6:.2f}"
+    return f"{(time.process_time() - began) / count * 1e6:.2f}"
 
 def write(file, row):
     for _ in range(COUNT):
@@ -170,16 +171,31 @@ def write(file, row):
 def read(file):
     assert sum(1 for _ in file) == COUNT
 
-OPEN = lambda mode: agefile.open("rows.age", mode, **({"recipients": KEY} if "w" in mode else {"identities": KEY}))
-for title, mode, opened in (
-    ("agefile", "b", OPEN),
-    ("agefile, text", "", OPEN),
-    ("gzip -1", "b", lambda mode: gzip.open("rows.gz", mode, 1)),
-    ("not encrypted", "b", lambda mode: open("rows", mode)),
-):
+def write_small(opened, names):
+    data = bytes(2048) if "b" in mode else "x" * 2048
+    for name in names:
+        with opened("w" + mode, name) as file:
+            file.write(data)
+
+def read_small(opened, names):
+    for name in names:
+        with opened("r" + mode, name) as file:
+            assert len(file.read()) == 2048
+
+OPEN = lambda mode, name: agefile.open(name, mode, **({"recipients": KEY} if "w" in mode else {"identities": KEY}))
+ZIP = lambda mode, name: gzip.open(name, mode if "b" in mode else mode + "t", 1)
+for title, mode, opened in (("agefile", "b", OPEN), ("agefile, text", "", OPEN), ("gzip -1", "b", ZIP), ("gzip -1, text", "", ZIP), ("not encrypted", "b", lambda mode, name: open(name, mode))):
     row = b"x" * 19 + b"\\n" if mode else "x" * 19 + "\\n"
-    print(f"| {title} | {took(lambda: write(opened('w' + mode), row))} | {took(lambda: read(opened('r' + mode)))} |")
+    one, many = ["small"] * FILES, [f"small.{number}" for number in range(FILES)]
+    cells = [took(lambda: write(opened("w" + mode, "rows"), row)), took(lambda: read(opened("r" + mode, "rows")))]
+    cells += [took(lambda: work(opened, names), FILES) for names in (one, many) for work in (write_small, read_small)]
+    print("|", title, "|", " | ".join(cells), "|")
 """
+
+
+def rows_in_python(folder, environment):
+    print(f"\n| Python {sys.version.split()[0]}, us each | `write` of 20 bytes | a line | write 2 KiB | read 2 KiB | write 10,000 | read 10,000 |\n|---|---|---|---|---|---|---|")
+    print(subprocess.check_output([sys.executable, "-c", ROWS], cwd=folder, env=environment, text=True), end="")
 
 
 def main():
@@ -205,8 +221,7 @@ def main():
                     found[title] = tuple(map(min, found[title], measured(words, folder, environment)))
             for title, (clock, cpu, memory) in found.items():
                 print(f"| {work}: {title} | {clock:.2f} | {cpu:.2f} | {cpu / found['agep'][1]:.2f} | {memory:.0f} |")
-        print(f"\n| Python {sys.version.split()[0]}, rows of 20 bytes | `write`, us | a line, us |\n|---|---|---|")
-        print(subprocess.check_output([sys.executable, "-c", ROWS], cwd=folder, env=environment, text=True), end="")
+        rows_in_python(folder, environment)
     print(f"\ninspect of 10,911 stanzas in Python: {headers(environment)}; load {os.getloadavg()[0]:.1f} at the end")
 
 

@@ -26,7 +26,7 @@ from ._library import version as library_version
 from ._reader import Reader, _reopen
 from ._salvage import LostChunks, Salvaged, salvage
 from ._secrets import Header, Identities as Identities, Identity, Key, Passphrase
-from ._secrets import Recipient, Recipients as Recipients, Stanza
+from ._secrets import Recipient, Recipients as Recipients, Stanza, _Stanzas
 from ._sources import Progress as Progress
 from ._version import __version__
 from ._whole import copy, decrypt, encrypt, inspect, rewrap, rewrap_copy
@@ -40,6 +40,6 @@ __all__ = [
 ]
 
 # Tracebacks and pickles name this package, and not its files.
-for _each in (*map(globals().get, __all__), _reopen):
+for _each in (*map(globals().get, __all__), _reopen, _Stanzas):
     if hasattr(_each, "__qualname__"):
         _each.__module__ = __name__

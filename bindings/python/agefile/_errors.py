@@ -89,10 +89,6 @@ def chunk_hint(code: int, place: int, left: int | None) -> str | None:
     return f"chunk {place}, from byte {first} of the plaintext on, is the last: {what}"
 
 
-def _text(code: int, place: int, detail: int) -> str:
-    return Code(code)._text.format(place=place, part=_DETAILS.get(detail, "other"))
-
-
 class AgeError(Exception):
     """A file or a call was refused.
 
@@ -110,8 +106,9 @@ class AgeError(Exception):
         self, code: int | str, place: int = 0, detail: int = 0, filename: Any = None,
         hint: str | None = None,
     ) -> None:
-        super().__init__(code if isinstance(code, str) else _text(code, place, detail))
         self.code = Code.OK if isinstance(code, str) else Code(code)
+        text = self.code._text.format(place=place, part=_DETAILS.get(detail, "other"))
+        super().__init__(code if isinstance(code, str) else text)
         self.place, self.detail, self.filename = place, detail, filename
         self.hint = hint or _HINTS.get(self.code, "").format(place=place) or None
         if sys.version_info >= (3, 11) and self.hint:
@@ -148,7 +145,6 @@ class AgeChangedError(AgeError):
 
     def __init__(self, code: int | str = Code.CHUNK_SHORT, *rest: Any) -> None:
         super().__init__(code, *rest)
-        if isinstance(code, str):
-            return
-        what = "was cut while it was" if code == Code.CHUNK_SHORT else "has grown since it was"
-        self.args = (f"the file {what} open: {self.args[0]}",)
+        if not isinstance(code, str):
+            what = "was cut while it was" if code == Code.CHUNK_SHORT else "has grown since it was"
+            self.args = (f"the file {what} open: {self.args[0]}",)

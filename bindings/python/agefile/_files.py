@@ -4,7 +4,7 @@ from __future__ import annotations
 
 import codecs
 import io
-from typing import Any, Literal, Optional, overload
+from typing import Any, Literal, Optional, Union, overload
 
 from ._paths import check_atomic
 from ._reader import Reader, open_reader
@@ -16,6 +16,8 @@ _ReadText = Literal["r", "rt", "tr"]
 _WriteBytes = Literal["wb", "bw", "xb", "bx"]
 _WriteText = Literal["w", "wt", "tw", "x", "xt", "tx"]
 _Word = Optional[str]
+_Read = Union[_ReadBytes, _ReadText]
+_Write = Union[_WriteBytes, _WriteText]
 
 
 @overload
@@ -28,6 +30,16 @@ def open(file: Any, mode: _WriteBytes, *, recipients: Recipients, atomic: bool =
 @overload
 def open(file: Any, mode: _WriteText, *, recipients: Recipients, encoding: _Word = None,
          errors: _Word = None, newline: _Word = None, atomic: bool = False) -> TextWriter: ...
+# These calls are refused, and their result cannot be used.
+@overload
+def open(file: Any, mode: _Read = "rb", *, recipients: Recipients) -> None: ...
+@overload
+def open(file: Any, mode: _Write, *, identities: Identities) -> None: ...
+@overload
+def open(file: Any, mode: _ReadBytes = "rb", *, identities: Identities, encoding: str) -> None: ...
+@overload
+def open(file: Any, mode: _WriteBytes, *, recipients: Recipients, encoding: str) -> None: ...
+# The mode is known only at run time.
 @overload
 def open(file: Any, mode: str, *, identities: Identities, encoding: _Word = None,
          errors: _Word = None, newline: _Word = None) -> Any: ...
@@ -46,14 +58,22 @@ def open(
     arguments, or an object with a method `open`, such as `fsspec.open` returns.
 
     Modes `rb` (returns a Reader) and `r` (text) read the plaintext with `identities`. The file must
-    be seekable. A file object that is not an open file of the system, nor a buffer over one, is
-    read with its `seek` and `read`, so only one thread at a time may use it.
+    be seekable; `copy` reads pipes. A file object that is not an open file of the system, nor a
+    buffer over one, is read with its `seek` and `read`, so only one thread at a time may use it.
 
     Modes `wb` and `xb` (return a Writer), `w` and `x` (text) write a new file for `recipients`. It
-    is complete only after it was closed without an exception. The header is made before the file is
-    opened. An existing file keeps its contents until the first byte is written. With `atomic` it
-    keeps them until the new file, which is written beside it, is complete and closed; the new file
-    then takes its place.
+    is complete only after `commit`, `close` or the end of its `with` block, without an exception;
+    until then every reader refuses it. The safe ways:
+    - in a script: `with agefile.open(path, "wb", recipients=secret) as file:` around all writes;
+    - in a daemon: `log.commit()` at the end, even in `except KeyboardInterrupt:`, where `close`
+      leaves the log incomplete;
+    - in asyncio: the same `with`, and `await asyncio.to_thread(file.commit)` as its last line;
+    - in Dask: `to_csv(.., storage_options={"recipients": secret, "atomic": True})`.
+
+    A crash costs a file that was not complete, of which `salvage` saves all but the last 128 KiB.
+    An existing file keeps its contents until the first byte is written or, with `atomic`, until the
+    new file, which is written beside it, is complete and takes its place. The header is made before
+    the file is opened.
 
     Text is UTF-8 unless `encoding` names another encoding.
     """
@@ -69,21 +89,17 @@ def open(
     if kind == "r":
         if identities is None or recipients is not None or atomic:
             raise TypeError("to read a file takes identities, and neither recipients nor atomic")
-        reader = open_reader(file, identities)
-        return reader if "b" in mode else _text(io.TextIOWrapper, reader, mode, words)
-    if recipients is None or identities is not None:
-        raise TypeError("to write a file takes recipients, and no identities")
-    check_atomic(file, atomic)
-    writer = Writer(file, kind + "b", recipients, atomic)
+        below: Any = open_reader(file, identities)
+    else:
+        if recipients is None or identities is not None:
+            raise TypeError("to write a file takes recipients, and no identities")
+        check_atomic(file, atomic)
+        below = Writer(file, kind + "b", recipients, atomic)
     if "b" in mode:
-        return writer
-    if codecs.lookup(used).name in ("utf-16", "utf-32"):
+        return below
+    if kind != "r" and codecs.lookup(used).name in ("utf-16", "utf-32"):
         # A TextIOWrapper writes the byte-order mark only to a seekable file.
-        writer.write("".encode(words["encoding"]))
-    return _text(TextWriter, writer, mode, words)
-
-
-def _text(kind: type[io.TextIOWrapper], file: Any, mode: str, words: dict[str, Any]) -> io.TextIOWrapper:
-    text = kind(file, **words)
+        below.write("".encode(words["encoding"]))
+    text = (io.TextIOWrapper if kind == "r" else TextWriter)(below, **words)
     text.mode = mode  # type: ignore[misc]
     return text

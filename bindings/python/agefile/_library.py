@@ -25,6 +25,7 @@ number = ctypes.c_uint64
 size = ctypes.c_size_t
 byte = ctypes.c_uint8
 address = ctypes.c_void_p
+FileKey = byte * FILE_KEY
 
 # generated: structs
 
@@ -58,10 +59,7 @@ class Report(ctypes.Structure):
 # end of structs
 
 
-def _pointer(struct: type[ctypes.Structure]) -> Any:
-    return ctypes.POINTER(struct)
-
-
+_pointer = ctypes.POINTER
 _report = _pointer(Report)
 _bytes = (address, size)
 _SIGNATURES: dict[str, tuple[Any, ...]] = {
@@ -120,7 +118,8 @@ def version() -> str:
 
 
 def call(name: str, *arguments: Any) -> tuple[int, Report]:
-    """Calls a function, and returns its code and report."""
+    """Calls a function, and returns its code and report. Memory is passed as `bytes`, which nobody
+    changes meanwhile, and results are written to ctypes arrays."""
     report = Report()
     return _functions[name](*arguments, ctypes.byref(report)), report
 
@@ -150,52 +149,15 @@ def for_chunks(name: str, struct: ctypes.Structure) -> Callable[..., int]:
     return call_step
 
 
-class _PyBuffer(ctypes.Structure):
-    """CPython's Py_buffer."""
-
-    _fields_ = [("buf", address), ("obj", address), ("len", ctypes.c_ssize_t),
-                ("itemsize", ctypes.c_ssize_t), ("readonly", ctypes.c_int), ("ndim", ctypes.c_int),
-                ("format", ctypes.c_char_p), ("shape", address), ("strides", address),
-                ("suboffsets", address), ("internal", address)]
+def address_of(memory: bytes) -> int:
+    """Where these bytes are, as long as the object lives."""
+    return ctypes.cast(ctypes.c_char_p(memory), address).value or 0
 
 
-_get_buffer = ctypes.pythonapi.PyObject_GetBuffer
-_get_buffer.argtypes = [ctypes.py_object, _pointer(_PyBuffer), ctypes.c_int]
-_release = ctypes.pythonapi.PyBuffer_Release
-_release.argtypes = [_pointer(_PyBuffer)]
-_release.restype = None
-_WRITABLE = 1
-
-
-class Bytes:
-    """The memory of a bytes-like object, during the `with` statement. `len` is the length of the
-    memory in bytes, whatever the object's __len__ returns."""
-
-    def __init__(self, data: Any, writable: bool = False) -> None:
-        self._view = _PyBuffer()
-        self._data = data
-        self._flags = _WRITABLE if writable else 0
-
-    def __enter__(self) -> Bytes:
-        _get_buffer(self._data, ctypes.byref(self._view), self._flags)
-        self.address = self._view.buf or 0
-        self.len: int = self._view.len
-        return self
-
-    def __exit__(self, *_: object) -> None:
-        _release(ctypes.byref(self._view))
-        self._data = None
-
-    @property
-    def pair(self) -> tuple[int, int]:
-        """Address and length, as the library's functions take them."""
-        return self.address, self.len
-
-
-def view_of(memory: Bytes, owner: Any) -> memoryview:
-    """A view of the bytes of some memory, which keeps its owner from moving them."""
-    array = (ctypes.c_char * memory.len).from_address(memory.pair[0])
-    array.owner = memoryview(owner)  # type: ignore[attr-defined]
+def view_of(memory: bytes) -> memoryview:
+    """A view that may be written, of new bytes to which nobody else refers yet."""
+    array = (ctypes.c_char * len(memory)).from_address(address_of(memory))
+    array.owner = memory  # type: ignore[attr-defined]
     return memoryview(array).cast("B")
 
 
@@ -214,8 +176,20 @@ def fresh_bytes(length: int) -> bytes:
     """New bytes of this length, to which nobody else refers yet, so the library may write them."""
     made: bytes = _new_bytes(None, length)
     if length >= _GREAT and _advise is not None:
-        with Bytes(made) as memory:
-            begin = (memory.address + _PAGE - 1) // _PAGE * _PAGE
-            end = (memory.address + length) // _PAGE * _PAGE
-            _advise(address(begin), size(end - begin), _ADVICE)
+        first = address_of(made)
+        begin = (first + _PAGE - 1) // _PAGE * _PAGE
+        end = (first + length) // _PAGE * _PAGE
+        _advise(address(begin), size(end - begin), _ADVICE)
     return made
+
+
+def made(name: str, *arguments: Any, hint: Callable[[int, int], str | None] | None = None) -> bytes:
+    """The output of a function, in new bytes of the length that it needs. `hint` makes the hint of
+    an error from its code and place."""
+    code, report = call(name, *arguments, None, 0)
+    out = fresh_bytes(report.len if code == Code.TOO_SMALL else 0)
+    if out:
+        code, report = call(name, *arguments, out, len(out))
+    if code:
+        raise AgeError.of(code, report.place, report.detail, hint and hint(code, report.place))
+    return out

@@ -57,8 +57,7 @@ class Front:
         """Reads until the nonce is complete too, or the source has ended. Returns the text of the
         header, and its file key."""
         header = self.header()
-        text = bytes(self.bytes[: header.length])
-        file_key = unlock(text, header, identities)
+        text, file_key = bytes(self.bytes[: header.length]), unlock(header, identities)
         while len(self.bytes) < len(text) + lib.NONCE and self.more():
             pass
         return text, file_key
@@ -68,20 +67,16 @@ def begin(recipients: Recipients) -> tuple[bytes, lib.Payload]:
     """A new file's header and nonce, and its payload for writing."""
     payload, file_key, nonce = lib.Payload(), os.urandom(lib.FILE_KEY), os.urandom(lib.NONCE)
     text = stanzas_text(recipients, file_key)
-    out = bytearray(len(text) + 256)
-    with lib.Bytes(text) as stanzas, lib.Bytes(file_key) as key, lib.Bytes(nonce) as fresh:
-        with lib.Bytes(out, True) as memory:
-            report = lib.check(
-                "begin", *stanzas.pair, key.address, fresh.address, *memory.pair, ctypes.byref(payload)
-            )
-    return bytes(out[: report.len]), payload
+    out = ctypes.create_string_buffer(len(text) + 256)
+    words = text, len(text), file_key, nonce, out, len(out), ctypes.byref(payload)
+    length = lib.check("begin", *words).len
+    return out.raw[:length], payload
 
 
 def open_payload(front: bytes, file_key: bytes) -> tuple[int, lib.Payload]:
     """The offset of the first sealed chunk, and the payload for reading."""
     payload = lib.Payload()
-    with lib.Bytes(front) as text, lib.Bytes(file_key) as key:
-        report = lib.check("open", *text.pair, key.address, ctypes.byref(payload))
+    report = lib.check("open", front, len(front), file_key, ctypes.byref(payload))
     return report.len, payload
 
 
@@ -96,8 +91,8 @@ def open_source(source: BinaryIO, identities: Identities) -> tuple[bytes, lib.Pa
 class Chunk:
     """Room for some chunks in a row, of the plaintext or sealed."""
 
-    def __init__(self, chunks: int = 1) -> None:
-        self.room = bytearray(chunks * lib.SEALED_CHUNK)
+    def __init__(self, length: int = lib.SEALED_CHUNK) -> None:
+        self.room = bytearray(length)
         self.view = memoryview(self.room)
         # The address of the first byte, valid as long as this object lives.
         self.base = ctypes.addressof((ctypes.c_char * len(self.room)).from_buffer(self.room))
@@ -173,8 +168,10 @@ def _read_batch(step: _Step, source: BinaryIO, room: Chunk) -> int:
     return total
 
 
-def on_threads(step: _Step, payload: lib.Payload, source: BinaryIO, sink: Any, threads: int) -> int:
+def run(step: _Step, payload: lib.Payload, source: BinaryIO, sink: Any, threads: int) -> int:
     """Does the same on several threads. For each thread two batches of chunks are in memory."""
+    if threads == 1:
+        return one_by_one(step, payload, source, sink)
     total, waiting = 0, collections.deque[tuple[_Batch, Any]]()
     spare: list[Chunk] = []
 
@@ -192,10 +189,10 @@ def on_threads(step: _Step, payload: lib.Payload, source: BinaryIO, sink: Any, t
 
     with concurrent.futures.ThreadPoolExecutor(threads) as pool:
         try:
-            room = Chunk(PART)
+            room = Chunk(PART * lib.SEALED_CHUNK)
             length = _read_batch(step, source, room)
             while length == PART * step.take:
-                ahead = spare.pop() if spare else Chunk(PART)
+                ahead = spare.pop() if spare else Chunk(PART * lib.SEALED_CHUNK)
                 more = _read_batch(step, source, ahead)
                 if more == 0:
                     break
@@ -220,12 +217,6 @@ def thread_count(threads: int) -> int:
     if count < 1:
         raise ValueError("threads is at least 1")
     return min(count, os.cpu_count() or 1)
-
-
-def run(step: _Step, payload: lib.Payload, source: BinaryIO, sink: Any, threads: int) -> int:
-    if threads == 1:
-        return one_by_one(step, payload, source, sink)
-    return on_threads(step, payload, source, sink, threads)
 
 
 class Behind:

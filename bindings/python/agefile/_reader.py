@@ -26,11 +26,13 @@ class _Source:
     anywhere, because forked processes share it, and so do other readers of one file object."""
 
     def __init__(self, file: BinaryIO, opener: Any, owned: bool) -> None:
-        self.file, self.opener, self._owned = file, opener, owned
+        self.file, self.opener, self._owned, self._at = file, opener, owned, 0
         self._raw = raw_of(file)
-        if self._raw and stat.S_ISREG(os.fstat(self._raw.fileno()).st_mode):
+        if self._raw:
             file.flush()
-            self.length = os.fstat(self._raw.fileno()).st_size
+        found = os.fstat(self._raw.fileno()) if self._raw else None
+        if found and stat.S_ISREG(found.st_mode):
+            self.length = found.st_size
         else:
             if not getattr(file, "seekable", lambda: True)():
                 raise io.UnsupportedOperation("a file that cannot seek is read by agefile.copy")
@@ -48,22 +50,16 @@ class _Source:
             done += count
         return done
 
+    def read(self, size: int) -> bytes:
+        """Reads on from the first byte of the file."""
+        room = bytearray(min(size, max(self.length - self._at, 0)))
+        count = self.read_at(self._at, memoryview(room))
+        self._at += count
+        return bytes(room[:count])
+
     def close(self) -> None:
         if self._owned:
             self.file.close()
-
-
-class _FromStart:
-    """A source read from its first byte on."""
-
-    def __init__(self, source: _Source) -> None:
-        self._source, self._at = source, 0
-
-    def read(self, size: int) -> bytes:
-        room = bytearray(size)
-        count = self._source.read_at(self._at, memoryview(room))
-        self._at += count
-        return bytes(room[:count])
 
 
 class _Chunks:
@@ -71,7 +67,7 @@ class _Chunks:
 
     def __init__(self, source: _Source, ranges: lib.Ranges, name: Any) -> None:
         self.source, self.ranges, self.name = source, ranges, name
-        self._chunk, self._number, self._len = Chunk(), -1, 0
+        self._chunk, self._number, self._len = Chunk(min(ranges.sealed_len, lib.SEALED_CHUNK)), -1, 0
         self._open = lib.for_chunks("ranges_chunk", ranges)
         self._first: int = ranges.first
         self._sealed_len: int = ranges.sealed_len
@@ -83,10 +79,10 @@ class _Chunks:
     @staticmethod
     def unlocked(source: _Source, identities: Identities) -> lib.Ranges:
         """Unlocks a source. Reads only its header and nonce."""
-        front, ranges = Front(_FromStart(source)), lib.Ranges()
+        front, ranges = Front(source), lib.Ranges()
         _, file_key = front.unlock(identities)
-        with lib.Bytes(bytes(front.bytes)) as text, lib.Bytes(file_key) as key:
-            lib.check("ranges_open", *text.pair, source.length, key.address, ctypes.byref(ranges))
+        text = bytes(front.bytes)
+        lib.check("ranges_open", text, len(text), source.length, file_key, ctypes.byref(ranges))
         return ranges
 
     def _open_last(self) -> None:
@@ -160,9 +156,7 @@ class _Plaintext(io.RawIOBase):
     def readall(self) -> bytes:
         self.readable()
         out = lib.fresh_bytes(max(self.chunks.length - self.position, 0))
-        with lib.Bytes(out) as memory:
-            view = lib.view_of(memory, out)
-            count = self.chunks.fill(view, self.position, self._least * len(out))
+        count = self.chunks.fill(lib.view_of(out), self.position, self._least * len(out))
         self.position += count
         return out if count == len(out) else out[:count]
 
@@ -324,12 +318,16 @@ class Reader(io.BufferedIOBase):
 def open_reader(file: Any, identities: Identities) -> Reader:
     """Opens the plaintext of a path, a descriptor, an opener, or a seekable binary file."""
     owned = not is_open(file, "read")
-    below, name = opened(file) if owned else file, name_of(file)
+    is_descriptor = isinstance(file, int)
+    below, name = opened(file, closefd=not is_descriptor) if owned else file, name_of(file)
     with named(name), contextlib.ExitStack() as stack:
         if owned:
             stack.callback(below.close)
-        source = _Source(below, file if owned and not isinstance(file, int) else None, owned)
+        source = _Source(below, file if owned and not is_descriptor else None, owned)
         reader = Reader(_Chunks(source, _Chunks.unlocked(source, identities), name))
+        if is_descriptor:
+            # Until here it stays the caller's, who may try another key.
+            source.file = opened(file)
         stack.pop_all()
     return reader
 

@@ -12,8 +12,8 @@ from ._payload import Behind, open_source, pieces
 from ._secrets import Identities
 from ._sources import Counted, Progress, read_some, readinto_of, write_all
 
-# What was saved of a chunk, by the numbers of agefile.h.
-CHUNK, LAST, EARLY, ZEROS, NONE, PADDED = range(1, 7)
+# What was saved of a chunk, and of the whole, by the numbers of agefile.h.
+EARLY, ZEROS, PADDED, WHOLE, CUT = 3, 4, 6, 1, 2
 # A header is read in such pieces, because a read that reaches a bad block may return nothing.
 BLOCK = 4096
 
@@ -95,12 +95,8 @@ class _Skipping:
 
 
 def salvage(
-    source: Any,
-    sink: Any,
-    *,
-    identities: Identities,
-    atomic: bool = False,
-    progress: Progress | None = None,
+    source: Any, sink: Any, *,
+    identities: Identities, atomic: bool = False, progress: Progress | None = None,
 ) -> Salvaged:
     """Saves what is left of a damaged file. Returns what was saved and what is lost.
 
@@ -139,9 +135,8 @@ def _save(payload: lib.Payload, source: BinaryIO, unread: set[int], sink: Any) -
         total, sealed = total + len(text), sealed + length
     end = number * lib.SEALED_CHUNK + len(text) + lib.TAG if saved == PADDED else sealed
     trailing = max(sealed - (end if early is None else (early + 1) * lib.SEALED_CHUNK), 0)
-    is_cut = saved == CHUNK or saved == NONE and (early is None or early < number - 1)
-    is_whole = saved == LAST and not lost and early is None
-    return Salvaged(total, number + 1, tuple(lost), early, trailing, is_cut, is_whole)
+    verdict = report.detail == CUT, report.detail == WHOLE
+    return Salvaged(total, number + 1, tuple(lost), early, trailing, *verdict)
 
 
 def _join(lost: list[LostChunks], new: LostChunks) -> None:

@@ -5,6 +5,7 @@ from __future__ import annotations
 import concurrent.futures
 import ctypes
 import functools
+import hmac
 import operator
 import os
 import threading
@@ -52,11 +53,28 @@ class Identity(Protocol):
     def unwrap(self, stanzas: Sequence[Stanza]) -> bytes | None: ...
 
 
+class _Stanzas(tuple[Stanza, ...]):
+    """The stanzas of a header, with its text: the library unlocks only a header as a whole."""
+
+    text: bytes
+
+
 class _Secret:
-    """A secret that the library itself wraps and unwraps. Its repr does not show it."""
+    """A secret that the library itself wraps and unwraps. Its repr does not show it. Equal ones have
+    the same secret, which is compared in constant time, and the same settings."""
 
     def __init__(self, secret: bytes) -> None:
         self._secret, self._token = secret, os.urandom(16).hex()
+
+    def __eq__(self, other: object) -> bool:
+        if not isinstance(other, _Secret) or type(other) is not type(self):
+            return NotImplemented
+        mine, its = ({**vars(each), "_secret": b"", "_token": ""} for each in (self, other))
+        return mine == its and hmac.compare_digest(self._secret, other._secret)
+
+    def __hash__(self) -> int:
+        # From a hash of the secret a weak passphrase could be guessed.
+        return hash(type(self))
 
     def __dask_tokenize__(self) -> str:
         """A name for this object and its pickles, which tells nothing of the secret: from a hash of
@@ -72,7 +90,25 @@ class _Secret:
 
     def wrap(self, file_key: bytes) -> list[Stanza]:
         """Returns the stanza that holds this file key."""
+        file_key = _file_key(file_key)
         return list(read_header(header_of(self._text(file_key), file_key)).stanzas)
+
+    def unwrap(self, stanzas: Sequence[Stanza]) -> bytes | None:
+        """Returns the file key of a header, under which its MAC was verified, or None if this secret
+        does not open it. `stanzas` must be the tuple of a Header, or the one that was passed to an
+        identity."""
+        if not isinstance(stanzas, _Stanzas):
+            raise TypeError("pass the stanzas of a Header: without its MAC they are not unwrapped")
+        code, file_key = self._find(stanzas)
+        return file_key if code == Code.OK else None
+
+    def _find(self, stanzas: _Stanzas) -> tuple[int, bytes]:
+        """The code 0 and the file key, or the code of a secret that does not fit."""
+        code, report, file_key = self._unlock(stanzas.text)
+        if code not in (Code.OK, Code.NO_MATCH, Code.WRONG_KEY):
+            hint = _work_hint(report.detail, stanzas) if code == Code.MALFORMED else None
+            raise AgeError.of(code, report.place, report.detail, hint)
+        return code, file_key
 
     def _text(self, file_key: bytes) -> bytes:
         raise NotImplementedError
@@ -150,18 +186,14 @@ class Passphrase(_Secret):
     def _text(self, file_key: bytes) -> bytes:
         if self._untyped:
             raise ValueError("passphrase ends in CR or LF, or begins with a byte-order mark")
-        salt = os.urandom(lib.SALT)
-        with lib.Bytes(self._secret) as secret, lib.Bytes(file_key) as key, lib.Bytes(salt) as fresh:
-            return _text_of("wrap_passphrase", key.address, *secret.pair, self._work, fresh.address)
+        salt, secret = os.urandom(lib.SALT), self._secret
+        return _text_of("wrap_passphrase", file_key, secret, len(secret), self._work, salt)
 
     @_interruptible
     def _unlock(self, front: bytes) -> tuple[int, lib.Report, bytes]:
-        file_key = bytearray(lib.FILE_KEY)
-        with lib.Bytes(front) as text, lib.Bytes(self._secret) as secret, lib.Bytes(file_key, True) as key:
-            code, report = lib.call(
-                "unlock_passphrase", *text.pair, *secret.pair, self._max_work, key.address
-            )
-        return code, report, bytes(file_key)
+        file_key, secret = lib.FileKey(), self._secret
+        words = front, len(front), secret, len(secret), self._max_work, file_key
+        return (*lib.call("unlock_passphrase", *words), bytes(file_key))
 
 
 class Key(_Secret):
@@ -188,29 +220,32 @@ class Key(_Secret):
         return cls(bytes(room[:32]))
 
     def _text(self, file_key: bytes) -> bytes:
-        salt = os.urandom(lib.SALT)
-        with lib.Bytes(self._secret) as secret, lib.Bytes(file_key) as key, lib.Bytes(salt) as fresh:
-            return _text_of("wrap_key", key.address, secret.address, fresh.address)
+        return _text_of("wrap_key", file_key, self._secret, os.urandom(lib.SALT))
 
     def _unlock(self, front: bytes) -> tuple[int, lib.Report, bytes]:
-        file_key = bytearray(lib.FILE_KEY)
-        with lib.Bytes(front) as text, lib.Bytes(self._secret) as secret, lib.Bytes(file_key, True) as key:
-            code, report = lib.call("unlock_key", *text.pair, secret.address, key.address)
-        return code, report, bytes(file_key)
+        file_key = lib.FileKey()
+        return (*lib.call("unlock_key", front, len(front), self._secret, file_key), bytes(file_key))
 
 
 Recipients = Union[Recipient, Iterable[Recipient]]
-Identities = Union[_Secret, Identity, Iterable[Union[_Secret, Identity]]]
+Identities = Union[Identity, Iterable[Identity]]
+
+
+def _file_key(found: Any) -> bytes:
+    """These bytes, which must be 16."""
+    file_key = bytes(memoryview(found))
+    if len(file_key) != lib.FILE_KEY:
+        raise ValueError(f"a file key has 16 bytes, not {len(file_key)}")
+    return file_key
 
 
 def _text_of(function: str, *arguments: Any, room: int = lib.STANZA_ROOM) -> bytes:
     """The output of a function, in a buffer of this size or, if too small, of the size needed."""
     while True:
-        out = bytearray(room)
-        with lib.Bytes(out, True) as memory:
-            code, report = lib.call(function, *arguments, *memory.pair)
+        out = ctypes.create_string_buffer(room)
+        code, report = lib.call(function, *arguments, out, room)
         if code == Code.OK:
-            return bytes(out[: report.len])
+            return out.raw[: report.len]
         if code != Code.TOO_SMALL:
             raise AgeError.of(code, report.place, report.detail)
         room = report.len
@@ -221,20 +256,17 @@ def _stanza_text(stanza: Stanza) -> bytes:
     args, body = " ".join(stanza.args).encode(), bytes(stanza.body)
     if isinstance(stanza.args, str) or any(not arg or " " in arg for arg in stanza.args):
         raise AgeError(Code.BAD_ARGUMENTS)
-    with lib.Bytes(args) as words, lib.Bytes(body) as data:
-        return _text_of("wrap", *words.pair, *data.pair)
+    return _text_of("wrap", args, len(args), body, len(body))
 
 
 def as_list(secrets: Any, method: str) -> list[Any]:
     """One recipient or identity, or several, as a list."""
-    is_one = isinstance(secrets, (_Secret, str, bytes, bytearray)) or hasattr(secrets, method)
+    is_one = isinstance(secrets, (str, bytes, bytearray)) or hasattr(secrets, method)
     found = [secrets] if is_one or not isinstance(secrets, Iterable) else list(secrets)
     for secret in found:
-        if not (isinstance(secret, _Secret) or hasattr(secret, method)):
-            kind = type(secret).__name__
-            raise TypeError(
-                f"{kind} has no method {method}: pass agefile.Passphrase(..) or agefile.Key(..)"
-            )
+        if not hasattr(secret, method):
+            what = f"{type(secret).__name__} has no method {method}"
+            raise TypeError(f"{what}: pass agefile.Passphrase(..) or agefile.Key(..)")
     return found
 
 
@@ -251,27 +283,27 @@ def stanzas_text(recipients: Recipients, file_key: bytes) -> bytes:
 
 def header_of(text: bytes, file_key: bytes) -> bytes:
     """The header of this text of stanzas."""
-    with lib.Bytes(text) as stanzas, lib.Bytes(file_key) as key:
-        return _text_of("header", *stanzas.pair, key.address, room=len(text) + 128)
+    return _text_of("header", text, len(text), file_key, room=len(text) + 128)
 
 
 def read_header(front: bytes) -> Header:
     """The header at the start of these bytes."""
     summary = lib.Summary()
-    with lib.Bytes(front) as text:
-        code, report = lib.call("inspect", *text.pair, ctypes.byref(summary))
-        if code:
-            raise AgeError.of(code, report.place, report.detail, _front_hint(code, front))
-        sizes, room = (lib.StanzaSummary * summary.stanzas)(), bytearray(summary.header_len)
-        with lib.Bytes(room, True) as memory:
-            lib.check("stanzas", *text.pair, sizes, summary.stanzas, *memory.pair)
-    stanzas, at = [], 0
+    code, report = lib.call("inspect", front, len(front), ctypes.byref(summary))
+    if code:
+        raise AgeError.of(code, report.place, report.detail, _front_hint(code, front))
+    count, length = summary.stanzas, summary.header_len
+    sizes, room = (lib.StanzaSummary * count)(), ctypes.create_string_buffer(length)
+    lib.check("stanzas", front, len(front), sizes, count, room, length)
+    text, stanzas, at = room.raw, [], 0
     for each in sizes:
-        args = room[at : at + each.args_len].decode().split(" ")
+        args = text[at : at + each.args_len].decode().split(" ")
         at += each.args_len
-        stanzas.append(Stanza(tuple(args), bytes(room[at : at + each.body_len])))
+        stanzas.append(Stanza(tuple(args), text[at : at + each.body_len]))
         at += each.body_len
-    return Header(tuple(stanzas), bytes(summary.mac), summary.header_len)
+    found = _Stanzas(stanzas)
+    found.text = front[:length]
+    return Header(found, bytes(summary.mac), length)
 
 
 def _front_hint(code: int, front: bytes) -> str | None:
@@ -314,29 +346,22 @@ def _work_hint(detail: int, stanzas: Sequence[Stanza]) -> str | None:
     return f"its work factor is {work}; max_work={work} accepts it and takes {memory} of memory"
 
 
-def unlock(front: bytes, header: Header, identities: Identities) -> bytes:
-    """The file key that the first matching identity finds in a header. For a caller's own identity
-    the MAC is not verified yet: opening the payload does that."""
-    missed = Code.NO_MATCH
-    if len(header.stanzas) > 1 and any(stanza.args[0] == "scrypt" for stanza in header.stanzas):
+def unlock(header: Header, identities: Identities) -> bytes:
+    """The file key that the first matching identity finds. For a caller's own identity the MAC is
+    not verified yet: opening the payload does that."""
+    stanzas, missed = cast(_Stanzas, header.stanzas), Code.NO_MATCH
+    if len(stanzas) > 1 and any(stanza.args[0] == "scrypt" for stanza in stanzas):
         raise AgeError(Code.MIXED_PASSPHRASE)
     secrets = as_list(identities, "unwrap")
     for identity in secrets:
         if isinstance(identity, _Secret):
-            code, report, file_key = identity._unlock(front)
+            code, file_key = identity._find(stanzas)
             if code == Code.OK:
                 return file_key
-            if code not in (Code.NO_MATCH, Code.WRONG_KEY):
-                hint = _work_hint(report.detail, header.stanzas) if code == Code.MALFORMED else None
-                raise AgeError.of(code, report.place, report.detail, hint)
             missed = max(missed, Code(code))
-            continue
-        found = identity.unwrap(header.stanzas)
-        if found is not None:
-            if len(found) != lib.FILE_KEY:
-                raise ValueError(f"a file key has 16 bytes, not {len(found)}")
-            return bytes(found)
+        elif (found := identity.unwrap(stanzas)) is not None:
+            return _file_key(found)
     if missed == Code.NO_MATCH:
-        raise AgeError.of(missed, hint=_stanzas_hint(header.stanzas))
+        raise AgeError.of(missed, hint=_stanzas_hint(stanzas))
     kinds = [it._wrong() if isinstance(it, _Secret) else type(it).__name__ for it in secrets]
     raise AgeError.of(missed, hint=f"not opened by {', '.join(kinds)}")

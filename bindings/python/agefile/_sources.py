@@ -13,8 +13,11 @@ from ._paths import raw_of
 Progress = Callable[[int, Optional[int]], object]
 
 
-def flat(data: Any) -> memoryview:
-    """A view of the bytes of an object, also of one with a zero in its shape."""
+def flat(data: Any, instead: str = "bytes") -> memoryview:
+    """A view of the bytes of an object, even of one with a zero in its shape. `instead` says what
+    to pass in place of a str."""
+    if isinstance(data, str):
+        raise TypeError(f"a bytes-like object is required, not 'str': pass {instead}")
     with memoryview(data) as view:
         return view.cast("B") if view.nbytes else memoryview(bytearray())
 

@@ -2,109 +2,56 @@
 
 from __future__ import annotations
 
-import ctypes
 import io
 import os
-from typing import Any, BinaryIO, cast
+from typing import TYPE_CHECKING, Any, BinaryIO, cast
 
 from . import _library as lib
-from ._errors import AgeError, Code
+from ._errors import chunk_hint
 from ._paths import check_atomic, reading, writing
-from ._payload import OPENING, SEALING, Behind, Chunk, Front, begin, open_payload, open_source, run, thread_count
+from ._payload import OPENING, SEALING, Behind, Front, begin, open_payload, open_source, run, thread_count
 from ._secrets import Header, Identities, Recipients, header_of, read_header, stanzas_text, unlock
 from ._sources import Counted, Progress, flat, read_into, write_all
 
-
-class _Collector:
-    """A sink into bytes of a known length, which needs no second copy at the end."""
-
-    def __init__(self, length: int) -> None:
-        self.out, self._at = lib.fresh_bytes(length), 0
-
-    def write(self, data: memoryview) -> int:
-        with lib.Bytes(self.out) as memory, lib.Bytes(data) as piece:
-            if piece.len > memory.len - self._at:
-                raise AgeError(Code.TOO_SMALL)
-            ctypes.memmove(memory.address + self._at, piece.address, piece.len)
-        self._at += len(data)
-        return len(data)
+if TYPE_CHECKING:
+    from _typeshed import ReadableBuffer
 
 
-def _front_of(data: lib.Bytes) -> bytes:
-    """A copy of the header and the nonce, because another thread may change the caller's memory."""
-    return ctypes.string_at(data.address, min(data.len, lib.FRONT)) if data.len else b""
-
-
-def encrypt(data: Any, *, recipients: Recipients, threads: int = 1) -> bytes:
+def encrypt(data: ReadableBuffer, *, recipients: Recipients, threads: int = 1) -> bytes:
     """Encrypts a bytes-like object for one or several recipients. Returns the age file."""
     threads = thread_count(threads)
-    with lib.Bytes(data) as plain:
+    with flat(data, "text.encode()") as view:
+        # Another thread may change other memory, so it is read chunk by chunk, each once.
+        if threads == 1 and type(data) is bytes:
+            file_key, nonce = os.urandom(lib.FILE_KEY), os.urandom(lib.NONCE)
+            text = stanzas_text(recipients, file_key)
+            return lib.made("encrypt", data, len(data), text, len(text), file_key, nonce)
         front, payload = begin(recipients)
-        sink = _Collector(len(front) + _sealed_len(plain.len))
-        sink.write(memoryview(front))
-        if threads == 1:
-            with lib.Bytes(sink.out) as memory:
-                _seal_all(payload, plain, memory.pair[0] + len(front))
-        else:
-            with flat(data) as view:
-                run(SEALING, payload, cast(BinaryIO, Behind(view, io.BytesIO())), sink, threads)
-        return sink.out
+        sink = io.BytesIO()
+        sink.write(front)
+        run(SEALING, payload, cast(BinaryIO, Behind(view, io.BytesIO())), sink, threads)
+    return sink.getvalue()
 
 
-def _sealed_len(length: int) -> int:
-    """The total length of the sealed chunks of a plaintext."""
-    return length + lib.TAG * max((length + lib.TEXT_CHUNK - 1) // lib.TEXT_CHUNK, 1)
-
-
-def _opened_len(length: int) -> int:
-    """The largest length of the text of sealed chunks with this total length."""
-    full, rest = divmod(length, lib.SEALED_CHUNK)
-    return full * lib.TEXT_CHUNK + max(rest - lib.TAG, 0)
-
-
-def _seal_all(payload: lib.Payload, plain: lib.Bytes, out: int) -> None:
-    """Seals each chunk at its place, from the address `out` on."""
-    seal, begin, at, is_last = lib.for_chunks("seal_next", payload), plain.pair[0], 0, False
-    while not is_last:
-        length = min(plain.len - at, lib.TEXT_CHUNK)
-        is_last = at + length == plain.len
-        ctypes.memmove(out, begin + at, length)
-        at, out = at + length, out + seal(out, length + lib.TAG, is_last)
-
-
-def _open_all(payload: lib.Payload, file: lib.Bytes, at: int, out: lib.Bytes) -> None:
-    """Opens each chunk at the place of its text. The next text overwrites its tag. A chunk whose
-    tag would not fit is opened elsewhere."""
-    open_next, spare, begin = lib.for_chunks("open_next", payload), Chunk(), out.pair[0]
-    done, is_last = 0, False
-    while not is_last:
-        length = min(file.len - at, lib.SEALED_CHUNK)
-        is_last = at + length == file.len
-        is_inside = done + length <= out.len
-        place = begin + done if is_inside else spare.base
-        ctypes.memmove(place, file.pair[0] + at, length)
-        opened = open_next(place, length, is_last)
-        if not is_inside:
-            ctypes.memmove(begin + done, place, opened)
-        at, done = at + length, done + opened
-
-
-def decrypt(data: Any, *, identities: Identities, threads: int = 1) -> bytes:
+def decrypt(data: ReadableBuffer, *, identities: Identities, threads: int = 1) -> bytes:
     """Decrypts an age file in memory, and returns its plaintext. Raises AgeError, and returns nothing,
     if the file has a fault."""
     threads = thread_count(threads)
-    with lib.Bytes(data) as file:
-        front = _front_of(file)
+    with flat(data, "the bytes of a file, or its path to agefile.open") as view:
+        front = bytes(view[: lib.FRONT])
         header = read_header(front)
-        first, payload = open_payload(front, unlock(front[: header.length], header, identities))
-        sink = _Collector(_opened_len(file.len - first))
-        if threads == 1:
-            with lib.Bytes(sink.out) as memory:
-                _open_all(payload, file, first, memory)
-        else:
-            with flat(data) as view, view[first:] as rest:
-                run(OPENING, payload, cast(BinaryIO, Behind(rest, io.BytesIO())), sink, threads)
-        return sink.out
+        file_key = unlock(header, identities)
+        if threads == 1 and type(data) is bytes:
+            def hint(code: int, place: int) -> str | None:
+                left = len(view) - header.length - lib.NONCE - place * lib.SEALED_CHUNK
+                return chunk_hint(code, place, left if left <= lib.SEALED_CHUNK else None)
+
+            return lib.made("decrypt", data, len(data), file_key, hint=hint)
+        first, payload = open_payload(front, file_key)
+        sink = io.BytesIO()
+        with view[first:] as rest:
+            run(OPENING, payload, cast(BinaryIO, Behind(rest, io.BytesIO())), sink, threads)
+    return sink.getvalue()
 
 
 def inspect(data: Any) -> Header:
@@ -113,8 +60,8 @@ def inspect(data: Any) -> Header:
     if isinstance(data, (str, int, os.PathLike)):
         with reading(data) as source:
             return Front(source).header()
-    with lib.Bytes(data) as file:
-        return read_header(_front_of(file))
+    with flat(data) as view:
+        return read_header(bytes(view[: lib.FRONT]))
 
 
 def rewrap(data: Any, *, identities: Identities, recipients: Recipients) -> bytes:
@@ -129,13 +76,8 @@ def rewrap(data: Any, *, identities: Identities, recipients: Recipients) -> byte
 
 
 def rewrap_copy(
-    source: Any,
-    sink: Any,
-    *,
-    identities: Identities,
-    recipients: Recipients,
-    atomic: bool = False,
-    progress: Progress | None = None,
+    source: Any, sink: Any, *, identities: Identities, recipients: Recipients,
+    atomic: bool = False, progress: Progress | None = None,
 ) -> None:
     """Like `rewrap`, but from a file to another, each a path, a descriptor or a binary file object.
     `atomic` and `progress` are those of `copy`: with `atomic` a file can be rewrapped in place."""
@@ -156,14 +98,9 @@ def rewrap_copy(
 
 
 def copy(
-    source: Any,
-    sink: Any,
-    *,
-    recipients: Recipients | None = None,
-    identities: Identities | None = None,
-    threads: int = 1,
-    atomic: bool = False,
-    progress: Progress | None = None,
+    source: Any, sink: Any, *,
+    recipients: Recipients | None = None, identities: Identities | None = None,
+    threads: int = 1, atomic: bool = False, progress: Progress | None = None,
 ) -> int:
     """Encrypts a file to another for `recipients`, or decrypts it with `identities`.
 

@@ -4,6 +4,7 @@ from __future__ import annotations
 
 import atexit
 import contextlib
+import functools
 import io
 import os
 import sys
@@ -11,7 +12,7 @@ import threading
 import types
 import warnings
 import weakref
-from typing import Any
+from typing import Any, Callable
 
 from . import _library as lib
 from ._paths import created, is_open, is_path, name_of, opener_of
@@ -36,7 +37,7 @@ class _Sealer(io.RawIOBase):
         # The exception that is being handled, and its traceback, which is another if it is raised
         # again from elsewhere.
         self.handled: tuple[Any, Any] = sys.exc_info()[1:]
-        self._place, self._is_told = _caller(), False
+        self._place, self._is_told = caller(), False
 
     def __repr__(self) -> str:
         return f"<agefile.Writer name={self.name!r} mode={self.mode!r}>"
@@ -155,12 +156,12 @@ class _Sealer(io.RawIOBase):
                     self._sink.close()
 
     def warn(self, why: str) -> None:
-        """Warns once, at the line that opened the file, whatever filters of warnings are set."""
+        """Warns once, at the line that opened the file."""
         if self.is_parent() and not self._is_told:
             self._is_told = True
             is_old = self._front or hasattr(self._sink, "replace_old")
             text = f"{self!r} {'was not written' if is_old else 'is not whole'}: {why}"
-            warnings.showwarning(RuntimeWarning(text), RuntimeWarning, *self._place)
+            warn(text, self._place)
 
     def lose(self, why: str) -> None:
         """Aborts, and warns, unless the file is closed."""
@@ -181,6 +182,25 @@ class _Sealer(io.RawIOBase):
         self.close()
 
 
+class _NotingClose:
+    """A `close` that notes the exception that is being handled where it is named.
+
+    `asyncio.to_thread(file.close)` and `pool.submit(file.close)` name it in the thread that failed,
+    and call it in one that handles no exception, where it would complete half a file. Named while
+    no exception is handled, it is a method like any other."""
+
+    def __init__(self, close: Callable[..., None]) -> None:
+        self._close = close
+
+    def __get__(self, file: Any, _: Any = None) -> Callable[..., None]:
+        if file is None:
+            return self._close
+        error = getattr(file, "buffer", file).raw.new_exception()
+        if error is None:
+            return types.MethodType(self._close, file)
+        return functools.partial(self._close, file, error)
+
+
 class Writer(io.BufferedIOBase):
     """The plaintext of a new age file, as a binary file to write.
 
@@ -189,10 +209,9 @@ class Writer(io.BufferedIOBase):
 
     If a file was not closed, if a write to it failed or its `with` body raised, it has no last
     chunk, so every reader refuses it. The same holds if `close` is called while an exception is
-    handled that was not being handled when the file was opened, as by `contextlib.closing`, a
-    `TextIOWrapper` over this object, or `fsspec.open`. There `commit` completes it. After a failed
-    write both raise. If no exception reports the loss, a RuntimeWarning does. A forked child cannot
-    write: it would seal other bytes under the nonces of its parent.
+    handled, as by `contextlib.closing`, a `TextIOWrapper` over this object, or `fsspec.open`: see
+    `close` and `commit`. If no exception reports the loss, a RuntimeWarning does. A forked child
+    cannot write: it would seal other bytes under the nonces of its parent.
     """
 
     raw: _Sealer
@@ -230,12 +249,13 @@ class Writer(io.BufferedIOBase):
             self._buffer.flush()
         self.raw.flush()
 
-    def close(self) -> None:
-        """Seals the last chunk, which completes the file. Raises after a failed write. While an
-        exception is handled that was not being handled when the file was opened, this is `abort`
-        with a RuntimeWarning: the exception may have kept data from being written. `commit` ignores
-        it. An exception in another thread is not noticed."""
-        error = self.raw.new_exception()
+    @_NotingClose  # type: ignore[override]
+    def close(self, _error: BaseException | None = None) -> None:
+        """Seals the last chunk, which completes the file. Raises after a failed write. If an
+        exception is handled, where `close` is called or where it is named, that was not being
+        handled when the file was opened, this is `abort` with a RuntimeWarning: the exception may
+        have kept data from being written."""
+        error = _error or self.raw.new_exception()
         if error is not None:
             why = f"it was closed while {type(error).__name__} was handled"
             return self.raw.lose(f"{why} (if its data are complete, call commit instead)")
@@ -247,8 +267,8 @@ class Writer(io.BufferedIOBase):
             self.raw.abort()
 
     def commit(self) -> None:
-        """Seals the last chunk, whatever exception is being handled: for a file that is complete in
-        an `except` block, or as the last call in a `with` block, in another thread."""
+        """Does what `close` does, whatever exception is being handled: for a file that is complete
+        in an `except` block, or as the last call in a `with` block, in another thread."""
         self.raw.expect_commit()
         self.close()
 
@@ -277,14 +297,18 @@ class Writer(io.BufferedIOBase):
             self.raw.close()
 
 
+_write_text = io.TextIOWrapper.write
+
+
 class TextWriter(io.TextIOWrapper):
     """A text file over a Writer, complete under the same conditions."""
 
     buffer: Writer  # type: ignore[assignment]
 
     def write(self, text: str, /) -> int:
+        # Programs write few characters at a time, and `super()` takes as long as the rest.
         try:
-            return super().write(text)
+            return _write_text(self, text)
         except (TypeError, UnicodeError):
             raise
         except BaseException:
@@ -299,6 +323,13 @@ class TextWriter(io.TextIOWrapper):
         except BaseException:
             self.buffer.abort()
             raise
+
+    @_NotingClose  # type: ignore[override]
+    def close(self, _error: BaseException | None = None) -> None:
+        """Does what `Writer.close` does."""
+        if _error is not None:
+            Writer.close(self.buffer, _error)
+        super().close()
 
     def commit(self) -> None:
         """Does what `Writer.commit` does."""
@@ -316,10 +347,15 @@ class TextWriter(io.TextIOWrapper):
             self.buffer.__del__()
 
 
-def _caller() -> tuple[str, int]:
-    """The file and the line that called this package."""
+def warn(text: str, place: tuple[str, int]) -> None:
+    """Warns, whatever filters of warnings are set: it is the only report of a loss."""
+    warnings.showwarning(RuntimeWarning(text), RuntimeWarning, *place)
+
+
+def caller() -> tuple[str, int]:
+    """The file and the line that called this package, or fsspec, which called it."""
     frame: Any = sys._getframe(1)
-    while frame.f_back is not None and frame.f_globals.get("__package__") == __package__:
+    while frame.f_back and str(frame.f_globals.get("__name__")).startswith(("agefile.", "fsspec.")):
         frame = frame.f_back
     return frame.f_code.co_filename, frame.f_lineno
 

@@ -22,9 +22,11 @@ import errno
 import io
 import os
 import shutil
+import sys
 from typing import Any
 
 import fsspec  # type: ignore[import]
+from fsspec.implementations import cached  # type: ignore[import]
 from fsspec.implementations.local import LocalFileSystem  # type: ignore[import]
 from fsspec.spec import AbstractFileSystem  # type: ignore[import]
 from fsspec.utils import tokenize  # type: ignore[import]
@@ -35,6 +37,7 @@ from ._paths import beside, created, is_path
 from ._reader import Reader, _reopen, open_reader
 from ._secrets import Identities, Recipients, as_list
 from ._sources import write_all
+from ._writer import caller, warn
 
 # Words of fsspec for each file system, and for each open file.
 _OF_SYSTEMS = "asynchronous batch_size listings_expiry_time loop max_paths skip_instance_cache"
@@ -126,10 +129,8 @@ class AgeFileSystem(AbstractFileSystem):  # type: ignore[misc]
         if is_later or options.get("compression") is not None:
             raise ValueError("a file is written without compression, and outside of transactions")
         _refuse_unknown(options, _OF_FILES + " encoding errors newline recipients atomic")
-        words: Any = {"recipients": self._recipients}
-        for name in ("encoding", "errors", "newline", "recipients"):
-            if name in options:
-                words[name] = options[name]
+        names = {"encoding", "errors", "newline", "recipients"} & set(options)
+        words: Any = {"recipients": self._recipients, **{name: options[name] for name in names}}
         is_atomic = options.get("atomic", self._atomic)
         if is_atomic and isinstance(self.fs, LocalFileSystem):
             if self.fs.auto_mkdir:
@@ -227,6 +228,11 @@ class AgeFileSystem(AbstractFileSystem):  # type: ignore[misc]
 
     def put_file(self, lpath: str, rpath: str, *arguments: Any, **options: Any) -> None:
         self._refuse_same(rpath, lpath)
+        error = sys.exc_info()[1]
+        if error is not None and _is_commit_of_cache():
+            # fsspec's caches write to a temporary file, and put it here even after an exception.
+            why = f"{type(error).__name__} was handled when a cache of fsspec closed it"
+            return warn(f"{rpath!r} was not written: {why} (open it without the cache)", caller())
         super().put_file(lpath, rpath, *arguments, **options)
 
     def _refuse_same(self, path: str, local: Any) -> None:
@@ -249,9 +255,9 @@ class AgeFileSystem(AbstractFileSystem):  # type: ignore[misc]
             self.fs.invalidate_cache(name)
 
     def __reduce__(self) -> tuple[Any, ...]:
-        words = {"identities": self._identities, "recipients": self._recipients, "fo": self._target}
-        words["atomic"] = self._atomic
-        return _restore, (self.fs, words, self._keys, self._token)
+        words = {"identities": self._identities, "recipients": self._recipients}
+        more = {"fo": self._target, "atomic": self._atomic}
+        return _restore, (self.fs, {**words, **more}, self._keys, self._token)
 
 
 class _Opener:
@@ -299,6 +305,13 @@ class _Beside(io.RawIOBase):
             finally:
                 with contextlib.suppress(FileNotFoundError):
                     self._fs.rm_file(self._name)
+
+
+def _is_commit_of_cache() -> bool:
+    frame: Any = sys._getframe(2)
+    while frame is not None and frame.f_globals.get("__name__") != cached.__name__:
+        frame = frame.f_back
+    return frame is not None and frame.f_code.co_name == "commit"
 
 
 def mount(system: AgeFileSystem, folder: str, where: str) -> None:

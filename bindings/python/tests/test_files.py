@@ -1,7 +1,6 @@
 """Open files: reading by ranges, writing chunk by chunk, closing, copies, threads and forks."""
 
 import contextlib
-import copy
 import csv
 import functools
 import gc
@@ -58,21 +57,6 @@ class Reading(InFolder):
             self.assertEqual(file.read(), plain[-5:])
             file.seek(10)
             self.assertEqual(file.seek(5, os.SEEK_CUR), 15)
-
-    def test_whole(self):
-        for length in (0, 1, 65536, 65537, 1000000):
-            plain = text(length)
-            name = self.made(plain)
-            with agefile.open(name, identities=KEY) as file:
-                self.assertEqual(file.read(), plain)
-                self.assertEqual(file.read(), b"")
-            out = io.BytesIO()
-            with agefile.open(name, identities=KEY) as file:
-                shutil.copyfileobj(file, out)
-            self.assertEqual(out.getvalue(), plain)
-            with open(name, "rb") as below, agefile.open(below, identities=KEY) as file:
-                room = bytearray(length + 5)
-                self.assertEqual((file.readinto(room), room[:length]), (length, plain))
 
     def test_like_a_file_that_is_not_encrypted(self):
         """Random calls, short and long ones in turn, return the same as over the plaintext."""
@@ -199,16 +183,6 @@ class Reading(InFolder):
             self.assertRaises(TypeError, pickle.dumps, file)
         self.made(plain, "p.age")
         self.assertRaises(AgeError, pickle.loads, pickled)
-
-    def test_copies(self):
-        """A copy of an open file is an independent file that needs no secret."""
-        plain = text(300000)
-        with agefile.open(self.made(plain), identities=KEY) as file:
-            file.seek(70000)
-            for other in (copy.copy(file), copy.deepcopy(file)):
-                with other:
-                    self.assertEqual(other.read(100), plain[70000:70100])
-            self.assertEqual(file.read(100), plain[70000:70100])
 
     def test_each_chunk_is_read_once(self):
         """Short reads and lines are served from a buffer of one chunk."""
@@ -359,6 +333,7 @@ class Reading(InFolder):
             file._buffer = mock.Mock(wraps=buffer, read=read)
             self.assertRaisesRegex(AgeError, message("BadChunk", 1), file.read, 100000)
             thread.join()
+            self.assertEqual(file.tell(), 200000)
 
     def test_fork(self):
         """A child and its parent both use an open file, and neither moves the other's position."""
@@ -467,14 +442,16 @@ class Reading(InFolder):
         self.assertEqual(agefile.decrypt(self.got("b.age"), identities=KEY), plain)
 
     def test_descriptors(self):
-        """`open` closes the descriptor it is given, as the built-in function does. The other functions leave
-        it open, even after an error."""
+        """A file closes the descriptor that it was opened from, as a built-in one does. After an error, and
+        by the other functions, it stays open."""
         self.made(b"text"), self.put(bytes(32), "key")
         other = Key(bytes(32))
         for stays, name, call in (
             (False, "a.age", lambda given: agefile.open(given, identities=KEY).close()),
-            (False, "a.age", lambda given: agefile.open(given, identities=other)),
+            (True, "a.age", lambda given: agefile.open(given, identities=other)),
+            (True, "key", lambda given: agefile.open(given, identities=KEY)),
             (False, "new", lambda given: agefile.open(given, "wb", recipients=KEY).close()),
+            (True, "new", lambda given: agefile.open(given, "wb", recipients=[])),
             (True, "a.age", lambda given: agefile.copy(given, "plain", identities=KEY)),
             (True, "a.age", lambda given: agefile.copy(given, "plain", identities=other)),
             (True, "new", lambda given: agefile.copy("a.age", given, identities=KEY)),
@@ -485,8 +462,12 @@ class Reading(InFolder):
             given = os.open(name, os.O_RDWR | os.O_CREAT)
             with contextlib.suppress(AgeError):
                 call(given)
+            gc.collect()
             with contextlib.nullcontext() if stays else self.assertRaises(OSError):
                 os.close(given)
+        given = os.open("a.age", os.O_RDONLY)
+        self.assertRaises(AgeError, agefile.open, given, identities=other)
+        self.assertEqual(self.read(given), b"text")
 
     def test_what_is_not_opened(self):
         """A TypeError says what to pass."""
@@ -545,6 +526,16 @@ no_text: io.TextIOWrapper = agefile.open("a.age", identities=key)  # assignment
 agefile.open("a.age", "rb", identities=key, atomic=True)  # call-overload
 agefile.open("a.age", "wb", identities=key, recipients=key)  # call-overload
 agefile.open("a.age", "w")  # call-overload
+agefile.open("a.age", "wb", identities=key).write(b"text")  # attr-defined
+agefile.open("a.age", recipients=key).read()  # attr-defined
+agefile.open("a.age", "rb", identities=key, encoding="ascii").read()  # attr-defined
+agefile.open("a.age", "wb", recipients=key, encoding="ascii").write(b"text")  # attr-defined
+agefile.open("a.age", "w", recipients=key).commit()
+agefile.encrypt("text", recipients=key)  # arg-type
+agefile.encrypt(memoryview(bytearray(8)), recipients=key)
+identity: agefile.Identity = agefile.Passphrase("text")
+recipient: agefile.Recipient = key
+found: bytes = key.unwrap(agefile.inspect("a.age").stanzas) or b""
 
 def by_mode(mode: str) -> None:
     agefile.open("a.age", mode, identities=key, encoding="ascii").read()

@@ -29,11 +29,6 @@ try:
     import pandas
 except ImportError:
     pandas = None
-try:
-    import dask.array
-    import zarr
-except ImportError:
-    zarr = None
 
 from agefile import AgeError, Code, Key, Passphrase, Stanza
 from support import KEY, TEXT, InFolder, broken, damaged, error_of, in_time, message, text
@@ -177,6 +172,27 @@ class Reads(InSystem):
             for _ in range(2):
                 with fsspec.open(f"{kind}::age://{path}", **words) as file:
                     self.assertEqual(file.read() == bytes(11 << 20), True)
+
+    def test_writing_through_caches(self):
+        """After an exception nothing is written, and no plaintext stays behind."""
+        path, words = self.path("w.age"), {"age": {"identities": KEY, "recipients": KEY}}
+        os.mkdir("tmp")
+        with mock.patch("tempfile.tempdir", self.path("tmp")):
+            for kind in ("simplecache", "filecache"):
+                self.made(b"old", "w.age")
+                with self.assertWarnsRegex(RuntimeWarning, "'.*w.age' was not written: KeyError .*without the cache") as caught:
+                    broken(fsspec.open(f"{kind}::age://{path}", "wb", **words), b"half")
+                self.assertEqual((self.read("w.age"), os.path.basename(caught.filename)), (b"old", "support.py"))
+                with fsspec.open(f"{kind}::age://{path}", "wb", **words) as file:
+                    file.write(b"new")
+                self.assertEqual(self.read("w.age"), b"new")
+            self.assertEqual([name for _, _, names in os.walk("tmp") for name in names if "cache" not in name], [])
+        self.put(b"plain", "plain")
+        try:
+            raise KeyError
+        except KeyError:
+            self.system.put(self.path("plain"), path, recipients=KEY)
+        self.assertEqual(self.read("w.age"), b"plain")
 
     def test_getting(self):
         """A local file keeps its contents and its mode until the new ones are complete."""
@@ -657,38 +673,6 @@ class Writes(InSystem):
         for atomic in (False, True):
             table.to_csv("age://" + path, index=False, storage_options={**words, "atomic": atomic})
             self.assertTrue(pandas.read_csv("age://" + path, storage_options=words).equals(table))
-
-    @unittest.skipIf(zarr is None, "zarr is missing")
-    def test_zarr(self):
-        """A group is made, read and deleted, and Dask overwrites one."""
-        words, numbers = {"identities": KEY, "recipients": KEY}, list(range(100000))
-        group = zarr.group(store=zarr.storage.FSStore("age://" + self.path("g"), **words))
-        group.create_dataset("x", data=numbers, chunks=10000)
-        self.assertEqual((group["x"][:].tolist(), self.got("g/x/0")[:21]), (numbers, b"age-encryption.org/v1"))
-        del group["x"]
-        self.assertEqual((list(group), os.listdir("g")), ([], [".zgroup"]))
-        for factor in (1, 2):
-            table = dask.array.from_array([factor * number for number in numbers], chunks=10000)
-            dask.array.to_zarr(table, "age://" + self.path("d"), storage_options=words, overwrite=True)
-            self.assertEqual(dask.array.from_zarr("age://" + self.path("d"), storage_options=words).sum().compute(), factor * sum(numbers))
-
-    @unittest.skipIf(zarr is None, "zarr is missing")
-    def test_zarr_of_damaged_files(self):
-        """Only an absent chunk has the fill value."""
-        words = {"identities": KEY, "recipients": KEY}
-
-        def total(**words):
-            return zarr.open(zarr.storage.FSStore("age://" + self.path("z"), **words), mode="r")[:].sum()
-
-        zarr.create(40, chunks=10, store=zarr.storage.FSStore("age://" + self.path("z"), **words))[:] = 7
-        os.unlink("z/0")
-        self.assertEqual(total(**words), 210)
-        self.assertRaises(TypeError, total, recipients=KEY)
-        for name, harm in Reads.harms(self, self.got("z/2")):
-            self.put(harm, "z/2")
-            with self.subTest(name):
-                self.assertRaises(AgeError, total, **words)
-                self.assertRaises(AgeError, dask.array.from_zarr("age://" + self.path("z"), storage_options=words).sum().compute)
 
     def test_a_pickled_system(self):
         """A worker writes for the same recipients, and replaces as its sender would."""

@@ -7,16 +7,15 @@ import contextlib
 import gc
 import gzip
 import io
-import json
 import os
 import shutil
 import subprocess
 import sys
-import unittest
 import warnings
 from unittest import mock
 
 import agefile
+from agefile import AgeError
 from agefile._writer import _Sealer
 from support import KEY, InFolder, in_child, in_time, text
 
@@ -50,9 +49,84 @@ LOST = {
     "a wrapper": "json.dump(DATA, io.TextIOWrapper(new('wb')))",
     "a wrapper and an exception": "try: json.dump([DATA, object()], io.TextIOWrapper(new('wb')))\nexcept TypeError: pass",
     "a buffer": "io.BufferedWriter(new('wb')).write(json.dumps(DATA).encode())",
-    "warnings ignored": "import warnings\nwarnings.filterwarnings('ignore')\njson.dump(DATA, new())",
-    "warnings as errors": "import warnings\nwarnings.simplefilter('error')\njson.dump(DATA, new())",
     "a forked child": "file = new(); json.dump(DATA, file)\nif os.fork() == 0: sys.exit()\nos.wait()",
+}
+
+ENDS_HEAD = """
+import asyncio, atexit, concurrent.futures, contextlib, functools, io, logging.handlers, os, signal, sys, tarfile, threading, weakref
+import agefile
+class Owner: pass
+def new(mode="wb", name="s.age"): return agefile.open(name, mode, recipients=agefile.Key(bytes(range(32))))
+def part(file): file.write(bytes(100000) if "b" in file.mode else "x" * 100000)
+class Handler(logging.handlers.TimedRotatingFileHandler):
+    _open = lambda self: new("w", self.baseFilename)
+    namer = lambda self, name: os.path.abspath("s.age")
+class Committing(Handler):
+    def doRollover(self): self.stream.commit(); super().doRollover()
+class Aio:  # as in aiofiles
+    def __init__(self, file): self.file = file
+    async def __aenter__(self): return self.file
+    async def __aexit__(self, *_): await asyncio.get_running_loop().run_in_executor(None, functools.partial(self.file.close))
+async def half(file, end):
+    try: part(file); raise ConnectionError
+    finally: await end(file)
+def roll(handler):
+    log = logging.Logger("log"); log.addHandler(handler)
+    log.info("x" * 99999); log.info("x" * 99999)
+    handler.rolloverAt = 0
+    try: 1 / 0
+    except ZeroDivisionError: log.exception("in the next file")
+def rows():
+    with new() as file: part(file); yield
+def interrupted(file, end):
+    try: part(file); signal.raise_signal(signal.SIGINT)
+    except KeyboardInterrupt: part(file); end(file)
+def in_pool(file, end):
+    with concurrent.futures.ThreadPoolExecutor() as pool:
+        try: part(file); raise ConnectionError
+        finally: pool.submit(end(file)).result()
+async def awaited():
+    with new() as file: part(file); part(file); await asyncio.to_thread(file.commit)
+async def with_aio(error):
+    async with Aio(new()) as file:
+        part(file)
+        if error: raise error
+        part(file)
+def tar(file, error=None):
+    with tarfile.open(fileobj=file, mode="w|") as archive:
+        member = tarfile.TarInfo("a"); member.size = 200000; archive.addfile(member, io.BytesIO(bytes(200000)))
+        if error: raise error
+"""
+# For each end of a program: what is on the disk, and whether a warning, an exception or the status
+# tells the user. A whole file has all 200,000 bytes, and half of one is taken for a whole one.
+ENDS = {
+    "with": ("with new() as file: part(file); part(file)", "whole", False),
+    "with, an exception": ("with new() as file: part(file); 1 / 0", "refused", True),
+    "Ctrl-C, close": ("interrupted(new(), lambda file: file.close())", "refused", True),
+    "Ctrl-C, commit": ("interrupted(new(), lambda file: file.commit())", "whole", False),
+    "Ctrl-C, commit of text": ("interrupted(new('w'), lambda file: file.commit())", "whole", False),
+    "a log rolled over in a handler": ("roll(Handler('new.age'))", "refused", True),
+    "a log that commits": ("roll(Committing('new.age'))", "whole", False),
+    "a log, an exception": ("log = logging.Logger('log'); log.addHandler(Handler('s.age')); log.info('x' * 200000); 1 / 0", "whole", True),
+    "to_thread(close)": ("asyncio.run(half(new(), lambda file: asyncio.to_thread(file.close)))", "refused", True),
+    "to_thread(close), text": ("asyncio.run(half(new('w'), lambda file: asyncio.to_thread(file.close)))", "refused", True),
+    "to_thread, a lambda": ("asyncio.run(half(new(), lambda file: asyncio.to_thread(lambda: file.close())))", "half", True),
+    "to_thread(commit)": ("asyncio.run(awaited())", "whole", False),
+    "aiofiles": ("asyncio.run(with_aio(None))", "whole", False),
+    "aiofiles, an exception": ("asyncio.run(with_aio(ConnectionError()))", "refused", True),
+    "a cancelled task": ("with contextlib.suppress(asyncio.CancelledError): asyncio.run(with_aio(asyncio.CancelledError()))", "refused", True),
+    "an executor": ("with contextlib.suppress(ConnectionError): in_pool(new(), lambda file: file.close)", "refused", True),
+    "an executor, text": ("with contextlib.suppress(ConnectionError): in_pool(new('w'), lambda file: file.close)", "refused", True),
+    "atexit": ("file = new(); atexit.register(file.close); part(file); part(file)", "whole", False),
+    "atexit, an exception": ("file = new(); atexit.register(file.close); part(file); 1 / 0", "half", True),
+    "weakref.finalize": ("it, file = Owner(), new(); weakref.finalize(it, file.close); part(file); part(file); del it", "whole", False),
+    "weakref.finalize, an exception": ("it, file = Owner(), new(); weakref.finalize(it, file.close); part(file); 1 / 0", "half", True),
+    "a dropped generator": ("it = rows(); next(it); del it", "refused", True),
+    "tarfile": ("tar(new())", "refused", True),
+    "tarfile, with": ("with new() as file: tar(file)", "whole", False),
+    "tarfile, with, an exception": ("with new() as file: tar(file, KeyError())", "refused", True),
+    "os._exit": ("file = new(); part(file); part(file); os._exit(0)", "refused", False),
+    "kill -9": ("file = new(); part(file); part(file); os.kill(os.getpid(), 9)", "refused", True),
 }
 
 
@@ -115,12 +189,17 @@ class Scripts(InFolder):
             agefile.open("s.age", "wb", recipients=KEY).abort()
             gc.collect()
 
-    def test_a_kill(self):
-        """Then nothing can be reported, and no reader accepts the file."""
-        for call in ("os._exit(0)", "os.kill(os.getpid(), 9)"):
-            done = self.run_with(sys.executable, HEAD.format(data="list(range(50000))") + f"file = new(); json.dump(DATA, file); {call}")
-            self.assertEqual(done.stderr, "")
-            self.refused("s.age")
+    def test_the_ends_of_a_program(self):
+        for python in pythons():
+            for name, (code, expected, is_told) in ENDS.items():
+                with self.subTest(f"{name}, {python}"):
+                    done = self.run_with(python, ENDS_HEAD + code)
+                    try:
+                        found = "whole" if len(self.read("s.age")) >= 200000 else "half"
+                    except AgeError:
+                        found = "refused"
+                    said = done.returncode != 0 or "RuntimeWarning" in done.stderr
+                    self.assertEqual((found, said), (expected, is_told), done.stderr)
 
 
 class Wrapped(InFolder):
@@ -319,21 +398,6 @@ class Wrapped(InFolder):
             file.commit()
             self.assertEqual(self.read("w.age"), b"")
 
-    def test_commit_in_another_thread(self):
-        """The safe way to sync without blocking: `close` there would not see the exception."""
-        async def work(error):
-            with agefile.open("w.age", "wb", recipients=KEY) as file:
-                self.put_into(file)
-                if error:
-                    raise error
-                await asyncio.get_running_loop().run_in_executor(None, file.commit)
-
-        for _ in range(2):
-            asyncio.run(work(None))
-            self.check_whole()
-            self.assertRaises(ConnectionError, lambda: asyncio.run(work(ConnectionError())))
-            self.check_whole(False)
-
     def test_other_threads(self):
         """An exception of another thread does not concern this file."""
         file = agefile.open("w.age", "wb", recipients=KEY)
@@ -341,7 +405,7 @@ class Wrapped(InFolder):
         try:
             raise KeyError
         except KeyError:
-            in_time(file.close)
+            in_time(lambda: file.close())
         self.check_whole()
 
     def test_tasks(self):

@@ -25,7 +25,7 @@ from unittest import mock
 
 import agefile
 from agefile import AgeError, Code, Key, Passphrase, Stanza
-from support import KEY, error_of, fault_of, in_threads, in_time, message, pattern, text
+from support import KEY, error_of, fault_of, in_time, message, pattern, text
 
 import fixture
 
@@ -47,22 +47,6 @@ class Round(unittest.TestCase):
                 for back in (1, 2):
                     self.assertEqual(agefile.decrypt(file, identities=KEY, threads=back), plain)
 
-    def test_copy(self):
-        for plain in map(text, SIZES):
-            for threads in (1, 3):
-                sealed, opened = io.BytesIO(), io.BytesIO()
-                done = agefile.copy(io.BytesIO(plain), sealed, recipients=KEY, threads=threads)
-                self.assertEqual(done, len(plain))
-                self.assertEqual(agefile.decrypt(sealed.getvalue(), identities=KEY), plain)
-                sealed.seek(0)
-                done = agefile.copy(sealed, opened, identities=KEY, threads=threads)
-                self.assertEqual((done, opened.getvalue()), (len(plain), plain))
-
-    def test_no_two_files_are_equal(self):
-        first, second = (agefile.encrypt(b"same", recipients=KEY) for _ in range(2))
-        self.assertNotEqual(first[-20:], second[-20:])
-        self.assertNotEqual(agefile.inspect(first).stanzas, agefile.inspect(second).stanzas)
-
     def test_files_of_age(self):
         secret = Passphrase("correct horse")
         self.assertEqual(agefile.decrypt(of_age("passphrase.age"), identities=secret), b"hello\n")
@@ -71,16 +55,6 @@ class Round(unittest.TestCase):
         self.assertEqual({stanza.args[0] for stanza in header.stanzas}, {"X25519"})
         kinds = {stanza.args[0]: len(stanza.body) for stanza in agefile.inspect(of_age("ssh_recipients.age")).stanzas}
         self.assertEqual(kinds, {"ssh-rsa": 256, "ssh-ed25519": 32, "X25519": 32})
-
-    def test_passphrases_are_any_bytes(self):
-        for passphrase in ("über", b"\x00\xff\n", "x" * 70000):
-            secret = Passphrase(passphrase, work=1)
-            self.assertEqual(agefile.decrypt(agefile.encrypt(b"text", recipients=secret), identities=secret), b"text")
-
-    def test_the_work_factor_is_in_the_header(self):
-        for work in (1, 10):
-            file = agefile.encrypt(b"", recipients=Passphrase("x", work=work))
-            self.assertEqual(agefile.inspect(file).stanzas[0].args[2], str(work))
 
     def test_rewrap(self):
         plain, other = text(200000), Passphrase("x", work=2)
@@ -112,8 +86,10 @@ class Round(unittest.TestCase):
             self.assertEqual(agefile.decrypt(kind(file), identities=KEY), b"text" * 100)
         numbers = array.array("I", range(1000))
         self.assertEqual(agefile.decrypt(agefile.encrypt(numbers, recipients=KEY), identities=KEY), numbers.tobytes())
-        for wrong in ("text", 5, None, memoryview(file)[::2]):
+        for wrong in (5, None, memoryview(file)[::2]):
             self.assertRaises((TypeError, BufferError), agefile.decrypt, wrong, identities=KEY)
+        self.assertRaisesRegex(TypeError, r"pass text\.encode\(\)", agefile.encrypt, "text", recipients=KEY)
+        self.assertRaisesRegex(TypeError, "its path to agefile.open", agefile.decrypt, "a.age", identities=KEY)
 
     def test_a_length_that_lies(self):
         class Liar(bytes):
@@ -201,15 +177,6 @@ class Wrong(unittest.TestCase):
                 with self.subTest(f"chunk {chunk}, {rest} bytes, {threads} threads"):
                     self.assertEqual(fault_of(lambda: agefile.decrypt(file[: first + 65552 * chunk + rest], identities=KEY, threads=threads)), (code, place))
 
-    def test_front_of_a_damaged_file(self):
-        plain = text(50 * 65536)
-        file = bytearray(agefile.encrypt(plain, recipients=KEY))
-        file[agefile.inspect(file).length + 16 + 37 * 65552] ^= 1
-        for threads in (1, 2, 4):
-            out = io.BytesIO()
-            self.assertRaisesRegex(AgeError, pattern("BadChunk", 37), agefile.copy, io.BytesIO(file), out, identities=KEY, threads=threads)
-            self.assertEqual(out.getvalue(), plain[: 37 * 65536])
-
     def test_a_malformed_stanza(self):
         file = agefile.encrypt(b"", recipients=Passphrase("x", work=3))
         for work, memory in (3, "8 KiB"), (9, "512 KiB"), (10, "1 MiB"), (20, "1 GiB"), (30, "1024 GiB"):
@@ -220,11 +187,6 @@ class Wrong(unittest.TestCase):
         with self.assertRaises(AgeError) as caught:
             agefile.decrypt(agefile.encrypt(b"", recipients=[KEY, KEY]), identities=Passphrase("x"))
         self.assertEqual(caught.exception.hint, "its stanzas are of type example.org/key; a Key opens it")
-
-    def test_recipients_that_are_refused(self):
-        both = [Passphrase("x", work=1), KEY]
-        for recipients, code in ((both, Code.MIXED_PASSPHRASE), ([], Code.NO_RECIPIENTS)):
-            self.assertEqual(error_of(lambda: agefile.encrypt(b"", recipients=recipients)).code, code)
 
     def test_words_that_are_refused(self):
         self.assertRaises(TypeError, agefile.encrypt, b"")
@@ -319,6 +281,34 @@ class Callers(unittest.TestCase):
         self.assertEqual(plain.asked, 2)
         kinds = [stanza.args[0] for stanza in agefile.inspect(file).stanzas]
         self.assertEqual(kinds[1:], ["plain", "grease"])
+
+    def test_a_secret_is_an_identity(self):
+        """It unwraps the stanzas of a header whose MAC is right, for other identities too."""
+        other = mock.Mock(spec=["unwrap"], unwrap=lambda stanzas: KEY.unwrap(stanzas))
+        self.assertEqual(agefile.decrypt(agefile.encrypt(b"text", recipients=KEY), identities=other), b"text")
+        for secret, wrong in ((KEY, Key(bytes(32))), (Passphrase("x", work=1), Passphrase("y"))):
+            self.assertEqual((isinstance(secret, agefile.Identity), isinstance(secret, agefile.Recipient)), (True, True))
+            given = []
+            file = agefile.encrypt(b"text", recipients=mock.Mock(spec=["wrap"], wrap=lambda key: given.append(key) or secret.wrap(key)))
+            stanzas = agefile.inspect(file).stanzas
+            self.assertEqual([each.unwrap(stanzas) for each in (secret, wrong, Key(bytes(32)), Passphrase("z"))], [*given, None, None, None])
+            self.assertRaisesRegex(TypeError, "stanzas of a Header", secret.unwrap, [*stanzas])
+            end = agefile.inspect(file).length - 1
+            bad = file[: end - 43] + b"A" * 43 + file[end:]
+            self.assertEqual(error_of(lambda: secret.unwrap(agefile.inspect(bad).stanzas)).code, Code.BAD_MAC)
+            for length in (0, 15, 17):
+                self.assertRaisesRegex(ValueError, f"16 bytes, not {length}", secret.wrap, bytes(length))
+
+    def test_equal_secrets(self):
+        """By secret and settings, and in constant time."""
+        makers = [lambda: Key(bytes(32)), lambda: Key(bytes(range(32))), lambda: Passphrase(bytes(32)), lambda: Passphrase("x"), lambda: Passphrase("x", work=1), lambda: Passphrase("x", max_work=20)]
+        for (i, one), (j, other) in itertools.product(enumerate(makers), repeat=2):
+            self.assertEqual((one() == other(), one() != other()), (i == j, i != j))
+        for make in makers:
+            self.assertEqual({make(), make(), pickle.loads(pickle.dumps(make()))}, {make()})
+            self.assertFalse(make() == make()._secret)
+        with mock.patch("hmac.compare_digest", return_value=True) as compare:
+            self.assertEqual((Key(bytes(32)) == KEY, compare.call_count), (True, 1))
 
     def test_a_wrong_file_key_is_found_by_the_mac(self):
         class Wrong:
@@ -641,13 +631,6 @@ class Processes(unittest.TestCase):
         thread.join(20)
         os.close(write)
         self.assertEqual(errors, [Code.WRONG_KEY])
-
-    def test_threads(self):
-        def work():
-            secret = Passphrase("x", work=4)
-            return [agefile.decrypt(agefile.encrypt(text(1000), recipients=secret), identities=secret) for _ in range(5)]
-
-        self.assertEqual(in_threads(work), [[text(1000)] * 5] * 4)
 
     def test_the_library_that_is_taken(self):
         """The library in the package, else the one that AGEFILE_LIBRARY names."""

@@ -46,12 +46,6 @@ class Writing(InFolder):
             file.close()
             self.assertEqual(self.read("o.age"), text(length))
 
-    def test_a_body_that_raises(self):
-        for mode, data in (("wb", text(200000)), ("wb", b""), ("w", "text" * 100000)):
-            broken(file := agefile.open("e.age", mode, recipients=KEY), data)
-            self.assertTrue(file.closed)
-            self.refused("e.age")
-
     def test_a_body_that_ends_the_program(self):
         """Nothing else would show that the file is incomplete."""
         for mode, kind in (("wb", SystemExit), ("w", SystemExit), ("wb", GeneratorExit), ("wb", asyncio.CancelledError)):
@@ -281,6 +275,18 @@ class Writing(InFolder):
             file.write(data)
             file.close()
             self.assertEqual(len(agefile.decrypt(self.got("f.age"), identities=KEY)), len(data))
+
+    def test_a_child_closes_no_sink(self):
+        """It would publish a part of its parent's file, for example in an object store."""
+        class Store(io.BytesIO):
+            def close(self):
+                open("published", "wb").close()
+
+        file = agefile.open(lambda: Store(), "wb", recipients=KEY)
+        file.flush()
+        self.assertEqual((in_child(file.abort), os.path.exists("published")), (0, False))
+        file.close()
+        self.assertTrue(os.path.exists("published"))
 
     def test_what_a_kill_costs(self):
         """At most the last 128 KiB: a chunk, and a buffer of the same size."""
@@ -592,29 +598,6 @@ class Writing(InFolder):
             file.write(data)
             file.close()
             self.assertEqual(self.read("f.age", mode.replace("w", "r")), data + data)
-
-    def test_fork_and_a_sink_with_a_buffer(self):
-        """A child that closes the file does not write its parent's buffer."""
-        def make():
-            return open("f.age", "wb", 1 << 20)
-
-        for below in (make(), make):
-            file = agefile.open(below, "wb", recipients=KEY)
-            file.write(text(200000))
-            child = os.fork()
-            if child == 0:
-                try:
-                    file.close()
-                    is_closed = file.closed
-                    del file
-                    gc.collect()
-                finally:
-                    os._exit(not is_closed)
-            self.assertEqual(os.waitpid(child, 0)[1], 0)
-            file.close()
-            if below is not make:
-                below.close()
-            self.assertEqual(agefile.decrypt(self.got("f.age"), identities=KEY), text(200000))
 
     def test_text_that_is_not_written(self):
         """An interrupt while text is written does not leave a complete file without that text."""
