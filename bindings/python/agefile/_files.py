@@ -4,7 +4,7 @@ from __future__ import annotations
 
 import codecs
 import io
-from typing import Any, Literal, Optional, Union, overload
+from typing import Any, Literal, overload
 
 from ._paths import check_atomic
 from ._reader import Reader, open_reader
@@ -15,37 +15,34 @@ _ReadBytes = Literal["rb", "br"]
 _ReadText = Literal["r", "rt", "tr"]
 _WriteBytes = Literal["wb", "bw", "xb", "bx"]
 _WriteText = Literal["w", "wt", "tw", "x", "xt", "tx"]
-_Word = Optional[str]
-_Read = Union[_ReadBytes, _ReadText]
-_Write = Union[_WriteBytes, _WriteText]
 
 
 @overload
 def open(file: Any, mode: _ReadBytes = "rb", *, identities: Identities) -> Reader: ...
 @overload
-def open(file: Any, mode: _ReadText, *, identities: Identities, encoding: _Word = None,
-         errors: _Word = None, newline: _Word = None) -> io.TextIOWrapper: ...
+def open(file: Any, mode: _ReadText, *, identities: Identities, encoding: str | None = None,
+         errors: str | None = None, newline: str | None = None) -> io.TextIOWrapper: ...
 @overload
 def open(file: Any, mode: _WriteBytes, *, recipients: Recipients, atomic: bool = False) -> Writer: ...
 @overload
-def open(file: Any, mode: _WriteText, *, recipients: Recipients, encoding: _Word = None,
-         errors: _Word = None, newline: _Word = None, atomic: bool = False) -> TextWriter: ...
+def open(file: Any, mode: _WriteText, *, recipients: Recipients, encoding: str | None = None,
+         errors: str | None = None, newline: str | None = None, atomic: bool = False) -> TextWriter: ...
 # These calls are refused, and their result cannot be used.
 @overload
-def open(file: Any, mode: _Read = "rb", *, recipients: Recipients) -> None: ...
+def open(file: Any, mode: _ReadBytes | _ReadText = "rb", *, recipients: Recipients) -> None: ...
 @overload
-def open(file: Any, mode: _Write, *, identities: Identities) -> None: ...
+def open(file: Any, mode: _WriteBytes | _WriteText, *, identities: Identities) -> None: ...
 @overload
 def open(file: Any, mode: _ReadBytes = "rb", *, identities: Identities, encoding: str) -> None: ...
 @overload
 def open(file: Any, mode: _WriteBytes, *, recipients: Recipients, encoding: str) -> None: ...
 # The mode is known only at run time.
 @overload
-def open(file: Any, mode: str, *, identities: Identities, encoding: _Word = None,
-         errors: _Word = None, newline: _Word = None) -> Any: ...
+def open(file: Any, mode: str, *, identities: Identities, encoding: str | None = None,
+         errors: str | None = None, newline: str | None = None) -> Any: ...
 @overload
-def open(file: Any, mode: str, *, recipients: Recipients, encoding: _Word = None,
-         errors: _Word = None, newline: _Word = None, atomic: bool = False) -> Any: ...
+def open(file: Any, mode: str, *, recipients: Recipients, encoding: str | None = None,
+         errors: str | None = None, newline: str | None = None, atomic: bool = False) -> Any: ...
 def open(
     file: Any, mode: str = "rb", *,
     identities: Identities | None = None, recipients: Recipients | None = None,
@@ -85,7 +82,7 @@ def open(
         raise ValueError("a binary mode takes no encoding, errors or newline")
     words["encoding"] = encoding or "utf-8"
     # Wrong arguments are refused before anything is opened.
-    used = io.TextIOWrapper(io.BytesIO(), **words).encoding
+    used = "" if "b" in mode else io.TextIOWrapper(io.BytesIO(), **words).encoding
     if kind == "r":
         if identities is None or recipients is not None or atomic:
             raise TypeError("to read a file takes identities, and neither recipients nor atomic")

@@ -21,10 +21,7 @@ SALT = 16
 STANZA_ROOM = 128
 SONAME = "libagefile.so.1"
 
-number = ctypes.c_uint64
-size = ctypes.c_size_t
-byte = ctypes.c_uint8
-address = ctypes.c_void_p
+number, size, byte, address = ctypes.c_uint64, ctypes.c_size_t, ctypes.c_uint8, ctypes.c_void_p
 FileKey = byte * FILE_KEY
 
 # generated: structs

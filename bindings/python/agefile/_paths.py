@@ -213,11 +213,10 @@ def created(
     return opened(file, mode, closefd)
 
 
-def with_name(error: Exception, name: Any) -> Exception:
+def with_name(error: BaseException, name: Any) -> None:
     """Adds the name of the file to the error, if it has none."""
     if isinstance(error, AgeError) and error.filename is None:
         error.filename = name
-    return error
 
 
 @contextlib.contextmanager

@@ -13,7 +13,7 @@ from typing import Any, BinaryIO
 
 from . import _library as lib
 from ._errors import AgeError, Code
-from ._secrets import Header, Identities, Recipients, read_header, stanzas_text, unlock
+from ._secrets import Header, Identities, Key, Recipients, read_header, stanzas_text, unlock
 from ._sources import read_into, read_some, readinto_of, write_all
 
 # How many chunks one thread seals or opens at a time.
@@ -38,26 +38,32 @@ class Front:
         """Reads until the header is complete, and returns it."""
         tried = 0
         while True:
-            self.more()
             # Each piece may complete or spoil the header. If pieces are so small that parsing after
             # each would take too long, the header is still parsed once its last line is there.
-            if tried <= 16 * (len(self.bytes) + 4096) or self._has_last_line() or self._ended:
+            at = self.bytes.find(b"\n---")
+            has_last_line = at >= 0 and self.bytes.find(b"\n", at + 1) >= 0
+            if tried <= 16 * (len(self.bytes) + 4096) or has_last_line or self._ended:
                 tried += len(self.bytes)
                 try:
                     return read_header(bytes(self.bytes))
                 except AgeError as error:
                     if error.code != Code.HEADER_TRUNCATED or self._ended:
                         raise
-
-    def _has_last_line(self) -> bool:
-        at = self.bytes.find(b"\n---")
-        return at >= 0 and self.bytes.find(b"\n", at + 1) >= 0
+            self.more()
 
     def unlock(self, identities: Identities) -> tuple[bytes, bytes]:
         """Reads until the nonce is complete too, or the source has ended. Returns the text of the
         header, and its file key."""
-        header = self.header()
-        text, file_key = bytes(self.bytes[: header.length]), unlock(header, identities)
+        self.more()
+        code: int = Code.NO_MATCH
+        if type(identities) is Key:
+            # If it opens the header, nobody needs the stanzas.
+            code, report, file_key = identities._unlock(bytes(self.bytes))
+            length: int = report.len
+        if code:
+            header = self.header()
+            length, file_key = header.length, unlock(header, identities)
+        text = bytes(self.bytes[:length])
         while len(self.bytes) < len(text) + lib.NONCE and self.more():
             pass
         return text, file_key
@@ -95,7 +101,7 @@ class Chunk:
         self.room = bytearray(length)
         self.view = memoryview(self.room)
         # The address of the first byte, valid as long as this object lives.
-        self.base = ctypes.addressof((ctypes.c_char * len(self.room)).from_buffer(self.room))
+        self.base = ctypes.addressof(ctypes.c_char.from_buffer(self.room))
 
 
 class _Step:

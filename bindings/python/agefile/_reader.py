@@ -67,7 +67,8 @@ class _Chunks:
 
     def __init__(self, source: _Source, ranges: lib.Ranges, name: Any) -> None:
         self.source, self.ranges, self.name = source, ranges, name
-        self._chunk, self._number, self._len = Chunk(min(ranges.sealed_len, lib.SEALED_CHUNK)), -1, 0
+        room = max(min(ranges.sealed_len, lib.SEALED_CHUNK), 1)
+        self._chunk, self._number, self._len = Chunk(room), -1, 0
         self._open = lib.for_chunks("ranges_chunk", ranges)
         self._first: int = ranges.first
         self._sealed_len: int = ranges.sealed_len
@@ -206,7 +207,7 @@ class Reader(io.BufferedIOBase):
     def __init__(self, chunks: _Chunks) -> None:
         self._chunks, self.name, self.raw = chunks, chunks.name, _Plaintext(chunks, 1)
         self._below = _Plaintext(chunks, 0)
-        self._buffer = io.BufferedReader(self._below, lib.TEXT_CHUNK)
+        self._buffer = io.BufferedReader(self._below, max(min(chunks.length, lib.TEXT_CHUNK), 1))
         self._errors = chunks.errors
         # Within a call no other thread may move the position.
         self._lock = threading.RLock()
@@ -320,15 +321,17 @@ def open_reader(file: Any, identities: Identities) -> Reader:
     owned = not is_open(file, "read")
     is_descriptor = isinstance(file, int)
     below, name = opened(file, closefd=not is_descriptor) if owned else file, name_of(file)
-    with named(name), contextlib.ExitStack() as stack:
-        if owned:
-            stack.callback(below.close)
+    try:
         source = _Source(below, file if owned and not is_descriptor else None, owned)
         reader = Reader(_Chunks(source, _Chunks.unlocked(source, identities), name))
         if is_descriptor:
             # Until here it stays the caller's, who may try another key.
             source.file = opened(file)
-        stack.pop_all()
+    except BaseException as error:
+        if owned:
+            below.close()
+        with_name(error, name)
+        raise
     return reader
 
 

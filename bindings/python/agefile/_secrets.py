@@ -94,9 +94,8 @@ class _Secret:
         return list(read_header(header_of(self._text(file_key), file_key)).stanzas)
 
     def unwrap(self, stanzas: Sequence[Stanza]) -> bytes | None:
-        """Returns the file key of a header, under which its MAC was verified, or None if this secret
-        does not open it. `stanzas` must be the tuple of a Header, or the one that was passed to an
-        identity."""
+        """Returns the file key of a header, whose MAC it verifies, or None if this secret does not open
+        it. `stanzas` is the tuple of a Header, or the one that was passed to an identity."""
         if not isinstance(stanzas, _Stanzas):
             raise TypeError("pass the stanzas of a Header: without its MAC they are not unwrapped")
         code, file_key = self._find(stanzas)

@@ -47,9 +47,8 @@ class _Sealer(io.RawIOBase):
         self.failed = True
         if self._opener is not None:
             self._sink, self._opener = self._opener(), None
-        write_all(self._sink, self._front)
+        write_all(self._sink, b"".join((self._front, data)) if self._front else data)
         self._front = b""
-        write_all(self._sink, data)
         sink: Any = self._sink
         if self._owned and hasattr(sink, "flush"):
             # The finalizer of a forked child would write what is left in a buffer.

@@ -47,8 +47,7 @@ _OF_FILES = "autocommit block_size cache_options cache_type compression size"
 def _refuse_unknown(options: dict[str, Any], known: str) -> None:
     unknown = sorted(set(options) - set(known.split()))
     if unknown:
-        hint = "a secret is passed as identities or recipients"
-        raise TypeError(f"unknown options: {', '.join(unknown)} ({hint})")
+        raise TypeError(f"unknown options: {', '.join(unknown)} (a secret is passed as identities or recipients)")
 
 
 # How a file that does not exist is reported.
@@ -207,8 +206,7 @@ class AgeFileSystem(AbstractFileSystem):  # type: ignore[misc]
         return {name: found[name] for name in found if on_error != "omit" or name not in errors}
 
     def cat_ranges(
-        self, paths: Any, starts: Any, ends: Any, max_gap: Any = None, on_error: str = "raise",
-        **options: Any,
+        self, paths: Any, starts: Any, ends: Any, max_gap: Any = None, on_error: str = "raise", **options: Any
     ) -> Any:
         """Raises each error, for the same reason."""
         return super().cat_ranges(paths, starts, ends, max_gap, "raise", **options)

@@ -104,8 +104,8 @@ class Reading(InFolder):
     def test_a_header_is_parsed_once(self):
         self.made(b"text")
         for name, call in (
-            ("open", lambda: self.read("a.age")), ("decrypt", lambda: agefile.decrypt(self.got("a.age"), identities=KEY)),
-            ("copy", lambda: agefile.copy("a.age", io.BytesIO(), identities=KEY)),
+            ("open", lambda: self.read("a.age", identities=[KEY])), ("decrypt", lambda: agefile.decrypt(self.got("a.age"), identities=KEY)),
+            ("copy", lambda: agefile.copy("a.age", io.BytesIO(), identities=[KEY])),
         ):
             with self.subTest(name), mock.patch.object(_library, "call", wraps=_library.call) as calls:
                 call()
