@@ -55,6 +55,7 @@ LOST = {
 ENDS_HEAD = """
 import asyncio, atexit, concurrent.futures, contextlib, functools, io, logging.handlers, os, signal, sys, tarfile, threading, weakref
 import agefile
+signal.signal(signal.SIGINT, signal.default_int_handler)
 class Owner: pass
 def new(mode="wb", name="s.age"): return agefile.open(name, mode, recipients=agefile.Key(bytes(range(32))))
 def part(file): file.write(bytes(100000) if "b" in file.mode else "x" * 100000)
