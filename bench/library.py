@@ -152,16 +152,19 @@ def headers(environment):
     return subprocess.check_output([sys.executable, "-c", code], env=environment, text=True).strip()
 
 
-# Microseconds for each call: rows of 20 bytes, written one by one and read as lines; and for each
-# file of 2 KiB, one written and read again and again, and 10,000 read one after the other.
+# Microseconds for each call, the best of 5 runs: rows of 20 bytes, written one by one and read as
+# lines; and for each file of 2 KiB, one again and again, and 10,000 one after the other.
 ROWS = """
 import agefile, gzip, os, sys, time
 KEY, COUNT, FILES = agefile.Key(bytes(32)), 500000, 10000
 
 def took(work, count=COUNT):
-    began = time.process_time()
-    work()
-    return f"{(time.process_time() - began) / count * 1e6:.2f}"
+    times = []
+    for _ in range(5):
+        began = time.process_time()
+        work()
+        times.append(time.process_time() - began)
+    return f"{min(times) / count * 1e6:.2f}"
 
 def write(file, row):
     for _ in range(COUNT):

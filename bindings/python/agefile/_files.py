@@ -78,11 +78,12 @@ def open(
     if kind not in ("r", "w", "x") or len(mode) > 2 or {"b", "t"} <= set(mode):
         raise ValueError(f"invalid mode: {mode!r}: an age file is read, or written anew")
     words: dict[str, Any] = {"encoding": encoding, "errors": errors, "newline": newline}
-    if "b" in mode and any(word is not None for word in words.values()):
+    is_given = any(word is not None for word in words.values())
+    if "b" in mode and is_given:
         raise ValueError("a binary mode takes no encoding, errors or newline")
     words["encoding"] = encoding or "utf-8"
     # Wrong arguments are refused before anything is opened.
-    used = "" if "b" in mode else io.TextIOWrapper(io.BytesIO(), **words).encoding
+    used = io.TextIOWrapper(io.BytesIO(), **words).encoding if is_given else "utf-8"
     if kind == "r":
         if identities is None or recipients is not None or atomic:
             raise TypeError("to read a file takes identities, and neither recipients nor atomic")

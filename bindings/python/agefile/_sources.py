@@ -14,8 +14,7 @@ Progress = Callable[[int, Optional[int]], object]
 
 
 def flat(data: Any, instead: str = "bytes") -> memoryview:
-    """A view of the bytes of an object, even of one with a zero in its shape. `instead` says what
-    to pass in place of a str."""
+    """A view of an object's bytes, even with a zero in its shape. For a str, says what to pass."""
     if isinstance(data, str):
         raise TypeError(f"a bytes-like object is required, not 'str': pass {instead}")
     with memoryview(data) as view:

@@ -150,6 +150,7 @@ class Reading(InFolder):
         length = agefile.inspect(file).length
         for cut, code in ((length, Code.NONCE_TRUNCATED), (length + 16, Code.CHUNK_SHORT), (length + 16 + 65552, Code.BAD_CHUNK)):
             self.assertEqual(self.refused(self.put(file[:cut], "cut.age")), code)
+            self.assertEqual(error_of(lambda: agefile.open("cut.age", identities=KEY)).code, code)
 
     def test_words_that_are_refused(self):
         name = self.made(b"text")

@@ -134,7 +134,6 @@ class Reads(InSystem):
         for begin, end in ((0, 2 * TEXT + 1), (3 * TEXT - 1, 3 * TEXT), (None, None), (2 * TEXT, 2 * TEXT + 1)):
             self.assertEqual(str(error_of(lambda: self.system.cat_file(path, begin, end))), f"{message('BadChunk', 2)}: {path!r}")
 
-
     def test_what_may_be_left_out(self):
         """Absent files, and nothing else: users take what is left out for zeros."""
         path, absent = self.new("a.age", b"text"), [self.path("absent"), self.path("a.age/b"), self.folder]

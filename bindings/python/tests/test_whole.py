@@ -24,7 +24,7 @@ import unittest
 from unittest import mock
 
 import agefile
-from agefile import AgeError, Code, Key, Passphrase, Stanza
+from agefile import AgeError, Code, Key, Passphrase, Stanza, _library
 from support import KEY, error_of, fault_of, in_time, message, pattern, text
 
 import fixture
@@ -88,6 +88,8 @@ class Round(unittest.TestCase):
         self.assertEqual(agefile.decrypt(agefile.encrypt(numbers, recipients=KEY), identities=KEY), numbers.tobytes())
         for wrong in (5, None, memoryview(file)[::2]):
             self.assertRaises((TypeError, BufferError), agefile.decrypt, wrong, identities=KEY)
+        with mock.patch.object(_library, "made", side_effect=AssertionError("another thread may change it")):
+            self.assertEqual(agefile.decrypt(bytearray(agefile.encrypt(bytearray(b"text"), recipients=KEY)), identities=KEY), b"text")
         self.assertRaisesRegex(TypeError, r"pass text\.encode\(\)", agefile.encrypt, "text", recipients=KEY)
         self.assertRaisesRegex(TypeError, "its path to agefile.open", agefile.decrypt, "a.age", identities=KEY)
 
