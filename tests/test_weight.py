@@ -1,4 +1,4 @@
-"""tests/weight: the kind of each file, and the growth that a kind may have."""
+"""tests/weight: the kind of each file, and the growth that a kind may have. This tests a tool, not the product."""
 
 import os
 import re
@@ -24,7 +24,7 @@ FILES = {
 
 class Weight(unittest.TestCase):
     def setUp(self):
-        """A tree with a hundred lines of code, and a budget of a thousand for other kinds."""
+        """A tree with a hundred lines of code of 50 bytes, and a budget of a thousand for other kinds."""
         self.tree = scratch()
         subprocess.run(("git", "init", "-q", self.tree), check=True)
         os.makedirs(self.tree + "/tests")
@@ -33,19 +33,19 @@ class Weight(unittest.TestCase):
         self.plan(100)
 
     def plan(self, code, reasons=""):
-        rows = "".join(f"| {kind} | 1,000 | |\n" for kind in FILES if kind not in ("code", "none"))
-        write(self.tree + "/CONTRIBUTING.md", f"| Kind | Lines | For |\n|---|---|---|\n| code | {code} | {reasons} |\n{rows}".encode())
+        rows = "".join(f"| {kind} | 1,000 | 1,000 | |\n" for kind in FILES if kind not in ("code", "none"))
+        write(self.tree + "/CONTRIBUTING.md", f"| Kind | Lines | Bytes / 50 | For |\n|---|---|---|---|\n| code | {code} | {code} | {reasons} |\n{rows}".encode())
 
-    def grow(self, name, lines):
+    def grow(self, name, lines, columns=49):
         os.makedirs(os.path.dirname(f"{self.tree}/{name}"), exist_ok=True)
         with open(f"{self.tree}/{name}", "a", encoding="utf-8") as file:
-            file.write("a line\n" * lines)
+            file.write(("x" * columns + "\n") * lines)
 
     def weigh(self, *words, tree=None):
         return subprocess.run((f"{tree or self.tree}/tests/weight", *words), stdout=subprocess.PIPE, stderr=subprocess.STDOUT, text=True)
 
     def lines(self):
-        return {kind: int(lines) for kind, lines in re.findall(r"^([\w ]+?) +(\d+)", self.weigh().stdout, re.MULTILINE)}
+        return {kind: (int(lines), int(fifties)) for kind, lines, fifties in re.findall(r"^([\w ]+?) +(\d+)(?: of +\S+)? +(\d+)", self.weigh().stdout, re.MULTILINE)}
 
     def test_repository(self):
         """No kind has more lines than its budget."""
@@ -60,20 +60,22 @@ class Weight(unittest.TestCase):
                 with self.subTest(name):
                     self.grow(name, 1)
                     after = self.lines()
-                    more = {each: after[each] - before[each] for each in after if after[each] != before[each]}
+                    more = {each: after[each][0] - before[each][0] for each in after if after[each] != before[each]}
                     before = after
                     self.assertEqual(more, {} if kind == "none" else {kind: 1, "all": 1})
 
     def test_growth(self):
-        """A kind may grow by 2 %, and by the lines for which a reason is given."""
-        for more, reasons, over in ((2, "", 0), (1, "", 1), (0, "1 for a test", 0), (50, "1 for a test; 40 for docs", 10)):
+        """A kind may grow by 2 %, and by the lines for which a reason is given. A line counts as 50 bytes, and longer
+        ones as more."""
+        rows = (2, 49, "", 0, 0), (1, 49, "", 1, 1), (0, 49, "1 for a test", 0, 0), (50, 9, "1 for a test; 40 for docs", 10, 0), (2, 1549, "", 53, 73)
+        for more, columns, reasons, *over in rows:
             with self.subTest(f"{more} more, {reasons}"):
-                self.grow("crates/a/src/a.rt", more)
+                self.grow("crates/a/src/a.rt", more, columns)
                 self.plan(100, reasons)
                 done = self.weigh()
-                told = f"weight: code: {over} lines too many: remove some, or say in CONTRIBUTING.md what they are for\n"
-                self.assertEqual(done.returncode, 1 if over else 0)
-                self.assertEqual(re.findall("weight: .*\n", done.stdout), [told] if over else [])
+                told = [f"weight: code: {number} {what} too many: remove some, or say in CONTRIBUTING.md what they are for\n"
+                        for number, what in zip(over, ("lines", "times 50 bytes")) if number]
+                self.assertEqual((done.returncode, re.findall("weight: .*\n", done.stdout)), (1 if told else 0, told))
 
     def test_reason(self):
         """A reason without a number, or a number without a reason, is refused."""
@@ -89,7 +91,7 @@ class Weight(unittest.TestCase):
         self.grow("crates/a/src/a.rt", 1100)
         self.plan(100, "7 for a test")
         self.assertEqual(self.weigh("--write").returncode, 0)
-        self.assertIn("| code | 1,200 | |\n| ", read(self.tree + "/CONTRIBUTING.md").decode())
+        self.assertIn("| code | 1,200 | 1,200 | |\n| ", read(self.tree + "/CONTRIBUTING.md").decode())
         self.grow("crates/a/src/a.rt", 24)
         self.assertEqual(self.weigh().returncode, 0)
         self.grow("crates/a/src/a.rt", 1)
