@@ -43,8 +43,7 @@ is_current() {
     at_hand=$(toolchain)
     [ -z "$at_hand" ] || [ "$made_by" = "$at_hand" ] || return 1
     newer=$(find "$root/crates.txt" "$root"/crates/*/src "$root"/crates/*/specs \
-        "$root"/crates/*/proofs -newer "$2" -print)
-    [ -z "$newer" ]
+        "$root"/crates/*/proofs -newer "$2" -print) && [ -z "$newer" ]
 }
 
 # Ends the script if the toolchain is missing: need_rt SCRIPT WHAT.
@@ -196,7 +195,7 @@ build_program() {
 
 # The version of the last release: the first heading of CHANGELOG.md that is a number.
 released_version() {
-    sed -n 's/^## \([0-9][0-9.]*\).*/\1/p' "$root/CHANGELOG.md" | head -n 1
+    sed -n '/^## [0-9]/{ s/^## \([0-9.]*\).*/\1/p; q; }' "$root/CHANGELOG.md"
 }
 
 # The name by which programs find the shared library. A release that breaks a promise of an earlier
@@ -205,14 +204,16 @@ soname=libagefile.so.1
 
 # Prints the pkg-config file, which gives PREFIX relative to its own folder: pkg_config_file LIBDIR.
 pkg_config_file() {
+    up=$(echo "$1/pkgconfig" | sed 's|[^/][^/]*|..|g')
+    number=$(released_version)
     cat <<END
-prefix=\${pcfiledir}/$(echo "$1/pkgconfig" | sed 's|[^/][^/]*|..|g')
+prefix=\${pcfiledir}/$up
 libdir=\${prefix}/$1
 includedir=\${prefix}/include
 
 Name: agefile
 Description: A proved library for the age v1 encrypted file format
-Version: $(released_version)
+Version: $number
 Cflags: -I\${includedir}
 Libs: -L\${libdir} -lagefile
 END
@@ -257,8 +258,9 @@ link_library() {
     parts=$1/parts
     mkdir -p "$parts"
     for level in $levels; do
-        nm -g --defined-only "$crate/out/$level.a" |
-            sed -n "s/.* \(agefile_.*\)/\1 $(echo "$level" | tr - _)_\1/p" >"$parts/names"
+        nm -g --defined-only "$crate/out/$level.a" >"$parts/symbols"
+        prefix=$(echo "$level" | tr - _)
+        sed -n "s/.* \(agefile_.*\)/\1 ${prefix}_\1/p" "$parts/symbols" >"$parts/names"
         objcopy --redefine-syms="$parts/names" "$crate/out/$level.a" "$parts/$level.a"
     done
     "${CC:-cc}" -O2 -fPIC -march=x86-64 -fno-stack-protector -c -o "$parts/calls.o" \

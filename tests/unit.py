@@ -22,7 +22,7 @@ sys.dont_write_bytecode = True
 import program
 
 # These build something first, which takes long, or test this file: each has its own script.
-ALONE = {"test_avx2", "test_library", "test_packages", "test_releases", "test_runners"}
+ALONE = {"test_avx2", "test_failing_commands", "test_library", "test_packages", "test_releases", "test_runners"}
 
 
 class Result(unittest.TestResult):

@@ -1,0 +1,178 @@
+"""The scripts in a tree whose tools are stand-ins, while each command that they run fails in turn."""
+
+import concurrent.futures
+import os
+import re
+import shutil
+import subprocess
+import unittest
+from pathlib import Path
+
+import stand_in
+from program import AT_A_TIME, read, scratch, write
+from test_packages import run
+from test_releases import AUTHOR, HERE, ROOT
+
+# Counts the calls of all tools, and makes one of them fail: it does nothing, or it does its work but prints only a
+# part of its output.
+COUNTED = """set -C
+run=${{TMPDIR%/*}} name=${{0##*/}} n=1 PATH={path}
+until true >"$run/calls/$n"; do n=$((n + 1)); done 2>/dev/null
+echo "$name $*" >|"$run/calls/$n"
+read -r number how <"$run/fails"
+[ $n -eq $number ] || exec "$name" "$@"
+[ $how = nothing ] || [ $name = mktemp ] || "$name" "$@" | head -c 100
+exit 1"""
+# What each of these makes has the sums of all that it is made of, so that no difference is lost on the way.
+SUMS = """sums() { find "$@" -type f ! -path "*/.git/*" -exec cksum {} + | sed "s|/[^ ]*/||" | sort; }
+derived() { for word; do file=${word##*=}; [ ! -f "$file" ] || cksum <"$file"; echo "${word##*/}"; done; }
+"""
+TOOLS = {
+    "rt": 'case $1 in doc) echo KIT/doc; exit ;; version) echo kit; exit ;; esac; mkdir -p out; echo ": $*" | tee out/libagefile.a out/agep.o >out/agep; chmod +x out/agep',
+    "nm": "echo 0 T agefile_one",
+    "cc": 'for word; do [ "$last" != -o ] || out=$word; last=$word; done; derived "$@" >"$out"',
+    "objcopy": 'for out; do :; done; derived "$@" >"$out"',
+    "ar": 'derived "$3" >"$2"',
+    "strip": "exit 0", "dh": "exit 0", "dh_python3": "exit 0",
+    "unzip": 'cp "$2" "$4"',
+    "python": '[ "$1" = -c ] || sums "$7" >"$6/agefile-1.whl"',
+    "cargo": 'mkdir -p "$CARGO_TARGET_DIR/package"; sums . >"$CARGO_TARGET_DIR/package/agefile-1.crate"',
+    "dpkg-source": 'sums "$2" | tee cushionduck_1.dsc >cushionduck_1.tar.xz',
+    "dpkg-buildpackage": "sums . >../agep_1.deb",
+}
+# Makes each file that was made before an older one.
+OLDER = "; find result -type f -exec sh -c 'echo old >$0' {} \\;"
+# What the scripts need of the repository.
+USED = (*"agep install package generate release crates.txt CHANGELOG.md CONTRIBUTING.md README.md SECURITY.md LICENSE .gitignore share docs".split(),
+        *"bindings bench/README.md bench/throughput.svg tests/vectors/README.md tests/generated.sh .ci crates/age_cli crates/*/src/*.rt".split())
+MORE = "; git -C tree commit -q --allow-empty -m More"
+# Each command, and what was done before it.
+ROWS = (
+    ("tree/agep", "tree/agep; touch tree/crates.txt"),
+    ("tree/install result", "tree/agep; tree/install result" + OLDER), ("tree/install --uninstall result", "tree/agep; tree/install result"),
+    ("tree/install --library result", "tree/install --library result" + OLDER),
+    ("tree/install --library --uninstall result", "tree/install --library result"),
+    ("tree/package result", "tree/package result" + MORE),
+    ("v=$(tree/package --version) && echo $v >result/version", "mkdir result; sed -i '/^## Unreleased/d' tree/CHANGELOG.md; git -C tree commit -qam Release"),
+    ("tree/generate", "sed -i 's/^## 0/## Unreleased\\n\\n## 77.1.2 (2026-01-02)\\n\\n&/' tree/CHANGELOG.md"),
+    ("tree/release 80.9.2 key result", "cd tree; echo 'PATH=/usr/bin:/bin; mkdir -p ${1-dist}; cd ${1-dist}; echo text >agep_1.deb; sha256sum agep* >SHA256SUMS' >package; git commit -qam Packs"),
+)
+
+
+def make_tree(tree):
+    """Makes a repository of what the scripts use."""
+    for name in run("git", *HERE, "ls-files", "-co", "--exclude-standard", *USED, cwd=ROOT).splitlines():
+        (tree / name).parent.mkdir(parents=True, exist_ok=True)
+        shutil.copy2(ROOT / name, tree / name)
+    run("git", "init", "-q", tree)
+    run("git", "add", "-A", cwd=tree)
+
+
+class Fails(unittest.TestCase):
+    @classmethod
+    def setUpClass(cls):
+        """A kit of stand-ins, a folder with the counted form of all tools, and a repository."""
+        cls.kit = Path(scratch())
+        for name in "bin", "doc", "counted", "made":
+            (cls.kit / name).mkdir()
+        write(cls.kit / "KIT-ID", b"kit\n")
+        for name, script in TOOLS.items():
+            stand_in.tool(cls.kit / "bin" / name, SUMS + script.replace("KIT", str(cls.kit)))
+        cls.path = f"{cls.kit}/bin:{os.environ['PATH']}"
+        stand_in.tool(cls.kit / "counted/wrap", COUNTED.format(path=cls.path))
+        for name in {name for place in cls.path.split(":") if os.path.isdir(place) for name in os.listdir(place)}:
+            os.symlink("wrap", cls.kit / "counted" / name)
+        subprocess.run(["ssh-keygen", "-q", "-t", "ed25519", "-N", "", "-C", "", "-f", cls.kit / "made/key"], check=True)
+        tree = cls.kit / "made/tree"
+        make_tree(tree)
+        write(tree / "package", read(tree / "package").replace(b"/usr/bin/python3", b"python"))
+        write(tree / ".ci/run", b"#!/bin/sh\n")
+        write(tree / "share/signers", b'maintainers namespaces="git,cushionduck" ' + read(cls.kit / "made/key.pub"))
+        write(tree / "share/project", b"Maintainer: Name <name@host>\nHomepage: https://host/\nVcs-Git: https://host/git\n")
+        write(tree / "CHANGELOG.md", re.sub(b"(## Unreleased\n|(?=## 0))", b"## Unreleased\n\n", read(tree / "CHANGELOG.md"), count=1))
+        for words in ["add", "-A"], ["commit", "-qm", "All"], ["config", "user.name", "Name"], ["config", "user.email", "name@host"], ["gc", "-q"]:
+            subprocess.run(["git", "-C", tree, *AUTHOR, *words], check=True)
+
+    def start(self, source, line, number=0, how="nothing", is_counted=True):
+        """Runs a line in a copy of a folder, and returns the copy and the status."""
+        folder = Path(scratch())
+        subprocess.run(["cp", "-a", f"{source}/.", folder], check=True)
+        for name in "calls", "temporary":
+            shutil.rmtree(folder / name, ignore_errors=True)
+            (folder / name).mkdir()
+        write(folder / "fails", f"{number} {how}\n".encode())
+        path = f"{self.kit}/counted" if is_counted else self.path
+        environment = os.environ | {"PATH": path, "TMPDIR": f"{folder}/temporary", "AGEP_CPU": "x86-64", "HOME": str(folder)}
+        done = subprocess.run(line, shell=True, cwd=folder, env=environment, stdin=subprocess.DEVNULL, capture_output=True, text=True, executable="/bin/bash")
+        return folder, done.returncode, done.stdout + done.stderr
+
+    def state(self, folder):
+        """What a line may change: the files that it makes, the program, and the repository."""
+        git = ("git", "--no-optional-locks", "-C", folder / "tree")
+        found = {words: subprocess.check_output([*git, *words.split()], text=True) for words in ("log -1 --format=%s%d", "status --porcelain", "diff HEAD")}
+        program = folder / "tree/crates/agep/out"
+        for path in [*(folder / "result").rglob("*"), program / "agep", program / "built"]:
+            if path.is_symlink() or path.is_file():
+                content = os.readlink(path) if path.is_symlink() else b"\n".join(path.read_bytes().split(b"\n")[: 2 if path.name == "built" else None])
+                found[path.relative_to(folder)] = f"{path.lstat().st_mode:o}", content
+        return found
+
+    def failed(self, source, old, new, line, number, how):
+        """Fails a call of a line. Returns what failed, what is then wrong, and what was printed."""
+        folder, status, said = self.start(source, line, number, how)
+        call = read(folder / f"calls/{number}").decode().strip() if (folder / f"calls/{number}").exists() else "rm"
+        after = self.state(folder)
+        # ./package deletes the packages of an earlier run before it moves the new ones.
+        names = {*after} if "package" in line else {*after, *old, *new}
+        wrong = {name for name in names if after.get(name) not in (old.get(name), new.get(name))}
+        if status == 0 and "skipped: " not in said:
+            wrong |= {name for name in {*after, *new} if after.get(name) != new.get(name)}
+        if call.split()[0] not in ("rm", "rmdir", "xargs"):
+            wrong |= {*os.listdir(folder / "temporary")}
+        if status != 0 and after != new:
+            again, status, more = self.start(folder, line, is_counted=False)
+            wrong |= set() if status == 0 and self.state(again) == new else {f"once more: {more}"}
+            shutil.rmtree(again)
+        shutil.rmtree(folder)
+        return f"{how} of {call}", wrong, said
+
+    def test_each(self):
+        """Each call of each kind, that is with other words than names of files, fails in turn. A line that ends with
+        status 0 has made all that a good one makes. After another status each file is as before or as after a
+        good one, nothing temporary is left, and the line succeeds if it is run again."""
+        for line, before in ROWS:
+            source, status, said = self.start(self.kit / "made", before or "true", is_counted=False)
+            self.assertEqual(status, 0, said)
+            good, status, said = self.start(source, line)
+            self.assertEqual(status, 0, said)
+            calls = {int(name): read(good / "calls" / name).decode() for name in os.listdir(good / "calls")}
+            kinds = {" ".join(word for word in text.split() if "/" not in word): number for number, text in sorted(calls.items(), reverse=True)}
+            known = source, self.state(source), self.state(good), line
+            rows = [(*known, number, how) for number in kinds.values() for how in ("nothing", "part")]
+            with concurrent.futures.ThreadPoolExecutor(AT_A_TIME) as pool:
+                for title, wrong, said in pool.map(lambda row: self.failed(*row), rows):
+                    with self.subTest(f"{line}: {title}"):
+                        self.assertEqual(wrong, set(), said)
+
+
+class Generated(unittest.TestCase):
+    def test_stale(self):
+        """./generate --check finds each generated text that is stale, and tests/generated.sh fails."""
+        tree = Path(scratch()) / "tree"
+        make_tree(tree)
+        subprocess.run([tree / "generate"], check=True, stdout=subprocess.DEVNULL)
+        names = run("git", "grep", "-lE", "generated: [a-z]", "--", ":!generate", ":!share/generate", cwd=tree).splitlines()
+        for name in [*names, "crates/agefile/src/version.rt"]:
+            text = (tree / name).read_text()
+            for mark in re.finditer(r"generated: [a-z].*\n" if name in names else r"0x\B|The version, ", text):
+                with self.subTest(f"{name}: {mark[0]}"):
+                    (tree / name).write_text(text[: mark.end()] + "9" + text[mark.end() :])
+                    done = subprocess.run([tree / "tests/generated.sh"], stdout=subprocess.PIPE, stderr=subprocess.STDOUT, text=True)
+                    self.assertEqual((done.returncode, done.stdout.splitlines()[-1]), (1, "0 passed, 1 failed"))
+                    self.assertIn(name, done.stdout)
+            (tree / name).write_text(text)
+        self.assertEqual(subprocess.run([tree / "tests/generated.sh"], stdout=subprocess.DEVNULL).returncode, 0)
+
+
+if __name__ == "__main__":
+    unittest.main()
