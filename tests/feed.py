@@ -22,7 +22,7 @@ import threading
 import time
 
 # Gives up after so many seconds without progress.
-PATIENCE = 20
+PATIENCE = 600
 
 
 class Stalled(Exception):

@@ -50,12 +50,21 @@ NEWER = re.compile(
 )
 
 
+def disassembled(file):
+    return subprocess.run(["objdump", "-d", "--no-show-raw-insn", file], capture_output=True, text=True, check=True).stdout.splitlines()
+
+
+def instructions_of(file):
+    """Of the instructions of a program the most in a row that are not newer, the newer ones, and all."""
+    marks = "".join("-" if NEWER.search(line) else "+" for line in disassembled(file) if "\t" in line)
+    return max(map(len, marks.split("-"))), marks.count("-"), len(marks)
+
+
 def functions_of(file):
     """For each function of a program or archive its name, which is the same in both builds, and its number of
     newer instructions."""
-    said = subprocess.run(["objdump", "-d", "--no-show-raw-insn", file], capture_output=True, text=True, check=True).stdout
     found = [["", 0]]
-    for line in said.splitlines():
+    for line in disassembled(file):
         if line.endswith(">:"):
             found.append([line.split()[-1].replace("_v3_", "_"), 0])
         elif NEWER.search(line):

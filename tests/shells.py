@@ -27,7 +27,7 @@ def at_terminal(shell, lines, folder):
     os.set_blocking(terminal, False)
     script = scratch() + "/script"
     write(script, f'{STARTS[shell]}\nagep() {{ printf "%s\\n" "$@" . >/dev/fd/{tell}; }}\n'.encode())
-    words = ["timeout", "--foreground", "60", *shell.split(), "-i"]
+    words = ["timeout", "--foreground", "600", *shell.split(), "-i"]
     environment = {**os.environ, "TERM": "dumb", "INPUTRC": "/dev/null"}
     with open(read) as answers, subprocess.Popen(
         words, stdin=other, stdout=other, stderr=other, cwd=folder, env=environment, pass_fds=[tell], start_new_session=True

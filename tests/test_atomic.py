@@ -282,14 +282,14 @@ class Atomic(Files):
                 self.changes_nothing(f"OutputIsRead: {role}, {name}", f"{line} --atomic -o {name}")
 
     def test_modes(self):
-        """A new file has the mode and the owner of the old one. A group that cannot be kept gets no permission."""
-        for mode in (0o640, 0o604, 0o666, 0o400):
+        """A new file has the permissions and the owner of the old one. A group that cannot be kept gets none."""
+        for mode in (0o640, 0o604, 0o666, 0o400, 0o4755, 0o2755, 0o1777):
             for umask in (0o000, 0o077):
                 with self.subTest(f"{mode:o}, umask {umask:03o}"):
                     write("made", YESTERDAY)
                     os.chmod("made", mode)
                     self.assert_ended(self.run_line("decrypt -k key --atomic -o made key.age", umask=umask))
-                    self.assertEqual(f"{os.stat('made').st_mode & 0o7777:o}", f"{mode:o}")
+                    self.assertEqual(f"{os.stat('made').st_mode & 0o7777:o}", f"{mode & 0o777:o}")
                     os.remove("made")
         with self.subTest("the system does not let the owner be kept"):
             write("made", YESTERDAY)

@@ -31,7 +31,7 @@ class Terminals(ProgramCase):
         standard error."""
         line = " ".join(map(subprocess.list2cmdline, [[AGEP], words]))
         script = [tool("script"), "-qec", f"{line} 2>err; echo $? >status", "/dev/null"]
-        done = subprocess.run(script, stdin=subprocess.DEVNULL, stdout=subprocess.PIPE, timeout=60)
+        done = subprocess.run(script, stdin=subprocess.DEVNULL, stdout=subprocess.PIPE, timeout=600)
         return int(read("status")), done.stdout.replace(b"\r", b""), read("err").decode()
 
     def test_refused(self):
@@ -103,7 +103,7 @@ class ClosedStreams(ProgramCase):
         line = " ".join(f"{number}{'<' if number == 0 else '>'}&-" for number in closed)
         with open("key.age", "rb") as stdin:
             done = subprocess.run(
-                ["bash", "-c", f'exec "$0" {words} {line}', AGEP], stdin=stdin, stdout=subprocess.PIPE, stderr=terminal, timeout=60
+                ["bash", "-c", f'exec "$0" {words} {line}', AGEP], stdin=stdin, stdout=subprocess.PIPE, stderr=terminal, timeout=600
             )
         os.close(terminal)
         return done.returncode, done.stdout, drained(controller).decode().replace("\r\n", "\n")
@@ -116,7 +116,9 @@ class ClosedStreams(ProgramCase):
             reads = 0 not in streams, "reading standard input: " + ("Is a directory" if {1, 2} & set(streams) else closed)
             for words, needs, out, line in (
                 ("decrypt -k key key.age", 1, HELLO, None), ("decrypt -k key", 1, HELLO, None), ("encrypt -k key -s seed hello", 1, read("key.age"), None),
+                ("range -k key 0 9 key.age", 1, HELLO, None), ("rewrap -k key -K key -s seed key.age", 1, read("key.age"), None),
                 ("decrypt -k key -o made key.age", None, b"", None), ("encrypt -k key -s seed -o made hello", None, b"", None),
+                ("range -k key -o made 1 5 key.age", None, b"", None), ("rewrap -k key -K key -s seed -o made key.age", None, b"", None),
                 ("salvage -k key -o made damaged.age", None, b"", saved), ("inspect -r key.age", 1, read("key.age")[:156], None),
             ):
                 for option in ("", " -v"):
@@ -138,7 +140,8 @@ class ClosedStreams(ProgramCase):
                                 said = fault(line, more if option else None)
                             self.assertEqual(self.run_closed(words + option, streams, is_terminal), (status, out, said))
                             if " -o made " in words:
-                                self.assert_file("made", {"d": HELLO, "e": read("key.age"), "s": bytes(6)}[words[0]])
+                                made = {"de": HELLO, "en": read("key.age"), "re": read("key.age"), "ra": HELLO[1:], "sa": bytes(6)}
+                                self.assert_file("made", made[words[:2]])
                                 os.remove("made")
 
     def test_by_name(self):
@@ -170,7 +173,7 @@ class ClosedStreams(ProgramCase):
                 os.chmod("root", mode)
                 words = f"/agep salvage -k key -o d/out damaged.age {line}"
                 script = f"import os; os.chroot('root'); os.chdir('/'); os.setgid(65534); os.setuid(65534); os.execv('/agep', {words.split(' ')[:7]!r})"
-                ran = subprocess.run(["bash", "-c", f'exec python3 -c "$0" {line}', script], capture_output=True, timeout=60)
+                ran = subprocess.run(["bash", "-c", f'exec python3 -c "$0" {line}', script], capture_output=True, timeout=600)
                 self.assertEqual(ran.returncode, status, ran.stderr)
                 self.assertEqual(read("root/d/out") if os.path.exists("root/d/out") else None, made)
                 if made:
@@ -184,7 +187,7 @@ class DefaultSeed(ProgramCase):
     def with_device(self, device, *words):
         done = subprocess.run(
             ["unshare", "-m", "bash", "-c", f'mount --bind {device} /dev/urandom && exec "$@"', "bash", AGEP, *words],
-            stdin=subprocess.DEVNULL, capture_output=True, timeout=60,
+            stdin=subprocess.DEVNULL, capture_output=True, timeout=600,
         )
         return done.returncode, done.stderr.decode(), len(done.stdout) > 0
 
@@ -210,7 +213,7 @@ class SameInode(ProgramCase):
         """The output and the status of a script that may mount, in its own namespace."""
         tool("unshare")
         words = ["unshare", "-m", "bash", "-ec", script, "bash", AGEP]
-        done = subprocess.run(words, stdin=subprocess.DEVNULL, capture_output=True, timeout=60)
+        done = subprocess.run(words, stdin=subprocess.DEVNULL, capture_output=True, timeout=600)
         if b"mount: " in done.stderr or b"unshare: " in done.stderr:
             self.skipTest("this needs the right to mount")
         return done.returncode, done.stdout.decode(), done.stderr.decode()
@@ -279,7 +282,7 @@ class SystemCalls(ProgramCase):
         if subprocess.run(["strace", "-o", "trace", "true"], capture_output=True).returncode != 0:
             self.skipTest("strace is not allowed to trace")
         done = subprocess.run(
-            ["strace", "-o", "trace", "-e", f"trace={calls}", AGEP, *words], stdin=input, capture_output=True, timeout=60
+            ["strace", "-o", "trace", "-e", f"trace={calls}", AGEP, *words], stdin=input, capture_output=True, timeout=600
         )
         self.assertEqual(done.returncode, 0, done.stderr)
         rows = re.findall(r"^(\w+)\((\d+), .* = (\d+)$", read("trace").decode("latin1"), re.MULTILINE)

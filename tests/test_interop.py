@@ -17,7 +17,7 @@ class Age(ProgramCase):
     def age(self, secret, *words):
         """Runs age, and types the passphrase at its prompts."""
         words = [sys.executable, TESTS + "/type_passphrase.py", secret, "age", *words]
-        return subprocess.run(words, stdin=subprocess.DEVNULL, capture_output=True, timeout=60)
+        return subprocess.run(words, stdin=subprocess.DEVNULL, capture_output=True, timeout=600)
 
     def age_writes(self, secret, *words):
         done = self.age(secret, *words)

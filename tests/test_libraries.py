@@ -19,7 +19,7 @@ class RefusedAllocations(unittest.TestCase):
             if os.path.exists(folder + "/refused"):
                 os.remove(folder + "/refused")
             env = {**os.environ, "REFUSE": str(number), "LD_PRELOAD": preload("refuse")}
-            done = subprocess.run([tests, name], cwd=folder, env=env, capture_output=True, timeout=60)
+            done = subprocess.run([tests, name], cwd=folder, env=env, capture_output=True, timeout=600)
             self.assertEqual(done.returncode, 0, f"allocation {number}: {done.stdout.decode()}{done.stderr.decode()}")
             if not os.path.exists(folder + "/refused"):
                 break

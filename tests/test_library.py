@@ -635,7 +635,7 @@ class WithTheProgram(unittest.TestCase):
     @needs("age")
     def test_age(self):
         """Files of age open, and age opens those of the library."""
-        typing = ("timeout", "60", ROOT / "tests/type_passphrase.py", "pass", "age")
+        typing = ("timeout", "600", ROOT / "tests/type_passphrase.py", "pass", "age")
         for size in (1, 65537):
             with self.subTest(f"{size} bytes"):
                 plain = os.urandom(size)

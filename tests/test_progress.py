@@ -61,7 +61,7 @@ class Progress(ProgramCase):
         while not pieces and (more := done.stdout.read1(65536)):
             out += more
             time.sleep(0.6)
-        status = done.wait(timeout=60)
+        status = done.wait(timeout=600)
         took = time.monotonic() - start
         if not pieces:
             done.stdout.close()
@@ -96,6 +96,15 @@ class Progress(ProgramCase):
         status, out, said, took = self.at_terminal("decrypt", "-v", "-k", "key", "many.age")
         self.assertEqual((status, out), (0, MANY))
         self.assert_drawn(said, FILE, took)
+
+    def test_units(self):
+        """From 10 MiB on it shows MiB."""
+        status, _, said, _ = self.at_terminal("encrypt", "-v", "-k", "key", pieces=[bytes(6 << 20)] * 3)
+        self.assertEqual(status, 0)
+        amounts = re.findall(r"agep: (\d+) (KiB|MiB), (\d+) (KiB|MiB)/s", said)
+        self.assertEqual([unit for _, unit, *_ in amounts], ["KiB", "MiB"][: len(amounts)], amounts)
+        for number, unit in (pair for row in amounts for pair in (row[:2], row[2:])):
+            self.assertIn(int(number), range(10, 19) if unit == "MiB" else range(10240))
 
     def test_range(self):
         """For a range, which reads a part of the file, it does not show the size."""
@@ -137,7 +146,7 @@ class Progress(ProgramCase):
                 controller, terminal = pty.openpty()
                 with open(name, "rb") as file:
                     line = ["bash", "-c", f'"$0" {words} >&-', AGEP]
-                    status = subprocess.run(line, stdin=file, stderr=terminal, timeout=60).returncode
+                    status = subprocess.run(line, stdin=file, stderr=terminal, timeout=600).returncode
                 os.close(terminal)
                 self.assertEqual((status, drained(controller).decode()), (1, last))
 
@@ -180,7 +189,7 @@ class Progress(ProgramCase):
                     done.stdin.flush()
                     time.sleep(0.6)
                 done.stdin.close()
-                self.assertEqual(done.wait(timeout=60), 0)
+                self.assertEqual(done.wait(timeout=600), 0)
                 reader.join()
                 if shows:
                     self.assertTrue(said.startswith(ERASE.encode()) and said.endswith(ERASE.encode()), said)
@@ -195,5 +204,5 @@ class Progress(ProgramCase):
         done.stdin.write(MANY[:131072])
         done.stdin.flush()
         time.sleep(0.6)
-        err = done.communicate(MANY[131072:], timeout=60)[1]
+        err = done.communicate(MANY[131072:], timeout=600)[1]
         self.assertEqual((done.returncode, read("out"), err), (0, read("many.age"), b""))

@@ -14,8 +14,11 @@ from test_packages import needs, run
 
 ROOT = Path(program.ROOT)
 LAST = program.version()
-# Options by which git accepts this repository, whoever owns it.
+# Options by which git accepts this repository, whoever owns it, and an archive without one.
 HERE = (f"--git-dir={ROOT}/.git", f"--work-tree={ROOT}")
+if IS_ARCHIVE := not (ROOT / ".git").exists():
+    HERE = (f"--git-dir={program.scratch()}", f"--work-tree={ROOT}")
+    run("git", "init", "-q", "--bare", HERE[0][len("--git-dir=") :])
 AUTHOR = ("-c", "user.name=Name", "-c", "user.email=name@host")
 # Beginnings of CHANGELOG.md.
 RELEASED, UNRELEASED = "# Changes\n\n## 0.7.1 (2026-12-24)\n\n- This.\n", "# Changes\n\n## Unreleased\n\n- That.\n"
@@ -30,7 +33,7 @@ class PastReleases(unittest.TestCase):
         """Each release in CHANGELOG.md has a commit, that of its heading or the one in CONTRIBUTING.md,
         whose program has this version. Since then the lists of the library's names and of its layout have lost
         no line, and no name was added with the number of that release."""
-        if run("git", *HERE, "rev-parse", "--is-shallow-repository") == "true\n":
+        if IS_ARCHIVE or run("git", *HERE, "rev-parse", "--is-shallow-repository") == "true\n":
             self.skipTest("the repository is shallow")
         rows = dict(re.findall(r"^\| ([\d.]+) \| `(\w+)` \|$", (ROOT / "CONTRIBUTING.md").read_text(), re.MULTILINE))
         versions = re.findall(r"^## (\d[\d.]*)", (ROOT / "CHANGELOG.md").read_text(), re.MULTILINE)

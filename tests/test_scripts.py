@@ -64,8 +64,9 @@ class Builds(unittest.TestCase):
         os.chdir(self.folder)
         for name in ("agep/src/deep", "agep/specs", "agep/proofs", "agep/out", "agefile/src"):
             os.makedirs(f"tree/crates/{name}")
-        for name in ("agep", "install", "package", "crates.txt", "CHANGELOG.md", ".gitignore", "share", "bindings"):
+        for name in (".ci", "agep", "install", "package", "crates.txt", "CHANGELOG.md", ".gitignore", "share", "bindings"):
             shutil.copytree(f"{ROOT}/{name}", f"tree/{name}") if os.path.isdir(f"{ROOT}/{name}") else shutil.copy(f"{ROOT}/{name}", "tree")
+        write("tree/share/commit", b"$Format$\n")
         shutil.copy(AGEP, "tree/crates/agep/out/agep")
         self.sources = [f"tree/crates/{name}" for name in ("agep/src/deep/a.rt", "agep/specs/A.antt", "agep/proofs/A.antt", "agefile/src/b.rt")]
         for name in self.sources:
@@ -153,8 +154,11 @@ class Builds(unittest.TestCase):
 
     def test_failing_build(self):
         """If the toolchain is missing or a build fails, its output and a line are shown, nothing is run or
-        installed, and the next call builds again. Standard input is not read."""
+        installed, and the next call builds again. Standard input is not read. The gate needs the toolchain, too."""
         tools = stand_in.tools_but(f"{self.folder}/tools", "rt")["PATH"]
+        gate = subprocess.run(["tree/.ci/run"], env={**self.environment, "PATH": tools}, capture_output=True)
+        line = b".ci/run: building the program needs the Rattle toolchain, the command rt\n"
+        self.assertEqual((gate.returncode, gate.stdout, gate.stderr), (1, b"", line))
         for script, who, what in zip(SCRIPTS, ("agep", "agep", "package", "install"), ("program", "program", "packages", "library")):
             with self.subTest(script):
                 self.make_tree()

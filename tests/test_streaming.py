@@ -83,10 +83,10 @@ class NonBlocking(ProgramCase):
         while int.from_bytes(fcntl.ioctl(reading, termios.FIONREAD, bytes(4)), sys.byteorder) < CHUNK:
             time.sleep(0.01)
         if ends:
-            done.wait(timeout=60)
+            done.wait(timeout=600)
         with open(reading, "rb") as pipe:
             out = pipe.read()
-        err = done.communicate(timeout=60)[1]
+        err = done.communicate(timeout=600)[1]
         return done.returncode, err, out
 
     def test_full(self):

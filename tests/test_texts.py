@@ -69,7 +69,7 @@ def enter_examples():
 def run_example(line, *options, status=0):
     """Runs a line in the folder, which must end with this status, and returns its output."""
     env = {**os.environ, "PATH": f"../bin:{os.environ['PATH']}"}
-    done = subprocess.run(["bash", *options, "-c", line], env=env, stdin=subprocess.DEVNULL, capture_output=True, timeout=60)
+    done = subprocess.run(["bash", *options, "-c", line], env=env, stdin=subprocess.DEVNULL, capture_output=True)
     if (done.returncode, done.stderr) != (status, b""):
         raise AssertionError(f"{line}\nstatus {done.returncode}\n{done.stderr.decode()}")
     return done.stdout

@@ -48,7 +48,9 @@ class Weight(unittest.TestCase):
         return {kind: (int(lines), int(fifties)) for kind, lines, fifties in re.findall(r"^([\w ]+?) +(\d+)(?: of +\S+)? +(\d+)", self.weigh().stdout, re.MULTILINE)}
 
     def test_repository(self):
-        """No kind has more lines than its budget."""
+        """No kind has more lines than its budget. An archive may have other files."""
+        if not os.path.exists(ROOT + "/.git"):
+            self.skipTest("this is an archive")
         done = self.weigh(tree=ROOT)
         self.assertEqual(done.returncode, 0, done.stdout)
 

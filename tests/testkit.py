@@ -183,7 +183,7 @@ class Agep(InTurn):
         self.name, self.words, self.releases, self.is_exact = name, words, releases, is_exact
 
     def open_with(self, options, file):
-        done = subprocess.run([*self.words, *options], input=file, capture_output=True, timeout=60)
+        done = subprocess.run([*self.words, *options], input=file, capture_output=True, timeout=600)
         said = done.stderr.decode("utf-8", "replace")
         if done.returncode == 0 and not said:
             return Found(None, None, done.stdout)
@@ -207,7 +207,7 @@ class InC(InTurn):
         self.releases = self.is_exact = kind != "ranges"
 
     def open_with(self, options, file):
-        done = subprocess.run([self.path, self.kind, "decrypt", *options], input=file, capture_output=True, timeout=60)
+        done = subprocess.run([self.path, self.kind, "decrypt", *options], input=file, capture_output=True, timeout=600)
         said = re.fullmatch(r".* (\d+)\n", done.stderr.decode("utf-8", "replace"))
         return found_of(done.returncode, said and said[1], None, done.stdout)
 

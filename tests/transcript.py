@@ -36,7 +36,7 @@ import program
 CLI = program.TESTS + "/cli"
 DOCUMENTS = {"README": "README.md", "USE": "docs/USE.md"}
 # The time limit of a transcript in seconds.
-PATIENCE = 300
+PATIENCE = 3000
 GOES_ON = ("&&", "|", "\\")
 
 
