@@ -267,17 +267,8 @@ class Release(Case):
             done = self.run_here(*self.release())
             self.assertEqual((done.returncode, done.stderr.splitlines()[-2:]), (1, lines))
             self.assertEqual((self.work / "gate").read_text(), "Release 80.9.2\n" * tries)
-            self.assert_as_before()
-
-    def test_check(self):
-        """The same if the commands that check the release fail."""
-        page = (self.tree / "docs/PACKAGES.md").read_text()
-        self.write("docs/PACKAGES.md", page.replace("./package && cmp", "cmp package release && cmp"))
-        self.before = self.commit()
-        done = self.run_here(*self.release())
-        self.assertIn("\n+ cmp package release\n", done.stderr)
-        self.assertEqual(done.returncode, 1)
-        self.assert_as_before()
+            found = self.git("rev-parse", "HEAD")[:10], self.git("tag"), self.git("status", "--porcelain")
+            self.assertEqual((found, [*self.folder.glob("*")]), ((self.before, "", ""), []))
 
     def test_changed_meanwhile(self):
         """A commit that somebody makes during the gate stays."""
@@ -287,11 +278,6 @@ class Release(Case):
         made = self.git("rev-parse", "HEAD^")
         self.assertEqual(done.stderr.splitlines()[-1], f"release: remove the commit {made} by hand: the repository has changed since")
         self.assertEqual((done.returncode, self.git("log", "-1", "--format=%s")), (1, "Other"))
-
-    def assert_as_before(self):
-        found = self.git("rev-parse", "HEAD")[:10], self.git("tag"), self.git("status", "--porcelain")
-        self.assertEqual(found, (self.before, "", ""))
-        self.assertEqual([path.name for path in self.folder.glob("*")], [])
 
     def test_refused(self):
         """Each is refused, and nothing changes."""

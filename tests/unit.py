@@ -21,8 +21,8 @@ sys.dont_write_bytecode = True
 
 import program
 
-# These build something first, which takes long, or test this file: each has its own script.
-ALONE = {"test_avx2", "test_failing_commands", "test_library", "test_packages", "test_releases", "test_runners"}
+# These build something first, which takes long, or test the tools: other scripts run them.
+ALONE = {"test_" + name for name in "avx2 failing_commands library packages releases runners unused weight".split()}
 
 
 class Result(unittest.TestResult):
