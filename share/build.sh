@@ -55,7 +55,7 @@ need_rt() {
 }
 
 # Writes the mark of a build: a text, the version of the toolchain and the commit. The mark gets the
-# time of the file BEGAN: mark MARK TEXT BEGAN.
+# time of the file BEGAN, which was made when the build started: mark MARK TEXT BEGAN.
 mark() {
     { echo "$2" && toolchain && commit; } >"$1"
     touch -r "$3" "$1"
@@ -106,7 +106,7 @@ stop_libraries() {
         # shellcheck disable=SC2046
         kill "$job" $(cat "/proc/$job/task/$job/children" 2>/dev/null) 2>/dev/null || :
     done
-    rm -f "$finished" "$begun" "${began-}"
+    rm -f "$finished" "$begun"
     exit 130
 }
 
@@ -176,19 +176,18 @@ build_program() {
         echo "$1: resuming a build that was interrupted" >&2
     fi
     seconds=$(date +%s)
-    began=$(mktemp)
+    mkdir -p "${built%/*}"
+    : >"$built.began"
     libraries age_cli
     show proving agep
     if ! said=$(cd "$root/crates/agep" && rt run --cpu "$2" -- --version 2>&1 </dev/null); then
         show
-        rm -f "$began"
         printf '%s\n' "$said" >&2
         echo "$1: the build failed" >&2
         exit 1
     fi
-    mark "$built" "$2" "$began"
+    mark "$built" "$2" "$built.began"
     keep_level "$2"
-    rm -f "$began"
     show
     echo "$1: built for $2 in $(($(date +%s) - seconds)) s" >&2
 }
@@ -236,17 +235,16 @@ build_library() {
         ! has_library "$level" || continue
         need_rt "$1" library
         echo "$1: building the library for $level; its proofs are checked first" >&2
-        began=$(mktemp)
+        mkdir -p "$crate/out"
+        : >"$crate/out/built.began"
         libraries age_file
         if ! said=$(cd "$crate" && rt lib --cpu "$level" 2>&1 </dev/null); then
-            rm -f "$began"
             printf '%s\n' "$said" >&2
             echo "$1: the build failed" >&2
             exit 1
         fi
         cp "$crate/out/libagefile.a" "$crate/out/$level.a"
-        mark "$crate/out/$level.built" "$level" "$began"
-        rm -f "$began"
+        mark "$crate/out/$level.built" "$level" "$crate/out/built.began"
     done
 }
 

@@ -13,15 +13,15 @@ from program import AT_A_TIME, read, scratch, write
 from test_packages import run
 from test_releases import AUTHOR, HERE, ROOT
 
-# Counts the calls of all tools, and makes one of them fail: it does nothing, or it does its work but
-# prints only a part of its output.
+# Counts the calls of all tools, and makes one of them fail: it does nothing, or what it can on a full
+# disk, where files stay empty and only the beginning of its output arrives.
 COUNTED = """set -C
 run=${{TMPDIR%/*}} name=${{0##*/}} n=1 PATH={path}
 until true >"$run/calls/$n"; do n=$((n + 1)); done 2>/dev/null
 echo "$name $*" >|"$run/calls/$n"
 read -r number how <"$run/fails"
 [ $n -eq $number ] || exec "$name" "$@"
-[ $how = nothing ] || [ $name = mktemp ] || "$name" "$@" | head -c 100
+[ $how = nothing ] || [ $name = mktemp ] || (trap "" XFSZ; ulimit -f 0; "$name" "$@") | head -c 100
 exit 1"""
 # What each of these makes has the sums of all that it is made of, so that no difference is lost.
 SUMS = """sums() { find "$@" -type f ! -path "*/.git/*" -exec cksum {} + | sed "s|/[^ ]*/||" | sort; }

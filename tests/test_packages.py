@@ -190,13 +190,13 @@ class Packages(unittest.TestCase):
 
     def test_instructions(self):
         """Each program has a build for x86-64-v3, and one without any instruction that a processor of the level
-        x86-64 may lack: a third of its instructions are in one row. In the archives each function of the proved
+        x86-64 may lack: a quarter of its instructions are in one row. In the archives each function of the proved
         code occurs twice."""
         for name, path in self.programs():
             with self.subTest(f"{name}: {path.name}"):
                 row, newer, every = instructions_of(path)
                 self.assertGreater(newer, 1000)
-                self.assertGreater(row, every / 3)
+                self.assertGreater(row, every / 4)
         for pattern in ("libagefile-dev_*.deb", "agep-*.tar.xz"):
             (archive,) = self.unpacked(pattern).rglob("libagefile.a")
             with self.subTest(f"{pattern}: libagefile.a"):
