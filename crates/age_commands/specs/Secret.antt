@@ -1,15 +1,16 @@
 -- The meaning of a job's secrets and limits.
 use Rattle.std.specs.Prelude.{◌^◌, ◌∷◌}
-use Rattle.age_commands.specs.Words.{ℕ, List, [], map, Result, Ok, Bytes, StanzaParts, Bounds, Gathered, Gathering, Answering, Job}
+use Rattle.std.specs.List.{list_any}
+use Rattle.age_commands.specs.Words.{ℕ, Bool, List, [], map, Result, Ok, Bytes, StanzaParts, Bounds, Gathered, Gathering, Answering, Job}
 use Rattle.age_header.specs.declared.file_key.FileKey.{FileKey}
 use Rattle.age_recipient.specs.declared.labels.Labels.{Labels}
 use Rattle.age_recipient.specs.declared.labels.Labels.TheVariants.{Alone, Names}
 use Rattle.age_recipient.specs.declared.unwrapped.Unwrapped.{Unwrapped}
-use Rattle.age_recipient.specs.Answer.{decision}
+use Rattle.age_recipient.specs.Answer.{decision, is_of}
 use Rattle.age_recipient.specs.KeyedHolders.{key_unwraps}
-use Rattle.age_recipient.specs.KeyedStanza.{keyed_answer, keyed_stanza}
+use Rattle.age_recipient.specs.KeyedStanza.{keyed_answer, keyed_stanza, keyed_type}
 use Rattle.age_recipient.specs.PassphraseHolders.{pass_unwraps, pass_wraps}
-use Rattle.age_recipient.specs.PassphraseStanza.{pass_answer, pass_stanza}
+use Rattle.age_recipient.specs.PassphraseStanza.{pass_answer, pass_stanza, scrypt_type}
 use Rattle.age_commands.specs.declared.identity.SecretIdentity.{SecretIdentity}
 use Rattle.age_commands.specs.declared.identity.SecretIdentity.TheVariants as identity
 use Rattle.age_commands.specs.declared.recipient.SecretRecipient.{SecretRecipient}
@@ -48,6 +49,11 @@ keys_unwrap keys stanzas = decision (map (λ key. key_unwraps key stanzas) keys)
 abbrev pub unwraps_of : (identity : SecretIdentity) (stanzas : List StanzaParts) → Unwrapped
 unwraps_of (identity.Passphrase guess) stanzas = pass_unwraps guess stanzas
 unwraps_of (identity.Keys keys) stanzas = keys_unwrap keys.items stanzas
+
+-- whether a stanza is of the type of a secret's identity
+abbrev pub has_own : (identity : SecretIdentity) (stanzas : List StanzaParts) → Bool
+has_own (identity.Passphrase guess) stanzas = list_any (is_of scrypt_type) stanzas
+has_own (identity.Keys keys) stanzas = list_any (is_of keyed_type) stanzas
 
 -- the recipient of a secret
 abbrev pub recipient_of : (secret : Secret) (work : ℕ) (salt : Bytes) → SecretRecipient

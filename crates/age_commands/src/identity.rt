@@ -1,6 +1,9 @@
 //! The identity of a secret.
-ghost use Rattle.std.specs.Prelude.{◌≡◌, ◌∷◌, [], IfOk, box_value};
+ghost use Rattle.std.specs.Prelude.{◌≡◌, ◌∷◌, [], true, IfOk, IfErr, box_value};
+ghost use Rattle.std.specs.List.{list_any};
 ghost use Rattle.age_job.specs.Job.{IsInRange};
+ghost use Rattle.age_recipient.specs.Answer.{is_of};
+ghost use Rattle.age_recipient.specs.KeyedStanza.{keyed_type};
 ghost use Rattle.age_commands.specs.Secret.{answers_of, keys_unwrap, unwraps_of};
 
 use age_file::{Identity, KeyIdentity, PassError, PassIdentity, Stanza, Unwrapped};
@@ -39,9 +42,11 @@ impl SecretIdentity {
 }
 
 impl Identity for SecretIdentity {
-    ghost use Rattle.age_commands.specs.Secret.{unwraps_of};
+    ghost use Rattle.age_commands.specs.Secret.{has_own, unwraps_of};
 
     ghost meaning = { λ identity stanzas. unwraps_of identity stanzas };
+
+    ghost may_run_out = { λ identity stanzas. has_own identity stanzas };
 
     fn unwrap(&self, alloc: Global, stanzas: &[Stanza]) -> Result<Unwrapped, AllocError> {
         match self {
@@ -57,7 +62,8 @@ fn unwrap_by_keys(
     keys: &[[u8; 32]],
     stanzas: &[Stanza],
 ) -> Result<Unwrapped, AllocError>
-    ensures { IfOk result (λ answer. answer ≡ keys_unwrap keys.now stanzas.now) }
+    ensures answer { IfOk result (λ answer. answer ≡ keys_unwrap keys.now stanzas.now) }
+    ensures memory { IfErr result (λ _. list_any (is_of keyed_type) stanzas.now ≡ true) }
 {
     let mut so_far = Unwrapped::NotMine;
     for key in keys {

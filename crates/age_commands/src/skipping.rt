@@ -1,5 +1,5 @@
 //! A source that continues after what cannot be read.
-ghost use Rattle.std.specs.Prelude.{◌≡◌, ◌≤◌, ◌<◌, ◌+◌, ◌-◌, ◌^◌, [], None, true, min, IfSome, length, replicate, take};
+ghost use Rattle.std.specs.Prelude.{◌≡◌, ◌≤◌, ◌<◌, ◌+◌, ◌-◌, ◌^◌, [], None, Some, true, min, IfSome, length, replicate, take};
 ghost use Rattle.age_header.specs.Device.{Known};
 ghost use Rattle.age_commands.specs.Skipping.{HasRead, come_by, is_end, unread_len};
 
@@ -130,6 +130,10 @@ fn pass_over<R: Seek>(reader: &mut R, buf: &mut [u8]) -> Option<(u64, usize)>
     ensures len { length buf.new ≡ length buf.old }
     ensures zeros { IfSome result
         (λ r. (r.1 ≤ length buf.new) × (take r.1 buf.new ≡ replicate r.1 0)) }
+    // No more zeros follow than the file has bytes, and the reader goes on behind them.
+    ensures within { IfSome (R.stream_position reader.old) (λ at. IfSome (R.stream_bytes reader.old)
+        (λ bytes. IfSome result (λ r. (r.0 ≡ at) × (0 < r.1) × (at + r.1 ≤ length bytes)
+        × (R.stream_position reader.new ≡ Some (at + r.1))))) }
 {
     let at = reader.stream_position().ok()?;
     let end = reader.seek(SeekFrom::End(0)).ok()?;

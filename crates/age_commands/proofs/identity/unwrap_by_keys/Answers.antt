@@ -2,8 +2,8 @@ use Rattle.age_commands.proofs.Common.{decision_from, key_unwraps}
 use Rattle.age_commands.proofs.SecretLemmas.{keys_step}
 use Rattle.age_commands.proofs.identity.unwrap_by_keys.Goals as goal
 
-pub returns-in-Err : goal.returns-in-Err
-returns-in-Err c =
+pub returns-in-Err-clause-answer : goal.returns-in-Err-clause-answer
+returns-in-Err-clause-answer c =
     let answer = rw c.new.ensures at c.in_ok-unwrap.ensures.answer in
     keys_step (λ k. key_unwraps k c.args.stanzas.now) c.args.keys.now c.loop-key.so_far (λ more. c.in-Err.decision)
     c.loop-key-test.true answer c.in-Err.ensures.decides c.loop-key.invariant
