@@ -378,7 +378,7 @@ def malformed_keyed():
         (BODY_LENGTH, (
             ("body_31", "the body has 31 bytes", key_lines(body=body[:31])), ("body_33", "the body has 33 bytes", key_lines(body=body + b"\0")),
             ("body_empty", "the body is empty", key_lines(body=b"")),
-            ("malformed_before", "a malformed stanza comes before one that opens", key_lines(body=b"") + KEYED),
+            ("malformed_before", "a malformed stanza comes before one that opens", key_lines(body=body[:31]) + KEYED),
         )),
     ):
         yield from files("key", fault, rows, BY_KEY)
@@ -393,7 +393,7 @@ def keyed():
     ), BY_KEY)
     yield from files("key", OPENS, (
         ("first", "the key's stanza is the first of two", KEYED + other), ("twice", "the same stanza occurs twice", KEYED * 2),
-        ("malformed_behind", "a malformed stanza follows one that opens", KEYED + key_lines(body=b"")), *among_others(KEYED, other, X),
+        ("malformed_behind", "a malformed stanza follows one that opens", KEYED + key_lines(body=body[:31])), *among_others(KEYED, other, X),
     ), BY_KEY)
     yield from files("key", OPENS, [("second_of_two_keys", "the second of two keys opens the file", KEYED)], (key_identity(OTHER_KEY), *BY_KEY))
     yield from files("key", WRONG_KEY, [("none_of_two_keys", "neither of two keys opens the file", KEYED)], (key_identity(OTHER_KEY), key_identity(third)))

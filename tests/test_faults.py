@@ -112,6 +112,8 @@ class Order(Files):
             "inspect",
             ("FileKeyLength", "-f empty nowhere.age"),
             ("FileKeyLength", "-f short.key nowhere.age"),
+            ("FileKeyLength", "-f <(head -c 15 seed) nowhere.age"),
+            ("FileKeyLength", "-f <(head -c 17 seed) nowhere.age"),
             ("CannotOpen: absent", "-f absent nowhere.age"),
             ("CannotOpen: nowhere.age", "nowhere.age"),
             ("Read", "folder"),

@@ -38,7 +38,7 @@ class Tables(ProgramCase):
     def test_tables(self):
         """inspect prints the table, even if bytes follow the header; with -r it prints the header."""
         rows = [
-            (76, "-> a\n\n"), (78, "-> a\nAA\n"), (149, f"-> scrypt {ZERO_SALT} 9\n{ZERO_MAC}\n"),
+            (76, "-> a\n\n"), (78, "-> a\nAA\n"), (150, f"-> scrypt {ZERO_SALT} 18\n{ZERO_MAC}\n"),
             (185, f"-> X25519 {ZERO_MAC}\n{ZERO_MAC}\n-> abc-grease x\n\n"),
             (242, f"-> example.org/key {ZERO_SALT}\n{ZERO_MAC}\n" * 2),
             (230, f"-> plug\n{'A' * 64}\n\n-> example.org/key {ZERO_SALT}\n{ZERO_MAC}\n"),
@@ -81,6 +81,7 @@ class Tables(ProgramCase):
         rows = [
             ("65,536 bytes in 21,822 lines", header_of("-> a\n\n" * 10911), 65536, None),
             ("65,537 bytes", header_of("-> a\n\n" * 10910 + "-> aa\n\n"), 65537, message("HeaderTooLarge")),
+            ("10,912 stanzas", header_of("-> a\n\n" * 10912), 65542, message("HeaderTooLarge")),
             ("30,000 arguments", header_of("->" + " a" * 30000 + "\n\n"), 60074, None),
         ]
         for title, header, size, line in rows:

@@ -45,16 +45,17 @@ fn read(alloc: Global, text: &[u8], max: usize) -> Result<(usize, usize), Header
     Ok((header.stanzas().len(), left))
 }
 
-/// Each row but `one byte` has the name of a vector of `tests/make_vectors.py` with this line.
+/// Each row but `one byte` and `xyz` names a vector of `tests/make_vectors.py` with this line.
 #[test]
 fn reader_accepts_headers_and_numbers_bad_lines(rt: HostRuntime) {
     let alloc = rt.alloc();
     let good = Ok((1, 0));
     let bad = |n| Err(HeaderFault::BadLine(n));
     let cut = Err(HeaderFault::Truncated);
-    let rows: [(&str, &[&[u8]], Result<(usize, usize), HeaderFault>); 15] = [
+    let rows: [(&str, &[&[u8]], Result<(usize, usize), HeaderFault>); 16] = [
         ("mac_changed", &[VERSION, b"-> a\n\n", OTHER_END], good),
         ("one byte", &[VERSION, b"-> a\nAA\n", END], good),
+        ("xyz", &[VERSION, b"-> a\n\n", END, b"xyz"], Ok((1, 3))),
         ("body_not_canonical", &[VERSION, b"-> a\nAB\n", END], bad(3)),
         ("body_one_sign", &[VERSION, b"-> a\nA\n", END], bad(3)),
         (
