@@ -3,6 +3,7 @@ words that users do not know, the toolchain, the sentence of each clause, the cl
 planted bug, programs that the compiler must refuse."""
 
 import ast
+import collections
 import concurrent.futures
 import glob
 import importlib.machinery
@@ -292,26 +293,9 @@ def changes(lines):
     return found
 
 
-# Mistakes that an implementer of the format would make. The gate must have an edit for each of
-# them.
-WRONG_BODIES = """
-aead_buffer_decrypted_on_refusal base64_trailing_bits_accepted
-buffer_zeroed_after_a_damaged_chunk byte_after_a_full_last_piece_ignored
-chunk_0_opened_with_each_other chunk_nonce_last_flag_in_front chunk_nonce_of_64_bits
-decrypt_holds_its_output_back_to_the_end decryptor_accepts_a_mixed_header
-empty_last_piece_accepted full_body_line_ends_the_body
-full_last_chunk_followed_by_an_empty_one header_reader_reads_one_byte_too_many
-identity_asked_after_a_malformed_stanza kept_chunk_read_again kept_chunk_taken_for_another
-mac_covers_the_space no_match_reported_as_wrong_key open_reads_two_pieces
-passphrase_pair_passphrase_is_empty plaintext_written_unencrypted poly1305_sum_not_reduced
-read_fault_invented_at_open read_fault_invented_by_decrypt
-rewrap_encrypts_the_payload_again rewrap_skips_the_old_mac
-scrypt_run_before_the_body_length_check scrypt_stanza_beside_one_other_accepted
-scrypt_stanza_written_beside_another short_read_taken_for_the_end
-source_read_after_too_many_chunks stanzas_of_recipient_0_alone_kept
-truncated_payload_read_as_whole two_passphrases_go_together unverified_chunk_accepted
-work_factor_with_a_leading_zero_accepted write_fault_invented_for_a_long_piece
-""".split()
+# The mistakes that an implementer of the format would make: the name of each edit, once for each
+# right text of its twin.
+TWINS = collections.Counter(re.findall(r"^(\w+): ", text_of(TESTS + "/planted/twins"), re.MULTILINE))
 
 
 class PlantedBugs(unittest.TestCase):
@@ -344,11 +328,14 @@ class PlantedBugs(unittest.TestCase):
         self.assertTrue(names)
         self.assertEqual({name for name in names if names.count(name) > 1}, set())
 
-    def test_wrong_bodies(self):
-        """The gate has an edit for each mistake that an implementer would make."""
+    def test_twins(self):
+        """The gate has an edit for each mistake that an implementer would make; its twin has as many changes."""
         edits = glob.glob(ROOT + "/crates/*/must-fail/*.edit")
-        in_gate = {os.path.basename(edit)[: -len(".edit")] for edit in edits}
-        self.assertEqual(set(WRONG_BODIES) - in_gate, set())
+        in_gate = {os.path.basename(edit)[: -len(".edit")]: text_of(edit) for edit in edits}
+        self.assertGreater(len(TWINS), 36)
+        for name, texts in TWINS.items():
+            with self.subTest(name):
+                self.assertEqual(texts, in_gate[name].count("\nnew: "))
 
     def test_clauses(self):
         """The first line of each bug for the prover names a clause of its crate, or of one below."""
