@@ -13,8 +13,8 @@ from program import AT_A_TIME, read, scratch, write
 from test_packages import run
 from test_releases import AUTHOR, HERE, ROOT
 
-# Counts the calls of all tools, and makes one of them fail: it does nothing, or what it can on a full
-# disk, where files stay empty and only the beginning of its output arrives.
+# Counts the calls of all tools, and makes one of them fail: it does nothing, or what it can on a
+# full disk, where files stay empty and only the beginning of its output arrives.
 COUNTED = """set -C
 run=${{TMPDIR%/*}} name=${{0##*/}} n=1 PATH={path}
 until true >"$run/calls/$n"; do n=$((n + 1)); done 2>/dev/null
