@@ -131,7 +131,7 @@ fn reader_goes_on_after_each_failed_read() {
 fn reader_goes_on_however_often_its_source_would_block() {
     for (len, most, from) in [(1000, 100, 0), (70_000, 1, 0), (300_000, 20_000, 0), (300_000, 20_000, 5)] {
         let plain = text(len);
-        let (came, errors) = read_on(&mut Device::new(sealed(&plain).0).by(most).blocking(from), usize::MAX);
+        let (came, errors) = read_on(&mut Device::new(sealed(&plain).0).by(most).blocking(from), 100_000);
         assert!(came == plain && errors.len() > 5, "{len} bytes, {} errors", errors.len());
         assert!(errors.iter().all(|error| error.kind() == ErrorKind::WouldBlock));
     }

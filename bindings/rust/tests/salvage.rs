@@ -60,7 +60,7 @@ fn damaged_and_whole_files() {
     }
     assert_lost(Cursor::new(&damaged), &[(0..1, false), (2..4, false)]);
     // From a file object's position on.
-    let bad = 1000 + front + 3 * SEALED + 9;
+    let bad = 1000 + front + 4 * SEALED - 9;
     let mut later = disk(&[vec![1; 1000], damaged].concat(), &[(bad, bad + 1)]);
     later.file.set_position(1000);
     assert_lost(later, &[(0..1, false), (2..3, false), (3..4, true)]);
