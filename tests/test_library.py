@@ -628,6 +628,20 @@ class WithTheProgram(unittest.TestCase):
             with self.subTest(f"{length} bytes"):
                 self.makes_no_file(run(built("breaks", "-O2"), length, stream, "-e", work() / "key"))
 
+    def test_outputs_that_fail(self):
+        """Each example fails if it cannot write, whatever it writes first."""
+        stream = built("stream", *sanitizers(), source=EXAMPLES / "stream.c")
+        parallel = built("parallel", "-O2", source=EXAMPLES / "parallel.c")
+        for size in SIZES:
+            (work() / "plain").write_bytes(os.urandom(size))
+            (work() / "made").write_bytes(sealed_by(stream, (work() / "plain").read_bytes()))
+            for name, words in (("plain", ("-e",)), ("made", ())):
+                with self.subTest(f"{size} bytes, {name}"), open(work() / name, "rb") as source, open("/dev/full", "wb") as full:
+                    status = 1 if words or size else 0
+                    run(parallel, *words, work() / "key", "3", work() / name, "/dev/full", status=status)
+                    done = subprocess.run([stream, *words, work() / "key"], stdin=source, stdout=full, stderr=subprocess.PIPE)
+                    self.assertEqual(done.returncode, status, done.stderr)
+
     def makes_no_file(self, done):
         self.assertEqual((done.returncode, done.stderr), (1, b"stream: read failed\n"))
         self.assertNotEqual(self.agep("decrypt", "-k", "key", input=done.stdout).returncode, 0)
