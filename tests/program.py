@@ -48,9 +48,11 @@ def made_once(make):
 
 @made_once
 def fixture_folder():
-    folder = scratch() + "/fixture"
-    fixture.make(folder)
-    return folder
+    """The folder of fixture.py, which tests/unit.py makes once for all of its processes."""
+    if "FIXTURE" not in os.environ:
+        os.environ["FIXTURE"] = scratch() + "/fixture"
+        fixture.make(os.environ["FIXTURE"])
+    return os.environ["FIXTURE"]
 
 
 def copy_fixture(folder):

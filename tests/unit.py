@@ -102,6 +102,7 @@ def run_apart(name):
 def run_all(names):
     """Runs the tests of these names in parallel, and adds up their last lines."""
     passed = failed = 0
+    program.fixture_folder()
     with concurrent.futures.ThreadPoolExecutor(program.AT_A_TIME) as pool:
         for name, text in zip(names, pool.map(run_apart, names)):
             *lines, last = text.rstrip("\n").split("\n")
