@@ -177,6 +177,8 @@ build_program() {
     fi
     seconds=$(date +%s)
     mkdir -p "${built%/*}"
+    # A build that fails may leave a part of the program.
+    rm -f "$built"
     : >"$built.began"
     libraries age_cli
     show proving agep
@@ -236,6 +238,7 @@ build_library() {
         need_rt "$1" library
         echo "$1: building the library for $level; its proofs are checked first" >&2
         mkdir -p "$crate/out"
+        rm -f "$crate/out/$level.built"
         : >"$crate/out/built.began"
         libraries age_file
         if ! said=$(cd "$crate" && rt lib --cpu "$level" 2>&1 </dev/null); then

@@ -109,7 +109,7 @@ class Fails(unittest.TestCase):
         git = ("git", "--no-optional-locks", "-C", folder / "tree")
         found = {words: subprocess.check_output([*git, *words.split()], text=True) for words in ("log -1 --format=%s%d", "status --porcelain", "diff HEAD")}
         program = folder / "tree/crates/agep/out"
-        for path in [*(folder / "result").rglob("*"), program / "agep", program / "built"]:
+        for path in [*(folder / "result").rglob("*"), *(program.glob("agep") if (program / "built").exists() else ()), program / "built"]:
             if path.is_symlink() or path.is_file():
                 content = os.readlink(path) if path.is_symlink() else b"\n".join(path.read_bytes().split(b"\n")[: 2 if path.name == "built" else None])
                 found[path.relative_to(folder)] = f"{path.lstat().st_mode:o}", content
@@ -120,8 +120,8 @@ class Fails(unittest.TestCase):
         folder, status, said = self.start(source, line, number, how)
         call = read(folder / f"calls/{number}").decode().strip() if (folder / f"calls/{number}").exists() else "rm"
         after = self.state(folder)
-        # ./package deletes the packages of an earlier run before it moves the new ones.
-        names = {*after} if "package" in line else {*after, *old, *new}
+        # Others than ./install may delete what was there before they put the new files.
+        names = {*after, *old, *new} if "install" in line else {*after}
         wrong = {name for name in names if after.get(name) not in (old.get(name), new.get(name))}
         if status == 0:
             wrong |= {name for name in {*after, *new} if after.get(name) != new.get(name)}
