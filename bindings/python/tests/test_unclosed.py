@@ -103,6 +103,7 @@ def tar(file, error=None):
 ENDS = {
     "with": ("with new() as file: part(file); part(file)", "whole", False),
     "with, an exception": ("with new() as file: part(file); 1 / 0", "refused", True),
+    "with, Ctrl-C": ("with new() as file: part(file); signal.raise_signal(signal.SIGINT)", "refused", True),
     "Ctrl-C, close": ("interrupted(new(), lambda file: file.close())", "refused", True),
     "Ctrl-C, commit": ("interrupted(new(), lambda file: file.commit())", "whole", False),
     "Ctrl-C, commit of text": ("interrupted(new('w'), lambda file: file.commit())", "whole", False),
@@ -115,7 +116,6 @@ ENDS = {
     "to_thread(commit)": ("asyncio.run(awaited())", "whole", False),
     "aiofiles": ("asyncio.run(with_aio(None))", "whole", False),
     "aiofiles, an exception": ("asyncio.run(with_aio(ConnectionError()))", "refused", True),
-    "a cancelled task": ("with contextlib.suppress(asyncio.CancelledError): asyncio.run(with_aio(asyncio.CancelledError()))", "refused", True),
     "an executor": ("with contextlib.suppress(ConnectionError): in_pool(new(), lambda file: file.close)", "refused", True),
     "an executor, text": ("with contextlib.suppress(ConnectionError): in_pool(new('w'), lambda file: file.close)", "refused", True),
     "atexit": ("file = new(); atexit.register(file.close); part(file); part(file)", "whole", False),
