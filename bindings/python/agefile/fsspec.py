@@ -28,6 +28,7 @@ from typing import Any
 import fsspec  # type: ignore[import]
 from fsspec.implementations import cached  # type: ignore[import]
 from fsspec.implementations.local import LocalFileSystem  # type: ignore[import]
+from fsspec.mapping import FSMap  # type: ignore[import]
 from fsspec.spec import AbstractFileSystem  # type: ignore[import]
 from fsspec.utils import tokenize  # type: ignore[import]
 
@@ -334,4 +335,19 @@ def _restore(fs: Any, words: Any, keys: dict[str, tuple[str, bytes]], token: str
     return found
 
 
+_getitems = FSMap.getitems
+
+
+def _getitems_or_error(self: Any, keys: Any, on_error: str = "raise") -> dict[Any, Any]:
+    """Raises an AgeError from below another file system, such as `zip::age://a.zip.age`, whose
+    `cat` leaves it out: zarr takes what is left out for zeros."""
+    found = _getitems(self, keys, "return" if on_error == "omit" else on_error)
+    errors = {key: value for key, value in found.items() if isinstance(value, Exception)}
+    for error in errors.values():
+        if isinstance(error, AgeError):
+            raise error
+    return {key: found[key] for key in found if on_error != "omit" or key not in errors}
+
+
+FSMap.getitems = _getitems_or_error
 fsspec.register_implementation("age", AgeFileSystem, clobber=True)
