@@ -8,7 +8,9 @@
 
 Names are those of the file system below. Each worker reads and opens only the chunks of its own
 blocks. Damage in one block fails only the task of that block; the error has the file and the number
-of the chunk. Damage in the header or in the last chunk fails every task.
+of the chunk. Damage in the header or in the last chunk fails every task. Do not replace a file
+between the making of a table and its computation: Dask then reads as many bytes as the old file
+had, of plain files too.
 
 The file system keeps the key of each file's payload as long as the file is unchanged, so scrypt
 runs once for each file. The pickle of the file system for a worker contains these keys: whoever has
