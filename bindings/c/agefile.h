@@ -329,8 +329,7 @@ enum agefile_saved {
     AGEFILE_SAVED_PADDED = 6 /* the text of the last chunk, and up to 4,095 bytes follow it */
 };
 
-/* What the plaintext is after the last chunk, or 0 if it is neither. After a lost chunk, an
- * AGEFILE_SAVED_NONE counts as cut short, too, although its bytes may follow the end. */
+/* What the plaintext is after the last chunk, or 0 if it is neither: */
 enum agefile_verdict {
     AGEFILE_WHOLE = 1, /* complete and genuine: agefile_open_next opens all chunks */
     AGEFILE_CUT = 2    /* cut short: chunks that are not there followed the last one */
