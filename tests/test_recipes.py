@@ -1,16 +1,21 @@
 """The recipes of docs/USE.md that a transcript cannot run: the crontab and the service of systemd, with the
-program as ./install installs it, in an environment like theirs. The commands of CONTRIBUTING.md for one
-crate."""
+program as ./install installs it, in an environment like theirs; passphrases typed at a terminal, also by the
+lines of README.md and the manual page; files of other programs. The commands of CONTRIBUTING.md for one crate."""
 
+import base64
 import os
 import re
 import shlex
 import shutil
+import signal
 import subprocess
+import textwrap
+import time
 import unittest
 
-from messages import message
-from program import ROOT, made_once, read, scratch, write
+import fixture
+from program import AGEP, ROOT, ProgramCase, made_once, read, scratch, write
+from terminal import Terminal
 
 PASSPHRASE = b"correct horse\n"
 
@@ -23,9 +28,19 @@ def installed():
     return prefix
 
 
+def text_of(page):
+    return read(f"{ROOT}/{page}").decode()
+
+
+def lines_below(heading):
+    """The lines of the block of sh below this heading of docs/USE.md."""
+    section = text_of("docs/USE.md").partition(f"\n### {heading}\n")[2].partition("\n### ")[0]
+    return section.partition("```sh\n")[2].partition("```")[0].splitlines()
+
+
 def block(kind):
     """The block of this kind in docs/USE.md, with scratch folders in place of the system's."""
-    (text,) = re.findall(f"^```{kind}\n(.*?)^```$", read(ROOT + "/docs/USE.md").decode(), re.MULTILINE | re.DOTALL)
+    (text,) = re.findall(f"^```{kind}\n(.*?)^```$", text_of("docs/USE.md"), re.MULTILINE | re.DOTALL)
     root = scratch()
     for name in ("srv", "etc"):
         os.mkdir(f"{root}/{name}")
@@ -35,46 +50,275 @@ def block(kind):
 
 
 def run(line, **environment):
-    done = subprocess.run(["/bin/sh", "-c", line], env=environment, stdin=subprocess.DEVNULL, capture_output=True, timeout=60)
-    return done.stdout + done.stderr
+    """What the line prints, on standard output and standard error."""
+    return subprocess.run(
+        ["/bin/sh", "-c", line], env=environment, stdin=subprocess.DEVNULL, stdout=subprocess.PIPE, stderr=subprocess.STDOUT, timeout=60
+    ).stdout
+
+
+class Blocks(unittest.TestCase):
+    def test_each_runs(self):
+        """A transcript runs the blocks of docs/USE.md with commands and output; a test of this file all others."""
+        page = text_of("docs/USE.md")
+        kinds = [kind for kind in re.findall("^```(.*)$", page, re.MULTILINE) if kind not in ("", "console")]
+        self.assertEqual(sorted(kinds), ["crontab", "ini", "sh", "sh", "sh"])
+        for heading in ("Make a passphrase or a key file", "Type a passphrase", "Move from age or gpg"):
+            self.assertTrue(lines_below(heading), heading)
+
+    def test_secrets(self):
+        """The lines that make a passphrase and a key make files that only their owner can read."""
+        os.chdir(scratch())
+        self.addCleanup(os.chdir, "/")
+        for line in lines_below("Make a passphrase or a key file"):
+            subprocess.run(["bash", "-c", line], check=True)
+        self.assertEqual({name: (os.stat(name).st_mode & 0o777, os.stat(name).st_size) for name in os.listdir(".")},
+                         {"passphrase": (0o600, 25), "key": (0o600, 32)})
 
 
 class Cron(unittest.TestCase):
+    SAYS = "data.age was not replaced\n"
+
     def setUp(self):
-        table = block("crontab")
-        path, self.first, self.job = re.fullmatch(r"PATH=(\S+)\n@reboot (.*)\n(?:\S+ ){5}(.*)\n", table).groups()
+        self.path, self.job = re.fullmatch(r"PATH=(\S+)\n(?:\S+ ){5}(.*)\n", block("crontab")).groups()
         self.assertNotIn("%", self.job, "cron ends a line there")
-        self.path = path
         os.mkdir("data")
         write("data/a", b"text")
+        write("data.age", b"old")
         self.secret = re.search(r"-p (\S+)", self.job)[1]
         write(self.secret, PASSPHRASE)
 
+    def environment(self):
+        return {"PATH": self.path, "HOME": "/", "SHELL": "/bin/sh", "LOGNAME": "root"}
+
     def says(self, expected):
-        said = run(self.job, PATH=self.path, HOME="/", SHELL="/bin/sh", LOGNAME="root").decode()
-        self.assertEqual(said, expected)
+        self.assertEqual(run(self.job, **self.environment()).decode(), expected)
+
+    def replace_tar(self, *lines):
+        """Puts a program of these lines in place of tar."""
+        os.mkdir("bin")
+        write("bin/tar", "\n".join(["#!/bin/bash", *lines, ""]).encode())
+        os.chmod("bin/tar", 0o755)
+        self.path = f"{os.getcwd()}/bin:{self.path}"
+
+    def assert_backup(self, text):
+        opened = run(f"agep decrypt -p {self.secret} data.age | {shutil.which('tar')} xO data/a", PATH=self.path)
+        self.assertEqual(opened, text)
 
     def test_backup(self):
         """It prints nothing, and the backup contains the file."""
         self.says("")
-        opened = run(f"agep decrypt -p {self.secret} data.age | tar xO data/a", PATH=self.path)
-        self.assertEqual(opened, b"text")
+        self.assert_backup(b"text")
 
-    def test_locked(self):
-        """While another run is writing the new file, two lines say so; it is removed when the machine starts."""
-        new = "data.age.new.agep-new"
-        write(new, b"half")
-        self.says(f"agep: {message('NewFileExists', new)}\nagep: {new}: if no agep is writing it, remove it\n")
-        self.assertFalse(os.path.exists("data.age"))
-        self.assertEqual(run(self.first, PATH=self.path), b"")
-        self.assertFalse(os.path.exists(new))
+    def test_in_use(self):
+        """A file that grows while tar reads it does not prevent the backup; tar names it."""
+        write("data/a", bytes(200000))
+        self.replace_tar(f"exec -a tar {shutil.which('tar')} \"$@\" --checkpoint=10 --checkpoint-action=exec='echo >>data/a'")
+        self.says("tar: data/a: file changed as we read it\n")
+        self.assert_backup(bytes(200000))
 
     def test_failure(self):
         """The reason is printed, and the old backup stays."""
-        write("data.age", b"old")
-        os.remove(self.secret)
-        self.says(f"agep: cannot open {self.secret}\nagep: opening {self.secret}: No such file or directory\n")
+        os.rename("data", "other")
+        said = run(self.job, **self.environment()).decode()
+        self.assertRegex(said, "^tar: data: Cannot stat: .*\n(.*\n)*data.age was not replaced\n$")
         self.assertEqual(read("data.age"), b"old")
+        os.rename("other", "data")
+        os.remove(self.secret)
+        self.says(f"agep: cannot open {self.secret}\nagep: opening {self.secret}: No such file or directory\n{self.SAYS}")
+        self.assertEqual(read("data.age"), b"old")
+
+    def start_half(self):
+        """Starts a run, which has sent a part of the archive to agep."""
+        self.replace_tar("head -c 1000000 /dev/zero", "echo >half", "exec sleep 60")
+        job = subprocess.Popen(["/bin/sh", "-c", self.job], env=self.environment(), stdin=subprocess.DEVNULL, stderr=subprocess.DEVNULL, start_new_session=True)
+        while not os.path.exists("half"):
+            time.sleep(0.01)
+        self.path = self.path.partition(":")[2]
+        return job
+
+    def test_running(self):
+        """While one runs, another one does not touch its files."""
+        job = self.start_half()
+        header = read("data.age.new")[:150]
+        self.assertTrue(header)
+        self.says(self.SAYS)
+        self.assertEqual((read("data.age"), read("data.age.new")[:150]), (b"old", header))
+        os.killpg(job.pid, signal.SIGKILL)
+        job.wait()
+
+    def test_killed(self):
+        """After a run that was killed, the next one makes the backup."""
+        job = self.start_half()
+        os.killpg(job.pid, signal.SIGKILL)
+        job.wait()
+        self.assertEqual(read("data.age"), b"old")
+        self.says("")
+        self.assert_backup(b"text")
+
+
+class Typed(ProgramCase):
+    """The lines that ask for a passphrase; the new one is one that a shell or a careless `read` would change."""
+
+    OLD, NEW = fixture.PASSPHRASE, b"  new \\horse$( "
+
+    def setUp(self):
+        super().setUp()
+        self.environment = {**os.environ, "PATH": f"{self.folder}/bin:{os.environ['PATH']}", "HISTFILE": f"{self.folder}/history",
+                            "PS1": "ready> ", "TERM": "dumb"}
+        for name in ("bin", "folder"):
+            shutil.rmtree(name, ignore_errors=True)
+            os.mkdir(name)
+        os.symlink(AGEP, "bin/agep")
+        write("folder/a", fixture.HELLO)
+        write("new", self.NEW)
+        for name in ("a.age", "notes.age", "numbers.age"):
+            shutil.copy("pass.age", name)
+        for name in ("typed.age", "passphrase.typed", "history", "trace"):
+            write(name, b"")
+            os.remove(name)
+
+    def answer(self, terminal, start):
+        """Types what the last prompt asks for, if the program waits at one."""
+        asked = re.search(rb"(\w+): (\(press TAB for no echo\) *)?$", terminal.said[start:])
+        if asked:
+            terminal.type_secret(self.OLD if asked[1] in (b"Passphrase", b"Password", b"Old") else self.NEW)
+        return len(terminal.said) if asked else start
+
+    def at_prompt(self, *lines):
+        """Types the lines at the prompt of a shell, and returns what the terminal shows."""
+        trace = ("strace", "-f", "-qq", "-v", "-s", "9999", "-e", "trace=execve", "-o", "trace")
+        terminal = Terminal(*trace, "bash", "--norc", "--noprofile", "-i", environment=self.environment)
+        start = 0
+        for line in (*lines, "exit"):
+            while not terminal.said[start:].endswith(b"ready> "):
+                self.assertTrue(terminal.reads(), terminal.said)
+                start = self.answer(terminal, start)
+            start = len(terminal.said)
+            terminal.type(line.encode())
+        terminal.status()
+        started = read("trace")
+        self.assertIn(b'["bash"', started)
+        self.assertIn(b"\nexit\n", read("history"))
+        self.assert_secret(terminal.said, read("history"), started)
+        return terminal.said
+
+    def in_script(self, *lines):
+        """Runs the lines in a script at a terminal."""
+        write("script", "\n".join(lines).encode())
+        terminal = Terminal("bash", "script", environment=self.environment)
+        start = 0
+        while terminal.reads():
+            start = self.answer(terminal, start)
+        self.assertEqual(terminal.status(), 0, terminal.said)
+        self.assert_secret(terminal.said)
+        return terminal.said
+
+    def assert_secret(self, *texts):
+        for text in texts:
+            for secret in (b"correct", b"horse"):
+                self.assertNotIn(secret, text)
+
+    def assert_done(self, line, said):
+        """What the line must have made or shown."""
+        if "rewrap" in line:
+            self.writes(fixture.HELLO, "decrypt", "-p", "new", "a.age")
+        elif "encrypt" in line:
+            self.writes(fixture.HELLO, "decrypt", "-p", "new", "typed.age")
+        elif "decrypt" in line:
+            self.assertIn(b"\nhello\r\n", said)
+        else:
+            self.assert_file("passphrase.typed", self.NEW)
+            self.assertEqual(os.stat("passphrase.typed").st_mode & 0o777, 0o600)
+
+    def test_lines(self):
+        """Each line works at a prompt and in a script; the passphrase is in no history and no argument."""
+        define, define_new, *lines = lines_below("Type a passphrase")
+        pages = text_of("README.md") + text_of("share/man/agep.1").replace("\\-", "-")
+        others = re.findall(r"^\(IFS= read (?:.*&&\n)?.*\)$", pages, re.MULTILINE)
+        self.assertEqual((len(lines), len(others)), (5, 2))
+        for line in lines + others:
+            for run_lines in (self.at_prompt, self.in_script):
+                if line.startswith("systemd") and not shutil.which("systemd-ask-password"):
+                    print("skipped: systemd-ask-password is missing")
+                    continue
+                with self.subTest(f"{run_lines.__name__}: {line}"):
+                    self.setUp()
+                    self.assert_done(line, run_lines(define, define_new, line))
+
+    def test_mistyped(self):
+        """A new passphrase that is typed differently the second time makes no file."""
+        define, define_new, *lines = lines_below("Type a passphrase")
+        for line in [line for line in lines if "ask_new" in line]:
+            with self.subTest(line):
+                self.setUp()
+                before = sorted(os.listdir(".")), read("a.age")
+                terminal = Terminal("bash", "-c", "\n".join([define, define_new, line]), environment=self.environment)
+                typed = 0
+                while terminal.reads():
+                    if terminal.said.count(b": ") > typed:
+                        typed += 1
+                        terminal.type_secret(b"%d" % typed)
+                self.assertEqual(terminal.status(), 1)
+                self.assertTrue(terminal.said.endswith(b"\r\nnot the same\r\n"), terminal.said)
+                self.assertEqual((sorted(os.listdir(".")), read("a.age")), before)
+
+
+class Moved(ProgramCase):
+    """The lines that open files of other programs, or encrypt them again."""
+
+    def setUp(self):
+        super().setUp()
+        self.ready, *self.lines = lines_below("Move from age or gpg")
+        self.environment = {**os.environ, "PATH": f"{os.path.dirname(AGEP)}:{os.environ['PATH']}"}
+        write("passphrase", fixture.PASSPHRASE)
+
+    def bash(self, line):
+        done = subprocess.run(["bash", "-c", line], env=self.environment, stdin=subprocess.DEVNULL, capture_output=True, timeout=60)
+        self.assertEqual(done.returncode, 0, done.stderr)
+        return done.stdout
+
+    def moves(self, program, *making):
+        (line,) = [line for line in self.lines if line.startswith(f"{program} ")]
+        if not shutil.which(program):
+            self.skipTest(f"{program} is missing")
+        for words in making:
+            self.bash(words)
+        self.bash(f"{self.ready}; {line}")
+        self.writes(fixture.HELLO, "decrypt", "-p", "passphrase", "new.age")
+        os.remove("new.age")
+
+    def test_armor(self):
+        """Armor is removed, with line ends of either kind."""
+        (line,) = [line for line in self.lines if "armored.age" in line]
+        for end in b"\n", b"\r\n":
+            with self.subTest(repr(end)):
+                lines = textwrap.wrap(base64.b64encode(read("pass.age")).decode(), 64)
+                armor = ["-----BEGIN AGE ENCRYPTED FILE-----", *lines, "-----END AGE ENCRYPTED FILE-----", ""]
+                write("armored.age", end.join(line.encode() for line in armor))
+                self.assertEqual(self.bash(f"{self.ready}; {line}"), fixture.HELLO)
+
+    def test_age(self):
+        self.moves("age", "age-keygen -o id.txt", 'age -r "$(age-keygen -y id.txt)" -o old.age hello')
+
+    def test_gpg(self):
+        self.environment["GNUPGHOME"] = scratch()
+        self.addCleanup(self.bash, "gpgconf --kill all")
+        self.moves("gpg", "gpg --batch --passphrase '' --quick-gen-key one", "gpg --batch --trust-model always -r one -o old.gpg -e hello")
+
+
+class Header(ProgramCase):
+    def test_lost_start(self):
+        """The copy of the first bytes restores each file whose first sector, or more, is lost."""
+        copy, use = (re.search(f"^\\$ ({start}.*)$", text_of("docs/USE.md"), re.MULTILINE)[1] for start in ("head -c 65552", "{ cat b.head"))
+        for name in ("empty.age", "key.age", "pass.age", "full.age", "plain.age", "two_keys.age"):
+            file = read(name)
+            for lost in 512, 4096, 65552:
+                with self.subTest(f"{name}, {lost} bytes"):
+                    write("b.age", file)
+                    subprocess.run(["bash", "-c", copy], check=True)
+                    write("lost.age", bytes(min(lost, len(file))) + file[lost:])
+                    done = subprocess.run(["bash", "-c", use.partition(" | ")[0]], capture_output=True)
+                    self.assert_bytes(done.stdout, file)
 
 
 class Systemd(unittest.TestCase):
@@ -143,7 +387,7 @@ ANSWERS = {
 class OneCrate(unittest.TestCase):
     def test_commands(self):
         """Each command of the table does what the table says. They run at once, each in its own tree."""
-        page = read(ROOT + "/CONTRIBUTING.md").decode()
+        page = text_of("CONTRIBUTING.md")
         self.assertEqual(re.findall(r"^\| `(rt .*?)` \|", page, re.MULTILINE), list(ANSWERS))
         with_jobs = re.findall("`(rt [^`]*)`", re.search("^.*take `--jobs N`", page, re.MULTILINE)[0])
         running = {}

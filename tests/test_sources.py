@@ -127,6 +127,13 @@ class Documents(unittest.TestCase):
                     self.assertTrue(os.path.isfile(target))
                     self.assertIn(anchor, {"", *anchors(text_of(target) if anchor else "")})
 
+    def test_contents(self):
+        """docs/USE.md begins with a list of its recipes, in order."""
+        page = text_of(ROOT + "/docs/USE.md")
+        listed = re.findall(r"\[([^]]*)\]\(#", " ".join(page.partition("\n## ")[0].split()))
+        recipes = re.findall("^### (.)(.*)$", page.partition("\n## Recipes\n")[2].partition("\n## ")[0], re.MULTILINE)
+        self.assertEqual(listed, [first.lower() + rest for first, rest in recipes])
+
     def test_paths(self):
         """Each path that a page names exists in the repository, in a crate, or where packages put their
         documents."""

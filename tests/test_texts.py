@@ -189,12 +189,13 @@ class Manual(unittest.TestCase):
         run_example("tar c folder | agep encrypt -k key -o folder.tar.age")
 
     def test_examples(self):
-        """Each of EXAMPLES runs in a plain shell. Its files open; if tar fails, the old backup stays."""
+        """Each of EXAMPLES runs in a plain shell, except for a typed passphrase (test_recipes.Typed). Its files
+        open; if tar fails, the old backup stays."""
         secrets = ("-p passphrase", "-p passphrase.new", "-k key", "-k recovery.key")
         opened = {"notes.age": "agep decrypt {} notes.age", "folder.tar.age": "agep decrypt {} folder.tar.age | tar xO folder/notes"}
         blocks = re.findall(r"^\.nf\n(.*?)^\.fi$", section("EXAMPLES"), re.MULTILINE | re.DOTALL)
         self.assertGreater(len(blocks), 5)
-        for block in blocks:
+        for block in [block for block in blocks if "read -rsp" not in block]:
             with self.subTest(block.split("\n")[0]):
                 self.enter_backups()
                 if ">key" in block:
