@@ -245,6 +245,21 @@ class Typed(ProgramCase):
                     self.setUp()
                     self.assert_done(line, run_lines(define, define_new, line))
 
+    @unittest.skipUnless(os.geteuid() == 0 and shutil.which("systemd-ask-password"), "not root, or systemd is missing")
+    def test_service(self):
+        """Without a terminal, as in a service, the passphrase is typed at systemd's agent."""
+        line = lines_below("Type a passphrase")[-1]
+        with subprocess.Popen(
+            ["bash", "-c", line], env=self.environment, stdin=subprocess.DEVNULL, stdout=subprocess.PIPE, start_new_session=True
+        ) as service:
+            asked = "until ls /run/systemd/ask-password/ask.*; do sleep 0.1; done >/dev/null 2>&1"
+            agent = Terminal("bash", "-c", f"{asked}; exec systemd-tty-ask-password-agent --query")
+            while b"no echo" not in agent.said:
+                self.assertTrue(agent.reads(), agent.said)
+            agent.type_secret(self.OLD)
+            self.assertEqual((agent.status(), service.communicate(timeout=60)[0]), (0, fixture.HELLO))
+            self.assert_secret(agent.said)
+
     def test_mistyped(self):
         """A new passphrase that is typed differently the second time makes no file."""
         define, define_new, *lines = lines_below("Type a passphrase")
