@@ -4,6 +4,7 @@
 //! their own because a crate with tests is proved twice. Its library has the sources that fail,
 //! which the tests of `age_file` use too.
 
+mod begun;
 mod devices;
 #[cfg(test)]
 mod header;
@@ -12,4 +13,5 @@ mod recipient;
 #[cfg(test)]
 mod stream;
 
+pub use begun::{begin_ranges, begin_reader, begin_writer, begin_writer_with};
 pub use devices::{CountingReadAt, FailingSource};

@@ -4,10 +4,11 @@ mod constructors;
 mod devices;
 mod ranges;
 
+use crate::begun::{begin_reader, begin_writer, begin_writer_with};
 use crate::devices::FailingSource;
 use age_header::{MemSink, MemSource, Sink};
 use age_recipient::FileKey;
-use age_stream::{ChunkBuf, Done, StreamFault, StreamReader, StreamWriter, chunk_nonce};
+use age_stream::{ChunkBuf, Done, StreamFault, chunk_nonce};
 use devices::FailingSink;
 use std::alloc::{AllocError, Global};
 use std::process::Abort;
@@ -49,7 +50,7 @@ fn written(
     size: usize,
 ) -> (Result<Done, StreamFault>, Vec<u8>) {
     let mut sink = MemSink::new(Vec::new(alloc));
-    let mut writer = StreamWriter::new(alloc, &KEY, &NONCE, &mut sink, MOST).expect(rt, "no fault");
+    let mut writer = begin_writer(alloc, &KEY, &NONCE, &mut sink, MOST).expect(rt, "no fault");
     let mut rest = plain;
     for _ in 0..plain.len() {
         if rest.is_empty() {
@@ -67,7 +68,7 @@ fn written(
 /// number of its chunks.
 fn read(rt: &impl Abort, alloc: Global, payload: &[u8], most: usize) -> (Vec<u8>, u64) {
     let mut source = FailingSource::new(payload, most, 0);
-    let mut reader = StreamReader::new(alloc, &KEY, &mut source, MOST).expect(rt, "no fault");
+    let mut reader = begin_reader(alloc, &KEY, &mut source, MOST).expect(rt, "no fault");
     let mut text = Vec::new(alloc);
     for chunks in 0..u64::MAX {
         match reader.next_chunk().expect(rt, "no fault") {
@@ -110,9 +111,7 @@ fn empty_plaintext_is_one_empty_chunk(rt: HostRuntime) {
     assert_eq!(rt; payload.as_slice(), EMPTY.as_slice());
     let buf = ChunkBuf::new(alloc).expect(&rt, "memory");
     let mut sink = MemSink::new(Vec::new(alloc));
-    let mut writer = StreamWriter::with_buf(&KEY, &NONCE, &mut sink, 1, buf).expect(
-        &rt, "no fault",
-    );
+    let mut writer = begin_writer_with(&KEY, &NONCE, &mut sink, 1, buf).expect(&rt, "no fault");
     let piece = writer.write_piece(b"");
     let answer = writer.finish();
     assert!(rt; piece == Ok(()));
@@ -125,9 +124,7 @@ fn empty_plaintext_is_one_empty_chunk(rt: HostRuntime) {
 fn abandoned_writer_has_written_only_the_nonce(rt: HostRuntime) {
     let alloc = rt.alloc();
     let mut sink = MemSink::new(Vec::new(alloc));
-    let mut writer = StreamWriter::new(alloc, &KEY, &NONCE, &mut sink, MOST).expect(
-        &rt, "no fault",
-    );
+    let mut writer = begin_writer(alloc, &KEY, &NONCE, &mut sink, MOST).expect(&rt, "no fault");
     let piece = writer.write_piece(b"");
     writer.abandon();
     assert!(rt; piece == Ok(()));
@@ -138,7 +135,7 @@ fn abandoned_writer_has_written_only_the_nonce(rt: HostRuntime) {
 #[test]
 fn empty_payload_has_one_empty_chunk(rt: HostRuntime) {
     let mut source = MemSource::new(&EMPTY);
-    let mut reader = StreamReader::new(rt.alloc(), &KEY, &mut source, 1).expect(&rt, "no fault");
+    let mut reader = begin_reader(rt.alloc(), &KEY, &mut source, 1).expect(&rt, "no fault");
     assert!(rt;
         reader
             .next_chunk()
@@ -194,9 +191,7 @@ fn writer_returns_a_failed_write_again(rt: HostRuntime) {
     let alloc = rt.alloc();
     let plain = vec![in alloc; 7u8; 65_537].expect(&rt, "memory");
     let mut sink = FailingSink::new(2);
-    let mut writer = StreamWriter::new(alloc, &KEY, &NONCE, &mut sink, MOST).expect(
-        &rt, "no fault",
-    );
+    let mut writer = begin_writer(alloc, &KEY, &NONCE, &mut sink, MOST).expect(&rt, "no fault");
     let first = writer.write_piece(plain.as_slice());
     let second = writer.write_piece(plain.as_slice());
     let last = writer.finish();

@@ -31,7 +31,7 @@ fn failed_write_of_the_front_is_the_last(rt: HostRuntime) {
                 writer.abandon();
                 assert!(rt; false, "{most} bytes");
             }
-            Err(refused) => assert!(rt; refused.fault() == Fault::Write, "{most} bytes"),
+            Err(fault) => assert!(rt; fault == Fault::Write, "{most} bytes"),
         }
         assert!(rt; sink.bytes.as_slice() == &FILE[..most], "{most} bytes");
         assert_eq!(rt; sink.calls, most + 1);
@@ -42,19 +42,8 @@ fn failed_write_of_the_front_is_the_last(rt: HostRuntime) {
 /// The fault of reading a file in steps up to its nonce.
 fn read_fault<S: Source>(alloc: Global, source: &mut S, identities: &Identities) -> Option<Fault> {
     match Decryptor::new(alloc, source, &Limits::default()) {
-        Ok(decryptor) => match decryptor.unlock(alloc, identities.as_slice()) {
-            Ok(_) => None,
-            Err(refused) => Some(refused.fault()),
-        },
-        Err(refused) => Some(refused.fault()),
-    }
-}
-
-/// The fault of opening a file for ranges.
-fn range_fault<D: ReadAt>(alloc: Global, dev: &mut D, identities: &Identities) -> Option<Fault> {
-    match open_ranges(alloc, dev, identities.as_slice(), &Limits::default()) {
-        Ok(_) => None,
-        Err(refused) => Some(refused.fault()),
+        Ok(decryptor) => decryptor.unlock(alloc, identities.as_slice()).err(),
+        Err(fault) => Some(fault),
     }
 }
 
@@ -83,7 +72,7 @@ fn failed_read_of_the_front_is_the_last(rt: HostRuntime) {
         );
         let reads = Cell::new(0);
         let mut dev = CountingReadAt::new(FILE, &reads, failing);
-        let met = range_fault(alloc, &mut dev, &identities);
+        let met = open_ranges(alloc, &mut dev, identities.as_slice(), &Limits::default()).err();
         assert!(rt; met == Some(Fault::Read), "read {failing}");
         assert_eq!(rt; reads.get(), failing);
         assert_eq!(rt; dev.failures(), 1, "read {failing}");
@@ -104,7 +93,7 @@ fn refused<T: Abort>(
     assert!(rt; met == Some(fault), "{fault}");
     assert_eq!(rt; source.rest().len(), left, "{fault}");
     let mut dev = MemAt::new(file);
-    let met = range_fault(alloc, &mut dev, identities);
+    let met = open_ranges(alloc, &mut dev, identities.as_slice(), &Limits::default()).err();
     assert!(rt; met == Some(fault), "{fault}");
     let unread = (file.len() as u64).saturating_sub(dev.given());
     assert!(rt; unread >= left as u64, "{fault}");

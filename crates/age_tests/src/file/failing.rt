@@ -198,7 +198,7 @@ fn starts_or_starves(alloc: Global, recipients: &Recipients, limits: &Limits) ->
     let started = match Encryptor::new(alloc, recipients.as_slice(), &FRESH, limits) {
         Ok(encryptor) => match encryptor.start(alloc, &mut out) {
             Ok(writer) => Ok(writer.abandon()),
-            Err(refused) => Err(refused.fault()),
+            Err(fault) => Err(fault),
         },
         Err(fault) => Err(fault),
     };
@@ -217,13 +217,11 @@ fn reads_or_starves(alloc: Global, identities: &Identities, limits: &Limits) -> 
     let mut source = MemSource::new(FILE);
     let decryptor = match Decryptor::new(alloc, &mut source, limits) {
         Ok(decryptor) => decryptor,
-        Err(refused) => {
-            return refused.fault() == Fault::OutOfMemory && source.rest().len() >= 32;
-        }
+        Err(fault) => return fault == Fault::OutOfMemory && source.rest().len() >= 32,
     };
     let read = match decryptor.unlock(alloc, identities.as_slice()) {
         Ok(mut reader) => Ok(matches!(reader.next_chunk(), Ok(Some(&[])))),
-        Err(refused) => Err(refused.fault()),
+        Err(fault) => Err(fault),
     };
     match read {
         Ok(is_empty) => is_empty,
@@ -236,7 +234,7 @@ fn opens_or_starves(alloc: Global, identities: &Identities, limits: &Limits) -> 
     let mut dev = MemAt::new(FILE);
     let opened = match open_ranges(alloc, &mut dev, identities.as_slice(), limits) {
         Ok(reader) => Ok(reader.plain_len()),
-        Err(refused) => Err(refused.fault()),
+        Err(fault) => Err(fault),
     };
     opened == Ok(0) || opened == Err(Fault::OutOfMemory) && dev.given() <= 156
 }
@@ -248,7 +246,7 @@ fn payload_or_starves(alloc: Global) -> bool {
     let mut out = MemSink::new(Vec::new(alloc));
     let written = match StreamWriter::new(alloc, key, nonce, &mut out, 1) {
         Ok(writer) => Ok(writer.abandon()),
-        Err(refused) => Err(refused.fault()),
+        Err(fault) => Err(fault),
     };
     let failures = out.failures();
     let writes = match written {
@@ -257,14 +255,10 @@ fn payload_or_starves(alloc: Global) -> bool {
         Err(fault) => fault == StreamFault::Memory && out.into_vec().is_empty(),
     };
     let mut source = MemSource::new(payload);
-    let read = StreamReader::new(alloc, key, &mut source, 1)
-        .err()
-        .map(|refused| refused.fault());
+    let read = StreamReader::new(alloc, key, &mut source, 1).err();
     let reads = read.is_none() || read == Some(StreamFault::Memory) && source.rest().len() == 32;
     let mut dev = MemAt::new(payload);
-    let opened = RangeReader::open(alloc, key, &mut dev, 0, 1)
-        .err()
-        .map(|refused| refused.fault());
+    let opened = RangeReader::open(alloc, key, &mut dev, 0, 1).err();
     let opens = opened.is_none() || opened == Some(StreamFault::Memory) && dev.given() == 0;
     writes && reads && opens
 }

@@ -62,10 +62,7 @@ fn refused<T: Abort>(
     let mut dev = MemAt::new(file);
     match open_ranges(alloc, &mut dev, identities.as_slice(), limits) {
         Ok(_) => assert!(rt; false, "opened in place of: {fault}"),
-        Err(refused) => {
-            let met = refused.fault();
-            assert!(rt; met == fault, "{met} in place of: {fault}");
-        }
+        Err(met) => assert!(rt; met == fault, "{met} in place of: {fault}"),
     }
 }
 

@@ -4,9 +4,10 @@
 use super::devices::FailingSink;
 use super::ranges::payload_of;
 use super::{EMPTY, KEY, MOST, NONCE};
+use crate::begun::{begin_ranges, begin_reader, begin_writer, begin_writer_with};
 use crate::devices::{CountingReadAt, FailingSource};
 use age_header::{Sink, Source};
-use age_stream::{ChunkBuf, RangeReader, ReadAt, StreamFault, StreamReader, StreamWriter};
+use age_stream::{ChunkBuf, ReadAt, StreamFault};
 use std::cell::Cell;
 
 /// A failed write of the nonce is the sink's only call, and is counted once.
@@ -17,21 +18,16 @@ fn failed_nonce_is_not_written_again(rt: HostRuntime) {
         let mut sink = FailingSink::new(1);
         let writer = if with_buf {
             let buf = ChunkBuf::new(alloc).expect(&rt, "memory");
-            StreamWriter::with_buf(&KEY, &NONCE, &mut sink, MOST, buf)
+            begin_writer_with(&KEY, &NONCE, &mut sink, MOST, buf)
         } else {
-            StreamWriter::new(alloc, &KEY, &NONCE, &mut sink, MOST)
+            begin_writer(alloc, &KEY, &NONCE, &mut sink, MOST)
         };
         match writer {
             Ok(writer) => {
                 writer.abandon();
                 assert!(rt; false, "with_buf: {with_buf}");
             }
-            Err(refused) => {
-                assert!(rt;
-                    refused.fault() == StreamFault::Write,
-                    "with_buf: {with_buf}"
-                );
-            }
+            Err(fault) => assert!(rt; fault == StreamFault::Write, "with_buf: {with_buf}"),
         }
         assert_eq!(rt; sink.calls, 1, "with_buf: {with_buf}");
         assert_eq!(rt; sink.failures(), 1, "with_buf: {with_buf}");
@@ -45,17 +41,13 @@ fn failed_read_of_the_nonce_is_the_last(rt: HostRuntime) {
     let alloc = rt.alloc();
     for failing in 1..5 {
         let mut source = FailingSource::new(&EMPTY, 4, failing);
-        let met = StreamReader::new(alloc, &KEY, &mut source, MOST)
-            .err()
-            .map(|refused| refused.fault());
+        let met = begin_reader(alloc, &KEY, &mut source, MOST).err();
         assert!(rt; met == Some(StreamFault::Read), "read {failing}");
         assert_eq!(rt; source.reads, failing);
         assert_eq!(rt; source.failures(), 1, "read {failing}");
     }
     let mut source = FailingSource::new(&NONCE[..15], 4, 0);
-    let met = StreamReader::new(alloc, &KEY, &mut source, MOST)
-        .err()
-        .map(|refused| refused.fault());
+    let met = begin_reader(alloc, &KEY, &mut source, MOST).err();
     assert!(rt; met == Some(StreamFault::NonceTruncated));
     assert!(rt; source.rest.is_empty());
     assert_eq!(rt; source.failures(), 0);
@@ -79,9 +71,7 @@ fn refused_ranges_read_no_further(rt: HostRuntime) {
         let reads = Cell::new(0);
         let front = bytes.as_slice().get(..len).unwrap_or(b"");
         let mut dev = CountingReadAt::new(front, &reads, failing);
-        let met = RangeReader::open(alloc, &KEY, &mut dev, 9, max)
-            .err()
-            .map(|refused| refused.fault());
+        let met = begin_ranges(alloc, &KEY, &mut dev, 9, max).err();
         assert!(rt; met == Some(fault), "{fault:?} of {len} bytes");
         assert!(rt; dev.given() <= most, "{fault:?} of {len} bytes");
         assert!(rt; reads.get() <= 2, "{fault:?} of {len} bytes");

@@ -2,6 +2,7 @@
 
 use super::devices::{FailingSeek, FarFile, SlowFile};
 use super::{EMPTY, KEY, plain_of, written};
+use crate::begun::begin_ranges;
 use crate::devices::CountingReadAt;
 use age_header::DeviceFault;
 use age_stream::{FileAt, MemAt, RangeReader, ReadAt, StreamFault};
@@ -63,7 +64,7 @@ fn expect_range<T: Abort, D: ReadAt>(
 
 /// Those ranges of the payload at this offset.
 fn rows<T: Abort, D: ReadAt>(rt: &T, alloc: Global, dev: &mut D, payload_at: u64) {
-    let mut reader = RangeReader::open(alloc, &KEY, dev, payload_at, 3).expect(rt, "no fault");
+    let mut reader = begin_ranges(alloc, &KEY, dev, payload_at, 3).expect(rt, "no fault");
     assert_eq!(rt; reader.plain_len(), 140_000);
     assert_eq!(rt; reader.opened(), 1);
     for (place, n, opened) in ROWS {
@@ -113,7 +114,7 @@ fn each_opened_chunk_costs_one_read(rt: HostRuntime) {
     let bytes = payload_of(&rt, alloc, 140_000);
     let reads = Cell::new(0);
     let mut dev = CountingReadAt::new(bytes.as_slice(), &reads, 0);
-    let mut reader = RangeReader::open(alloc, &KEY, &mut dev, 9, 3).expect(&rt, "no fault");
+    let mut reader = begin_ranges(alloc, &KEY, &mut dev, 9, 3).expect(&rt, "no fault");
     for (place, n, opened) in ROWS {
         expect_range(&rt, alloc, &mut reader, place, Ok(n), n);
         let (at, len) = place;
@@ -130,7 +131,7 @@ fn failed_read_leaves_the_chunks_before_it(rt: HostRuntime) {
     for failing in 1..6 {
         let reads = Cell::new(0);
         let mut dev = CountingReadAt::new(bytes.as_slice(), &reads, failing);
-        match RangeReader::open(alloc, &KEY, &mut dev, 9, 3) {
+        match begin_ranges(alloc, &KEY, &mut dev, 9, 3) {
             Ok(mut reader) => {
                 let filled = match failing {
                     3 => 0,
@@ -148,13 +149,10 @@ fn failed_read_leaves_the_chunks_before_it(rt: HostRuntime) {
                 );
                 expect_range(&rt, alloc, &mut reader, whole, Ok(140_000), 140_000);
             }
-            Err(refused) => {
-                let fault = refused.fault();
-                assert!(rt; failing < 3 && fault == StreamFault::Read, "read {failing}");
-            }
+            Err(fault) => assert!(rt; failing < 3 && fault == StreamFault::Read, "read {failing}"),
         }
         assert_eq!(rt; dev.failures(), 1, "read {failing}");
-        let mut reader = RangeReader::open(alloc, &KEY, &mut dev, 9, 3).expect(&rt, "no fault");
+        let mut reader = begin_ranges(alloc, &KEY, &mut dev, 9, 3).expect(&rt, "no fault");
         expect_range(&rt, alloc, &mut reader, (0, 140_000), Ok(140_000), 140_000);
     }
 }
@@ -175,7 +173,7 @@ fn damaged_chunk_leaves_the_others_readable(rt: HostRuntime) {
         }
         let fault = StreamFault::BadChunk(damaged);
         let mut dev = MemAt::new(bytes.as_slice());
-        match RangeReader::open(alloc, &KEY, &mut dev, 9, 3) {
+        match begin_ranges(alloc, &KEY, &mut dev, 9, 3) {
             Ok(mut reader) => {
                 assert!(rt; damaged < 2, "chunk {damaged}");
                 for _ in 0..2 {
@@ -184,9 +182,7 @@ fn damaged_chunk_leaves_the_others_readable(rt: HostRuntime) {
                     expect_range(&rt, alloc, &mut reader, (131_072, 8_928), Ok(8_928), 8_928);
                 }
             }
-            Err(refused) => {
-                assert!(rt; damaged == 2 && refused.fault() == fault, "chunk {damaged}");
-            }
+            Err(met) => assert!(rt; damaged == 2 && met == fault, "chunk {damaged}"),
         }
     }
 }
@@ -199,7 +195,7 @@ fn truncated_file_is_a_failed_read(rt: HostRuntime) {
     let bytes = payload_of(&rt, alloc, 140_000);
     fs::write(&rt, "cut.tmp", bytes.as_slice()).expect(&rt, "no fault");
     let mut dev = FileAt::new(File::open(&rt, "cut.tmp").expect(&rt, "no fault"));
-    let mut reader = RangeReader::open(alloc, &KEY, &mut dev, 9, 3).expect(&rt, "no fault");
+    let mut reader = begin_ranges(alloc, &KEY, &mut dev, 9, 3).expect(&rt, "no fault");
     let front = bytes.as_slice().get(..65_677);
     fs::write(&rt, "cut.tmp", front.unwrap_or(b"")).expect(&rt, "no fault");
     expect_range(&rt, alloc, &mut reader, (131_072, 8_928), Ok(8_928), 8_928);
@@ -283,7 +279,7 @@ fn short_read_moves_by_what_it_read(rt: HostRuntime) {
 #[test]
 fn ranges_of_an_empty_plaintext_are_empty(rt: HostRuntime) {
     let mut dev = MemAt::new(&EMPTY);
-    let mut reader = RangeReader::open(rt.alloc(), &KEY, &mut dev, 0, 1).expect(&rt, "no fault");
+    let mut reader = begin_ranges(rt.alloc(), &KEY, &mut dev, 0, 1).expect(&rt, "no fault");
     assert_eq!(rt; reader.plain_len(), 0);
     for place in [(0, 0), (0, 5), (7, 5)] {
         expect_range(&rt, rt.alloc(), &mut reader, place, Ok(0), 0);
@@ -305,11 +301,9 @@ fn open_returns_the_first_fault(rt: HostRuntime) {
         (3, 18_446_744_073_709_551_615, StreamFault::NonceTruncated),
     ] {
         let mut dev = MemAt::new(bytes.as_slice());
-        match RangeReader::open(alloc, &KEY, &mut dev, from, max) {
+        match begin_ranges(alloc, &KEY, &mut dev, from, max) {
             Ok(_) => assert!(rt; false, "{max} chunks from {from} on"),
-            Err(refused) => {
-                assert_eq!(rt; refused.fault(), fault, "{max} chunks from {from} on");
-            }
+            Err(met) => assert_eq!(rt; met, fault, "{max} chunks from {from} on"),
         }
     }
 }
