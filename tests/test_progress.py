@@ -150,6 +150,17 @@ class Progress(ProgramCase):
                 os.close(terminal)
                 self.assertEqual((status, drained(controller).decode()), (1, last))
 
+    def test_passphrase(self):
+        """While scrypt runs, it says so."""
+        for words, out in (
+            ("decrypt -v -p pass pass.age", HELLO), ("range -v -p pass 0 9 pass.age", HELLO), ("rewrap -v -p pass -K key -s seed pass.age", read("key.age")),
+            ("encrypt -v -p pass -s seed -w 10 hello", read("pass.age")), ("rewrap -v -k key -P pass -s seed -w 10 key.age", read("pass.age")),
+        ):
+            with self.subTest(words):
+                status, made, said, _ = self.at_terminal(*words.split())
+                self.assertEqual((status, made), (0, out))
+                self.assertEqual(said, f"{ERASE}{CUT}agep: making a key from the passphrase{WRAP}{ERASE}")
+
     def test_none(self):
         """Nothing is shown without -v, or for a small file."""
         for words, plain in (("decrypt -k key many.age", MANY), ("decrypt -v -k key key.age", HELLO)):

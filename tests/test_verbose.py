@@ -77,7 +77,8 @@ class Files(Verbose):
     def test_reading(self):
         """Folders, and a closed standard input."""
         for command in ("encrypt -k key", *READING):
-            self.explains("Read", "reading folder: Is a directory", f"{command} folder")
+            more = "folder is a folder; tar c folder | agep encrypt .. encrypts it" if command.startswith("encrypt") else "reading folder: Is a directory"
+            self.explains("Read", more, f"{command} folder")
             if not command.startswith("range"):
                 self.explains("Read", f"reading standard input: {CLOSED}", f"{command} <&-")
         for role, line in (

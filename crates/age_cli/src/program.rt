@@ -206,13 +206,13 @@ fn perform<'a, F: Files + Clock + AllocGlobal, R: Read, W: Write + IsTerminal, L
         Some(name) => {
             let file = work.read.open_input(rt, job.command, name.as_str())?;
             let size = work.read.input_size(job.command);
-            let input = Shown::over(rt, file, size, work.is_shown);
+            let input = Shown::over(rt, job, file, size, work.is_shown);
             perform_on(rt, work, task, input, out, lines)
         }
         None => {
             work.read.add_standard_input()?;
             let size = work.read.input_size(job.command);
-            let input = Shown::over(rt, Pipe(input), size, work.is_shown);
+            let input = Shown::over(rt, job, Pipe(input), size, work.is_shown);
             perform_on(rt, work, task, input, out, lines)
         }
     }

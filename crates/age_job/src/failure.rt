@@ -23,6 +23,8 @@ pub struct Failure<'a> {
 pub enum Detail<'a> {
     /// An operation of the system on this file, and the reason why it failed.
     System(Operation, Name<'a>, io::Error),
+    /// A folder cannot be encrypted.
+    Folder(Name<'a>),
     /// The size of a small file in bytes.
     Size(Role, Name<'a>, usize),
     /// The passphrase file is empty.
@@ -126,6 +128,13 @@ impl fmt::Display for Detail<'_> {
                 write!(f, "{operation} {name}: ")?;
                 let mut text = BeforeCode { f, ended: false };
                 write!(text, "{reason}")
+            }
+            Detail::Folder(name) => {
+                let name = Quoted(*name);
+                write!(
+                    f,
+                    "{name} is a folder; tar c {name} | agep encrypt .. encrypts it"
+                )
             }
             Detail::Size(role, name, len) => write_size(*role, *name, *len, f),
             Detail::NoPassphrase(role, name) => {

@@ -72,9 +72,11 @@ struct Line<'a, C: Clock, T: Write + Drop> {
     clock: &'a C,
     terminal: T,
     portion: Portion,
-    /// The times of the first read and of the last drawing, in milliseconds.
+    /// The times of the start and of the last drawing, in milliseconds.
     started: u128,
     drawn: u128,
+    /// Whether something is drawn.
+    is_drawn: bool,
     /// The number of bytes after which the clock is read.
     next: u64,
 }
@@ -89,16 +91,29 @@ struct Portion {
 
 impl<'a, R, F: Files + Clock> Shown<'a, R, F, F::File> {
     /// Wraps this reader, which returns `size` bytes if that is known. If `is_shown`, standard
-    /// error must be the terminal.
-    pub fn over(rt: &'a F, reader: R, size: Option<u64>, is_shown: bool) -> Shown<'a, R, F, F::File>
+    /// error must be the terminal. The line then says if the job has passphrases, because scrypt
+    /// takes time.
+    pub fn over(
+        rt: &'a F,
+        job: &Job,
+        reader: R,
+        size: Option<u64>,
+        is_shown: bool,
+    ) -> Shown<'a, R, F, F::File>
         // Reading from the result is reading from this reader.
         ensures { result.reader ≡ reader }
     {
-        let line = if is_shown {
+        let mut line = if is_shown {
             Line::at_terminal(rt, size)
         } else {
             None
         };
+        let has_passphrase = job.pass.is_some() || job.new_pass.is_some();
+        if let Some(line) = &mut line
+            && has_passphrase
+        {
+            line.draw(&"agep: making a key from the passphrase");
+        }
         Shown { reader, line }
     }
 }
@@ -118,6 +133,7 @@ impl<'a, F: Files + Clock> Line<'a, F, F::File> {
             },
             started,
             drawn: started,
+            is_drawn: false,
             next: STRIDE,
         })
     }
@@ -136,18 +152,19 @@ impl<C: Clock, T: Write + Drop> Line<'_, C, T> {
             if now.saturating_sub(self.drawn) >= PAUSE {
                 self.drawn = now;
                 self.portion.took = now.saturating_sub(self.started);
-                self.draw();
+                let portion = self.portion;
+                self.draw(&portion);
             }
         }
     }
 
     /// Draws the line, cut at the width of the terminal, in one write, so that no interrupt leaves
     /// the terminal cutting lines. Ignores a failed write.
-    fn draw(&mut self) {
-        let portion = self.portion;
+    fn draw<D: fmt::Display>(&mut self, text: &D) {
+        self.is_drawn = true;
         let mut drawn = [0u8; MAX_DRAWN];
         let mut room = &mut drawn[..];
-        if write!(room, "{ERASE}{CUT}{portion}{WRAP}").is_ok() {
+        if write!(room, "{ERASE}{CUT}{text}{WRAP}").is_ok() {
             let len = MAX_DRAWN.saturating_sub(room.len());
             let _ = self.terminal.write_all(&drawn[..len]);
         }
@@ -156,7 +173,7 @@ impl<C: Clock, T: Write + Drop> Line<'_, C, T> {
 
 impl<C: Clock, T: Write + Drop> Drop for Line<'_, C, T> {
     fn drop(mut self) {
-        if self.drawn > self.started {
+        if self.is_drawn {
             let _ = self.terminal.write_all(ERASE.as_bytes());
         }
         let Line {
@@ -165,6 +182,7 @@ impl<C: Clock, T: Write + Drop> Drop for Line<'_, C, T> {
             portion: _,
             started: _,
             drawn: _,
+            is_drawn: _,
             next: _,
         } = self;
     }
