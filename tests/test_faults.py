@@ -146,7 +146,7 @@ class Refused(ProgramCase):
         """Options that a command does not have, or that are given twice."""
         for line, word, tail in (
             ("encrypt -m 10", "-m", "[OPTIONS] [IN]"), ("encrypt -p pass -P new.pass hello", "-P", "[OPTIONS] [IN]"),
-            ("encrypt -r key", "-r", "[OPTIONS] [IN]"), ("decrypt -w 10", "-w", "[OPTIONS] [IN]"), ("salvage -w 10", "-w", "[OPTIONS] [IN]"),
+            ("encrypt -r key", "-r", "[OPTIONS] [IN]"), ("encrypt -d", "-d", "[OPTIONS] [IN]"), ("salvage -d", "-d", "[OPTIONS] [IN]"), ("decrypt -w 10", "-w", "[OPTIONS] [IN]"), ("salvage -w 10", "-w", "[OPTIONS] [IN]"),
             ("rewrap -p pass -K new.key -r", "-r", "[OPTIONS] [IN]"), ("inspect -p a", "-p", "[OPTIONS] [IN]"),
             ("range -p pass -1 1 made", "-1", "[OPTIONS] <AT> <LEN> <IN>"),
         ):
@@ -159,8 +159,8 @@ class Refused(ProgramCase):
         ):
             self.refuses(line, f"unexpected argument '{word}' found", f"{line.split()[0]} {tail}")
         for line, name in (
-            ("decrypt -p a -p b", "--passphrase <FILE>"), ("salvage -p a -p b", "--passphrase <FILE>"), ("inspect -r --raw", "--raw"),
-            ("rewrap -p pass -P new.pass -P key", "--new-pass <FILE>"), ("rewrap -p pass -K new.key -p pass", "--passphrase <FILE>"),
+            ("encrypt -p a -p b", "--passphrase <FILE>"), ("inspect -r --raw", "--raw"), ("decrypt -d --decrypt", "--decrypt"),
+            ("rewrap -p pass -P new.pass -P key", "--new-pass <FILE>"),
         ):
             self.refuses(line, f"the argument '{name}' cannot be used multiple times", f"{line.split()[0]} [OPTIONS] [IN]")
 

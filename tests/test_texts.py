@@ -318,13 +318,13 @@ class Completions(unittest.TestCase):
         self.assert_offered({"agep range so": [], "agep range 0 so": []}, ["zsh"])
 
     def test_options_that_are_given(self):
-        """After an option zsh offers it again only if it is -k or -K, and none that it excludes; after -h or -V
-        nothing."""
+        """After an option zsh offers it again only if it is -k, -K or the -p of a file that is read, and none that
+        it excludes; after -h or -V nothing."""
         rivals, rows = {"-p": ["-k", "--key"], "-k": ["-p", "--passphrase"], "-P": ["-K", "--new-key"], "-K": ["-P", "--new-pass"]}, {}
         for command in commands():
             for letter, name, value in option_rows(command):
                 given = f"agep {command} {letter or name}{' a' * bool(value)}"
-                gone = {*rivals.get(letter, []), *([] if letter in ("-k", "-K") else [letter, name])}
+                gone = {*rivals.get(letter, []), *([] if letter in ("-k", "-K") or (letter == "-p" and command != "encrypt") else [letter, name])}
                 is_last = letter in ("-h", "-V")
                 rows |= {f"{given} -": [] if is_last else {*options_of(command)} - gone, f"{given} so": [] if is_last or command == "range" else ["some.age"]}
         self.assert_offered(rows, ["zsh"])

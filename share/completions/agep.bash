@@ -29,7 +29,7 @@ _agep() {
     case ${COMP_WORDS[1]} in
         # generated: options of bash
         encrypt) options="-p --passphrase -k --key -w --work -s --seed -H --max-header -o --output -n --no-clobber --atomic -v --verbose -h --help -V --version" ;;
-        decrypt) options="-p --passphrase -k --key -m --max-work -H --max-header -o --output -n --no-clobber --atomic -v --verbose -h --help -V --version" ;;
+        decrypt) options="-p --passphrase -k --key -m --max-work -H --max-header -o --output -n --no-clobber --atomic -v --verbose -d --decrypt -h --help -V --version" ;;
         inspect) options="-r --raw -f --file-key -H --max-header -v --verbose -h --help -V --version" ;;
         range) options="-p --passphrase -k --key -m --max-work -H --max-header -o --output -n --no-clobber --atomic -v --verbose -h --help -V --version" ;;
         rewrap) options="-p --passphrase -k --key -m --max-work -H --max-header -o --output -n --no-clobber --atomic -v --verbose -P --new-pass -K --new-key -w --work -s --seed -h --help -V --version" ;;

@@ -84,14 +84,15 @@ writing = option (letter (codes "o")) (codes "output")
 
 -- the options of the commands that unlock a file
 abbrev pub opening : List Rule
-opening = pass ∷ key ∷ max_work ∷ max_header ∷ writing ++ verbose ∷ []
+opening = several pass ∷ key ∷ max_work ∷ max_header ∷ writing ++ verbose ∷ []
 
 abbrev pub encrypt : Shape
 encrypt = command (codes "encrypt")
     (pass ∷ key ∷ work ∷ seed ∷ max_header ∷ writing ++ verbose ∷ input ∷ [])
 
 abbrev pub decrypt : Shape
-decrypt = command (codes "decrypt") (opening ++ input ∷ [])
+decrypt = command (codes "decrypt")
+    (opening ++ flag (letter (codes "d")) (codes "decrypt") ∷ input ∷ [])
 
 abbrev pub inspect : Shape
 inspect = command (codes "inspect") (flag (letter (codes "r")) (codes "raw")

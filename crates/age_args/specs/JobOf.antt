@@ -43,6 +43,7 @@ is_set id rows = option_map_or (λ text. bytes_eq text (codes "true")) (one_of i
 -- each field has the value of its option
 pub record JobOf (rows : List Row) (job : Job) : Type 0 where
   pub pass : option_map string_bytes job.pass ≡ first_of (codes "passphrase") rows
+  pub more_passes : map string_bytes job.more_passes.items ≡ rest_of (codes "passphrase") rows
   pub key : option_map string_bytes job.key ≡ first_of (codes "key") rows
   pub more_keys : map string_bytes job.more_keys.items ≡ rest_of (codes "key") rows
   pub new_pass : option_map string_bytes job.new_pass ≡ first_of (codes "new-pass") rows

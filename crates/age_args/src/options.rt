@@ -6,10 +6,10 @@ ghost use Rattle.age_args.specs.CommandLine as line;
 ghost use Rattle.age_args.specs.CommandLine.{IsArg};
 
 use crate::texts::{
-    ATOMIC_HELP, DECRYPT_END, ENCRYPT_END, ENCRYPTED_OUTPUT_HELP, FILE_KEY_HELP, INPUT_HELP,
-    INSPECT_END, KEY_HELP, MAX_HEADER_HELP, MAX_WORK_HELP, NEW_KEY_HELP, NEW_PASS_HELP,
-    NO_CLOBBER_HELP, PASS_HELP, PLAIN_OUTPUT_HELP, RANGE_END, REWRAP_END, SALT_HELP, SALVAGE_END,
-    SEED_HELP, SEEKABLE_INPUT_HELP, VERBOSE_HELP, WHOLE_END, WORK_HELP,
+    ATOMIC_HELP, DECRYPT_END, DECRYPT_HELP, ENCRYPT_END, ENCRYPTED_OUTPUT_HELP, FILE_KEY_HELP,
+    INPUT_HELP, INSPECT_END, KEY_HELP, MAX_HEADER_HELP, MAX_WORK_HELP, NEW_KEY_HELP, NEW_PASS_HELP,
+    NO_CLOBBER_HELP, PASS_HELP, PASSES_HELP, PLAIN_OUTPUT_HELP, RANGE_END, REWRAP_END, SALT_HELP,
+    SALVAGE_END, SEED_HELP, SEEKABLE_INPUT_HELP, VERBOSE_HELP, WHOLE_END, WORK_HELP,
 };
 use age_job::{
     DEFAULT_SEED, MAX_HEADER_SIZE, MAX_OFFSET, MAX_WORK_FACTOR, MIN_HEADER_SIZE, MIN_WORK_FACTOR,
@@ -50,6 +50,9 @@ pub(crate) const AT: &str = "at";
 pub(crate) const LEN: &str = "len";
 
 pub(crate) const VERBOSE: &str = "verbose";
+
+/// Of `decrypt`. No job has it.
+const DECRYPT: &str = "decrypt";
 
 /// The work factor that `encrypt` and `rewrap` write by default, as text for `clap`.
 pub(crate) const DEFAULT_WORK_TEXT: &str = "18";
@@ -175,6 +178,7 @@ fn decrypt_command<'a>(alloc: Global) -> Result<Command<'a>, AllocError>
         DECRYPT_END,
     );
     let command = with_opening_options(alloc, command, PLAIN_OUTPUT_HELP);
+    let command = with_arg(command, flag(alloc, DECRYPT, 'd', DECRYPT_HELP));
     with_arg(command, input_word(alloc))
 }
 
@@ -187,7 +191,7 @@ fn with_opening_options<'a>(
     ensures { (shape : Shape) → IfOk command.entry (λ before. shape_of before ≡ shape)
         → IfOk result (λ more. shape_of more ≡ line.with_rules shape line.opening) }
 {
-    let command = with_arg(command, pass_option(alloc));
+    let command = with_arg(command, passes_option(alloc));
     let command = with_arg(command, key_option(alloc));
     let command = with_arg(command, max_work_option(alloc));
     let command = with_arg(command, max_header_option(alloc));
@@ -289,6 +293,13 @@ fn pass_option<'a>(alloc: Global) -> Arg<'a>
     ensures { IsArg line.pass result }
 {
     text_option(alloc, PASS, 'p', "FILE", PASS_HELP)
+}
+
+/// The same where a file is read.
+fn passes_option<'a>(alloc: Global) -> Arg<'a>
+    ensures { IsArg (line.several line.pass) result }
+{
+    text_option(alloc, PASS, 'p', "FILE", PASSES_HELP).action(ArgAction::Append)
 }
 
 fn key_option<'a>(alloc: Global) -> Arg<'a>

@@ -85,6 +85,7 @@ fn job_of(alloc: Global, command: Command, matches: &ArgMatches<'_>) -> Result<J
     Ok(Job {
         command,
         pass,
+        more_passes: rest_of(alloc, matches, PASS)?,
         key,
         more_keys,
         new_pass,

@@ -1,5 +1,5 @@
 -- The results of a job, from its input to its output.
-use Rattle.std.specs.Prelude.{◌≡◌, ◌≤◌, ◌⊎◌, ◌^◌, ℕ, ⊤, Bool, false, List, Option, None, Some, IsSome, Result, Ok, Err}
+use Rattle.std.specs.Prelude.{◌≡◌, ◌≤◌, ◌⊎◌, ◌^◌, ℕ, ⊤, Bool, false, [], List, Option, None, Some, IsSome, Result, Ok, Err}
 use Rattle.age_header.specs.Device.{Bytes, Known, Moved, Stays, move_by, move_of}
 use Rattle.age_stream.specs.Salvage.{LossesMoved}
 use Rattle.age_file.specs.AgeFile.{Bounds}
@@ -24,7 +24,8 @@ use Rattle.age_commands.specs.Task.{Performs, PerformsQuietly}
 
 -- the secret that the job's options name
 abbrev pub IsSecretFor : (job : Job) (secret : Secret) → Type 0
-IsSecretFor job secret = IsSecretOf job.pass job.key job.more_keys.items secret
+IsSecretFor job secret =
+    IsSecretOf job.pass job.more_passes.items job.key job.more_keys.items secret
 
 -- A task of this job: that of its command, with the secrets that its options name. `rewrap` has the
 -- old secret and the new one in their roles.
@@ -34,7 +35,7 @@ IsTaskOf job (Encrypt secret seed) =
 IsTaskOf job (Decrypt secret) = (job.command ≡ command.Decrypt) × IsSecretFor job secret
 IsTaskOf job (Rewrap old new salt) =
     (job.command ≡ command.Rewrap) × IsSecretFor job old
-    × IsSecretOf job.new_pass job.new_key job.more_new_keys.items new × IsNewSecret new
+    × IsSecretOf job.new_pass [] job.new_key job.more_new_keys.items new × IsNewSecret new
 IsTaskOf job (Inspect key) =
     (job.command ≡ command.Inspect) × IsFileKeyOf job.raw job.file_key key
 IsTaskOf job (Range secret) = (job.command ≡ command.Range) × IsSecretFor job secret

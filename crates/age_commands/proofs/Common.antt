@@ -1,7 +1,7 @@
 -- The names that the proofs of this crate cite, passed on from one place.
 pub use Rattle.age_commands.specs.Inspect.{Inspecting, InspectsText, IsShown, IsTable, OfShown, check_of, first_lines, last_lines, row, rows, spaced_arguments}
 pub use Rattle.age_commands.specs.Range.{IsPartFault, OfBytes, RangingAny, WritesAny, WritesBytes, WritesVerified}
-pub use Rattle.age_commands.specs.Secret.{answers_of, gathering_of, keys_unwrap, labels_of, limits_of, recipient_of, wraps_of}
+pub use Rattle.age_commands.specs.Secret.{answers_of, gathering_of, guesses_of, keys_unwrap, labels_of, limits_of, passes_unwrap, recipient_of, wraps_of}
 pub use Rattle.age_commands.specs.Task.{Encrypting, OfKnown, Performs, SalvagesAll, if_whole}
 pub use Rattle.age_commands.specs.Words.{Answering, BadChunk, Bounds, Bytes, Fault, Flow, Head, HeaderParts, IfSome, Job, Known, Moved, OfGiven, OutOfMemory, StanzaParts, Took, Write, WritesPart, codes, header_fault, ⊤, ◌&&◌, ◌≢◌}
 pub use Rattle.age_commands.specs.declared.task.Task.TheVariants.{Decrypt, Encrypt, Inspect, Range, Rewrap, Salvage}
@@ -16,6 +16,7 @@ pub use Rattle.age_job.specs.declared.secret.Secret.{Secret}
 pub use Rattle.age_recipient.specs.Answer.{decision_from}
 pub use Rattle.age_recipient.specs.KeyedHolders.{key_unwraps}
 pub use Rattle.age_recipient.specs.KeyedStanza.{keyed_stanza}
+pub use Rattle.age_recipient.specs.PassphraseHolders.{pass_unwraps}
 pub use Rattle.age_stream.proofs.SalvageLemmas.{reports_none}
 pub use Rattle.age_stream.specs.Offsets.{StaysGiven}
 pub use Rattle.age_stream.specs.Ranges.{IsSound, IsVerifiedByte, KeepsVerified, RangeState, Stops, range_len, source_opening}

@@ -26,7 +26,7 @@ answers_meant same is = ap {B = Answering} (λ (m : List StanzaParts → Unwrapp
 pub gathering_meant : {w : FileKey → Result (List StanzaParts) ℕ} {l : Labels} (secret : Secret) (work : ℕ)
     (salt : Bytes) → w ≡ wraps_of (recipient_of secret work salt) → l ≡ labels_of (recipient_of secret work salt)
     → (λ k. Gathered (w k ∷ []) (l ∷ [])) ≡ gathering_of secret work salt
-gathering_meant (Passphrase pass) work salt wraps labels = rw (wraps, labels)
+gathering_meant (Passphrase pass others) work salt wraps labels = rw (wraps, labels)
 gathering_meant (Keys keys) work salt wraps labels = rw (wraps, labels)
 
 -- what holds of any bytes, where nothing was read
@@ -39,14 +39,29 @@ pub encrypting_meant : {f g : FileKey → Gathering} {limits : Bounds} {fresh : 
 encrypting_meant {limits} {fresh} {source} {old} {new} {r} same h =
     subst (λ (f : FileKey → Gathering). Encrypting limits fresh (f fresh.file_key) source (move_of old new) r) same h
 
--- what is decided by the remaining keys, after the next one
+-- what is decided by the remaining secrets, after the next one
+pub answers_step : {A : Type 0} (f : A → Unwrapped) (xs : List A) {i : ℕ} {x : A} (so_far : Unwrapped)
+    {answer all : Unwrapped} (next : List Unwrapped → Unwrapped) → i < length xs → x ≡ get_or xs i x → answer ≡ f x
+    → ((more : List Unwrapped) → decision_from so_far (answer ∷ more) ≡ next more)
+    → decision_from so_far (drop i (map f xs)) ≡ all → next (drop (i + 1) (map f xs)) ≡ all
+answers_step f xs {i} so_far next low at is step before =
+    sym (step (drop (i + 1) (map f xs))) ∙ sym (decided_step f xs so_far low at is) ∙ before
+
+-- the same for keys
 pub keys_step : (f : Bytes → Unwrapped) (keys : List Bytes) {i : ℕ} (so_far : Unwrapped) {answer all : Unwrapped}
     (next : List Unwrapped → Unwrapped) → i < length keys → answer ≡ f (get_or keys i [])
     → ((more : List Unwrapped) → decision_from so_far (answer ∷ more) ≡ next more)
     → decision_from so_far (drop i (map f keys)) ≡ all → next (drop (i + 1) (map f keys)) ≡ all
 keys_step f keys {i} so_far next low is step before =
-    let at = get_or_default keys i [] (get_or keys i []) low in
-    sym (step (drop (i + 1) (map f keys))) ∙ sym (decided_step f keys so_far low at is) ∙ before
+    answers_step f keys so_far next low (get_or_default keys i [] (get_or keys i []) low) is step before
+
+-- one more follows the first
+pub guessed_more : {A S : Type 0} (f : A → S) (first : S) (xs : List A) {i : ℕ} {x : A} {old new : List S}
+    → i < length xs → x ≡ get_or xs i x → new ≡ old ++ f x ∷ [] → old ≡ first ∷ map f (take i xs)
+    → new ≡ first ∷ map f (take (i + 1) xs)
+guessed_more f first xs {i} {x} low at added before =
+    added ∙ ap (λ ys. ys ++ f x ∷ []) before ∙ ap (λ ys. first ∷ ys) (sym (map_push f (take i xs) x)
+    ∙ ap (map f) (ap (λ y. take i xs ++ y ∷ []) at ∙ sym (take_more xs i x low)))
 
 -- one more is made for the next key
 pub wrapped_more : {S : Type 0} (f : Bytes → S) (keys : List Bytes) (i : ℕ) {old one new : List S} → i < length keys

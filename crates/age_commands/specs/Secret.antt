@@ -1,5 +1,6 @@
 -- The meaning of a job's secrets and limits.
-use Rattle.std.specs.Prelude.{◌^◌, ◌∷◌}
+use Rattle.std.specs.Global.{Global}
+use Rattle.std.specs.Prelude.{◌^◌, ◌∷◌, Vec}
 use Rattle.std.specs.List.{list_any}
 use Rattle.age_commands.specs.Words.{ℕ, Bool, List, [], map, Result, Ok, Bytes, StanzaParts, Bounds, Gathered, Gathering, Answering, Job}
 use Rattle.age_header.specs.declared.file_key.FileKey.{FileKey}
@@ -9,7 +10,7 @@ use Rattle.age_recipient.specs.declared.unwrapped.Unwrapped.{Unwrapped}
 use Rattle.age_recipient.specs.Answer.{decision, is_of}
 use Rattle.age_recipient.specs.KeyedHolders.{key_unwraps}
 use Rattle.age_recipient.specs.KeyedStanza.{keyed_answer, keyed_stanza, keyed_type}
-use Rattle.age_recipient.specs.PassphraseHolders.{pass_unwraps, pass_wraps}
+use Rattle.age_recipient.specs.PassphraseHolders.{PassGuess, pass_wraps}
 use Rattle.age_recipient.specs.PassphraseStanza.{pass_answer, pass_stanza, scrypt_type}
 use Rattle.age_commands.specs.declared.identity.SecretIdentity.{SecretIdentity}
 use Rattle.age_commands.specs.declared.identity.SecretIdentity.TheVariants as identity
@@ -22,19 +23,31 @@ use Rattle.age_job.specs.declared.secret.Secret.TheVariants.{Passphrase, Keys}
 abbrev pub limits_of : Job → Bounds
 limits_of job = record { max_header = job.max_header; max_chunks = 2 ^ 88 }
 
+-- passphrases to try in order, each with the greatest work factor
+abbrev pub guesses_of : (first : Bytes) (others : List (Vec ℕ Global)) (max_work : ℕ)
+    → List PassGuess
+guesses_of first others max_work =
+    record { pass = first; max = max_work }
+    ∷ map (λ other. record { pass = other.items; max = max_work }) others
+
+-- the answer of passphrases that are called in order
+abbrev pub passes_unwrap : (guesses : List PassGuess) (stanzas : List StanzaParts) → Unwrapped
+passes_unwrap guesses stanzas =
+    decision (map (λ guess. decision (map (pass_answer guess.pass guess.max) stanzas)) guesses)
+
 -- The answers of a secret to a header's stanzas, as one identity: the first answer that decides, of
--- its passphrase with the job's greatest work factor, or of its keys in order.
+-- its passphrases in order with the job's greatest work factor, or of its keys in order.
 abbrev pub answers_of : (secret : Secret) (max_work : ℕ) → Answering
-answers_of (Passphrase pass) max_work =
-    λ stanzas. decision (map (pass_answer pass.items max_work) stanzas) ∷ []
+answers_of (Passphrase first others) max_work =
+    λ stanzas. passes_unwrap (guesses_of first.items others.items max_work) stanzas ∷ []
 answers_of (Keys keys) max_work =
     λ stanzas. decision (map (λ key. decision (map (keyed_answer key) stanzas)) keys.items) ∷ []
 
--- The stanzas of a secret for a file key, as one recipient: a stanza of its passphrase with salt
--- and work factor, alone in its file; or a stanza of each key in order, with the salt.
+-- The stanzas of a secret for a file key, as one recipient: a stanza of its first passphrase with
+-- salt and work factor, alone in its file; or a stanza of each key in order, with the salt.
 abbrev pub gathering_of : (secret : Secret) (work : ℕ) (salt : Bytes) (file_key : FileKey)
     → Gathering
-gathering_of (Passphrase pass) work salt file_key =
+gathering_of (Passphrase pass others) work salt file_key =
     Gathered (Ok (pass_stanza pass.items work salt file_key ∷ []) ∷ []) (Alone ∷ [])
 gathering_of (Keys keys) work salt file_key =
     Gathered (Ok (map (λ key. keyed_stanza key salt file_key) keys.items) ∷ []) (Names [] ∷ [])
@@ -47,17 +60,17 @@ keys_unwrap keys stanzas = decision (map (λ key. key_unwraps key stanzas) keys)
 
 -- the answer of a secret's identity
 abbrev pub unwraps_of : (identity : SecretIdentity) (stanzas : List StanzaParts) → Unwrapped
-unwraps_of (identity.Passphrase guess) stanzas = pass_unwraps guess stanzas
+unwraps_of (identity.Passphrases guesses) stanzas = passes_unwrap guesses.items stanzas
 unwraps_of (identity.Keys keys) stanzas = keys_unwrap keys.items stanzas
 
 -- whether a stanza is of the type of a secret's identity
 abbrev pub has_own : (identity : SecretIdentity) (stanzas : List StanzaParts) → Bool
-has_own (identity.Passphrase guess) stanzas = list_any (is_of scrypt_type) stanzas
+has_own (identity.Passphrases guesses) stanzas = list_any (is_of scrypt_type) stanzas
 has_own (identity.Keys keys) stanzas = list_any (is_of keyed_type) stanzas
 
 -- the recipient of a secret
 abbrev pub recipient_of : (secret : Secret) (work : ℕ) (salt : Bytes) → SecretRecipient
-recipient_of (Passphrase pass) work salt =
+recipient_of (Passphrase pass others) work salt =
     recipient.Passphrase (record { pass = pass.items; salt = salt; work = work })
 recipient_of (Keys keys) work salt = recipient.Keys keys salt
 

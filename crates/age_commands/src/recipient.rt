@@ -35,7 +35,7 @@ impl SecretRecipient {
             (λ recipient. box_value recipient ≡ recipient_of secret job.now.work salt) }
     {
         match secret {
-            Secret::Passphrase(passphrase) => {
+            Secret::Passphrase(passphrase, _) => {
                 match PassRecipient::new(alloc, passphrase.as_slice(), salt, job.work) {
                     Ok(recipient) => Ok(Box::new(alloc, SecretRecipient::Passphrase(recipient))?),
                     Err(PassError::WorkFactor) => unreachable!(),

@@ -1,7 +1,7 @@
 -- The faults of a job's files are those with which the job may be refused.
 use Rattle.std.specs.Prelude.{String, IsSome}
 use Rattle.std.specs.String.{string_bytes}
-use Rattle.std.proofs.Common.{◌≡◌, ◌⊎◌, ◌<◌, ℕ, List, Option, None, Some, length, inl, inr, arith, refl}
+use Rattle.std.proofs.Common.{◌≡◌, ◌⊎◌, ◌<◌, ℕ, List, [], Option, None, Some, length, inl, inr, arith, refl}
 use Rattle.age_job.specs.declared.fault.Fault.{Fault}
 use Rattle.age_job.specs.declared.fault.Fault.TheVariants as faults
 use Rattle.age_job.specs.declared.file_names.Role.{Role}
@@ -11,7 +11,7 @@ use Rattle.age_job.specs.declared.job.Job.{Job}
 use Rattle.age_job.specs.declared.small_files.SecretFiles.{SecretFiles}
 use Rattle.age_job.specs.declared.small_files.SecretFiles.TheVariants as files
 use Rattle.age_job.specs.Refusal.{IsFileFault, IsNamed, IsPassphraseFault, IsRead, MakesHeader, MayRefuse, IsOutput, IsSameFault}
-use Rattle.age_job.specs.Secret.{IsChoice, IsFilesFault}
+use Rattle.age_job.specs.Secret.{IsChoice, IsFilesFault, IsListFault}
 
 pub of_file : (job : Job) (role : Role) (name : List ℕ) (fault : Fault) → IsRead job role name
     → IsFileFault name fault → MayRefuse job fault
@@ -28,26 +28,33 @@ pub of_seed : (job : Job) (fault : Fault) → MakesHeader job
 of_seed job fault makes (inl h) = of_file job roles.Seed (string_bytes job.seed) fault (makes, refl) h
 of_seed job fault makes (inr same) = rw same makes
 
--- what follows from a fault of the files of a passphrase or of keys
-choose : {Z : Type 0} (pass key : Option (String Z)) (more : List (String Z)) (from : SecretFiles)
-    (refuses : Fault → Type 0) (fault : Fault) {R : Type 0} → IsChoice pass key more from
+-- what follows from a fault of files of one kind
+listed : (refuses : Fault → Type 0) (first : List ℕ) (rest : ℕ) (fault : Fault) {R : Type 0}
+    → IsListFault refuses first rest fault → (refuses fault → R) → (IsFileFault first fault → R)
+    → (0 < rest → (name : List ℕ) → IsFileFault name fault → R) → R
+listed refuses first rest fault (inl (inl h)) a b c = b h
+listed refuses first rest fault (inl (inr h)) a b c = a h
+listed refuses first rest fault (inr (some, (other, inl h))) a b c = c some other h
+listed refuses first rest fault (inr (some, (other, inr h))) a b c = a h
+
+-- what follows from a fault of the files of passphrases or of keys
+choose : {Z : Type 0} (pass : Option (String Z)) (passes : List (String Z)) (key : Option (String Z))
+    (keys : List (String Z)) (from : SecretFiles)
+    (refuses : Fault → Type 0) (fault : Fault) {R : Type 0} → IsChoice pass passes key keys from
     → IsFilesFault refuses from fault → (IsSome pass → refuses fault → R)
     → (IsSome key → fault ≡ faults.KeyLength → R)
-    → ((name : List ℕ) → IsNamed pass name → IsFileFault name fault → R)
-    → ((name : List ℕ) → IsNamed key name ⊎ (0 < length more) → IsFileFault name fault → R) → R
-choose (Some name) None more (files.Passphrase named) refuses fault is (inl h) a b c d = c named.name.now is h
-choose (Some name) None more (files.Passphrase named) refuses fault is (inr h) a b c d = a refl h
-choose (Some name) None more (files.Keys first rest) refuses fault is h a b c d = absurd is
-choose None (Some name) more (files.Keys first rest) refuses fault is (inl (inl h)) a b c d =
-    d first.name.now (inl is.1) h
-choose None (Some name) more (files.Keys first rest) refuses fault is (inl (inr h)) a b c d = b refl h
-choose None (Some name) more (files.Keys first rest) refuses fault is (inr (some, (other, inl h))) a b c d =
-    d other (inr (omega (arith, some, is.0))) h
-choose None (Some name) more (files.Keys first rest) refuses fault is (inr (some, (other, inr h))) a b c d =
-    b refl h
-choose None (Some name) more (files.Passphrase named) refuses fault is h a b c d = absurd is
-choose None None more from refuses fault is h a b c d = absurd is
-choose (Some name) (Some other) more from refuses fault is h a b c d = absurd is
+    → ((name : List ℕ) → IsNamed pass name ⊎ (0 < length passes) → IsFileFault name fault → R)
+    → ((name : List ℕ) → IsNamed key name ⊎ (0 < length keys) → IsFileFault name fault → R) → R
+choose (Some name) passes None keys (files.Passphrase first rest) refuses fault is h a b c d =
+    listed _ first.name.now (length rest.now) fault h (a refl) (c first.name.now (inl is.1))
+    (λ some other. c other (inr (omega (arith, some, is.0))))
+choose (Some name) passes None keys (files.Keys first rest) refuses fault is h a b c d = absurd is
+choose None passes (Some name) keys (files.Keys first rest) refuses fault is h a b c d =
+    listed _ first.name.now (length rest.now) fault h (b refl) (d first.name.now (inl is.1))
+    (λ some other. d other (inr (omega (arith, some, is.0))))
+choose None passes (Some name) keys (files.Passphrase first rest) refuses fault is h a b c d = absurd is
+choose None passes None keys from refuses fault is h a b c d = absurd is
+choose (Some name) passes (Some other) keys from refuses fault is h a b c d = absurd is
 
 -- a passphrase that is refused
 of_passphrase : (job : Job) (fault : Fault) → MakesHeader job → IsSome job.pass ⊎ IsSome job.new_pass
@@ -59,32 +66,36 @@ of_passphrase job fault makes some h = absurd h
 
 -- the files of the secret, to open a file
 pub of_files : (job : Job) (from : SecretFiles) (fault : Fault)
-    → IsChoice job.pass job.key job.more_keys.items from
+    → IsChoice job.pass job.more_passes.items job.key job.more_keys.items from
     → IsFilesFault (λ f. f ≡ faults.PassphraseLength) from fault → MayRefuse job fault
 of_files job from fault is h =
-    choose job.pass job.key job.more_keys.items from (λ f. f ≡ faults.PassphraseLength) fault is h
+    choose job.pass job.more_passes.items job.key job.more_keys.items from (λ f. f ≡ faults.PassphraseLength) fault is h
     (λ some same. rw same (inl some)) (λ some same. rw same (inl some))
     (λ name named. of_file job roles.Passphrase name fault named)
     (λ name named. of_file job roles.Key name fault named)
 
 -- the same, to make one
 pub of_new_files : (job : Job) (from : SecretFiles) (fault : Fault) → MakesHeader job
-    → IsChoice job.pass job.key job.more_keys.items from → IsFilesFault IsPassphraseFault from fault
-    → MayRefuse job fault
+    → IsChoice job.pass job.more_passes.items job.key job.more_keys.items from
+    → IsFilesFault IsPassphraseFault from fault → MayRefuse job fault
 of_new_files job from fault makes is h =
-    choose job.pass job.key job.more_keys.items from IsPassphraseFault fault is h
+    choose job.pass job.more_passes.items job.key job.more_keys.items from IsPassphraseFault fault is h
     (λ some. of_passphrase job fault makes (inl some)) (λ some same. rw same (inl some))
     (λ name named. of_file job roles.Passphrase name fault named)
     (λ name named. of_file job roles.Key name fault named)
 
+only_first : {X : Type 0} → X ⊎ (0 < 0) → X
+only_first (inl h) = h
+only_first (inr none) = absurd (omega (arith, none))
+
 -- the files of the new secret
 pub of_other_files : (job : Job) (from : SecretFiles) (fault : Fault) → MakesHeader job
-    → IsChoice job.new_pass job.new_key job.more_new_keys.items from
+    → IsChoice job.new_pass [] job.new_key job.more_new_keys.items from
     → IsFilesFault IsPassphraseFault from fault → MayRefuse job fault
 of_other_files job from fault makes is h =
-    choose job.new_pass job.new_key job.more_new_keys.items from IsPassphraseFault fault is h
+    choose job.new_pass [] job.new_key job.more_new_keys.items from IsPassphraseFault fault is h
     (λ some. of_passphrase job fault makes (inr some)) (λ some same. rw same (inr some))
-    (λ name named. of_file job roles.NewPassphrase name fault named)
+    (λ name named. of_file job roles.NewPassphrase name fault (only_first named))
     (λ name named. of_file job roles.NewKey name fault named)
 
 -- the file of the file key

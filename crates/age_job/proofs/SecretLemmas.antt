@@ -7,13 +7,15 @@ use Rattle.age_job.specs.declared.small_files.SecretFiles.{SecretFiles}
 use Rattle.age_job.specs.declared.small_files.SecretFiles.TheVariants as files
 use Rattle.age_job.specs.Secret.{IsChoice, IsReadFrom, IsSecretOf}
 
-pub chosen : {Z : Type 0} (pass key : Option (String Z)) (more : List (String Z)) (from : SecretFiles) (secret : Secret)
-    → IsChoice pass key more from → IsReadFrom from secret → IsSecretOf pass key more secret
-chosen (Some name) None more (files.Passphrase named) (Passphrase bytes) is read = tt
-chosen (Some name) None more (files.Passphrase named) (Keys keys) is read = absurd read
-chosen (Some name) None more (files.Keys first rest) secret is read = absurd is
-chosen None (Some name) more (files.Keys first rest) (Keys keys) is read = (read.0, omega (arith, is.0))
-chosen None (Some name) more (files.Keys first rest) (Passphrase bytes) is read = absurd read
-chosen None (Some name) more (files.Passphrase named) secret is read = absurd is
-chosen None None more from secret is read = absurd is
-chosen (Some name) (Some other) more from secret is read = absurd is
+pub chosen : {Z : Type 0} (pass : Option (String Z)) (passes : List (String Z)) (key : Option (String Z))
+    (keys : List (String Z)) (from : SecretFiles) (secret : Secret)
+    → IsChoice pass passes key keys from → IsReadFrom from secret → IsSecretOf pass passes key keys secret
+chosen (Some name) passes None keys (files.Passphrase first rest) (Passphrase bytes others) is read =
+    omega (arith, read, is.0)
+chosen (Some name) passes None keys (files.Passphrase first rest) (Keys some) is read = absurd read
+chosen (Some name) passes None keys (files.Keys first rest) secret is read = absurd is
+chosen None passes (Some name) keys (files.Keys first rest) (Keys some) is read = (read.0, omega (arith, is.0))
+chosen None passes (Some name) keys (files.Keys first rest) (Passphrase bytes others) is read = absurd read
+chosen None passes (Some name) keys (files.Passphrase first rest) secret is read = absurd is
+chosen None passes None keys from secret is read = absurd is
+chosen (Some name) passes (Some other) keys from secret is read = absurd is

@@ -28,10 +28,10 @@ IsNoChoice _ _ = ⊤
 abbrev pub MakesHeader : (job : Job) → Type 0
 MakesHeader job = (job.command ≡ command.Encrypt) ⊎ (job.command ≡ command.Rewrap)
 
--- A file in this role has this name. That of a key after the first may be any.
+-- A file in this role has this name. That of a passphrase or key after the first may be any.
 abbrev pub IsRead : (job : Job) (role : Role) (name : List ℕ) → Type 0
 IsRead job roles.Input name = IsNamed job.input name
-IsRead job roles.Passphrase name = IsNamed job.pass name
+IsRead job roles.Passphrase name = IsNamed job.pass name ⊎ (0 < length job.more_passes.items)
 IsRead job roles.Key name = IsNamed job.key name ⊎ (0 < length job.more_keys.items)
 IsRead job roles.NewPassphrase name = IsNamed job.new_pass name
 IsRead job roles.NewKey name = IsNamed job.new_key name ⊎ (0 < length job.more_new_keys.items)

@@ -10,17 +10,19 @@ use Rattle.age_job.specs.declared.secret.Secret.TheVariants.{Passphrase, Keys}
 use Rattle.age_job.specs.declared.small_files.SecretFiles.{SecretFiles}
 use Rattle.age_job.specs.declared.small_files.SecretFiles.TheVariants as files
 
--- a passphrase if only its file is named; if only key files are, one or more keys, and no more
-abbrev pub IsSecretOf : {A : Type 0} (pass key : Option A) (more : List A) (secret : Secret)
-    → Type 0
-IsSecretOf (Some name) None more (Passphrase bytes) = ⊤
-IsSecretOf None (Some name) more (Keys keys) =
-    (0 < vec_len keys) × (vec_len keys ≤ 1 + length more)
-IsSecretOf pass key more secret = ⊥
+-- passphrases if only passphrase files are named, and no more; if only key files are, one or more
+-- keys, and no more
+abbrev pub IsSecretOf : {A : Type 0} (pass : Option A) (more_passes : List A) (key : Option A)
+    (more_keys : List A) (secret : Secret) → Type 0
+IsSecretOf (Some name) more_passes None more_keys (Passphrase bytes others) =
+    vec_len others ≤ length more_passes
+IsSecretOf None more_passes (Some name) more_keys (Keys keys) =
+    (0 < vec_len keys) × (vec_len keys ≤ 1 + length more_keys)
+IsSecretOf pass more_passes key more_keys secret = ⊥
 
 -- a secret for a new file
 abbrev pub IsNewSecret : Secret → Type 0
-IsNewSecret (Passphrase bytes) = IsNewPassphrase bytes.items
+IsNewSecret (Passphrase bytes others) = IsNewPassphrase bytes.items
 IsNewSecret (Keys keys) = ⊤
 
 -- a file key exactly if its file is named and the header's own text is not asked for
@@ -29,25 +31,33 @@ IsFileKeyOf false (Some name) key = IsSome key
 IsFileKeyOf raw name key = key ≡ None
 
 -- the files from which a secret is read, which are those that the options name
-abbrev pub IsChoice : {Z : Type 0} (pass key : Option (String Z)) (more : List (String Z))
-    (files : SecretFiles) → Type 0
-IsChoice (Some name) None more (files.Passphrase named) = named.name.now ≡ string_bytes name
-IsChoice None (Some name) more (files.Keys first rest) =
-    (length rest.now ≡ length more) × (first.name.now ≡ string_bytes name)
-IsChoice pass key more files = ⊥
+abbrev pub IsChoice : {Z : Type 0} (pass : Option (String Z)) (more_passes : List (String Z))
+    (key : Option (String Z)) (more_keys : List (String Z)) (files : SecretFiles) → Type 0
+IsChoice (Some name) more_passes None more_keys (files.Passphrase first rest) =
+    (length rest.now ≡ length more_passes) × (first.name.now ≡ string_bytes name)
+IsChoice None more_passes (Some name) more_keys (files.Keys first rest) =
+    (length rest.now ≡ length more_keys) × (first.name.now ≡ string_bytes name)
+IsChoice pass more_passes key more_keys files = ⊥
 
--- A fault of these files, or that the contents of a passphrase file are refused. A key file after
--- the first may have any name.
+-- a fault of files of one kind, or that the contents of one are refused; a file after the first may
+-- have any name
+abbrev pub IsListFault : (refuses : Fault → Type 0) (first : List ℕ) (rest : ℕ) (fault : Fault)
+    → Type 0
+IsListFault refuses first rest fault =
+    (IsFileFault first fault ⊎ refuses fault)
+    ⊎ ((0 < rest) × ((name : List ℕ) × (IsFileFault name fault ⊎ refuses fault)))
+
+-- a fault of these files, or that the contents of one are refused
 abbrev pub IsFilesFault : (refuses : Fault → Type 0) (files : SecretFiles) (fault : Fault) → Type 0
-IsFilesFault refuses (files.Passphrase named) fault =
-    IsFileFault named.name.now fault ⊎ refuses fault
+IsFilesFault refuses (files.Passphrase first rest) fault =
+    IsListFault refuses first.name.now (length rest.now) fault
 IsFilesFault refuses (files.Keys first rest) fault =
-    (IsFileFault first.name.now fault ⊎ (fault ≡ KeyLength))
-    ⊎ ((0 < length rest.now) × ((name : List ℕ) × (IsFileFault name fault ⊎ (fault ≡ KeyLength))))
+    IsListFault (λ f. f ≡ KeyLength) first.name.now (length rest.now) fault
 
 -- a secret that these files may contain
 abbrev pub IsReadFrom : (files : SecretFiles) (secret : Secret) → Type 0
-IsReadFrom (files.Passphrase named) (Passphrase bytes) = ⊤
+IsReadFrom (files.Passphrase first rest) (Passphrase bytes others) =
+    vec_len others ≤ length rest.now
 IsReadFrom (files.Keys first rest) (Keys keys) =
     (0 < vec_len keys) × (vec_len keys ≤ 1 + length rest.now)
 IsReadFrom files secret = ⊥

@@ -291,6 +291,7 @@ fn open<'a, F: Files>(rt: &F, name: &'a str) -> Result<F::File, Failure<'a>>
 fn secrets_of<'a>(alloc: Global, job: &'a Job) -> Result<Vec<NamedFile<'a>>, AllocError> {
     let mut files = Vec::new(alloc);
     add_named(&mut files, Role::Passphrase, &job.pass)?;
+    add_all(&mut files, Role::Passphrase, job.more_passes.as_slice())?;
     add_named(&mut files, Role::Key, &job.key)?;
     add_all(&mut files, Role::Key, job.more_keys.as_slice())?;
     add_named(&mut files, Role::NewPassphrase, &job.new_pass)?;

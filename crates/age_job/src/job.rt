@@ -22,8 +22,10 @@ pub enum Command {
 #[derive(Drop)]
 pub struct Job {
     pub command: Command,
-    /// The file that holds the passphrase.
+    /// The file that holds the passphrase, or the first of several passphrases.
     pub pass: Option<String>,
+    /// The files of the passphrases after the first, which only open files.
+    pub more_passes: Vec<String>,
     /// The file that holds the key of 32 bytes, or the first of several keys.
     pub key: Option<String>,
     /// The files of the keys after the first.

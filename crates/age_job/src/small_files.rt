@@ -1,6 +1,6 @@
 //! The small files that hold a job's secrets: passphrases, keys and seeds.
 
-ghost use Rattle.std.specs.Prelude.{◌≡◌, ◌≤◌, ◌<◌, ◌+◌, ◌⊎◌, ℕ, List, length, vec_len, IfErr, IfOk};
+ghost use Rattle.std.specs.Prelude.{◌≡◌, ◌≤◌, ◌<◌, ◌+◌, ◌⊎◌, [], ℕ, List, length, vec_len, IfErr, IfOk};
 ghost use Rattle.std.specs.String.{string_bytes};
 ghost use Rattle.age_job.specs.Passphrase.{IsNewPassphrase};
 ghost use Rattle.age_job.specs.Refusal.{IsFileFault, IsNoChoice, IsPassphraseFault, MakesHeader, MayRefuse};
@@ -28,9 +28,10 @@ pub fn read_secret<'a, F: Files + AllocGlobal>(
     job: &'a Job,
     read: &mut ReadFiles<'a>,
 ) -> Result<Secret, Failure<'a>>
-    // Returns a passphrase if only a passphrase file is named. If only key files are named, returns
-    // one or more keys, not more than there are key files.
-    ensures secret { IfOk result (IsSecretOf job.now.pass job.now.key job.now.more_keys.items) }
+    // Returns passphrases if only passphrase files are named, and not more of them. If only key
+    // files are named, returns one or more keys, not more than there are key files.
+    ensures secret { IfOk result (IsSecretOf job.now.pass job.now.more_passes.items job.now.key
+        job.now.more_keys.items) }
     ensures fault { IfErr result (λ failure. MayRefuse job.now failure.fault) }
 {
     let files = secret_files(job)?;
@@ -48,8 +49,8 @@ pub fn read_encrypt_secrets<'a, F: Files + AllocGlobal, W: IsTerminal>(
 ) -> Result<(Secret, [u8; SEED_LEN]), Failure<'a>>
     // Returns a passphrase if only a passphrase file is named. If only key files are named, returns
     // one or more keys, not more than there are key files.
-    ensures secret { IfOk result
-        (λ read. IsSecretOf job.now.pass job.now.key job.now.more_keys.items read.0) }
+    ensures secret { IfOk result (λ read. IsSecretOf job.now.pass job.now.more_passes.items
+        job.now.key job.now.more_keys.items read.0) }
     // No new passphrase is empty, ends in CR or LF, or begins with a byte-order mark.
     ensures new { IfOk result (λ read. IsNewSecret read.0) }
     ensures fault { job.now.command ≡ Command.Encrypt
@@ -71,11 +72,11 @@ pub fn read_rewrap_secrets<'a, F: Files + AllocGlobal, W: IsTerminal>(
     read: &mut ReadFiles<'a>,
     out: &W,
 ) -> Result<(Secret, Secret, [u8; SEED_LEN]), Failure<'a>>
-    // The old secret is a passphrase or keys by its options, as for `read_secret`.
-    ensures old { IfOk result
-        (λ read. IsSecretOf job.now.pass job.now.key job.now.more_keys.items read.0) }
+    // The old secret is passphrases or keys by its options, as for `read_secret`.
+    ensures old { IfOk result (λ read. IsSecretOf job.now.pass job.now.more_passes.items
+        job.now.key job.now.more_keys.items read.0) }
     // The new secret is a passphrase or keys by its options, as for `read_secret`.
-    ensures other { IfOk result (λ read. IsSecretOf job.now.new_pass job.now.new_key
+    ensures other { IfOk result (λ read. IsSecretOf job.now.new_pass [] job.now.new_key
         job.now.more_new_keys.items read.1) }
     // No new passphrase is empty, ends in CR or LF, or begins with a byte-order mark.
     ensures new { IfOk result (λ read. IsNewSecret read.1) }
@@ -117,79 +118,83 @@ pub fn read_file_key<'a, F: Files + AllocGlobal>(
 /// The files of a secret that options name.
 #[derive(Clone, Copy, Drop)]
 enum SecretFiles<'a> {
-    Passphrase(NamedFile<'a>),
-    /// The file of the first key, and the names of the files after it.
+    /// The file of the first passphrase, and the names of the files after it.
+    Passphrase(NamedFile<'a>, &'a [String]),
+    /// The same for keys.
     Keys(NamedFile<'a>, &'a [String]),
 }
 
 /// The files of the job's passphrase or keys.
 fn secret_files<'a>(job: &'a Job) -> Result<SecretFiles<'a>, Fault<'a>>
-    ensures files { IfOk result (IsChoice job.now.pass job.now.key job.now.more_keys.items) }
+    ensures files { IfOk result (IsChoice job.now.pass job.now.more_passes.items job.now.key
+        job.now.more_keys.items) }
     ensures fault { IfErr result (MayRefuse job.now) }
 {
-    let roles = (Role::Passphrase, Role::Key);
-    choice_of(roles, &job.pass, &job.key, &job.more_keys, Fault::KeyChoice)
+    let passphrases = (Role::Passphrase, &job.pass, job.more_passes.as_slice());
+    let keys = (Role::Key, &job.key, job.more_keys.as_slice());
+    choice_of(passphrases, keys, Fault::KeyChoice)
 }
 
 /// The same for the job's new passphrase or keys.
 fn new_secret_files<'a>(job: &'a Job) -> Result<SecretFiles<'a>, Fault<'a>>
     ensures files { IfOk result
-        (IsChoice job.now.new_pass job.now.new_key job.now.more_new_keys.items) }
+        (IsChoice job.now.new_pass [] job.now.new_key job.now.more_new_keys.items) }
     ensures fault { job.now.command ≡ Command.Rewrap → IfErr result (MayRefuse job.now) }
 {
-    let roles = (Role::NewPassphrase, Role::NewKey);
-    choice_of(
-        roles,
-        &job.new_pass,
-        &job.new_key,
-        &job.more_new_keys,
-        Fault::NewKeyChoice,
-    )
+    let passphrases = (Role::NewPassphrase, &job.new_pass, &[][..]);
+    let keys = (Role::NewKey, &job.new_key, job.more_new_keys.as_slice());
+    choice_of(passphrases, keys, Fault::NewKeyChoice)
 }
 
-/// The files that options name for a passphrase or for keys, in these roles. They must name exactly
-/// one of the two, because the format forbids another stanza beside that of a passphrase.
+/// A role, the first file named for it, and the files after it.
+type Named<'a> = (Role, &'a Option<String>, &'a [String]);
+
+/// The files that options name for passphrases or for keys. They must name exactly one of the two,
+/// because the format forbids another stanza beside that of a passphrase.
 fn choice_of<'a>(
-    roles: (Role, Role),
-    pass: &'a Option<String>,
-    key: &'a Option<String>,
-    more: &'a Vec<String>,
+    passphrases: Named<'a>,
+    keys: Named<'a>,
     fault: Fault<'a>,
 ) -> Result<SecretFiles<'a>, Fault<'a>>
-    ensures files { IfOk result (IsChoice pass.now key.now more.now.items) }
-    ensures fault { IfErr result
-        (λ refused. (refused ≡ fault.entry) × IsNoChoice pass.now key.now) }
+    ensures files { IfOk result (IsChoice passphrases.entry.1.now passphrases.entry.2.now
+        keys.entry.1.now keys.entry.2.now) }
+    ensures fault { IfErr result (λ refused. (refused ≡ fault.entry)
+        × IsNoChoice passphrases.entry.1.now keys.entry.1.now) }
 {
-    match (pass, key) {
+    match (passphrases.1, keys.1) {
         (Some(name), None) => {
-            let (role, name) = (roles.0, name.as_str());
-            Ok(SecretFiles::Passphrase(NamedFile { role, name }))
+            let (role, name) = (passphrases.0, name.as_str());
+            Ok(SecretFiles::Passphrase(NamedFile { role, name }, passphrases.2))
         }
         (None, Some(name)) => {
-            let (role, name) = (roles.1, name.as_str());
-            Ok(SecretFiles::Keys(NamedFile { role, name }, more.as_slice()))
+            let (role, name) = (keys.0, name.as_str());
+            Ok(SecretFiles::Keys(NamedFile { role, name }, keys.2))
         }
         _ => Err(fault),
     }
 }
 
-/// Reads the passphrase or the keys in these files, to open a file.
+/// Reads the passphrases or the keys in these files, to open a file.
 fn read_from<'a, F: Files + AllocGlobal>(
     rt: &F,
     read: &mut ReadFiles<'a>,
     files: SecretFiles<'a>,
 ) -> Result<Secret, Failure<'a>>
     ensures secret { IfOk result (λ secret. IsReadFrom files.entry secret) }
-    ensures fault { IfErr result (λ failure. IsFilesFault (λ fault. fault ≡ Fault.PassphraseLength)
-        files.entry failure.fault) }
+    ensures fault { IfErr result (λ failure. IsFilesFault
+        (λ fault. fault ≡ Fault.PassphraseLength) files.entry failure.fault) }
 {
     match files {
-        SecretFiles::Passphrase(named) => Ok(Secret::Passphrase(read_passphrase(rt, read, named)?)),
+        SecretFiles::Passphrase(first, more) => {
+            let passphrase = read_passphrase(rt, read, first)?;
+            let others = read_passphrases(rt, read, first.role, more)?;
+            Ok(Secret::Passphrase(passphrase, others))
+        }
         SecretFiles::Keys(first, more) => Ok(Secret::Keys(read_keys(rt, read, first, more)?)),
     }
 }
 
-/// The same, to make a file.
+/// The same, to make a file, for which there is one passphrase.
 fn read_new_from<'a, F: Files + AllocGlobal>(
     rt: &F,
     read: &mut ReadFiles<'a>,
@@ -201,8 +206,9 @@ fn read_new_from<'a, F: Files + AllocGlobal>(
         (λ failure. IsFilesFault IsPassphraseFault files.entry failure.fault) }
 {
     match files {
-        SecretFiles::Passphrase(named) => {
-            Ok(Secret::Passphrase(read_new_passphrase(rt, read, named)?))
+        SecretFiles::Passphrase(named, _) => {
+            let passphrase = read_new_passphrase(rt, read, named)?;
+            Ok(Secret::Passphrase(passphrase, Vec::new(rt.alloc())))
         }
         SecretFiles::Keys(first, more) => Ok(Secret::Keys(read_keys(rt, read, first, more)?)),
     }
@@ -257,6 +263,25 @@ fn read_passphrase<'a, F: Files + AllocGlobal>(
         ends: Some(Ends::of(passphrase.as_slice())),
     });
     Ok(passphrase)
+}
+
+/// Reads the passphrases in these files, in order.
+fn read_passphrases<'a, F: Files + AllocGlobal>(
+    rt: &F,
+    read: &mut ReadFiles<'a>,
+    role: Role,
+    names: &'a [String],
+) -> Result<Vec<Vec<u8>>, Failure<'a>>
+    ensures number { IfOk result (λ passphrases. vec_len passphrases ≤ length names.now) }
+    ensures fault { IfErr result (λ failure. (0 < length names.now) × ((name : List ℕ)
+        × (IsFileFault name failure.fault ⊎ (failure.fault ≡ Fault.PassphraseLength)))) }
+{
+    let mut passphrases = Vec::new(rt.alloc());
+    for name in names {
+        let name = name.as_str();
+        passphrases.push(read_passphrase(rt, read, NamedFile { role, name })?)?;
+    }
+    Ok(passphrases)
 }
 
 /// Reads the keys in these files, in order, each once.

@@ -7,4 +7,4 @@ returns c shape is =
     (c.with_arg-command-4.ensures _ _ c.max_header_option.ensures.0
     (c.with_arg-command-3.ensures _ _ c.max_work_option.ensures.0
     (c.with_arg-command-2.ensures _ _ c.key_option.ensures.0
-    (c.with_arg-command.ensures _ _ c.pass_option.ensures.0 is)))))
+    (c.with_arg-command.ensures _ _ c.passes_option.ensures.0 is)))))
