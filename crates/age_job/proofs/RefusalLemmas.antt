@@ -46,11 +46,11 @@ choose : {Z : Type 0} (pass : Option (String Z)) (passes : List (String Z)) (key
     → ((name : List ℕ) → IsNamed pass name ⊎ (0 < length passes) → IsFileFault name fault → R)
     → ((name : List ℕ) → IsNamed key name ⊎ (0 < length keys) → IsFileFault name fault → R) → R
 choose (Some name) passes None keys (files.Passphrase first rest) refuses fault is h a b c d =
-    listed _ first.name.now (length rest.now) fault h (a refl) (c first.name.now (inl is.1))
+    listed refuses first.name.now (length rest.now) fault h (a refl) (c first.name.now (inl is.1))
     (λ some other. c other (inr (omega (arith, some, is.0))))
 choose (Some name) passes None keys (files.Keys first rest) refuses fault is h a b c d = absurd is
 choose None passes (Some name) keys (files.Keys first rest) refuses fault is h a b c d =
-    listed _ first.name.now (length rest.now) fault h (b refl) (d first.name.now (inl is.1))
+    listed (λ f. f ≡ faults.KeyLength) first.name.now (length rest.now) fault h (b refl) (d first.name.now (inl is.1))
     (λ some other. d other (inr (omega (arith, some, is.0))))
 choose None passes (Some name) keys (files.Passphrase first rest) refuses fault is h a b c d = absurd is
 choose None passes None keys from refuses fault is h a b c d = absurd is
