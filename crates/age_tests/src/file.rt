@@ -1,5 +1,6 @@
 //! Whole files through callers' devices, recipients and identities.
 
+pub(crate) mod begun;
 mod callers;
 mod constructors;
 mod devices;

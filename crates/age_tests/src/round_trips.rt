@@ -1,8 +1,9 @@
 //! These calls succeed if there is enough memory, which no contract says.
 
+use crate::file::begun::opened;
 use age_file::{
     FileKey, Fresh, Identity, KeyIdentity, KeyRecipient, Limits, MemAt, PassError, ReadAt,
-    StreamFault, open_ranges,
+    StreamFault,
 };
 use round_trip::{
     RangeCall, TripError, encrypted, key_there_and_back, make_calls, pass_there_and_back,
@@ -91,7 +92,7 @@ fn calls_for_ranges_return_slices(rt: HostRuntime) {
             .expect(&rt, "memory");
     }
     let mut dev = MemAt::new(file.as_slice());
-    let mut reader = open_ranges(alloc, &mut dev, identities.as_slice(), &limits).expect(
+    let mut reader = opened(alloc, &mut dev, identities.as_slice(), &limits).expect(
         &rt, "no fault",
     );
     make_calls(&mut reader, calls.as_mut_slice());

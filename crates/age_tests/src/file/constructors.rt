@@ -1,11 +1,12 @@
 //! The state of a device after a constructor has failed: with each of its calls failing in turn,
 //! and for refusals without a failed call.
 
+use super::begun::{begin_decryptor, begin_file, opened, unlocked};
 use super::callers::{END, OTHER_STANZA, PASSPHRASE_STANZA, VERSION};
 use super::devices::FailingSink;
 use super::failing::FILE;
 use super::{FRESH, Identities, key_identities, key_recipients};
-use age_file::{Decryptor, Encryptor, Fault, Limits, MemAt, ReadAt, StanzaFault, open_ranges};
+use age_file::{Encryptor, Fault, Limits, MemAt, ReadAt, StanzaFault};
 use age_header::{MemSource, Source};
 use std::alloc::Global;
 use std::cell::Cell;
@@ -26,7 +27,7 @@ fn failed_write_of_the_front_is_the_last(rt: HostRuntime) {
             &Limits::default(),
         ).expect(&rt, "no fault");
         let mut sink = FailingSink::new(Vec::new(alloc), most);
-        match encryptor.start(alloc, &mut sink) {
+        match begin_file(encryptor, alloc, &mut sink) {
             Ok(writer) => {
                 writer.abandon();
                 assert!(rt; false, "{most} bytes");
@@ -41,8 +42,8 @@ fn failed_write_of_the_front_is_the_last(rt: HostRuntime) {
 
 /// The fault of reading a file in steps up to its nonce.
 fn read_fault<S: Source>(alloc: Global, source: &mut S, identities: &Identities) -> Option<Fault> {
-    match Decryptor::new(alloc, source, &Limits::default()) {
-        Ok(decryptor) => decryptor.unlock(alloc, identities.as_slice()).err(),
+    match begin_decryptor(alloc, source, &Limits::default()) {
+        Ok(decryptor) => unlocked(decryptor, alloc, identities.as_slice()).err(),
         Err(fault) => Some(fault),
     }
 }
@@ -72,7 +73,7 @@ fn failed_read_of_the_front_is_the_last(rt: HostRuntime) {
         );
         let reads = Cell::new(0);
         let mut dev = CountingReadAt::new(FILE, &reads, failing);
-        let met = open_ranges(alloc, &mut dev, identities.as_slice(), &Limits::default()).err();
+        let met = opened(alloc, &mut dev, identities.as_slice(), &Limits::default()).err();
         assert!(rt; met == Some(Fault::Read), "read {failing}");
         assert_eq!(rt; reads.get(), failing);
         assert_eq!(rt; dev.failures(), 1, "read {failing}");
@@ -93,7 +94,7 @@ fn refused<T: Abort>(
     assert!(rt; met == Some(fault), "{fault}");
     assert_eq!(rt; source.rest().len(), left, "{fault}");
     let mut dev = MemAt::new(file);
-    let met = open_ranges(alloc, &mut dev, identities.as_slice(), &Limits::default()).err();
+    let met = opened(alloc, &mut dev, identities.as_slice(), &Limits::default()).err();
     assert!(rt; met == Some(fault), "{fault}");
     let unread = (file.len() as u64).saturating_sub(dev.given());
     assert!(rt; unread >= left as u64, "{fault}");

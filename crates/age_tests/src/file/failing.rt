@@ -1,19 +1,17 @@
 //! Devices that fail at each read and each write in turn.
 
+use super::begun::{begin_decryptor, begin_file, opened, unlocked};
 use super::devices::{FailingSink, TakesNothing};
 use super::{
     FRESH, Identities, Recipients, SALT, encrypted, key_identities, key_recipients,
     passphrase_identities, passphrase_recipients,
 };
-use age_file::{
-    Decryptor, Encryptor, Fault, Limits, MemAt, RangeReader, ReadAt, StreamFault, StreamReader,
-    StreamWriter, WriteSink, decrypt, encrypt, open_ranges,
-};
+use age_file::{Encryptor, Fault, Limits, MemAt, ReadAt, StreamFault, WriteSink, decrypt, encrypt};
 use age_header::{MemSink, MemSource, Sink};
 use age_recipient::{KeyIdentity, KeyRecipient};
 use std::alloc::Global;
 use std::process::Abort;
-use stream_tests::FailingSource;
+use stream_tests::{FailingSource, begin_ranges, begin_reader, begin_writer};
 
 /// A sink over a slice of each length gets as long a prefix of the file as fits.
 #[test]
@@ -134,10 +132,10 @@ fn reader_returns_a_failed_read_again(rt: HostRuntime) {
     );
     let failing = 156 + 1 + 10;
     let mut source = FailingSource::new(file.as_slice(), 1_000, failing);
-    let decryptor = Decryptor::new(alloc, &mut source, &limits).expect(&rt, "no fault");
-    let mut reader = decryptor
-        .unlock(alloc, key_identities(&rt, alloc, 3).as_slice())
-        .expect(&rt, "no fault");
+    let decryptor = begin_decryptor(alloc, &mut source, &limits).expect(&rt, "no fault");
+    let mut reader = unlocked(decryptor, alloc, key_identities(&rt, alloc, 3).as_slice()).expect(
+        &rt, "no fault",
+    );
     for _ in 0..3 {
         assert!(rt; matches!(reader.next_chunk(), Err(StreamFault::Read)));
     }
@@ -196,7 +194,7 @@ pub(super) const FILE: &[u8] =
 fn starts_or_starves(alloc: Global, recipients: &Recipients, limits: &Limits) -> bool {
     let mut out = MemSink::new(Vec::new(alloc));
     let started = match Encryptor::new(alloc, recipients.as_slice(), &FRESH, limits) {
-        Ok(encryptor) => match encryptor.start(alloc, &mut out) {
+        Ok(encryptor) => match begin_file(encryptor, alloc, &mut out) {
             Ok(writer) => Ok(writer.abandon()),
             Err(fault) => Err(fault),
         },
@@ -215,11 +213,11 @@ fn starts_or_starves(alloc: Global, recipients: &Recipients, limits: &Limits) ->
 /// the header: the payload has 32 bytes.
 fn reads_or_starves(alloc: Global, identities: &Identities, limits: &Limits) -> bool {
     let mut source = MemSource::new(FILE);
-    let decryptor = match Decryptor::new(alloc, &mut source, limits) {
+    let decryptor = match begin_decryptor(alloc, &mut source, limits) {
         Ok(decryptor) => decryptor,
         Err(fault) => return fault == Fault::OutOfMemory && source.rest().len() >= 32,
     };
-    let read = match decryptor.unlock(alloc, identities.as_slice()) {
+    let read = match unlocked(decryptor, alloc, identities.as_slice()) {
         Ok(mut reader) => Ok(matches!(reader.next_chunk(), Ok(Some(&[])))),
         Err(fault) => Err(fault),
     };
@@ -232,7 +230,7 @@ fn reads_or_starves(alloc: Global, identities: &Identities, limits: &Limits) -> 
 /// Whether a file opens for ranges, or the call is out of memory having read at most the header.
 fn opens_or_starves(alloc: Global, identities: &Identities, limits: &Limits) -> bool {
     let mut dev = MemAt::new(FILE);
-    let opened = match open_ranges(alloc, &mut dev, identities.as_slice(), limits) {
+    let opened = match opened(alloc, &mut dev, identities.as_slice(), limits) {
         Ok(reader) => Ok(reader.plain_len()),
         Err(fault) => Err(fault),
     };
@@ -244,7 +242,7 @@ fn opens_or_starves(alloc: Global, identities: &Identities, limits: &Limits) -> 
 fn payload_or_starves(alloc: Global) -> bool {
     let (key, nonce, payload) = (&FRESH.file_key, &FRESH.nonce, &FILE[156..]);
     let mut out = MemSink::new(Vec::new(alloc));
-    let written = match StreamWriter::new(alloc, key, nonce, &mut out, 1) {
+    let written = match begin_writer(alloc, key, nonce, &mut out, 1) {
         Ok(writer) => Ok(writer.abandon()),
         Err(fault) => Err(fault),
     };
@@ -255,10 +253,10 @@ fn payload_or_starves(alloc: Global) -> bool {
         Err(fault) => fault == StreamFault::Memory && out.into_vec().is_empty(),
     };
     let mut source = MemSource::new(payload);
-    let read = StreamReader::new(alloc, key, &mut source, 1).err();
+    let read = begin_reader(alloc, key, &mut source, 1).err();
     let reads = read.is_none() || read == Some(StreamFault::Memory) && source.rest().len() == 32;
     let mut dev = MemAt::new(payload);
-    let opened = RangeReader::open(alloc, key, &mut dev, 0, 1).err();
+    let opened = begin_ranges(alloc, key, &mut dev, 0, 1).err();
     let opens = opened.is_none() || opened == Some(StreamFault::Memory) && dev.given() == 0;
     writes && reads && opens
 }

@@ -1,7 +1,8 @@
 //! Ranges of a file's plaintext.
 
+use super::begun::opened;
 use super::{Identities, encrypted, key_identities, passphrase_identities, passphrase_recipients};
-use age_file::{Fault, Limits, MemAt, ReadAt, StreamFault, open_ranges};
+use age_file::{Fault, Limits, MemAt, ReadAt, StreamFault};
 use std::alloc::Global;
 use std::process::Abort;
 
@@ -22,7 +23,7 @@ fn damaged_middle_chunk_leaves_the_others_readable(rt: HostRuntime) {
     file.as_mut_slice()[65_718] ^= 1;
     let identities = passphrase_identities(&rt, alloc);
     let mut dev = MemAt::new(file.as_slice());
-    let mut reader = open_ranges(alloc, &mut dev, identities.as_slice(), &Limits::default()).expect(
+    let mut reader = opened(alloc, &mut dev, identities.as_slice(), &Limits::default()).expect(
         &rt, "no fault",
     );
     assert_eq!(rt; reader.plain_len(), 140_000);
@@ -60,7 +61,7 @@ fn refused<T: Abort>(
     fault: Fault,
 ) {
     let mut dev = MemAt::new(file);
-    match open_ranges(alloc, &mut dev, identities.as_slice(), limits) {
+    match opened(alloc, &mut dev, identities.as_slice(), limits) {
         Ok(_) => assert!(rt; false, "opened in place of: {fault}"),
         Err(met) => assert!(rt; met == fault, "{met} in place of: {fault}"),
     }

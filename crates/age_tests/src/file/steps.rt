@@ -1,7 +1,8 @@
 //! Files that are written and read in steps.
 
+use super::begun::{begin_decryptor, begin_file, unlocked};
 use super::{FRESH, encrypted, key_identities, key_recipients};
-use age_file::{Decryptor, Encryptor, Fault, Limits};
+use age_file::{Encryptor, Fault, Limits};
 use age_header::{MemSink, MemSource};
 
 /// The file that `encrypt` writes, and its plaintext again.
@@ -16,17 +17,17 @@ fn steps_write_and_read_the_same_file(rt: HostRuntime) {
         &rt, "no fault",
     );
     let mut sink = MemSink::new(Vec::new(alloc));
-    let mut writer = encryptor.start(alloc, &mut sink).expect(&rt, "no fault");
+    let mut writer = begin_file(encryptor, alloc, &mut sink).expect(&rt, "no fault");
     let piece = writer.write_piece(plain.as_slice());
     let done = writer.finish();
     assert!(rt; piece.is_ok() && done.is_ok_and(|done| done.chunks == 2));
     assert!(rt; sink.into_vec() == file);
     let mut source = MemSource::new(file.as_slice());
-    let decryptor = Decryptor::new(alloc, &mut source, &limits).expect(&rt, "no fault");
+    let decryptor = begin_decryptor(alloc, &mut source, &limits).expect(&rt, "no fault");
     assert_eq!(rt; decryptor.stanzas().len(), 1);
-    let mut reader = decryptor
-        .unlock(alloc, key_identities(&rt, alloc, 3).as_slice())
-        .expect(&rt, "no fault");
+    let mut reader = unlocked(decryptor, alloc, key_identities(&rt, alloc, 3).as_slice()).expect(
+        &rt, "no fault",
+    );
     let mut text = Vec::new(alloc);
     for _ in 0..3 {
         if let Some(chunk) = reader.next_chunk().expect(&rt, "no fault") {
@@ -35,7 +36,7 @@ fn steps_write_and_read_the_same_file(rt: HostRuntime) {
     }
     assert!(rt; text == plain);
     let mut source = MemSource::new(file.as_slice());
-    let decryptor = Decryptor::new(alloc, &mut source, &limits).expect(&rt, "no fault");
-    let other = decryptor.unlock(alloc, key_identities(&rt, alloc, 4).as_slice());
+    let decryptor = begin_decryptor(alloc, &mut source, &limits).expect(&rt, "no fault");
+    let other = unlocked(decryptor, alloc, key_identities(&rt, alloc, 4).as_slice());
     assert!(rt; matches!(&other, Err(Fault::WrongKey)));
 }
