@@ -344,11 +344,10 @@ def _getitems_or_error(self: Any, keys: Any, on_error: str = "raise") -> dict[An
     """Raises an AgeError from below another file system, such as `zip::age://a.zip.age`, whose
     `cat` leaves it out: zarr takes what is left out for zeros."""
     found = _getitems(self, keys, "return" if on_error == "omit" else on_error)
-    errors = {key: value for key, value in found.items() if isinstance(value, Exception)}
-    for error in errors.values():
+    for error in found.values():
         if isinstance(error, AgeError):
             raise error
-    return {key: found[key] for key in found if on_error != "omit" or key not in errors}
+    return {key: value for key, value in found.items() if on_error != "omit" or not isinstance(value, Exception)}
 
 
 FSMap.getitems = _getitems_or_error
