@@ -1,7 +1,12 @@
-use Rattle.age_commands.proofs.Common.{◌≡◌, ◌∷◌, [], ◌∙◌, ap, rules, labels_of, wraps_of}
-use Rattle.age_commands.proofs.SecretLemmas.{answers_meant, gathering_meant, made_reads}
+use Rattle.age_commands.proofs.Common.{◌≡◌, ◌∷◌, [], ◌∙◌, ap, rules, labels_of, wraps_of, Err, OutOfMemory}
+use Rattle.age_commands.proofs.SecretLemmas.{answers_meant, gathering_meant, made_reads, unread}
 use Rattle.age_commands.proofs.rewrap.rewrap.Goals as goal
 use Rattle.age_commands.proofs.rewrap.rewrap.OwnLists.{own-1, entry-1-1, at-1-1, same-1-1, own-2, entry-2-1, at-2-1, same-2-1}
+
+pub returns-in_err-identities-clause-rewraps : goal.returns-in_err-identities-clause-rewraps
+returns-in_err-identities-clause-rewraps g c =
+    let is : c.from_residual-in_err-identities.result ≡ Err OutOfMemory = search rules in
+    rw is (unread _ (λ b. tt))
 
 pub returns-clause-rewraps : goal.returns-clause-rewraps
 returns-clause-rewraps g c =
