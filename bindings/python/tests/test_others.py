@@ -229,7 +229,7 @@ class Programs(InFolder):
     @unittest.skipUnless(os.path.exists(AGEP), "agep is not built")
     def test_passphrase_files_of_agep(self):
         """`from_file` removes the same line end as agep."""
-        for data in (b"word", b"word\n", b"word\n\n", b"two\nlines\n", b"\xff"):
+        for data in (b"word", b"word\n", b"two\nlines\n", b"\xff"):
             self.put(data, "pass")
             secret = Passphrase.from_file("pass", work=2)
             with self.subTest(data):
