@@ -103,3 +103,5 @@ pub two_by_lines : (p q : List ℕ) (w : Words) → AreApart p q
     ≡ quarter_round_at q (quarter_round_at p w)
 unfolding quarter_round
 two_by_lines p q w apart = search (rules, line_swap)
+
+pub ruleset start_lanes = (lane_is, lane_set, start_set)

@@ -1,5 +1,6 @@
 //! ChaCha20's blocks, made eight at once and XORed into a text in place (RFC 8439, 2.3 and 2.4).
-ghost use Rattle.std.specs.Prelude.{◌≡◌, ℕ, ◌+◌, ◌-◌, ◌≤◌, ◌<◌, ◌^◌, ◌++◌, length, take, drop, slice_index, slice_index_or, bit_xor};
+ghost use Rattle.std.specs.Prelude.{◌≡◌, ℕ, ◌+◌, ◌-◌, ◌≤◌, ◌<◌, ◌^◌, ◌++◌};
+ghost use Rattle.std.specs.Prelude.{length, take, drop, slice_index, slice_index_or, bit_xor};
 ghost use Rattle.std.specs.List.{flat_map};
 ghost use Rattle.age_cipher.specs.Numbers.{le_bytes};
 ghost use Rattle.age_cipher.specs.ChaCha20.{stream_byte};

@@ -4,7 +4,6 @@ unfoldable pub use Rattle.sha2.specs.Sha256.{compress, digest_bytes, first_words
 pub use Rattle.std.proofs.Common.{List, [], add-one, ap, append_assoc, ap₂, arith, bit_or, bit_xor, drop, get_or, length, length-append, map, refl, replicate, rules, slice_index, slice_index_or, subst, suc, sym, take, zero, ℕ, ◌%◌, ◌*◌, ◌++◌, ◌+◌, ◌-◌, ◌/◌, ◌<◌, ◌^◌, ◌∙◌, ◌∷◌, ◌≡◌, ◌≤◌}
 pub use Rattle.std.proofs.Math.ListN.{get_or-append}
 pub use Rattle.std.proofs.Math.Nat.{add-mul-mod_self_left, mul-le-mul_left, mul_assoc}
-pub use Rattle.std.proofs.Math.Pow.{pow_mono}
 pub use Rattle.std.proofs.Math.Seq.{take-append-add}
 pub use Rattle.std.proofs.lemmas.Grind.{common_steps}
 pub use Rattle.std.proofs.lemmas.List.{append-nil, drop-drop, drop-replicate, drop-take, drop_at, get_or-append-add, get_or_default, length-take-le, same_lists, take_all}

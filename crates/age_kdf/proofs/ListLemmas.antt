@@ -10,8 +10,8 @@ zipped f xs ys {out} {n} len-xs len-ys len-out is =
     get_or_default out k d 0 below ∙ is k (omega arith) ∙ sym (get_or-zip2 f xs ys k 0 0 d (omega arith) (omega arith)))
 
 -- a list that is written as far as its end is what was written
-pub filled : {k : ℕ} {out xs : List ℕ} → length out ≤ k → take k out ≡ xs → out ≡ xs
-filled {k} {out} whole is = sym (take_all k out whole) ∙ is
+pub full : {k : ℕ} {out xs : List ℕ} → length out ≤ k → take k out ≡ xs → out ≡ xs
+full {k} {out} whole is = sym (take_all k out whole) ∙ is
 
 -- where the whole block fits
 pub whole : (out prefix block : Bytes) {ys : Bytes} {at next : ℕ} (k : ℕ)
@@ -35,3 +35,5 @@ pub cut : (out prefix block : Bytes) {ys : Bytes} {at next k m : ℕ} (n : ℕ) 
     → take next (put_mid at k out ys) ≡ take (length out) (prefix ++ block)
 cut out prefix block {ys} {at} {next} {k} n size same len is m-is k-is end past =
     search (rules, overwrites, take_all, take-put_mid, take-append-add)
+
+pub ruleset put_block = (whole, cut)

@@ -42,3 +42,5 @@ pub look_turn : {r k : ℕ} (m : ℕ) {len n : ℕ} (b : Words) {x x1 x2 : Words
 unfolding romix_after
 look_turn {r} {k} m {len} {n} b {x} table pos low len-is n-is x-is rows x1-is x2-is =
     search (rules, mod_below, pow_pos, index_is, add-one)
+
+pub ruleset put_row = (row_here, row_below, rows_apart)

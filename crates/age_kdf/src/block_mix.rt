@@ -20,7 +20,7 @@ fn mix(x: &mut [u32; 16], from: &[u32], at: usize)
 }
 
 /// BlockMix of the 2 * r blocks of `from`, written into `into`.
-#[tactic(auto, using(std::proofs::lemmas::Grind::common_steps, crate::proofs::ListLemmas::filled), unfolding(crate::specs::BlockMix::block_mix))]
+#[tactic(auto, using(crate::proofs::ListLemmas::full), unfolding(crate::proofs::Common::block_mix))]
 pub(crate) fn block_mix(from: &[u32], into: &mut [u32], r: usize)
     requires r { (1 ≤ r) × (r ≤ 32) }
     requires from_len { length from.now ≡ 32 * r }

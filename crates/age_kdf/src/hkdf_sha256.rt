@@ -10,7 +10,7 @@ use crate::output_blocks::put_block;
 /// HKDF-SHA-256 (RFC 5869). Fills `out` with output keying material.
 ///
 /// `out` must have at most 255 blocks of 32 bytes. An empty salt counts as 32 zero bytes.
-#[tactic(auto, using(std::proofs::lemmas::Grind::common_steps, crate::proofs::ListLemmas::filled), unfolding(crate::specs::Hkdf::hkdf))]
+#[tactic(auto, using(crate::proofs::ListLemmas::full), unfolding(crate::specs::Hkdf::hkdf))]
 pub fn hkdf(ikm: &[u8], salt: &[u8], info: &[u8], out: &mut [u8])
     requires { length out.old ≤ longest_output }
     ensures { out.new ≡ hkdf ikm.now salt.now info.now (length out.old) }

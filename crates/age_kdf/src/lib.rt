@@ -35,8 +35,6 @@ mod pbkdf2_sha256;
 mod romix;
 mod salsa;
 mod scrypt_kdf;
-#[cfg(test)]
-mod tests;
 
 pub use hkdf_sha256::hkdf;
 use hmac_sha256::Mac;

@@ -5,7 +5,7 @@ ghost use Rattle.age_kdf.specs.Bytes.{Bytes};
 
 /// Writes block `i`, or as much of its start as there is room for. If `out` held the blocks of
 /// `prefix` before, it then holds these and `block`.
-#[tactic(auto, using(crate::proofs::ListLemmas::whole, crate::proofs::ListLemmas::cut))]
+#[tactic(auto, using(crate::proofs::ListLemmas::put_block))]
 pub(crate) fn put_block(out: &mut [u8], i: usize, block: &[u8; 32])
     requires { 32 * i < length out.old }
     ensures { (prefix : Bytes) → length prefix ≡ 32 * i

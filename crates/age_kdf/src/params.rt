@@ -27,8 +27,7 @@ impl Model for ScryptParams {
 /// The number of rows of the table: N = 2^log_n.
 pub(crate) fn row_count(log_n: u32) -> usize
     requires { log_n ≤ 30 }
-    ensures value { result ≡ 2 ^ log_n }
-    ensures bound { result ≤ 1073741824 }
+    ensures { result ≡ 2 ^ log_n }
 {
     1usize << log_n
 }

@@ -20,7 +20,6 @@ fn xor_block(sum: &mut [u8; 32], block: &[u8; 32])
 
 /// Block `number` of PBKDF2, after `rounds` MACs. `keyed` is the HMAC state under the password, and
 /// `salted` the same state after the salt.
-#[tactic(auto, using(crate::proofs::Pbkdf2Lemmas::first_sum), unfolding(crate::specs::Pbkdf2::pbkdf2_round))]
 pub(crate) fn pbkdf2_block(keyed: &Mac, salted: &Mac, number: u32, rounds: u32) -> [u8; 32]
     requires { 1 ≤ rounds }
     ensures { (pass salt : Bytes) → IsFed keyed.now pass [] → IsFed salted.now pass salt
@@ -36,7 +35,7 @@ pub(crate) fn pbkdf2_block(keyed: &Mac, salted: &Mac, number: u32, rounds: u32) 
 }
 
 /// PBKDF2 of a password and a salt that are given as HMAC states, as for `pbkdf2_block`.
-#[tactic(auto, using(std::proofs::lemmas::Grind::common_steps, crate::proofs::ListLemmas::filled), unfolding(crate::specs::Pbkdf2::pbkdf2))]
+#[tactic(auto, using(crate::proofs::ListLemmas::full), unfolding(crate::specs::Pbkdf2::pbkdf2))]
 pub(crate) fn fill(keyed: &Mac, salted: &Mac, rounds: u32, out: &mut [u8])
     requires rounds { 1 ≤ rounds }
     requires room { length out.old ≤ longest_output }

@@ -8,7 +8,7 @@ use crate::block_mix::block_mix;
 use crate::params::row_count;
 
 // Writes `row` as row `i` of a table of rows of `size` words.
-#[tactic(auto, using(crate::proofs::RoMixLemmas::row_here, crate::proofs::RoMixLemmas::row_below, crate::proofs::RoMixLemmas::rows_apart))]
+#[tactic(auto, using(crate::proofs::RoMixLemmas::put_row))]
 fn put_row(table: &mut [u32], size: usize, i: usize, row: &[u32])
     requires room { size * i + size ≤ length table.old }
     requires len { length row.now ≡ size }
@@ -43,7 +43,7 @@ fn xor_row(x: &mut [u32], table: &[u32], i: usize)
 
 /// ROMix of `x` with N = 2^log_n. The table has room for N rows of the size of `x`, and `y` for
 /// one. Their previous contents do not matter.
-#[tactic(auto, using(std::proofs::Common::below_more), unfolding(crate::specs::RoMix::v_at, crate::specs::RoMix::romix_after))]
+#[tactic(auto, using(std::proofs::Common::below_more), unfolding(crate::specs::RoMix::v_at))]
 pub(crate) fn romix(table: &mut [u32], x: &mut [u32], y: &mut [u32], r: usize, log_n: u32)
     requires r { (1 ≤ r) × (r ≤ 32) }
     requires log_n { log_n ≤ 30 }

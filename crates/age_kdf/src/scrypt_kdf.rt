@@ -30,7 +30,7 @@ fn load_block(words: &mut [u32], block: &[u8; 32])
 }
 
 // Fills `words` with the first `count` blocks of PBKDF2 at one round, eight words each.
-#[tactic(auto, using(std::proofs::lemmas::Grind::common_steps, crate::proofs::ListLemmas::filled, crate::proofs::Pbkdf2Lemmas::pbkdf2_whole), unfolding(crate::specs::Scrypt::words_of))]
+#[tactic(auto, unfolding(crate::specs::Scrypt::words_of))]
 fn load(keyed: &Mac, salted: &Mac, words: &mut [u32], count: usize)
     requires count { count ≤ most_blocks }
     requires len { length words.old ≡ 8 * count }

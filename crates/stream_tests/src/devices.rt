@@ -1,7 +1,8 @@
-//! Sources that count their reads, and fail once.
+//! Sources and sinks that count their calls, and fail once.
 
-use age_header::{DeviceFault, Source};
+use age_header::{DeviceFault, Sink, Source};
 use age_stream::{MemAt, ReadAt};
+use std::alloc::Global;
 use std::cell::Cell;
 
 /// Returns at most `most` of these bytes at a time, counts its reads, and fails at the read with
@@ -45,6 +46,51 @@ impl<'a> Source for FailingSource<'a> {
         buf[..n].copy_from_slice(front);
         self.rest = rest;
         Ok(n)
+    }
+
+    fn failures(&self) -> u64 {
+        self.failures
+    }
+}
+
+/// Accepts at most `most` bytes of a piece, but at least one, counts its calls, and fails at the
+/// call with this number, counted from 1. Proofs do not know its contents.
+#[derive(Drop)]
+pub struct FailingSink {
+    pub bytes: Vec<u8>,
+    most: usize,
+    failing: u64,
+    pub calls: u64,
+    pub failures: u64,
+}
+
+impl FailingSink {
+    pub fn new(alloc: Global, most: usize, failing: u64) -> FailingSink {
+        FailingSink {
+            bytes: Vec::new(alloc),
+            most,
+            failing,
+            calls: 0,
+            failures: 0,
+        }
+    }
+}
+
+impl Sink for FailingSink {
+    ghost use Rattle.std.specs.Prelude.{None};
+
+    ghost failed = { λ s. s.failures };
+
+    ghost taken = { λ _. None };
+
+    fn write(&mut self, piece: &[u8]) -> Result<usize, DeviceFault> {
+        let (front, _) = piece.split_at(piece.len().min(self.most.max(1)));
+        self.calls = self.calls.wrapping_add(1);
+        if self.calls == self.failing || self.bytes.extend_from_slice(front).is_err() {
+            self.failures = self.failures.saturating_add(1);
+            return Err(DeviceFault);
+        }
+        Ok(front.len())
     }
 
     fn failures(&self) -> u64 {

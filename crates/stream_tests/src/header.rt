@@ -1,6 +1,7 @@
 //! Headers worked out by hand: reading and writing them, and that calls which may return out of
 //! memory succeed.
 
+use crate::vectors::hex;
 use age_header::{
     Header, HeaderFault, HeaderReader, MemSink, MemSource, ReadSource, Sink, Source, Stanza,
     StanzaError, WriteSink, mac_of, signed_text, write_header,
@@ -188,11 +189,7 @@ fn mac_matches_another_implementation(rt: HostRuntime) {
         text.as_slice()
     );
     // made with Python's hmac and hashlib
-    let mac = [
-        0xaa, 0x95, 0x32, 0x87, 0x80, 0x12, 0x71, 0x33, 0x1d, 0x6d, 0x56, 0x64, 0x08, 0x49, 0xda,
-        0x57, 0xa2, 0xb6, 0x24, 0xd7, 0x7f, 0xd5, 0x3a, 0x52, 0x75, 0xe4, 0xab, 0x4a, 0xfb, 0x95,
-        0x4d, 0x6a,
-    ];
+    let mac = hex::<32>("aa953287801271331d6d56640849da57a2b624d77fd53a5275e4ab4afb954d6a");
     assert_eq!(rt;
         mac_of(alloc, &[7; 16], stanzas.as_slice()).expect(&rt, "no fault"),
         mac

@@ -4,6 +4,7 @@ mod keyed;
 mod labels;
 mod unlocking;
 
+use crate::vectors::{KEY, SALT, hex};
 use age_header::Stanza;
 use age_recipient::{
     FileKey, Identity, Matched, PassError, PassIdentity, PassPair, PassRecipient, Recipient,
@@ -12,14 +13,9 @@ use age_recipient::{
 use std::alloc::Global;
 use std::process::Abort;
 
-const SALT: [u8; 16] = [
-    0x20, 0x21, 0x22, 0x23, 0x24, 0x25, 0x26, 0x27, 0x28, 0x29, 0x2a, 0x2b, 0x2c, 0x2d, 0x2e, 0x2f,
-];
-
 const SALT_TEXT: &str = "ICEiIyQlJicoKSorLC0uLw";
 
-const KEY: FileKey = FileKey([0, 1, 2, 3, 4, 5, 6, 7, 8, 9, 10, 11, 12, 13, 14, 15]);
-/// That key under `correct horse`, that salt and work factor 10, made with Python's hashlib and
+/// `KEY` under `correct horse`, `SALT` and work factor 10, made with Python's hashlib and
 /// cryptography.
 const BODY: [u8; 32] = [
     0x66, 0x41, 0x46, 0x84, 0x5d, 0xc9, 0x4b, 0x63, 0x73, 0x8a, 0x2d, 0x14, 0xb5, 0xe9, 0xb9, 0x42,
@@ -150,15 +146,8 @@ fn passphrase_wraps_and_unwraps_the_known_stanza(rt: HostRuntime) {
 /// A stanza made by `age -p`, with the file key that Python found in it.
 #[test]
 fn passphrase_unwraps_a_stanza_of_age(rt: HostRuntime) {
-    let body = [
-        0xfa, 0x87, 0x1f, 0x34, 0xa3, 0x2c, 0x47, 0x83, 0xa0, 0x21, 0xe3, 0x61, 0x4e, 0x6d, 0xdc,
-        0x97, 0xec, 0x05, 0xc0, 0x20, 0xb0, 0xd5, 0x88, 0xaa, 0x4d, 0x0d, 0xb2, 0xd7, 0xa5, 0x43,
-        0x18, 0x96,
-    ];
-    let key = [
-        0x37, 0xb8, 0xcd, 0x1e, 0xa4, 0xc3, 0x88, 0x0f, 0x88, 0x70, 0x82, 0x57, 0xeb, 0xa9, 0x2b,
-        0x40,
-    ];
+    let body = hex::<32>("fa871f34a32c4783a021e3614e6ddc97ec05c020b0d588aa4d0db2d7a5431896");
+    let key = hex::<16>("37b8cd1ea4c3880f88708257eba92b40");
     let args = ["scrypt", "loABIY+WayWGShmB4h1/bw", "18"];
     let found = unwrapped_stanza(&rt, rt.alloc(), b"correct horse", &args, &body);
     assert!(rt; found == Unwrapped::Key(FileKey(key)));
@@ -177,27 +166,14 @@ fn gives_back<M: Matched>(rt: &impl Abort, alloc: Global, pair: &M) -> bool {
 fn passphrase_pair_unwraps_what_it_wraps(rt: HostRuntime) {
     let alloc = rt.alloc();
     let long = vec![in alloc; 7u8; 65_536].expect(&rt, "memory");
-    assert!(rt;
-        gives_back(
-            &rt,
-            alloc,
-            &PassPair::new(alloc, b"correct horse", SALT, 10, 10).expect(&rt, "memory")
-        )
-    );
-    assert!(rt;
-        gives_back(
-            &rt,
-            alloc,
-            &PassPair::new(alloc, b"", SALT, 1, 22).expect(&rt, "memory")
-        )
-    );
-    assert!(rt;
-        gives_back(
-            &rt,
-            alloc,
-            &PassPair::new(alloc, long.as_slice(), SALT, 2, 30).expect(&rt, "memory")
-        )
-    );
+    for (pass, work, max) in [
+        (b"correct horse".as_slice(), 10, 10),
+        (b"", 1, 22),
+        (long.as_slice(), 2, 30),
+    ] {
+        let pair = PassPair::new(alloc, pass, SALT, work, max).expect(&rt, "memory");
+        assert!(rt; gives_back(&rt, alloc, &pair), "work factor {work}");
+    }
     let refused = Some(PassError::WorkFactor);
     assert!(rt; PassPair::new(alloc, b"", SALT, 12, 11).err() == refused);
     assert!(rt; PassRecipient::new(alloc, b"", SALT, 0).err() == refused);

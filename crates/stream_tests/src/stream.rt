@@ -5,19 +5,12 @@ mod devices;
 mod ranges;
 
 use crate::begun::{begin_reader, begin_writer, begin_writer_with};
-use crate::devices::FailingSource;
+use crate::devices::{FailingSink, FailingSource};
+use crate::vectors::{KEY, NONCE};
 use age_header::{MemSink, MemSource, Sink};
-use age_recipient::FileKey;
 use age_stream::{ChunkBuf, Done, StreamFault, chunk_nonce};
-use devices::FailingSink;
 use std::alloc::{AllocError, Global};
 use std::process::Abort;
-
-const KEY: FileKey = FileKey([0, 1, 2, 3, 4, 5, 6, 7, 8, 9, 10, 11, 12, 13, 14, 15]);
-
-const NONCE: [u8; 16] = [
-    0x10, 0x11, 0x12, 0x13, 0x14, 0x15, 0x16, 0x17, 0x18, 0x19, 0x1a, 0x1b, 0x1c, 0x1d, 0x1e, 0x1f,
-];
 
 const MOST: u128 = 1 << 88;
 
@@ -190,7 +183,7 @@ fn chunks_are_counted_at_their_ends(rt: HostRuntime) {
 fn writer_returns_a_failed_write_again(rt: HostRuntime) {
     let alloc = rt.alloc();
     let plain = vec![in alloc; 7u8; 65_537].expect(&rt, "memory");
-    let mut sink = FailingSink::new(2);
+    let mut sink = FailingSink::new(alloc, usize::MAX, 2);
     let mut writer = begin_writer(alloc, &KEY, &NONCE, &mut sink, MOST).expect(&rt, "no fault");
     let first = writer.write_piece(plain.as_slice());
     let second = writer.write_piece(plain.as_slice());

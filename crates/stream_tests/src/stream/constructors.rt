@@ -1,11 +1,10 @@
 //! The state of a device after a constructor has failed: with each of its calls failing in turn,
 //! and for refusals without a failed call.
 
-use super::devices::FailingSink;
 use super::ranges::payload_of;
 use super::{EMPTY, KEY, MOST, NONCE};
 use crate::begun::{begin_ranges, begin_reader, begin_writer, begin_writer_with};
-use crate::devices::{CountingReadAt, FailingSource};
+use crate::devices::{CountingReadAt, FailingSink, FailingSource};
 use age_header::{Sink, Source};
 use age_stream::{ChunkBuf, ReadAt, StreamFault};
 use std::cell::Cell;
@@ -15,7 +14,7 @@ use std::cell::Cell;
 fn failed_nonce_is_not_written_again(rt: HostRuntime) {
     let alloc = rt.alloc();
     for with_buf in [false, true] {
-        let mut sink = FailingSink::new(1);
+        let mut sink = FailingSink::new(alloc, usize::MAX, 1);
         let writer = if with_buf {
             let buf = ChunkBuf::new(alloc).expect(&rt, "memory");
             begin_writer_with(&KEY, &NONCE, &mut sink, MOST, buf)

@@ -1,48 +1,7 @@
-//! Devices of a payload that count their calls, or fail once.
+//! Files that are slow, far or fail once.
 
-use age_header::{DeviceFault, Sink};
 use std::io;
 use std::io::{ErrorKind, Read, Seek, SeekFrom};
-
-/// Accepts each piece whole, counts its calls, and fails at the call with this number, counted from
-/// 1. Proofs do not know its contents.
-#[derive(Drop)]
-pub(super) struct FailingSink {
-    failing: u64,
-    pub(super) calls: u64,
-    failures: u64,
-}
-
-impl FailingSink {
-    pub(super) fn new(failing: u64) -> FailingSink {
-        FailingSink {
-            failing,
-            calls: 0,
-            failures: 0,
-        }
-    }
-}
-
-impl Sink for FailingSink {
-    ghost use Rattle.std.specs.Prelude.{None};
-
-    ghost failed = { λ s. s.failures };
-
-    ghost taken = { λ _. None };
-
-    fn write(&mut self, piece: &[u8]) -> Result<usize, DeviceFault> {
-        self.calls = self.calls.wrapping_add(1);
-        if self.calls == self.failing {
-            self.failures = self.failures.saturating_add(1);
-            return Err(DeviceFault);
-        }
-        Ok(piece.len())
-    }
-
-    fn failures(&self) -> u64 {
-        self.failures
-    }
-}
 
 /// Reads at most one byte at a time.
 #[derive(Drop)]

@@ -138,15 +138,8 @@ fn failed_read_leaves_the_chunks_before_it(rt: HostRuntime) {
                     4 => 65_536,
                     _ => 131_072,
                 };
-                let whole = (0, 140_000);
-                expect_range(
-                    &rt,
-                    alloc,
-                    &mut reader,
-                    whole,
-                    Err(StreamFault::Read),
-                    filled,
-                );
+                let (whole, failed) = ((0, 140_000), Err(StreamFault::Read));
+                expect_range(&rt, alloc, &mut reader, whole, failed, filled);
                 expect_range(&rt, alloc, &mut reader, whole, Ok(140_000), 140_000);
             }
             Err(fault) => assert!(rt; failing < 3 && fault == StreamFault::Read, "read {failing}"),
@@ -200,30 +193,16 @@ fn truncated_file_is_a_failed_read(rt: HostRuntime) {
     fs::write(&rt, "cut.tmp", front.unwrap_or(b"")).expect(&rt, "no fault");
     expect_range(&rt, alloc, &mut reader, (131_072, 8_928), Ok(8_928), 8_928);
     expect_range(&rt, alloc, &mut reader, (0, 65_536), Ok(65_536), 65_536);
-    expect_range(
-        &rt,
-        alloc,
-        &mut reader,
-        (0, 65_537),
-        Err(StreamFault::Read),
-        65_536,
-    );
-    expect_range(
-        &rt,
-        alloc,
-        &mut reader,
-        (65_536, 10),
-        Err(StreamFault::Read),
-        0,
-    );
-    expect_range(
-        &rt,
-        alloc,
-        &mut reader,
-        (131_072, 10),
-        Err(StreamFault::Read),
-        0,
-    );
+    for (place, filled) in [((0, 65_537), 65_536), ((65_536, 10), 0), ((131_072, 10), 0)] {
+        expect_range(
+            &rt,
+            alloc,
+            &mut reader,
+            place,
+            Err(StreamFault::Read),
+            filled,
+        );
+    }
     expect_range(&rt, alloc, &mut reader, (0, 10), Ok(10), 10);
     fs::remove_file(&rt, "cut.tmp").expect(&rt, "no fault");
 }

@@ -1,4 +1,4 @@
-use Rattle.age_kdf.proofs.Common.{◌≡◌, ◌*◌, ◌^◌, length, arith, ◌∙◌, refl, v_at}
+use Rattle.age_kdf.proofs.Common.{◌≡◌, ◌*◌, ◌^◌, length, arith, ◌∙◌, refl, rules, romix_after, v_at}
 use Rattle.age_kdf.proofs.RoMixLemmas.{look_turn}
 use Rattle.age_kdf.proofs.romix.romix.Goals as goal
 
@@ -6,12 +6,16 @@ pub fill-init : goal.fill-init
 unfolding v_at
 fill-init c = record { x = refl; table = λ j h. absurd (omega arith) }
 
+pub look-init : goal.look-init
+unfolding romix_after
+look-init c = search rules
+
 pub look-preserved : goal.look-preserved
 look-preserved c =
     let long : length c.look.x ≡ 32 * c.args.r = c.look.auto.x ∙ c.fill.auto.x ∙ c.requires.x in
-    let end : c.fill.i ≡ 2 ^ c.args.log_n = omega (arith, c.row_count-n.ensures.value) in
+    let end : c.fill.i ≡ 2 ^ c.args.log_n = omega (arith, c.row_count-n.ensures) in
     look_turn c.look._turn c.args.x.now c.fill.table
-    c.requires.r.0 (omega (arith, c.requires.log_n)) long c.row_count-n.ensures.value c.look.invariant
+    c.requires.r.0 (omega (arith, c.requires.log_n)) long c.row_count-n.ensures c.look.invariant
     (λ j h. c.fill.invariant.table j (rw end h))
     c.xor_row.ensures
     (c.copy_from_slice-in-look.ensures.after ∙ c.block_mix-in-look.ensures)
