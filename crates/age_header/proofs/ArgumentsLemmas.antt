@@ -1,5 +1,5 @@
 -- The arguments of a line, read one after the other.
-use Rattle.age_header.proofs.Common.{◌≡◌, ◌≢◌, zero, suc, ◌≤◌, List, [], ◌∷◌, ◌++◌, refl, sym, ap, arith, append_assoc, ◌∙◌, codes, flat_map, append-nil, append_cancel_left, append_cancel_right, flat_map_more, AllByRecursion, Bytes, NoVisible, AreArguments, IsArgument, IsVisible, argument_line, line, IsAscii, rules}
+use Rattle.age_header.proofs.Common.{◌≡◌, ◌≢◌, zero, suc, ◌≤◌, List, [], ◌∷◌, ◌++◌, refl, sym, ap, arith, append_assoc, ◌∙◌, codes, flat_map, append-nil, append_cancel_left, append_cancel_right, flat_map_more, AllByRecursion, Bytes, NoVisible, AreArguments, IsArgument, IsVisible, argument_line, line, IsAscii, rules, common_steps}
 use Rattle.age_header.proofs.LinesLemmas.{All-append}
 
 pub visible_ascii : (a : Bytes) → AllByRecursion IsVisible a → IsAscii a
@@ -105,4 +105,4 @@ pub parsed_nothing : (text : Bytes) → Parsed text [] [] → SpellsNone text
 parsed_nothing text p [] h e = h.0 refl
 parsed_nothing text p (b ∷ bs) h e = let is = sym p.spelled ∙ line_text text (b ∷ bs) e in cc
 
-pub ruleset parse_steps = (no_arrow, stuck_space, stuck_empty, parsed_nothing)
+pub ruleset parse_steps = (no_arrow, stuck_space, stuck_empty, parsed_nothing, common_steps)

@@ -49,3 +49,5 @@ header_size ss mac n = omega (arith, length-append {A = ℕ}, mac_end_size mac n
 -- sums that stay at the largest number
 pub sum_stays : (top r p q a b : ℕ) → p ≡ min a top → q ≡ min b top → r ≡ min (p + q) top → r ≡ min (a + b) top
 sum_stays top r p q a b e f g = omega arith
+
+pub ruleset stanza_len = (sum_stays, stanza_size)

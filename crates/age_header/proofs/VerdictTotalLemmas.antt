@@ -7,6 +7,7 @@ use Rattle.age_header.proofs.VerdictPathLemmas.{version_text, Reached}
 use Rattle.age_header.proofs.StepsLemmas.{no_arguments, no_base64}
 use Rattle.age_header.proofs.VerdictFirstLineLemmas.{no_prefix, short_line, short_input, short_room, version_read}
 use Rattle.age_header.proofs.VerdictLaterLinesLemmas.{path_start, path_more, path_header, path_bad, path_truncated, path_too_large, IsEndLine}
+use Rattle.age_header.proofs.VerdictUniqueLemmas.{one_verdict}
 
 -- ---- what can be decided
 
@@ -212,3 +213,5 @@ some_verdict b max =
             (no_prefix l.text l.end max (gave_told b (line_bytes l.text l.end) l.rest l.took) l.is l.ends none),
       )
     ]
+
+pub ruleset verdicts = (some_verdict, one_verdict)

@@ -1,6 +1,7 @@
 //! The arguments of a stanza, and their line.
 
-ghost use Rattle.std.specs.Prelude.{◌≡◌, ◌≢◌, ◌≤◌, ◌++◌, map, length, take, drop, IfOk, MatchOption};
+ghost use Rattle.std.specs.Prelude.{◌≡◌, ◌≢◌, ◌≤◌, ◌++◌};
+ghost use Rattle.std.specs.Prelude.{map, length, take, drop, IfOk, MatchOption};
 ghost use Rattle.std.specs.List.{AllByRecursion};
 ghost use Rattle.std.specs.String.{string_bytes};
 ghost use Rattle.age_kdf.specs.Bytes.{Bytes};
@@ -45,7 +46,7 @@ impl Arguments {
     }
 
     /// Parses an argument line, without its LF.
-    #[tactic(auto, using(crate::proofs::ArgumentsLemmas::parse_steps, std::proofs::lemmas::Grind::common_steps))]
+    #[tactic(auto, using(crate::proofs::ArgumentsLemmas::parse_steps))]
     pub(crate) fn parse(alloc: Global, text: &[u8]) -> Result<Option<Arguments>, AllocError>
         ensures some { IfOk result
             (λ o. IfSome o (λ args. AreArguments args × (line text.now ≡ argument_line args))) }

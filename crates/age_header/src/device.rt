@@ -1,10 +1,12 @@
 //! Devices: sources of bytes and sinks for bytes. A device counts its failures, so that a caller
 //! can tell an I/O error from a fault in the bytes. Proofs may know its contents.
 
-ghost use Rattle.std.specs.Prelude.{◌≡◌, ◌<◌, ◌≤◌, ◌+◌, ◌-◌, ◌^◌, ℕ, Some, length, min, ⊤, vec_capacity, vec_len, IfOk, OnErr};
+ghost use Rattle.std.specs.Prelude.{◌≡◌, ◌<◌, ◌≤◌, ◌+◌, ◌-◌, ◌^◌, ℕ};
+ghost use Rattle.std.specs.Prelude.{Some, length, min, ⊤, vec_capacity, vec_len, IfOk, OnErr};
 ghost use Rattle.std.specs.declared.option.Option.{Option};
 ghost use Rattle.std.specs.Io.{ReadsAtMost};
-ghost use Rattle.age_header.specs.Device.{Bytes, Known, Counts, Gives, Grows, Takes, Writes, flow_by, move_of, move_by};
+ghost use Rattle.age_header.specs.Device.{Bytes, Known, Counts, Gives, Grows, Takes, Writes};
+ghost use Rattle.age_header.specs.Device.{flow_by, move_of, move_by};
 ghost use Rattle.age_header.specs.MemSink.{spare_of};
 
 use std::io::{Read, Write};

@@ -30,7 +30,7 @@ pub fn one_reading()
 
 /// Bytes have exactly one header verdict under a limit. The verdict is a header exactly if the
 /// bytes begin with that header and its length is within the limit.
-#[tactic(auto, using(crate::proofs::VerdictTotalLemmas::some_verdict, crate::proofs::VerdictUniqueLemmas::one_verdict))]
+#[tactic(auto, using(crate::proofs::VerdictTotalLemmas::verdicts))]
 pub fn one_verdict()
     ensures some { (b : Bytes) (max : ℕ) → (r : Result Found HeaderFault) × HeaderVerdict b max r }
     ensures one { (b : Bytes) (max : ℕ) (r q : Result Found HeaderFault) → HeaderVerdict b max r

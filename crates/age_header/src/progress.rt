@@ -1,6 +1,7 @@
 //! The stanzas found so far in the lines after the version line.
 
-ghost use Rattle.std.specs.Prelude.{◌≡◌, ◌≢◌, ◌↔◌, ◌<◌, ◌≤◌, [], List, length, IfOk, IfSome, IfNone, IsTrue};
+ghost use Rattle.std.specs.Prelude.{◌≡◌, ◌≢◌, ◌↔◌, ◌<◌, ◌≤◌, []};
+ghost use Rattle.std.specs.Prelude.{List, length, IfOk, IfSome, IfNone, IsTrue};
 ghost use Rattle.age_header.specs.Header.{StanzaParts};
 ghost use Rattle.age_header.specs.Steps.{State, Step, between, within};
 ghost use Rattle.age_header.specs.Text.{IsPlain};

@@ -25,7 +25,7 @@ pub(crate) const MAC_TEXT_SIZE: usize = 43;
 pub(crate) const MAC_LINE_SIZE: usize = MAC_TEXT_SIZE + 5;
 
 /// The length of a stanza.
-#[tactic(auto, using(crate::proofs::LengthLemmas::sum_stays, crate::proofs::LengthLemmas::stanza_size))]
+#[tactic(auto, using(crate::proofs::LengthLemmas::stanza_len))]
 pub(crate) fn stanza_len(stanza: &Stanza) -> u64
     ensures { result ≡ min (length (stanza_text stanza.now)) (2 ^ 64 - 1) }
 {

@@ -104,7 +104,7 @@ impl Stanza {
 }
 
 /// Refuses the first bad argument.
-#[tactic(auto, using(crate::proofs::StanzaLemmas::args_take, std::proofs::lemmas::Grind::common_steps))]
+#[tactic(auto, using(crate::proofs::StanzaLemmas::args_take))]
 fn check_arguments(args: &[&str]) -> Result<(), StanzaError>
     ensures ok { OnOk result (AreArguments (map (λ a. a.now) args.now)) }
     ensures err { IfErr result (IsStanzaError (map (λ a. a.now) args.now)) }

@@ -1,6 +1,7 @@
 -- The first answer that decides, one answer after the other.
 use Rattle.std.proofs.Common.{Result, Ok, Err}
 use Rattle.std.specs.Result.{IfErr}
+use Rattle.std.proofs.lemmas.List.Folds.{list_any_at}
 use Rattle.age_recipient.proofs.Common.{◌≡◌, Bool, true, false, ◌||◌, ◌&&◌, not, ℕ, ◌+◌, ◌<◌, List, ◌∷◌, map, drop, length, get_or, drop_more, decides, decision_from, drop-map, lacks_memory, or-true, Unwrapped, arith}
 
 -- what is decided by what is left, at an element whose answer is known
@@ -35,3 +36,5 @@ if_err_of (Ok _) p = tt
 if_err_of (Err _) p = p
 
 pub ruleset decisions = (decided_step, lacks_here, lacks_later, if_err_of)
+
+pub ruleset first_opened = (decided_step, if_err_of, list_any_at)

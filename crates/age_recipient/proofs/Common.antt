@@ -1,5 +1,5 @@
 -- The names that the proofs of this crate cite, passed on from one place.
-pub use Rattle.std.proofs.Common.{Bool, Bor, List, None, Option, Some, String, [], ap, arith, cond, drop, false, flat_map, get_or, length, length-append, map, not, refl, sym, take, take-append-drop, true, true≢false, ℕ, ◌&&◌, ◌*◌, ◌++◌, ◌+◌, ◌-◌, ◌/◌, ◌<◌, ◌||◌, ◌∙◌, ◌∷◌, ◌≡◌, ◌≤◌}
+pub use Rattle.std.proofs.Common.{Bool, Bor, List, None, Option, Some, String, [], ap, arith, cond, drop, false, flat_map, get_or, length, length-append, map, not, refl, sym, take, true, true≢false, ℕ, ◌&&◌, ◌*◌, ◌+◌, ◌-◌, ◌/◌, ◌<◌, ◌||◌, ◌∙◌, ◌∷◌, ◌≡◌, ◌≤◌}
 pub use Rattle.std.proofs.Math.Bool.{or-true}
 pub use Rattle.std.proofs.lemmas.Bool.{and_parts, cases_Bool, eqb-true, leb-true}
 pub use Rattle.std.proofs.lemmas.Cmp.{lists_equiv}
@@ -35,7 +35,6 @@ pub use Rattle.age_header.specs.declared.file_key.FileKey.{FileKey}
 pub use Rattle.age_kdf.specs.Bytes.{Bytes}
 pub use Rattle.age_recipient.specs.Answer.{decides, decision, decision_from}
 pub use Rattle.age_recipient.specs.Choice.{lacks_memory}
-pub use Rattle.age_recipient.specs.Key.{file_key_size}
 pub use Rattle.age_recipient.specs.KeyedStanza.{keyed_type}
 unfoldable pub use Rattle.age_recipient.specs.KeyedStanza.{keyed_stanza, keyed_wrap_key}
 pub use Rattle.age_recipient.specs.Labels.{IsSetOf, go_together}

@@ -1,16 +1,10 @@
 -- What the code finds of a stanza, and what the definitions say of it.
-use Rattle.age_recipient.proofs.Common.{◌≡◌, List, refl, sym, Bytes, StanzaParts, take, drop, ◌++◌, take-append-drop, file_key_size, length, Some, None, cases_Bool, eqb-true, Known, salt_of, salt_size, arith, ℕ, ◌+◌, ◌*◌, ◌<◌, ◌≤◌, [], ◌∷◌, true, ◌-◌, and_parts, leb-true, most_work, is_work_factor, number_from}
+use Rattle.age_recipient.proofs.Common.{◌≡◌, List, refl, sym, Bytes, StanzaParts, length, Some, None, cases_Bool, eqb-true, Known, salt_of, salt_size, arith, ℕ, ◌+◌, ◌*◌, ◌<◌, ◌≤◌, [], ◌∷◌, true, ◌-◌, and_parts, leb-true, most_work, is_work_factor, number_from}
 
 -- a stanza is its arguments and its body
 pub of_parts : (s : StanzaParts) {args : List Bytes} {body : Bytes} → s.args ≡ args → s.body ≡ body
     → s ≡ record { args = args; body = body }
 of_parts s a b = rw (sym a, sym b) refl
-
-pub joined : (body : Bytes) {prefix back x y : Bytes}
-    → prefix ≡ take file_key_size body → back ≡ drop file_key_size body
-    → x ≡ prefix → y ≡ back
-    → x ++ y ≡ body
-joined body f b xf yb = rw (xf, yb, f, b) (take-append-drop file_key_size body)
 
 -- a decoded text of another length is not a salt
 pub no_salt : (o : Known) (bytes : Bytes) → Some bytes ≡ o → (length bytes ≡ salt_size → ⊥) → None ≡ salt_of o

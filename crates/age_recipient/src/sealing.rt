@@ -29,7 +29,7 @@ pub(crate) fn seal_key(wrap_key: &[u8; 32], file_key: &FileKey) -> [u8; SEALED_K
 }
 
 /// Opens a body of 32 bytes under this wrap key.
-#[tactic(auto, using(crate::proofs::StanzaLemmas::joined), unfolding(crate::specs::Sealing::unsealed_key))]
+#[tactic(auto, unfolding(crate::specs::Sealing::unsealed_key))]
 pub(crate) fn unseal_key(wrap_key: &[u8; 32], body: &[u8]) -> Unwrapped
     requires { length body.now ≡ sealed_key_size }
     ensures { result ≡ unsealed_key wrap_key.now body.now }

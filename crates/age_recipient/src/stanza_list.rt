@@ -32,7 +32,7 @@ pub(crate) trait Opener {
 }
 
 /// Returns the first of these stanzas' answers that decides. Later stanzas are not examined.
-#[tactic(auto, using(crate::proofs::AnswerLemmas::decided_step, crate::proofs::AnswerLemmas::if_err_of, std::proofs::lemmas::List::Folds::list_any_at))]
+#[tactic(auto, using(crate::proofs::AnswerLemmas::first_opened))]
 pub(crate) fn first_opened<O: Opener>(
     alloc: Global,
     opener: &O,

@@ -3,7 +3,8 @@
 ghost use Rattle.std.specs.Prelude.{◌≡◌, Some, map, true, IfOk, IfErr};
 ghost use Rattle.std.specs.String.{string_bytes};
 ghost use Rattle.age_recipient.specs.Answer.{is_of};
-ghost use Rattle.age_recipient.specs.KeyedStanza.{arguments_answer, keyed_answer, keyed_stanza, keyed_type, keyed_wrap_key, salted_answer};
+ghost use Rattle.age_recipient.specs.KeyedStanza.{arguments_answer, keyed_answer, keyed_stanza};
+ghost use Rattle.age_recipient.specs.KeyedStanza.{keyed_type, keyed_wrap_key, salted_answer};
 
 use crate::sealing::{SEALED_KEY_SIZE, seal_key, unseal_key};
 use crate::stanza_list::{after_type, salt_of};
@@ -26,7 +27,6 @@ fn keyed_wrap_key(key: &[u8; 32], salt: &[u8; 16]) -> [u8; 32]
 }
 
 /// The stanza that wraps this file key.
-#[tactic(auto, using(crate::proofs::StanzaLemmas::of_parts), unfolding(crate::specs::KeyedStanza::keyed_stanza))]
 pub(crate) fn keyed_stanza(
     alloc: Global,
     key: &[u8; 32],
@@ -45,7 +45,7 @@ pub(crate) fn keyed_stanza(
 }
 
 /// The answer of one stanza to a key.
-#[tactic(auto, using(crate::proofs::AnswerLemmas::if_err_of), unfolding(crate::specs::KeyedStanza::keyed_answer))]
+#[tactic(auto, unfolding(crate::specs::KeyedStanza::keyed_answer))]
 pub(crate) fn keyed_answer(
     alloc: Global,
     key: &[u8; 32],

@@ -3,7 +3,9 @@
 ghost use Rattle.std.specs.Prelude.{◌≡◌, ◌≤◌, ◌++◌, Some, map, length, true, IfOk, IfErr};
 ghost use Rattle.std.specs.String.{string_bytes};
 ghost use Rattle.age_recipient.specs.Answer.{is_of};
-ghost use Rattle.age_recipient.specs.PassphraseStanza.{arguments_answer, is_work_factor, number_from, pass_answer, pass_stanza, pass_wrap_key, salted_answer, scrypt_type};
+ghost use Rattle.age_recipient.specs.PassphraseStanza.{arguments_answer, is_work_factor};
+ghost use Rattle.age_recipient.specs.PassphraseStanza.{number_from, pass_answer, pass_stanza};
+ghost use Rattle.age_recipient.specs.PassphraseStanza.{pass_wrap_key, salted_answer, scrypt_type};
 ghost use Rattle.age_recipient.specs.PassphraseHolders.{most_work};
 ghost use Rattle.age_recipient.specs.Sealing.{sealed_key_size};
 
@@ -52,7 +54,6 @@ fn labelled(salt: &[u8; 16]) -> [u8; 44]
 }
 
 /// The stanza that wraps this file key.
-#[tactic(auto, using(crate::proofs::StanzaLemmas::of_parts), unfolding(crate::specs::PassphraseStanza::pass_stanza))]
 pub(crate) fn pass_stanza(
     alloc: Global,
     pass: &[u8],
@@ -80,7 +81,7 @@ pub(crate) fn pass_stanza(
 }
 
 /// The answer of one stanza to a passphrase. Its form is checked before scrypt runs.
-#[tactic(auto, using(crate::proofs::AnswerLemmas::if_err_of), unfolding(crate::specs::PassphraseStanza::pass_answer))]
+#[tactic(auto, unfolding(crate::specs::PassphraseStanza::pass_answer))]
 pub(crate) fn pass_answer(
     alloc: Global,
     pass: &[u8],
