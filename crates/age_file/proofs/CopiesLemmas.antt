@@ -96,3 +96,7 @@ piece_ahead size source sink fault full h = absurd h
 pub beyond_ahead : {from a : Seen} {old m : Known} {k : ℕ} → Copied from a old m k
     → CopiesAhead (flow from a) (move_of old m) TooManyChunks
 beyond_ahead c = inr (record { given = c.bytes; gave = c.took; written = c.bytes; took = c.put; within = omega arith })
+
+pub ruleset copy_all = (piece_failed, piece_ahead)
+
+pub ruleset copy_pieces = (copied_beyond, beyond_ahead)

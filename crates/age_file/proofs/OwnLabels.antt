@@ -37,3 +37,5 @@ pub alone_after : (n : ℕ) (others : List Labels)
     → first_incompatible (replicate (n + 1) (Names []) ++ Alone ∷ others) ≡ Some (n + 1)
 alone_after n others = ap (λ k. first_incompatible (replicate k (Names []) ++ Alone ∷ others)) (add-one n)
     ∙ alone_from n 1 others
+
+pub ruleset own_recipients = (one_index, alone_after)

@@ -18,7 +18,7 @@ const MAX_PIECES: u128 = 1 << 89;
 
 /// Copies all bytes left in the source: a piece of `first` bytes, and then pieces of the buffer's
 /// length.
-#[tactic(auto, using(crate::proofs::CopiesLemmas::piece_failed, crate::proofs::CopiesLemmas::piece_ahead))]
+#[tactic(auto, using(crate::proofs::CopiesLemmas::copy_all))]
 pub(crate) fn copy_all<S: Source, W: Sink>(
     input: &mut S,
     out: &mut W,
@@ -43,7 +43,7 @@ pub(crate) fn copy_all<S: Source, W: Sink>(
 }
 
 /// Copies all bytes left in the source, a piece of the buffer's length at a time.
-#[tactic(auto, using(crate::proofs::CopiesLemmas::copied_beyond, crate::proofs::CopiesLemmas::beyond_ahead))]
+#[tactic(auto, using(crate::proofs::CopiesLemmas::copy_pieces))]
 fn copy_pieces<S: Source, W: Sink>(input: &mut S, out: &mut W, buf: &mut [u8]) -> Result<(), Fault>
     requires { length buf.old ≡ buffer_size }
     ensures copies { Copies (flow_by S.to_come S.gave input.old input.new)

@@ -4,7 +4,8 @@ ghost use Rattle.std.specs.Prelude.{◌≡◌, ◌⊎◌, ◌++◌, Err, IfErr};
 ghost use Rattle.age_header.specs.Device.{Bytes, Counts, CountsIf, Writes, flow_by, move_by};
 ghost use Rattle.age_header.specs.Header.{Head};
 ghost use Rattle.age_file.specs.Device.{IsQuiet, is_read, is_write};
-ghost use Rattle.age_file.specs.NewFile.{EncryptsGiven, FillsChunk, RefusesFirst, TookWhileEncrypting, gathering_by};
+ghost use Rattle.age_file.specs.NewFile.{EncryptsGiven, FillsChunk, RefusesFirst};
+ghost use Rattle.age_file.specs.NewFile.{TookWhileEncrypting, gathering_by};
 
 use crate::fault::Fault;
 use crate::limits::{Fresh, Limits};

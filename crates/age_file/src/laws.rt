@@ -1,6 +1,8 @@
 //! Laws: facts about the definitions alone, each the contract of a function that does nothing.
 
-ghost use Rattle.std.specs.Prelude.{◌≡◌, ◌↔◌, ◌⊎◌, ◌<◌, ℕ, ◌+◌, ◌*◌, List, [], ◌∷◌, ◌++◌, replicate, length, take, drop, Option, Some, None, Ok, Err, true};
+ghost use Rattle.std.specs.Prelude.{◌≡◌, ◌↔◌, ◌⊎◌, ◌<◌, ℕ, ◌+◌, ◌*◌, List, [], ◌∷◌, ◌++◌};
+ghost use Rattle.std.specs.Prelude.{replicate, length, take, drop, Option, Some, None, Ok, Err};
+ghost use Rattle.std.specs.Prelude.{true};
 ghost use Rattle.age_header.specs.Device.{Bytes, Moved, Took};
 ghost use Rattle.age_header.specs.Header.{StanzaParts};
 ghost use Rattle.age_header.specs.declared.file_key.FileKey.{FileKey};
@@ -71,7 +73,7 @@ pub fn file_is_sliced()
 /// Which of this crate's own recipients go together. For a single recipient, and for keyed ones,
 /// this holds whatever labels their boxes return. The last two clauses are about the labels that
 /// the recipients mean.
-#[tactic(auto, using(crate::proofs::OwnLabels::one_index, crate::proofs::OwnLabels::alone_after))]
+#[tactic(auto, using(crate::proofs::OwnLabels::own_recipients))]
 pub fn own_recipients()
     // A single recipient, even a caller's own, is not incompatible.
     ensures one { (meant : Labels) (index : Option ℕ)

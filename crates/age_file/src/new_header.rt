@@ -7,7 +7,8 @@ ghost use Rattle.age_header.specs.Header.{Head};
 ghost use Rattle.age_header.specs.Mac.{header_mac};
 ghost use Rattle.age_recipient.specs.Labels.{MayLabel};
 ghost use Rattle.age_recipient.specs.Wrap.{WrapsAs};
-ghost use Rattle.age_file.specs.NewFile.{FailsHeading, Gathers, IsHeading, IsNewHeader, WrapsAll, gathering_from, gathering_by};
+ghost use Rattle.age_file.specs.NewFile.{FailsHeading, Gathers, IsHeading, IsNewHeader, WrapsAll};
+ghost use Rattle.age_file.specs.NewFile.{gathering_from, gathering_by};
 
 use crate::fault::Fault;
 use crate::limits::Limits;

@@ -5,7 +5,8 @@ ghost use Rattle.age_header.specs.Device.{CountsFaultIf};
 ghost use Rattle.age_stream.specs.Ranges.{chunks_of, source_at_of};
 ghost use Rattle.age_file.specs.Device.{is_read};
 ghost use Rattle.age_stream.specs.Writer.{device_of, fault_of};
-ghost use Rattle.age_file.specs.Ranges.{GaveHeader, HasHeader, IsOpenFault, MissesHeader, StartsFileRanges};
+ghost use Rattle.age_file.specs.Ranges.{GaveHeader, HasHeader, IsOpenFault, MissesHeader};
+ghost use Rattle.age_file.specs.Ranges.{StartsFileRanges};
 ghost use Rattle.age_file.specs.Verdict.{answers_by};
 
 use crate::at_source::{AtSource, Origin};

@@ -8,7 +8,8 @@ ghost use Rattle.age_header.specs.Mac.{header_mac};
 ghost use Rattle.age_header.specs.declared.file_key.FileKey.{FileKey};
 ghost use Rattle.age_file.specs.AgeFile.{is_mixed, is_scrypt};
 ghost use Rattle.age_file.specs.Device.{IsNoDeviceFault};
-ghost use Rattle.age_file.specs.Verdict.{MayLackMemory, answers_by, found_key, header_key, unlock_fault};
+ghost use Rattle.age_file.specs.Verdict.{MayLackMemory, answers_by, found_key, header_key};
+ghost use Rattle.age_file.specs.Verdict.{unlock_fault};
 
 use crate::fault::Fault;
 use age_header::{Header, Stanza, mac_of};

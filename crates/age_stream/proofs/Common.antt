@@ -12,7 +12,7 @@ pub use Rattle.std.proofs.lemmas.Option.{get_or_from_slice_get, none-some, slice
 pub use Rattle.std.specs.Int.{w128}
 pub use Rattle.std.specs.Io.KnownBytes.{Appends, IsAtEnd}
 pub use Rattle.std.specs.List.{concat, sum_by}
-pub use Rattle.std.specs.Prelude.{IfErr, IfNone, IfOk, IfSome, IsErrOf, ok_or}
+pub use Rattle.std.specs.Prelude.{IfErr, IfNone, IfSome, IsErrOf, ok_or}
 pub use Rattle.std.specs.Vec.{with_items}
 pub use Rattle.age_cipher.proofs.OpeningLemmas.{length-sealed_text, opened_is, opened_text-sealed_text}
 pub use Rattle.age_cipher.specs.Sealing.{opened_text, sealed_text}

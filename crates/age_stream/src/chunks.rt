@@ -1,9 +1,12 @@
 //! The chunks of a payload, of which one is kept. The source is passed to each call.
-ghost use Rattle.std.specs.Prelude.{◌≡◌, ◌+◌, ◌-◌, ◌/◌, ◌<◌, ◌≤◌, ◌++◌, length, take, drop, min, Some, None, IfOk, OnOk, OnErr, IfErr, if◌then◌else◌};
+ghost use Rattle.std.specs.Prelude.{◌≡◌, ◌+◌, ◌-◌, ◌/◌, ◌<◌, ◌≤◌, ◌++◌, length, take, drop, min};
+ghost use Rattle.std.specs.Prelude.{Some, None, IfOk, OnOk, OnErr, IfErr, if◌then◌else◌};
 ghost use Rattle.age_header.specs.Device.{CountsIf, move_by};
 ghost use Rattle.age_stream.specs.Counts.{is_read};
 ghost use Rattle.age_stream.specs.Offsets.{StaysGiven};
-ghost use Rattle.age_stream.specs.Ranges.{BeginsAt, IsLost, IsOpenFault, IsSound, KeepsVerified, OpenedAtLeast, OpensRanges, Probes, ReadsRange, is_kept, kept_text};
+ghost use Rattle.age_stream.specs.Ranges.{BeginsAt, IsLost, IsOpenFault, IsSound, KeepsVerified};
+ghost use Rattle.age_stream.specs.Ranges.{OpenedAtLeast, OpensRanges, Probes, ReadsRange, is_kept};
+ghost use Rattle.age_stream.specs.Ranges.{kept_text};
 ghost use Rattle.age_stream.specs.Slice.{chunk_len};
 ghost use Rattle.age_stream.specs.Sizes.{tag_size, chunk_buf_size};
 

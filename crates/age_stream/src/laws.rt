@@ -1,12 +1,14 @@
 //! Laws: facts about the definitions alone, each the contract of a function that does nothing.
 
-ghost use Rattle.std.specs.Prelude.{◌≡◌, ◌↔◌, ◌<◌, ◌≤◌, ◌+◌, ◌++◌, ℕ, List, None, Ok, drop, length, take, true};
+ghost use Rattle.std.specs.Prelude.{◌≡◌, ◌↔◌, ◌<◌, ◌≤◌, ◌+◌, ◌++◌, ℕ};
+ghost use Rattle.std.specs.Prelude.{List, None, Ok, drop, length, take, true};
 ghost use Rattle.age_kdf.specs.Bytes.{Bytes};
 ghost use Rattle.age_header.specs.declared.file_key.FileKey.{FileKey};
 ghost use Rattle.age_stream.specs.Cutting.{cut, IsCut};
 ghost use Rattle.age_stream.specs.Payload.{chunks, payload, payload_key, pieces};
 ghost use Rattle.age_stream.specs.Reading.{payload_reading, whole};
-ghost use Rattle.age_stream.specs.Salvage.{is_whole, last_saved, padding, payload_parts, salvaged_text, summary};
+ghost use Rattle.age_stream.specs.Salvage.{is_whole, last_saved, padding, payload_parts};
+ghost use Rattle.age_stream.specs.Salvage.{salvaged_text, summary};
 ghost use Rattle.age_stream.specs.Slice.{IsSlice, plain_len, range_outcome};
 ghost use Rattle.age_stream.specs.Sizes.{nonce_size};
 

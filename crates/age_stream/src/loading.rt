@@ -1,10 +1,12 @@
 //! Reading pieces at their offsets, each opened in place.
-ghost use Rattle.std.specs.Prelude.{◌≡◌, ◌⊎◌, ◌^◌, ◌+◌, ◌-◌, ◌*◌, ◌<◌, ◌≤◌, length, take, drop, Some, None, IfOk, OnOk, OnErr, IfErr, IfSome};
+ghost use Rattle.std.specs.Prelude.{◌≡◌, ◌⊎◌, ◌^◌, ◌+◌, ◌-◌, ◌*◌, ◌<◌, ◌≤◌, length, take, drop};
+ghost use Rattle.std.specs.Prelude.{Some, None, IfOk, OnOk, OnErr, IfErr, IfSome};
 ghost use Rattle.std.specs.Bool.{OnTrue, OnFalse};
 ghost use Rattle.age_header.specs.Device.{Counts, CountsIf};
 ghost use Rattle.age_stream.specs.Counts.{is_read};
 ghost use Rattle.age_stream.specs.Offsets.{EndsBefore, HasAt, IsPast, StaysGiven, GaveAt};
-ghost use Rattle.age_stream.specs.Ranges.{IsOpenFault, IsThere, IsVerified, JudgesLast, last_len, source_opening};
+ghost use Rattle.age_stream.specs.Ranges.{IsOpenFault, IsThere, IsVerified, JudgesLast, last_len};
+ghost use Rattle.age_stream.specs.Ranges.{source_opening};
 ghost use Rattle.age_stream.specs.Slice.{chunk_len};
 ghost use Rattle.age_stream.specs.Sizes.{nonce_size, tag_size, chunk_buf_size};
 

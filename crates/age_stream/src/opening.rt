@@ -1,13 +1,18 @@
 //! Opening a payload's pieces, one after another.
-ghost use Rattle.std.specs.Prelude.{◌≡◌, ◌≢◌, ◌⊎◌, ◌<◌, ◌≤◌, ◌+◌, ◌-◌, ◌^◌, ◌++◌, ◌&&◌, [], length, take, drop, Some, None, Ok, Err, IfOk, OnOk, OnErr, IfErr, IfSome, IfNone, IsErrOf, MatchResult, nat_lt, nat_eq, true};
+ghost use Rattle.std.specs.Prelude.{◌≡◌, ◌≢◌, ◌⊎◌, ◌<◌, ◌≤◌, ◌+◌, ◌-◌, ◌^◌, ◌++◌, ◌&&◌, [], length};
+ghost use Rattle.std.specs.Prelude.{take, drop, Some, None, Ok, Err, IfOk, OnOk, OnErr, IfErr};
+ghost use Rattle.std.specs.Prelude.{IfSome, IfNone, IsErrOf, MatchResult, nat_lt, nat_eq, true};
 ghost use Rattle.std.specs.Bool.{OnTrue, OnFalse};
 ghost use Rattle.age_kdf.specs.Bytes.{Bytes};
 ghost use Rattle.age_cipher.specs.Sealing.{opened_text};
 ghost use Rattle.age_header.specs.Device.{Counts, CountsIf, GaveAtMost, GaveSome, flow_by, move_by};
 ghost use Rattle.age_stream.specs.Counts.{is_read, is_write};
-ghost use Rattle.age_stream.specs.Opening.{Advances, EndsAt, GivesNonce, GivesText, IsAtPiece, IsSpentAfter, Loses, ReadsAhead, ReadsPiece, Starts, WritesAll};
+ghost use Rattle.age_stream.specs.Opening.{Advances, EndsAt, GivesNonce, GivesText, IsAtPiece};
+ghost use Rattle.age_stream.specs.Opening.{IsSpentAfter, Loses, ReadsAhead, ReadsPiece, Starts};
+ghost use Rattle.age_stream.specs.Opening.{WritesAll};
 ghost use Rattle.age_stream.specs.Reading.{outcome};
-ghost use Rattle.age_stream.specs.Sizes.{chunk_size, sealed_chunk_size, most_chunks, nonce_size, tag_size, chunk_buf_size};
+ghost use Rattle.age_stream.specs.Sizes.{chunk_size, sealed_chunk_size, most_chunks, nonce_size};
+ghost use Rattle.age_stream.specs.Sizes.{tag_size, chunk_buf_size};
 
 use crate::buffer::ChunkBuf;
 use crate::chunk_keys::{chunk_nonce, payload_key};
@@ -35,7 +40,8 @@ pub struct ChunkOpener {
 impl Model for ChunkOpener {
     ghost use Rattle.std.specs.Prelude.{◌≡◌, ◌≤◌, ◌^◌, length, take, drop, vec_capacity};
     ghost use Rattle.age_stream.specs.Opening.{OpenerState, held_of};
-    ghost use Rattle.age_stream.specs.Sizes.{chunk_size, sealed_chunk_size, chunk_buf_size, most_chunks};
+    ghost use Rattle.age_stream.specs.Sizes.{chunk_size, sealed_chunk_size, chunk_buf_size};
+    ghost use Rattle.age_stream.specs.Sizes.{most_chunks};
 
     ghost Value = { OpenerState };
 

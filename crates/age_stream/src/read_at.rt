@@ -1,10 +1,12 @@
 //! Sources that are read at offsets.
 
-ghost use Rattle.std.specs.Prelude.{◌≡◌, ◌+◌, ◌-◌, ◌^◌, ℕ, Some, None, IfOk, length, min, slice_get, take, ⊤};
+ghost use Rattle.std.specs.Prelude.{◌≡◌, ◌+◌, ◌-◌, ◌^◌, ℕ};
+ghost use Rattle.std.specs.Prelude.{Some, None, IfOk, length, min, slice_get, take, ⊤};
 ghost use Rattle.std.specs.declared.option.Option.{Option};
 ghost use Rattle.std.specs.Io.{ReadsAtMost};
 ghost use Rattle.age_header.specs.Device.{Known, Counts};
-ghost use Rattle.age_stream.specs.Offsets.{CountsGiven, FindsSize, GivesAt, HasOffsets, StaysGiven, GaveAt};
+ghost use Rattle.age_stream.specs.Offsets.{CountsGiven, FindsSize, GivesAt, HasOffsets, StaysGiven};
+ghost use Rattle.age_stream.specs.Offsets.{GaveAt};
 
 use age_header::DeviceFault;
 use std::io::{Read, Seek, SeekFrom};

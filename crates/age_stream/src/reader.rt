@@ -1,5 +1,6 @@
 //! Reading a payload chunk by chunk from a caller's source.
-ghost use Rattle.std.specs.Prelude.{◌≡◌, ◌⊎◌, ◌≤◌, [], Ok, Err, Some, None, IfOk, IfErr, IfSome, IfNone, IsErrOf, ⊤};
+ghost use Rattle.std.specs.Prelude.{◌≡◌, ◌⊎◌, ◌≤◌, []};
+ghost use Rattle.std.specs.Prelude.{Ok, Err, Some, None, IfOk, IfErr, IfSome, IfNone, IsErrOf, ⊤};
 ghost use Rattle.std.specs.Borrow.{sem, follows_so};
 ghost use Rattle.age_header.specs.Device.{CountsIf, flow_by, move_by};
 ghost use Rattle.age_stream.specs.Counts.{is_read, is_write};

@@ -1,6 +1,7 @@
 //! What was saved of a payload, and what was lost.
 ghost use Rattle.std.specs.Prelude.{◌≡◌, [], ◌∷◌};
-ghost use Rattle.age_stream.specs.Salvage.{KnownLosses, Reports, is_cut, is_whole, losses_by, padding};
+ghost use Rattle.age_stream.specs.Salvage.{KnownLosses, Reports, is_cut, is_whole, losses_by};
+ghost use Rattle.age_stream.specs.Salvage.{padding};
 
 /// What was saved of one piece of a payload.
 #[derive(Clone, Copy, Debug, Drop, PartialEq, Eq)]

@@ -1,11 +1,15 @@
 //! Saving the chunks that open of a damaged payload.
-ghost use Rattle.std.specs.Prelude.{◌≡◌, ◌⊎◌, ◌<◌, ◌≤◌, ◌+◌, ◌-◌, ◌^◌, length, take, drop, false, Some, None, Ok, Err, IfOk, IfSome, IfErr};
+ghost use Rattle.std.specs.Prelude.{◌≡◌, ◌⊎◌, ◌<◌, ◌≤◌, ◌+◌, ◌-◌, ◌^◌, length, take, drop, false};
+ghost use Rattle.std.specs.Prelude.{Some, None, Ok, Err, IfOk, IfSome, IfErr};
 ghost use Rattle.age_header.specs.Device.{CountsIf, OfGiven, flow_by, move_by};
 ghost use Rattle.age_stream.specs.Counts.{is_read, is_write};
 ghost use Rattle.age_stream.specs.Opening.{EndsAt};
 ghost use Rattle.age_stream.specs.Payload.{pieces};
-ghost use Rattle.age_stream.specs.Salvage.{EndsSaving, IsOfPieces, Reports, Salvages, SavesParts, first_part, in_place, loss, lost_part, losses_by, padded_part, padding, part, parts, with_part};
-ghost use Rattle.age_stream.specs.Sizes.{chunk_size, max_padding, sealed_chunk_size, most_chunks, tag_size, chunk_buf_size};
+ghost use Rattle.age_stream.specs.Salvage.{EndsSaving, IsOfPieces, Reports, Salvages, SavesParts};
+ghost use Rattle.age_stream.specs.Salvage.{first_part, in_place, loss, lost_part, losses_by};
+ghost use Rattle.age_stream.specs.Salvage.{padded_part, padding, part, parts, with_part};
+ghost use Rattle.age_stream.specs.Sizes.{chunk_size, max_padding, sealed_chunk_size, most_chunks};
+ghost use Rattle.age_stream.specs.Sizes.{tag_size, chunk_buf_size};
 
 use crate::buffer::ChunkBuf;
 use crate::chunk_keys::{chunk_nonce, payload_key};

@@ -1,5 +1,7 @@
 //! Sealing a payload's chunks, one after another.
-ghost use Rattle.std.specs.Prelude.{◌≡◌, ◌⊎◌, ◌<◌, ◌≤◌, ◌+◌, ◌-◌, ◌^◌, ◌++◌, [], length, take, Some, None, Ok, Err, IfOk, OnOk, OnErr, IfErr, IfSome, IfNone, MatchResult};
+ghost use Rattle.std.specs.Prelude.{◌≡◌, ◌⊎◌, ◌<◌, ◌≤◌, ◌+◌, ◌-◌, ◌^◌, ◌++◌, [], length, take};
+ghost use Rattle.std.specs.Prelude.{Some, None, Ok, Err, IfOk, OnOk, OnErr, IfErr, IfSome, IfNone};
+ghost use Rattle.std.specs.Prelude.{MatchResult};
 ghost use Rattle.std.specs.Io.KnownBytes.{Appends, IsAtEnd};
 ghost use Rattle.age_cipher.specs.Sealing.{sealed_text};
 ghost use Rattle.age_header.specs.Device.{Counts, CountsIf, GaveSome, Writes, flow_by, move_by};
@@ -7,7 +9,8 @@ ghost use Rattle.age_header.specs.Filling.{Filled};
 ghost use Rattle.age_stream.specs.Counts.{is_read, is_write};
 ghost use Rattle.age_stream.specs.Sealing.{Fills, IsFed, PutsFull, Stopped, TakesAll, FinishesBy};
 ghost use Rattle.age_stream.specs.Payload.{payload_key, chunk_nonce};
-ghost use Rattle.age_stream.specs.Sizes.{chunk_size, sealed_chunk_size, most_chunks, tag_size, chunk_buf_size};
+ghost use Rattle.age_stream.specs.Sizes.{chunk_size, sealed_chunk_size, most_chunks, tag_size};
+ghost use Rattle.age_stream.specs.Sizes.{chunk_buf_size};
 
 use crate::buffer::ChunkBuf;
 use crate::chunk_keys::{chunk_nonce, payload_key};
@@ -211,7 +214,8 @@ fn feed<S: Source, W: Sink>(
             Ok(n) => n,
             Err(_) => return Err(StreamFault::Read),
         };
-        if n <= CHUNK_SIZE {
+        let is_last = n <= CHUNK_SIZE;
+        if is_last {
             return Ok(n);
         }
         put_full(out, key, max, index, bytes)?;

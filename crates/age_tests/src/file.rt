@@ -3,7 +3,6 @@
 pub(crate) mod begun;
 mod callers;
 mod constructors;
-mod devices;
 mod failing;
 mod objects;
 mod ranges;
@@ -12,27 +11,17 @@ mod salvaging;
 mod steps;
 
 use age_file::{Done, Fault, Fresh, Limits, decrypt, encrypt};
-use age_header::{MemSink, MemSource};
-use age_recipient::{
-    FileKey, Identity, KeyIdentity, KeyRecipient, PassIdentity, PassRecipient, Recipient,
-};
-use devices::FailingSink;
+use age_header::{MemSink, MemSource, Sink, Source};
+use age_recipient::{Identity, KeyIdentity, KeyRecipient, PassIdentity, PassRecipient, Recipient};
 use objects::ForeignRecipient;
 use std::alloc::{AllocError, Global};
 use std::process::Abort;
-use stream_tests::FailingSource;
+use stream_tests::{FailingSink, FailingSource, KEY, NONCE, SALT};
 
 const FRESH: Fresh = Fresh {
-    file_key: FileKey([0, 1, 2, 3, 4, 5, 6, 7, 8, 9, 10, 11, 12, 13, 14, 15]),
-    nonce: [
-        0x10, 0x11, 0x12, 0x13, 0x14, 0x15, 0x16, 0x17, 0x18, 0x19, 0x1a, 0x1b, 0x1c, 0x1d, 0x1e,
-        0x1f,
-    ],
+    file_key: KEY,
+    nonce: NONCE,
 };
-
-const SALT: [u8; 16] = [
-    0x20, 0x21, 0x22, 0x23, 0x24, 0x25, 0x26, 0x27, 0x28, 0x29, 0x2a, 0x2b, 0x2c, 0x2d, 0x2e, 0x2f,
-];
 
 const PASS: &[u8] = b"correct horse";
 
@@ -40,48 +29,57 @@ type Recipients = Vec<Box<dyn Recipient>>;
 
 type Identities = Vec<Box<dyn Identity>>;
 
+/// This value in a box.
+fn boxed<T>(rt: &impl Abort, alloc: Global, value: T) -> Box<T> {
+    Box::new(alloc, value).expect(rt, "memory")
+}
+
+fn add(rt: &impl Abort, recipients: &mut Recipients, recipient: Box<dyn Recipient>) {
+    recipients.push(recipient).expect(rt, "memory");
+}
+
+/// This recipient alone.
+fn one(rt: &impl Abort, alloc: Global, recipient: Box<dyn Recipient>) -> Recipients {
+    let mut recipients = Vec::new(alloc);
+    add(rt, &mut recipients, recipient);
+    recipients
+}
+
+fn try_also(rt: &impl Abort, identities: &mut Identities, identity: Box<dyn Identity>) {
+    identities.push(identity).expect(rt, "memory");
+}
+
+/// This identity alone.
+fn only(rt: &impl Abort, alloc: Global, identity: Box<dyn Identity>) -> Identities {
+    let mut identities = Vec::new(alloc);
+    try_also(rt, &mut identities, identity);
+    identities
+}
+
 /// The passphrase's recipient, with work factor 10.
 fn passphrase_recipients(rt: &impl Abort, alloc: Global) -> Recipients {
-    let mut recipients: Recipients = Vec::new(alloc);
-    recipients
-        .push(Box::new(
-            alloc,
-            PassRecipient::new(alloc, PASS, SALT, 10).expect(rt, "memory"),
-        )
-        .expect(rt, "memory"))
-        .expect(rt, "memory");
-    recipients
+    let recipient = PassRecipient::new(alloc, PASS, SALT, 10).expect(rt, "memory");
+    one(rt, alloc, boxed(rt, alloc, recipient))
 }
 
 /// The passphrase's identity.
 fn passphrase_identities(rt: &impl Abort, alloc: Global) -> Identities {
-    let mut identities: Identities = Vec::new(alloc);
-    identities
-        .push(Box::new(
-            alloc,
-            PassIdentity::new(alloc, PASS, 22).expect(rt, "memory"),
-        )
-        .expect(rt, "memory"))
-        .expect(rt, "memory");
-    identities
+    let identity = PassIdentity::new(alloc, PASS, 22).expect(rt, "memory");
+    only(rt, alloc, boxed(rt, alloc, identity))
 }
 
 /// A recipient of the key of 32 such bytes.
 fn key_recipients(rt: &impl Abort, alloc: Global, byte: u8) -> Recipients {
-    let mut recipients: Recipients = Vec::new(alloc);
-    recipients
-        .push(Box::new(alloc, KeyRecipient::new([byte; 32], SALT)).expect(rt, "memory"))
-        .expect(rt, "memory");
-    recipients
+    one(
+        rt,
+        alloc,
+        boxed(rt, alloc, KeyRecipient::new([byte; 32], SALT)),
+    )
 }
 
 /// The identity of the key of 32 such bytes.
 fn key_identities(rt: &impl Abort, alloc: Global, byte: u8) -> Identities {
-    let mut identities: Identities = Vec::new(alloc);
-    identities
-        .push(Box::new(alloc, KeyIdentity::new([byte; 32])).expect(rt, "memory"))
-        .expect(rt, "memory");
-    identities
+    only(rt, alloc, boxed(rt, alloc, KeyIdentity::new([byte; 32])))
 }
 
 /// The result of encrypting for these recipients, and the output.
@@ -89,12 +87,21 @@ fn encrypted(
     alloc: Global,
     plain: &[u8],
     recipients: &Recipients,
+) -> (Result<Done, Fault>, Vec<u8>) {
+    encrypted_within(alloc, plain, recipients, &Limits::default())
+}
+
+fn encrypted_within(
+    alloc: Global,
+    plain: &[u8],
+    recipients: &Recipients,
     limits: &Limits,
 ) -> (Result<Done, Fault>, Vec<u8>) {
     let mut out = MemSink::new(Vec::new(alloc));
+    let mut input = MemSource::new(plain);
     let answer = encrypt(
         alloc,
-        &mut MemSource::new(plain),
+        &mut input,
         &mut out,
         recipients.as_slice(),
         &FRESH,
@@ -103,22 +110,52 @@ fn encrypted(
     (answer, out.into_vec())
 }
 
+/// The result of encrypting for these recipients, with the default limits.
+fn encrypt_to<S: Source, W: Sink>(
+    alloc: Global,
+    input: &mut S,
+    out: &mut W,
+    recipients: &Recipients,
+) -> Result<Done, Fault> {
+    encrypt(
+        alloc,
+        input,
+        out,
+        recipients.as_slice(),
+        &FRESH,
+        &Limits::default(),
+    )
+}
+
 /// The result of decrypting with these identities, and the output.
 fn decrypted(
+    alloc: Global,
+    file: &[u8],
+    identities: &Identities,
+) -> (Result<Done, Fault>, Vec<u8>) {
+    decrypted_within(alloc, file, identities, &Limits::default())
+}
+
+fn decrypted_within(
     alloc: Global,
     file: &[u8],
     identities: &Identities,
     limits: &Limits,
 ) -> (Result<Done, Fault>, Vec<u8>) {
     let mut out = MemSink::new(Vec::new(alloc));
-    let answer = decrypt(
-        alloc,
-        &mut MemSource::new(file),
-        &mut out,
-        identities.as_slice(),
-        limits,
-    );
+    let mut input = MemSource::new(file);
+    let answer = decrypt(alloc, &mut input, &mut out, identities.as_slice(), limits);
     (answer, out.into_vec())
+}
+
+/// The result of decrypting with these identities and the default limits.
+fn decrypt_to<S: Source, W: Sink>(
+    alloc: Global,
+    input: &mut S,
+    out: &mut W,
+    identities: &Identities,
+) -> Result<Done, Fault> {
+    decrypt(alloc, input, out, identities.as_slice(), &Limits::default())
 }
 
 /// The `Done` of this many bytes in one chunk.
@@ -130,36 +167,20 @@ fn done(bytes: u128) -> Result<Done, Fault> {
 #[test]
 fn encrypt_and_decrypt_work_byte_by_byte(rt: HostRuntime) {
     let alloc = rt.alloc();
-    let limits = Limits::default();
     let plain = vec![in alloc; 7u8; 65_536].expect(&rt, "memory");
     let recipients = passphrase_recipients(&rt, alloc);
     let done = done(65_536);
-    let (answer, file) = encrypted(alloc, plain.as_slice(), &recipients, &limits);
+    let (answer, file) = encrypted(alloc, plain.as_slice(), &recipients);
     assert!(rt; answer == done);
     assert_eq!(rt; file.len(), 65_718);
     let mut source = FailingSource::new(plain.as_slice(), 1, 0);
-    let mut sink = FailingSink::new(Vec::new(alloc), 100_000);
-    let answer = encrypt(
-        alloc,
-        &mut source,
-        &mut sink,
-        recipients.as_slice(),
-        &FRESH,
-        &limits,
-    );
-    assert!(rt; answer == done);
+    let mut sink = FailingSink::new(alloc, 1, 0);
+    assert!(rt; encrypt_to(alloc, &mut source, &mut sink, &recipients) == done);
     assert!(rt; sink.bytes == file);
     let identities = passphrase_identities(&rt, alloc);
     let mut source = FailingSource::new(file.as_slice(), 1, 0);
-    let mut sink = FailingSink::new(Vec::new(alloc), 100_000);
-    let answer = decrypt(
-        alloc,
-        &mut source,
-        &mut sink,
-        identities.as_slice(),
-        &limits,
-    );
-    assert!(rt; answer == done);
+    let mut sink = FailingSink::new(alloc, 1, 0);
+    assert!(rt; decrypt_to(alloc, &mut source, &mut sink, &identities) == done);
     assert!(rt; sink.bytes == plain);
 }
 
@@ -186,12 +207,17 @@ fn too_many_chunks_are_refused_in_both_directions(rt: HostRuntime) {
     };
     let plain = vec![in alloc; 7u8; 65_537].expect(&rt, "memory");
     let recipients = key_recipients(&rt, alloc, 3);
-    let (answer, begun) = encrypted(alloc, plain.as_slice(), &recipients, &one);
+    let (answer, begun) = encrypted_within(alloc, plain.as_slice(), &recipients, &one);
     assert!(rt; answer == Err(Fault::TooManyChunks));
     assert_eq!(rt; begun.len(), 172);
-    let (_, file) = encrypted(alloc, plain.as_slice(), &recipients, &Limits::default());
+    let (_, file) = encrypted(alloc, plain.as_slice(), &recipients);
     assert!(rt; file.as_slice().starts_with(begun.as_slice()));
-    let (answer, front) = decrypted(alloc, file.as_slice(), &key_identities(&rt, alloc, 3), &one);
+    let (answer, front) = decrypted_within(
+        alloc,
+        file.as_slice(),
+        &key_identities(&rt, alloc, 3),
+        &one,
+    );
     assert!(rt; answer == Err(Fault::TooManyChunks));
     assert_eq!(rt; front.len(), 65_536);
 }
@@ -200,21 +226,15 @@ fn too_many_chunks_are_refused_in_both_directions(rt: HostRuntime) {
 #[test]
 fn damaged_first_chunk_writes_nothing(rt: HostRuntime) {
     let alloc = rt.alloc();
-    let limits = Limits::default();
     let plain = vec![in alloc; 7u8; 131_073].expect(&rt, "memory");
-    let (_, file) = encrypted(
-        alloc,
-        plain.as_slice(),
-        &passphrase_recipients(&rt, alloc),
-        &limits,
-    );
+    let (_, file) = encrypted(alloc, plain.as_slice(), &passphrase_recipients(&rt, alloc));
     assert_eq!(rt; file.len(), 131_287);
     let mut file = file;
     file.as_mut_slice()[166] ^= 1;
     let identities = passphrase_identities(&rt, alloc);
     let mut source = MemSource::new(file.as_slice());
     let mut out = MemSink::new(Vec::new(alloc));
-    let answer = decrypt(alloc, &mut source, &mut out, identities.as_slice(), &limits);
+    let answer = decrypt_to(alloc, &mut source, &mut out, &identities);
     assert!(rt; answer == Err(Fault::BadChunk(0)));
     assert!(rt; out.into_vec().is_empty());
     assert!(rt; source.rest().len() >= 65_568);
@@ -224,24 +244,21 @@ fn damaged_first_chunk_writes_nothing(rt: HostRuntime) {
 #[test]
 fn each_of_several_recipients_decrypts(rt: HostRuntime) {
     let alloc = rt.alloc();
-    let limits = Limits::default();
     let done = done(0);
     let mut two = key_recipients(&rt, alloc, 3);
-    two.push(Box::new(alloc, KeyRecipient::new([4; 32], SALT)).expect(&rt, "memory"))
-        .expect(&rt, "memory");
-    let (answer, file) = encrypted(alloc, b"", &two, &limits);
+    add(
+        &rt,
+        &mut two,
+        boxed(&rt, alloc, KeyRecipient::new([4; 32], SALT)),
+    );
+    let (answer, file) = encrypted(alloc, b"", &two);
     assert!(rt; answer == done);
     assert_eq!(rt; file.len(), 274);
     for (byte, expected) in [(3, done), (4, done), (5, Err(Fault::WrongKey))] {
-        let (answer, _) = decrypted(
-            alloc,
-            file.as_slice(),
-            &key_identities(&rt, alloc, byte),
-            &limits,
-        );
+        let (answer, _) = decrypted(alloc, file.as_slice(), &key_identities(&rt, alloc, byte));
         assert!(rt; answer == expected, "key of bytes {byte}");
     }
-    let (answer, _) = decrypted(alloc, file.as_slice(), &Vec::new(alloc), &limits);
+    let (answer, _) = decrypted(alloc, file.as_slice(), &Vec::new(alloc));
     assert!(rt; answer == Err(Fault::NoMatch));
 }
 
@@ -249,37 +266,26 @@ fn each_of_several_recipients_decrypts(rt: HostRuntime) {
 #[test]
 fn foreign_stanzas_are_written_and_skipped(rt: HostRuntime) {
     let alloc = rt.alloc();
-    let limits = Limits::default();
     let done = done(0);
-    let mut recipients: Recipients = Vec::new(alloc);
-    recipients
-        .push(Box::new(alloc, ForeignRecipient).expect(&rt, "memory"))
-        .expect(&rt, "memory");
-    recipients
-        .push(Box::new(alloc, KeyRecipient::new([3; 32], SALT)).expect(&rt, "memory"))
-        .expect(&rt, "memory");
-    let (answer, file) = encrypted(alloc, b"", &recipients, &limits);
+    let mut recipients = one(&rt, alloc, boxed(&rt, alloc, ForeignRecipient));
+    add(
+        &rt,
+        &mut recipients,
+        boxed(&rt, alloc, KeyRecipient::new([3; 32], SALT)),
+    );
+    let (answer, file) = encrypted(alloc, b"", &recipients);
     assert!(rt; answer == done);
     assert_eq!(rt; file.len(), 262);
     let plug =
         b"age-encryption.org/v1\n-> plug\nAAAAAAAAAAAAAAAAAAAAAAAAAAAAAAAAAAAAAAAAAAAAAAAAAAAAAAAAAAAAAAAA\n\n-> ";
     assert!(rt; file.as_slice().starts_with(plug));
-    let (answer, _) = decrypted(
-        alloc,
-        file.as_slice(),
-        &key_identities(&rt, alloc, 3),
-        &limits,
-    );
+    let identities = key_identities(&rt, alloc, 3);
+    let (answer, _) = decrypted(alloc, file.as_slice(), &identities);
     assert!(rt; answer == done);
     // without the three lines of the first stanza
     let mut cut = Vec::from_slice(alloc, b"age-encryption.org/v1\n-> ").expect(&rt, "memory");
     let (_, rest) = file.as_slice().split_at(plug.len().min(file.len()));
     cut.extend_from_slice(rest).expect(&rt, "memory");
-    let (answer, _) = decrypted(
-        alloc,
-        cut.as_slice(),
-        &key_identities(&rt, alloc, 3),
-        &limits,
-    );
+    let (answer, _) = decrypted(alloc, cut.as_slice(), &identities);
     assert!(rt; answer == Err(Fault::BadMac));
 }

@@ -20,9 +20,8 @@ pub(crate) fn begin_file<'a, W: Sink>(
 pub(crate) fn begin_decryptor<'a, S: Source>(
     alloc: Global,
     input: &'a mut S,
-    limits: &Limits,
 ) -> Result<Decryptor<'a, S>, Fault> {
-    match Decryptor::new(alloc, input, limits) {
+    match Decryptor::new(alloc, input, &Limits::default()) {
         Ok(decryptor) => Ok(decryptor),
         Err(refused) => Err(refused.fault()),
     }

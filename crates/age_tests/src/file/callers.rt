@@ -5,13 +5,11 @@ use super::objects::{
     OutOfMemoryIdentity, RefusingRecipient, ScryptBesideAnother, X25519Shape,
 };
 use super::{
-    FRESH, Identities, PASS, Recipients, SALT, decrypted, done, encrypted, key_recipients,
-    passphrase_identities, passphrase_recipients,
+    FRESH, Identities, Recipients, SALT, add, boxed, decrypted, done, encrypted, encrypted_within,
+    key_recipients, one, only, passphrase_identities, passphrase_recipients, try_also,
 };
 use age_file::{Fault, Limits};
-use age_recipient::{
-    FileKey, KeyRecipient, LabelSet, Labels, PassIdentity, PassRecipient, StanzaFault, Unwrapped,
-};
+use age_recipient::{FileKey, KeyRecipient, LabelSet, Labels, StanzaFault, Unwrapped};
 use age_stream::Done;
 use std::alloc::Global;
 use std::cell::Cell;
@@ -31,8 +29,7 @@ pub(super) const END: &[u8] = b"--- AAAAAAAAAAAAAAAAAAAAAAAAAAAAAAAAAAAAAAAAAAA\
 #[test]
 fn callers_identity_decides_before_the_next(rt: HostRuntime) {
     let alloc = rt.alloc();
-    let limits = Limits::default();
-    let (_, file) = encrypted(alloc, b"abc", &passphrase_recipients(&rt, alloc), &limits);
+    let (_, file) = encrypted(alloc, b"abc", &passphrase_recipients(&rt, alloc));
     let seven = StanzaFault::Other(7);
     for (name, answer, expected) in [
         (
@@ -49,18 +46,10 @@ fn callers_identity_decides_before_the_next(rt: HostRuntime) {
         ("wrong key", Unwrapped::Failed, done(3)),
         ("no own stanza", Unwrapped::NotMine, done(3)),
     ] {
-        let mut identities: Identities = Vec::new(alloc);
-        identities
-            .push(Box::new(alloc, FixedIdentity { answer }).expect(&rt, "memory"))
-            .expect(&rt, "memory");
-        identities
-            .push(Box::new(
-                alloc,
-                PassIdentity::new(alloc, PASS, 22).expect(&rt, "memory"),
-            )
-            .expect(&rt, "memory"))
-            .expect(&rt, "memory");
-        let (met, plain) = decrypted(alloc, file.as_slice(), &identities, &limits);
+        let mut identities = only(&rt, alloc, boxed(&rt, alloc, FixedIdentity { answer }));
+        let mut right = passphrase_identities(&rt, alloc);
+        identities.append(&mut right).expect(&rt, "memory");
+        let (met, plain) = decrypted(alloc, file.as_slice(), &identities);
         assert!(rt; met == expected, "{name}");
         let written = if expected.is_ok() {
             b"abc".as_slice()
@@ -69,11 +58,8 @@ fn callers_identity_decides_before_the_next(rt: HostRuntime) {
         };
         assert!(rt; plain.as_slice() == written, "{name}");
     }
-    let mut starved: Identities = Vec::new(alloc);
-    starved
-        .push(Box::new(alloc, OutOfMemoryIdentity).expect(&rt, "memory"))
-        .expect(&rt, "memory");
-    let (met, plain) = decrypted(alloc, file.as_slice(), &starved, &limits);
+    let starved = only(&rt, alloc, boxed(&rt, alloc, OutOfMemoryIdentity));
+    let (met, plain) = decrypted(alloc, file.as_slice(), &starved);
     assert!(rt; met == Err(Fault::OutOfMemory));
     assert!(rt; plain.is_empty());
 }
@@ -84,11 +70,7 @@ fn recipients_of_length(rt: &impl Abort, alloc: Global, count: usize) -> Recipie
     for _ in 0..count {
         text.push('a').expect(rt, "memory");
     }
-    let mut recipients: Recipients = Vec::new(alloc);
-    recipients
-        .push(Box::new(alloc, LongRecipient { text }).expect(rt, "memory"))
-        .expect(rt, "memory");
-    recipients
+    one(rt, alloc, boxed(rt, alloc, LongRecipient { text }))
 }
 
 /// Refusals before the first byte, and the largest header.
@@ -100,28 +82,22 @@ fn refused_recipients_write_nothing(rt: HostRuntime) {
     };
     let none: Recipients = Vec::new(alloc);
     let mut mixed = passphrase_recipients(&rt, alloc);
-    mixed
-        .push(Box::new(alloc, KeyRecipient::new([3; 32], SALT)).expect(&rt, "memory"))
-        .expect(&rt, "memory");
+    add(
+        &rt,
+        &mut mixed,
+        boxed(&rt, alloc, KeyRecipient::new([3; 32], SALT)),
+    );
     let mut refuses = key_recipients(&rt, alloc, 3);
-    refuses
-        .push(Box::new(alloc, RefusingRecipient { code: 7 }).expect(&rt, "memory"))
-        .expect(&rt, "memory");
-    let mut silent: Recipients = Vec::new(alloc);
-    silent
-        .push(Box::new(alloc, NoStanza).expect(&rt, "memory"))
-        .expect(&rt, "memory");
-    let mut pair: Recipients = Vec::new(alloc);
-    pair.push(Box::new(alloc, ScryptBesideAnother).expect(&rt, "memory"))
-        .expect(&rt, "memory");
+    add(
+        &rt,
+        &mut refuses,
+        boxed(&rt, alloc, RefusingRecipient { code: 7 }),
+    );
+    let mut silent = one(&rt, alloc, boxed(&rt, alloc, NoStanza));
+    let pair = one(&rt, alloc, boxed(&rt, alloc, ScryptBesideAnother));
     let mut two_passphrases = passphrase_recipients(&rt, alloc);
-    two_passphrases
-        .push(Box::new(
-            alloc,
-            PassRecipient::new(alloc, PASS, SALT, 10).expect(&rt, "memory"),
-        )
-        .expect(&rt, "memory"))
-        .expect(&rt, "memory");
+    let mut other = passphrase_recipients(&rt, alloc);
+    two_passphrases.append(&mut other).expect(&rt, "memory");
     for (name, recipients, fault) in [
         ("no recipient", &none, Fault::NoRecipients),
         ("recipient without a stanza", &silent, Fault::NoRecipients),
@@ -147,17 +123,24 @@ fn refused_recipients_write_nothing(rt: HostRuntime) {
             Fault::HeaderTooLarge,
         ),
     ] {
-        let (answer, out) = encrypted(alloc, b"", recipients, &limits);
+        let (answer, out) = encrypted_within(alloc, b"", recipients, &limits);
         assert!(rt; answer == Err(fault), "{name}");
         assert!(rt; out.is_empty(), "{name}");
     }
-    let (answer, out) = encrypted(alloc, b"", &recipients_of_length(&rt, alloc, 949), &limits);
+    let (answer, out) = encrypted_within(
+        alloc,
+        b"",
+        &recipients_of_length(&rt, alloc, 949),
+        &limits,
+    );
     assert!(rt; answer == done(0));
     assert_eq!(rt; out.len(), 1_024 + 32);
-    silent
-        .push(Box::new(alloc, KeyRecipient::new([3; 32], SALT)).expect(&rt, "memory"))
-        .expect(&rt, "memory");
-    let (answer, out) = encrypted(alloc, b"", &silent, &limits);
+    add(
+        &rt,
+        &mut silent,
+        boxed(&rt, alloc, KeyRecipient::new([3; 32], SALT)),
+    );
+    let (answer, out) = encrypted_within(alloc, b"", &silent, &limits);
     assert!(rt; answer == done(0));
     assert_eq!(rt; out.len(), 188);
 }
@@ -170,9 +153,11 @@ fn labelled(rt: &impl Abort, alloc: Global, all: &[Option<&[&str]>]) -> Recipien
             Some(names) => Labels::Names(LabelSet::new(alloc, names).expect(rt, "memory")),
             None => Labels::Alone,
         };
-        recipients
-            .push(Box::new(alloc, LabelledRecipient { labels }).expect(rt, "memory"))
-            .expect(rt, "memory");
+        add(
+            rt,
+            &mut recipients,
+            boxed(rt, alloc, LabelledRecipient { labels }),
+        );
     }
     recipients
 }
@@ -181,7 +166,6 @@ fn labelled(rt: &impl Abort, alloc: Global, all: &[Option<&[&str]>]) -> Recipien
 #[test]
 fn recipients_with_equal_labels_go_together(rt: HostRuntime) {
     let alloc = rt.alloc();
-    let limits = Limits::default();
     let incompatible = |i| Err(Fault::IncompatibleRecipients(i));
     let lists: [(&str, &[Option<&[&str]>], Result<Done, Fault>); 5] = [
         (
@@ -207,7 +191,7 @@ fn recipients_with_equal_labels_go_together(rt: HostRuntime) {
         ),
     ];
     for (name, labels, expected) in lists {
-        let (answer, out) = encrypted(alloc, b"", &labelled(&rt, alloc, labels), &limits);
+        let (answer, out) = encrypted(alloc, b"", &labelled(&rt, alloc, labels));
         assert!(rt; answer == expected, "{name}");
         assert!(rt; out.is_empty() == expected.is_err(), "{name}");
     }
@@ -217,22 +201,13 @@ fn recipients_with_equal_labels_go_together(rt: HostRuntime) {
 #[test]
 fn x25519_file_has_no_match_for_a_passphrase(rt: HostRuntime) {
     let alloc = rt.alloc();
-    let limits = Limits::default();
-    let mut recipients: Recipients = Vec::new(alloc);
-    recipients
-        .push(Box::new(alloc, X25519Shape).expect(&rt, "memory"))
-        .expect(&rt, "memory");
-    let (answer, file) = encrypted(alloc, b"hello", &recipients, &limits);
+    let recipients = one(&rt, alloc, boxed(&rt, alloc, X25519Shape));
+    let (answer, file) = encrypted(alloc, b"hello", &recipients);
     assert!(rt; answer == done(5));
     let shape =
         b"age-encryption.org/v1\n-> X25519 AAAAAAAAAAAAAAAAAAAAAAAAAAAAAAAAAAAAAAAAAAA\nAAAAAAAAAAAAAAAAAAAAAAAAAAAAAAAAAAAAAAAAAAA\n-> abc-grease x\n\n--- ";
     assert!(rt; file.as_slice().starts_with(shape));
-    let (answer, _) = decrypted(
-        alloc,
-        file.as_slice(),
-        &passphrase_identities(&rt, alloc),
-        &limits,
-    );
+    let (answer, _) = decrypted(alloc, file.as_slice(), &passphrase_identities(&rt, alloc));
     assert!(rt; answer == Err(Fault::NoMatch));
 }
 
@@ -241,16 +216,13 @@ fn x25519_file_has_no_match_for_a_passphrase(rt: HostRuntime) {
 #[test]
 fn mixed_passphrase_asks_no_identity(rt: HostRuntime) {
     let alloc = rt.alloc();
-    let limits = Limits::default();
     let asked = Rc::new(alloc, Cell::new(0u32)).expect(&rt, "no fault");
     let mut identities: Identities = Vec::new(alloc);
     for _ in 0..2 {
         let counts = CountingIdentity {
             asked: Rc::clone(&asked).expect(&rt, "no fault"),
         };
-        identities
-            .push(Box::new(alloc, counts).expect(&rt, "memory"))
-            .expect(&rt, "memory");
+        try_also(&rt, &mut identities, boxed(&rt, alloc, counts));
     }
     let alone = [VERSION, PASSPHRASE_STANZA, END]
         .concat(alloc)
@@ -258,11 +230,11 @@ fn mixed_passphrase_asks_no_identity(rt: HostRuntime) {
     let mixed = [VERSION, PASSPHRASE_STANZA, OTHER_STANZA, END]
         .concat(alloc)
         .expect(&rt, "no fault");
-    let (answer, out) = decrypted(alloc, mixed.as_slice(), &identities, &limits);
+    let (answer, out) = decrypted(alloc, mixed.as_slice(), &identities);
     assert!(rt; answer == Err(Fault::MixedPassphrase));
     assert!(rt; out.is_empty());
     assert_eq!(rt; asked.get(), 0);
-    let (answer, _) = decrypted(alloc, alone.as_slice(), &identities, &limits);
+    let (answer, _) = decrypted(alloc, alone.as_slice(), &identities);
     assert!(rt; answer == Err(Fault::NoMatch));
     assert_eq!(rt; asked.get(), 2);
 }

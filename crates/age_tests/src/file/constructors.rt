@@ -3,7 +3,6 @@
 
 use super::begun::{begin_decryptor, begin_file, opened, unlocked};
 use super::callers::{END, OTHER_STANZA, PASSPHRASE_STANZA, VERSION};
-use super::devices::FailingSink;
 use super::failing::FILE;
 use super::{FRESH, Identities, key_identities, key_recipients};
 use age_file::{Encryptor, Fault, Limits, MemAt, ReadAt, StanzaFault};
@@ -11,7 +10,7 @@ use age_header::{MemSource, Source};
 use std::alloc::Global;
 use std::cell::Cell;
 use std::process::Abort;
-use stream_tests::{CountingReadAt, FailingSource};
+use stream_tests::{CountingReadAt, FailingSink, FailingSource};
 
 /// The header and the nonce have 172 bytes. Each write failed in turn: the failed write is the
 /// last, and is counted once.
@@ -26,7 +25,7 @@ fn failed_write_of_the_front_is_the_last(rt: HostRuntime) {
             &FRESH,
             &Limits::default(),
         ).expect(&rt, "no fault");
-        let mut sink = FailingSink::new(Vec::new(alloc), most);
+        let mut sink = FailingSink::new(alloc, 1, most as u64 + 1);
         match begin_file(encryptor, alloc, &mut sink) {
             Ok(writer) => {
                 writer.abandon();
@@ -35,14 +34,14 @@ fn failed_write_of_the_front_is_the_last(rt: HostRuntime) {
             Err(fault) => assert!(rt; fault == Fault::Write, "{most} bytes"),
         }
         assert!(rt; sink.bytes.as_slice() == &FILE[..most], "{most} bytes");
-        assert_eq!(rt; sink.calls, most + 1);
+        assert_eq!(rt; sink.calls, most as u64 + 1);
         assert_eq!(rt; sink.failures, 1, "{most} bytes");
     }
 }
 
 /// The fault of reading a file in steps up to its nonce.
 fn read_fault<S: Source>(alloc: Global, source: &mut S, identities: &Identities) -> Option<Fault> {
-    match begin_decryptor(alloc, source, &Limits::default()) {
+    match begin_decryptor(alloc, source) {
         Ok(decryptor) => unlocked(decryptor, alloc, identities.as_slice()).err(),
         Err(fault) => Some(fault),
     }

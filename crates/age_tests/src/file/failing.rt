@@ -1,37 +1,30 @@
 //! Devices that fail at each read and each write in turn.
 
 use super::begun::{begin_decryptor, begin_file, opened, unlocked};
-use super::devices::{FailingSink, TakesNothing};
 use super::{
-    FRESH, Identities, Recipients, SALT, encrypted, key_identities, key_recipients,
-    passphrase_identities, passphrase_recipients,
+    FRESH, Identities, Recipients, SALT, decrypt_to, encrypt_to, encrypted, key_identities,
+    key_recipients, passphrase_identities, passphrase_recipients,
 };
-use age_file::{Encryptor, Fault, Limits, MemAt, ReadAt, StreamFault, WriteSink, decrypt, encrypt};
+use age_file::{Encryptor, Fault, Limits, MemAt, ReadAt, StreamFault, WriteSink};
 use age_header::{MemSink, MemSource, Sink};
 use age_recipient::{KeyIdentity, KeyRecipient};
 use std::alloc::Global;
+use std::io;
+use std::io::Write;
 use std::process::Abort;
-use stream_tests::{FailingSource, begin_ranges, begin_reader, begin_writer};
+use stream_tests::{FailingSink, FailingSource, begin_ranges, begin_reader, begin_writer};
 
 /// A sink over a slice of each length gets as long a prefix of the file as fits.
 #[test]
 fn failing_sink_gets_a_beginning_of_the_file(rt: HostRuntime) {
     let alloc = rt.alloc();
-    let limits = Limits::default();
     let recipients = passphrase_recipients(&rt, alloc);
-    let (_, file) = encrypted(alloc, b"", &recipients, &limits);
+    let (_, file) = encrypted(alloc, b"", &recipients);
     assert_eq!(rt; file.len(), 182);
     for len in 0..183 {
         let mut room = vec![in alloc; 0u8; len].expect(&rt, "memory");
         let mut sink = WriteSink::new(room.as_mut_slice());
-        let answer = encrypt(
-            alloc,
-            &mut MemSource::new(b""),
-            &mut sink,
-            recipients.as_slice(),
-            &FRESH,
-            &limits,
-        );
+        let answer = encrypt_to(alloc, &mut MemSource::new(b""), &mut sink, &recipients);
         assert!(rt; answer.is_ok() == (len == 182), "room for {len} bytes");
         assert!(rt;
             answer.is_ok() || answer == Err(Fault::Write),
@@ -54,14 +47,9 @@ fn reads_until(
     failing: u64,
 ) -> (u64, bool) {
     let mut source = FailingSource::new(file, 1_000, failing);
-    let mut sink = FailingSink::new(Vec::new(alloc), 100_000);
-    let answer = decrypt(
-        alloc,
-        &mut source,
-        &mut sink,
-        passphrase_identities(rt, alloc).as_slice(),
-        &Limits::default(),
-    );
+    let mut sink = FailingSink::new(alloc, 1, 0);
+    let identities = passphrase_identities(rt, alloc);
+    let answer = decrypt_to(alloc, &mut source, &mut sink, &identities);
     let whole = answer.is_ok() && sink.bytes.as_slice() == plain;
     let failed = answer == Err(Fault::Read) && plain.starts_with(sink.bytes.as_slice());
     (source.reads, if failing == 0 { whole } else { failed })
@@ -73,12 +61,7 @@ fn reads_until(
 fn failing_read_leaves_a_beginning_of_the_plaintext(rt: HostRuntime) {
     let alloc = rt.alloc();
     let plain = vec![in alloc; 7u8; 65_537].expect(&rt, "memory");
-    let (_, file) = encrypted(
-        alloc,
-        plain.as_slice(),
-        &passphrase_recipients(&rt, alloc),
-        &Limits::default(),
-    );
+    let (_, file) = encrypted(alloc, plain.as_slice(), &passphrase_recipients(&rt, alloc));
     let (reads, whole) = reads_until(&rt, alloc, file.as_slice(), plain.as_slice(), 0);
     assert!(rt; whole && reads > 150 + 65);
     for failing in 1..reads {
@@ -93,21 +76,13 @@ fn failing_read_leaves_a_beginning_of_the_plaintext(rt: HostRuntime) {
 #[test]
 fn failing_plaintext_leaves_a_beginning_of_the_file(rt: HostRuntime) {
     let alloc = rt.alloc();
-    let limits = Limits::default();
     let recipients = key_recipients(&rt, alloc, 3);
     let plain = vec![in alloc; 7u8; 65_537].expect(&rt, "memory");
-    let (_, whole) = encrypted(alloc, plain.as_slice(), &recipients, &limits);
+    let (_, whole) = encrypted(alloc, plain.as_slice(), &recipients);
     for (failing, len) in [(1, 0), (66, 0), (67, 172), (68, 172 + 65_552)] {
         let mut source = FailingSource::new(plain.as_slice(), 1_000, failing);
-        let mut sink = FailingSink::new(Vec::new(alloc), 100_000);
-        let answer = encrypt(
-            alloc,
-            &mut source,
-            &mut sink,
-            recipients.as_slice(),
-            &FRESH,
-            &limits,
-        );
+        let mut sink = FailingSink::new(alloc, 1, 0);
+        let answer = encrypt_to(alloc, &mut source, &mut sink, &recipients);
         assert!(rt; answer == Err(Fault::Read), "read {failing}");
         assert_eq!(rt; sink.bytes.len(), len, "read {failing}");
         assert!(rt;
@@ -122,17 +97,11 @@ fn failing_plaintext_leaves_a_beginning_of_the_file(rt: HostRuntime) {
 #[test]
 fn reader_returns_a_failed_read_again(rt: HostRuntime) {
     let alloc = rt.alloc();
-    let limits = Limits::default();
     let plain = vec![in alloc; 7u8; 65_537].expect(&rt, "memory");
-    let (_, file) = encrypted(
-        alloc,
-        plain.as_slice(),
-        &key_recipients(&rt, alloc, 3),
-        &limits,
-    );
+    let (_, file) = encrypted(alloc, plain.as_slice(), &key_recipients(&rt, alloc, 3));
     let failing = 156 + 1 + 10;
     let mut source = FailingSource::new(file.as_slice(), 1_000, failing);
-    let decryptor = begin_decryptor(alloc, &mut source, &limits).expect(&rt, "no fault");
+    let decryptor = begin_decryptor(alloc, &mut source).expect(&rt, "no fault");
     let mut reader = unlocked(decryptor, alloc, key_identities(&rt, alloc, 3).as_slice()).expect(
         &rt, "no fault",
     );
@@ -144,43 +113,41 @@ fn reader_returns_a_failed_read_again(rt: HostRuntime) {
     assert_eq!(rt; source.failures, 1);
 }
 
+/// Accepts no byte of any piece, and reports success.
+#[derive(Drop)]
+struct TakesNothing;
+
+impl Write for TakesNothing {
+    fn write(&mut self, _piece: &[u8]) -> io::Result<usize> {
+        Ok(0)
+    }
+
+    fn flush(&mut self) -> io::Result<()> {
+        Ok(())
+    }
+}
+
 /// A writer that accepts no byte of a piece, and devices whose count of failures cannot rise any
 /// more.
 #[test]
 fn devices_at_their_limits_return_their_fault(rt: HostRuntime) {
     let alloc = rt.alloc();
-    let limits = Limits::default();
     let recipients = key_recipients(&rt, alloc, 3);
     let mut nothing = WriteSink::new(TakesNothing);
-    let answer = encrypt(
-        alloc,
-        &mut MemSource::new(b""),
-        &mut nothing,
-        recipients.as_slice(),
-        &FRESH,
-        &limits,
-    );
+    let answer = encrypt_to(alloc, &mut MemSource::new(b""), &mut nothing, &recipients);
     assert!(rt; answer == Err(Fault::Write));
-    let mut sink = FailingSink::new(Vec::new(alloc), 0);
+    let mut sink = FailingSink::new(alloc, 1, 1);
     sink.failures = u64::MAX;
-    let answer = encrypt(
-        alloc,
-        &mut MemSource::new(b""),
-        &mut sink,
-        recipients.as_slice(),
-        &FRESH,
-        &limits,
-    );
+    let answer = encrypt_to(alloc, &mut MemSource::new(b""), &mut sink, &recipients);
     assert!(rt; answer == Err(Fault::Write) && sink.failures == u64::MAX);
     let mut source = FailingSource::new(b"", 1, 1);
     source.failures = u64::MAX;
-    let mut sink = FailingSink::new(Vec::new(alloc), 0);
-    let answer = decrypt(
+    let mut sink = FailingSink::new(alloc, 1, 1);
+    let answer = decrypt_to(
         alloc,
         &mut source,
         &mut sink,
-        key_identities(&rt, alloc, 3).as_slice(),
-        &limits,
+        &key_identities(&rt, alloc, 3),
     );
     assert!(rt; answer == Err(Fault::Read) && source.failures == u64::MAX);
 }
@@ -191,9 +158,9 @@ pub(super) const FILE: &[u8] =
 
 /// Whether starting a file writes its header and nonce, or is out of memory with nothing written. A
 /// write fails if the sink's own allocation was refused.
-fn starts_or_starves(alloc: Global, recipients: &Recipients, limits: &Limits) -> bool {
+fn starts_or_starves(alloc: Global, recipients: &Recipients) -> bool {
     let mut out = MemSink::new(Vec::new(alloc));
-    let started = match Encryptor::new(alloc, recipients.as_slice(), &FRESH, limits) {
+    let started = match Encryptor::new(alloc, recipients.as_slice(), &FRESH, &Limits::default()) {
         Ok(encryptor) => match begin_file(encryptor, alloc, &mut out) {
             Ok(writer) => Ok(writer.abandon()),
             Err(fault) => Err(fault),
@@ -211,9 +178,9 @@ fn starts_or_starves(alloc: Global, recipients: &Recipients, limits: &Limits) ->
 
 /// Whether a file is unlocked and its chunk read, or the call is out of memory having read at most
 /// the header: the payload has 32 bytes.
-fn reads_or_starves(alloc: Global, identities: &Identities, limits: &Limits) -> bool {
+fn reads_or_starves(alloc: Global, identities: &Identities) -> bool {
     let mut source = MemSource::new(FILE);
-    let decryptor = match begin_decryptor(alloc, &mut source, limits) {
+    let decryptor = match begin_decryptor(alloc, &mut source) {
         Ok(decryptor) => decryptor,
         Err(fault) => return fault == Fault::OutOfMemory && source.rest().len() >= 32,
     };
@@ -228,9 +195,9 @@ fn reads_or_starves(alloc: Global, identities: &Identities, limits: &Limits) -> 
 }
 
 /// Whether a file opens for ranges, or the call is out of memory having read at most the header.
-fn opens_or_starves(alloc: Global, identities: &Identities, limits: &Limits) -> bool {
+fn opens_or_starves(alloc: Global, identities: &Identities) -> bool {
     let mut dev = MemAt::new(FILE);
-    let opened = match opened(alloc, &mut dev, identities.as_slice(), limits) {
+    let opened = match opened(alloc, &mut dev, identities.as_slice(), &Limits::default()) {
         Ok(reader) => Ok(reader.plain_len()),
         Err(fault) => Err(fault),
     };
@@ -266,7 +233,6 @@ fn payload_or_starves(alloc: Global) -> bool {
 #[test]
 fn whole_or_out_of_memory(rt: HostRuntime) {
     let alloc = rt.alloc();
-    let limits = Limits::default();
     let mut recipients: Recipients = Vec::new(alloc);
     let mut identities: Identities = Vec::new(alloc);
     let Ok(recipient) = Box::new(alloc, KeyRecipient::new([3; 32], SALT)) else {
@@ -278,8 +244,8 @@ fn whole_or_out_of_memory(rt: HostRuntime) {
     if recipients.push(recipient).is_err() || identities.push(identity).is_err() {
         return;
     }
-    assert!(rt; starts_or_starves(alloc, &recipients, &limits));
-    assert!(rt; reads_or_starves(alloc, &identities, &limits));
-    assert!(rt; opens_or_starves(alloc, &identities, &limits));
+    assert!(rt; starts_or_starves(alloc, &recipients));
+    assert!(rt; reads_or_starves(alloc, &identities));
+    assert!(rt; opens_or_starves(alloc, &identities));
     assert!(rt; payload_or_starves(alloc));
 }

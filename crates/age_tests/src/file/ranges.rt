@@ -10,7 +10,7 @@ use std::process::Abort;
 fn file_of(rt: &impl Abort, alloc: Global, len: usize) -> Vec<u8> {
     let plain = vec![in alloc; 7u8; len].expect(rt, "memory");
     let recipients = passphrase_recipients(rt, alloc);
-    let (_, file) = encrypted(alloc, plain.as_slice(), &recipients, &Limits::default());
+    let (_, file) = encrypted(alloc, plain.as_slice(), &recipients);
     file
 }
 

@@ -1,16 +1,14 @@
 //! Rewrapped files: the output, its plaintext, and refusals.
 
-use super::devices::FailingSink;
 use super::{
-    Identities, Recipients, decrypted, encrypted, key_identities, key_recipients,
-    passphrase_identities, passphrase_recipients,
+    Identities, Recipients, SALT, add, boxed, decrypted, encrypted, key_identities, key_recipients,
+    one, only, passphrase_identities, passphrase_recipients,
 };
 use age_file::{Fault, Limits, rewrap};
-use age_header::{MemSink, MemSource};
-use age_recipient::{PassIdentity, PassRecipient};
+use age_header::{MemSink, MemSource, Sink, Source};
+use age_recipient::{KeyRecipient, PassIdentity, PassRecipient};
 use std::alloc::Global;
-use std::process::Abort;
-use stream_tests::FailingSource;
+use stream_tests::{FailingSink, FailingSource};
 
 /// The result of rewrapping, and the output.
 fn rewrapped(
@@ -20,178 +18,121 @@ fn rewrapped(
     recipients: &Recipients,
 ) -> (Result<(), Fault>, Vec<u8>) {
     let mut out = MemSink::new(Vec::new(alloc));
-    let answer = rewrap(
+    let answer = rewrap_to(
         alloc,
         &mut MemSource::new(file),
         &mut out,
-        identities.as_slice(),
-        recipients.as_slice(),
-        &Limits::default(),
+        identities,
+        recipients,
     );
     (answer, out.into_vec())
+}
+
+/// The result of rewrapping, with the default limits.
+fn rewrap_to<S: Source, W: Sink>(
+    alloc: Global,
+    input: &mut S,
+    out: &mut W,
+    identities: &Identities,
+    recipients: &Recipients,
+) -> Result<(), Fault> {
+    let (identities, recipients) = (identities.as_slice(), recipients.as_slice());
+    rewrap(
+        alloc,
+        input,
+        out,
+        identities,
+        recipients,
+        &Limits::default(),
+    )
 }
 
 /// From one passphrase to another, with another work factor.
 #[test]
 fn rewrapped_file_needs_the_new_passphrase(rt: HostRuntime) {
     let alloc = rt.alloc();
-    let limits = Limits::default();
-    let (_, file) = encrypted(alloc, b"", &passphrase_recipients(&rt, alloc), &limits);
-    let mut recipients: Recipients = Vec::new(alloc);
-    recipients
-        .push(Box::new(
-            alloc,
-            PassRecipient::new(alloc, b"p2", [9; 16], 12).expect(&rt, "memory"),
-        )
-        .expect(&rt, "memory"))
-        .expect(&rt, "memory");
-    let (answer, new) = rewrapped(
-        alloc,
-        file.as_slice(),
-        &passphrase_identities(&rt, alloc),
-        &recipients,
-    );
+    let (_, file) = encrypted(alloc, b"", &passphrase_recipients(&rt, alloc));
+    let recipient = PassRecipient::new(alloc, b"p2", [9; 16], 12).expect(&rt, "memory");
+    let recipients = one(&rt, alloc, boxed(&rt, alloc, recipient));
+    let old = passphrase_identities(&rt, alloc);
+    let (answer, new) = rewrapped(alloc, file.as_slice(), &old, &recipients);
     assert!(rt; answer == Ok(()));
     assert_eq!(rt; new.len(), 182);
-    let mut identities: Identities = Vec::new(alloc);
-    identities
-        .push(Box::new(
-            alloc,
-            PassIdentity::new(alloc, b"p2", 12).expect(&rt, "memory"),
-        )
-        .expect(&rt, "memory"))
-        .expect(&rt, "memory");
-    let (answer, _) = decrypted(alloc, new.as_slice(), &identities, &limits);
+    let identity = PassIdentity::new(alloc, b"p2", 12).expect(&rt, "memory");
+    let identities = only(&rt, alloc, boxed(&rt, alloc, identity));
+    let (answer, _) = decrypted(alloc, new.as_slice(), &identities);
     assert!(rt; answer.is_ok());
-    let (answer, _) = decrypted(
-        alloc,
-        new.as_slice(),
-        &passphrase_identities(&rt, alloc),
-        &limits,
-    );
+    let (answer, _) = decrypted(alloc, new.as_slice(), &old);
     assert!(rt; answer == Err(Fault::WrongKey));
 }
 
-/// Whether a file of the passphrase, rewrapped to a key, has this length, and both decrypt with
-/// this fault.
-fn is_kept(rt: &impl Abort, alloc: Global, file: &[u8], len: usize, fault: Option<Fault>) -> bool {
-    let limits = Limits::default();
-    let (answer, new) = rewrapped(
-        alloc,
-        file,
-        &passphrase_identities(rt, alloc),
-        &key_recipients(rt, alloc, 3),
-    );
-    let (before, _) = decrypted(alloc, file, &passphrase_identities(rt, alloc), &limits);
-    let (after, _) = decrypted(
-        alloc,
-        new.as_slice(),
-        &key_identities(rt, alloc, 3),
-        &limits,
-    );
-    answer == Ok(()) && new.len() == len && before.err() == fault && after.err() == fault
-}
-
-/// To a key: a file, a file whose last chunk is cut away, and one that ends in its nonce.
+/// To a key: a file, one that ends in its nonce, and one whose last chunk is cut away. Both decrypt
+/// with the same fault.
 #[test]
 fn rewrap_to_a_key_keeps_the_verdict(rt: HostRuntime) {
     let alloc = rt.alloc();
-    let limits = Limits::default();
-    let recipients = passphrase_recipients(&rt, alloc);
-    let (_, mut file) = encrypted(alloc, b"", &recipients, &limits);
-    assert!(rt; is_kept(&rt, alloc, file.as_slice(), 188, None));
-    file.truncate(155);
-    assert!(rt;
-        is_kept(
-            &rt,
-            alloc,
-            file.as_slice(),
-            161,
-            Some(Fault::NonceTruncated)
-        )
-    );
     let plain = vec![in alloc; 7u8; 65_537].expect(&rt, "memory");
-    let (_, mut file) = encrypted(alloc, plain.as_slice(), &recipients, &limits);
-    file.truncate(65_718);
-    assert!(rt;
-        is_kept(
-            &rt,
-            alloc,
-            file.as_slice(),
-            65_724,
-            Some(Fault::BadChunk(0))
-        )
+    let (old, new) = (
+        passphrase_identities(&rt, alloc),
+        key_identities(&rt, alloc, 3),
     );
-}
-
-/// Whether rewrapping with the identity of this key is refused with this fault, with nothing
-/// written.
-fn is_refused(
-    rt: &impl Abort,
-    alloc: Global,
-    file: &[u8],
-    key: u8,
-    recipients: &Recipients,
-    fault: Fault,
-) -> bool {
-    let (answer, new) = rewrapped(alloc, file, &key_identities(rt, alloc, key), recipients);
-    answer == Err(fault) && new.is_empty()
+    for (len, kept, new_len, fault) in [
+        (0, 182, 188, None),
+        (0, 155, 161, Some(Fault::NonceTruncated)),
+        (65_537, 65_718, 65_724, Some(Fault::BadChunk(0))),
+    ] {
+        let text = plain.as_slice().get(..len).unwrap_or(b"");
+        let (_, mut file) = encrypted(alloc, text, &passphrase_recipients(&rt, alloc));
+        file.truncate(kept);
+        let recipients = key_recipients(&rt, alloc, 3);
+        let (answer, after) = rewrapped(alloc, file.as_slice(), &old, &recipients);
+        assert!(rt; answer == Ok(()) && after.len() == new_len, "{kept} bytes");
+        assert!(rt;
+            decrypted(alloc, file.as_slice(), &old).0.err() == fault,
+            "{kept} bytes"
+        );
+        assert!(rt;
+            decrypted(alloc, after.as_slice(), &new).0.err() == fault,
+            "{kept} bytes"
+        );
+    }
 }
 
 /// Refusals before the first byte: for the old header, then for the new one.
 #[test]
 fn refused_rewrap_writes_nothing(rt: HostRuntime) {
     let alloc = rt.alloc();
-    let (_, file) = encrypted(
-        alloc,
-        b"abc",
-        &key_recipients(&rt, alloc, 1),
-        &Limits::default(),
-    );
-    let file = file.as_slice();
+    let (_, file) = encrypted(alloc, b"abc", &key_recipients(&rt, alloc, 1));
     let none: Recipients = Vec::new(alloc);
     let mut mixed = passphrase_recipients(&rt, alloc);
-    mixed
-        .append(&mut key_recipients(&rt, alloc, 3))
-        .expect(&rt, "memory");
-    assert!(rt; is_refused(&rt, alloc, file, 2, &none, Fault::WrongKey));
-    assert!(rt; is_refused(&rt, alloc, file, 1, &none, Fault::NoRecipients));
-    assert!(rt;
-        is_refused(
-            &rt,
-            alloc,
-            file,
-            1,
-            &mixed,
-            Fault::IncompatibleRecipients(1)
-        )
+    add(
+        &rt,
+        &mut mixed,
+        boxed(&rt, alloc, KeyRecipient::new([3; 32], SALT)),
     );
+    for (key, recipients, fault) in [
+        (2, &none, Fault::WrongKey),
+        (1, &none, Fault::NoRecipients),
+        (1, &mixed, Fault::IncompatibleRecipients(1)),
+    ] {
+        let identities = key_identities(&rt, alloc, key);
+        let (answer, new) = rewrapped(alloc, file.as_slice(), &identities, recipients);
+        assert!(rt; answer == Err(fault) && new.is_empty(), "{fault}");
+    }
 }
 
 /// Each read and each write fails in turn: the output is a prefix of the new file.
 #[test]
 fn failing_devices_leave_a_beginning_of_the_rewrapped_file(rt: HostRuntime) {
     let alloc = rt.alloc();
-    let (_, file) = encrypted(
-        alloc,
-        b"abc",
-        &key_recipients(&rt, alloc, 1),
-        &Limits::default(),
-    );
+    let (_, file) = encrypted(alloc, b"abc", &key_recipients(&rt, alloc, 1));
     let (identities, recipients) = (key_identities(&rt, alloc, 1), key_recipients(&rt, alloc, 3));
     let (_, whole) = rewrapped(alloc, file.as_slice(), &identities, &recipients);
     assert_eq!(rt; whole.len(), 191);
     for failing in 1..200 {
         let mut source = FailingSource::new(file.as_slice(), 1, failing);
-        let mut sink = FailingSink::new(Vec::new(alloc), 1_000);
-        let answer = rewrap(
-            alloc,
-            &mut source,
-            &mut sink,
-            identities.as_slice(),
-            recipients.as_slice(),
-            &Limits::default(),
-        );
+        let mut sink = FailingSink::new(alloc, 1, 0);
+        let answer = rewrap_to(alloc, &mut source, &mut sink, &identities, &recipients);
         // 191 bytes, one at a time, and the end
         let expected = if failing <= 192 {
             Err(Fault::Read)
@@ -207,15 +148,8 @@ fn failing_devices_leave_a_beginning_of_the_rewrapped_file(rt: HostRuntime) {
     }
     for most in 0..191 {
         let mut source = MemSource::new(file.as_slice());
-        let mut sink = FailingSink::new(Vec::new(alloc), most);
-        let answer = rewrap(
-            alloc,
-            &mut source,
-            &mut sink,
-            identities.as_slice(),
-            recipients.as_slice(),
-            &Limits::default(),
-        );
+        let mut sink = FailingSink::new(alloc, 1, most as u64 + 1);
+        let answer = rewrap_to(alloc, &mut source, &mut sink, &identities, &recipients);
         assert!(rt; answer == Err(Fault::Write), "room for {most} bytes");
         assert!(rt; sink.bytes.len() == most, "room for {most} bytes");
         assert!(rt;

@@ -2,7 +2,6 @@
 //! of `failing::FILE`, their pieces those of the vectors `payload_`. The ciphertext of a full chunk
 //! is zeros, and its text is the cipher's key stream.
 
-use super::devices::FailingSink;
 use super::failing::FILE;
 use super::key_identities;
 use age_file::{Fault, Limits, Losses, LostChunk, SalvagedFile, Sink, Source, salvage};
@@ -10,7 +9,7 @@ use age_header::{MemSink, MemSource};
 use sha2::{Digest, Sha256};
 use std::alloc::Global;
 use std::process::Abort;
-use stream_tests::FailingSource;
+use stream_tests::{FailingSink, FailingSource, hex};
 
 /// Bytes of a payload: this many zeros, and these bytes after them.
 type Piece = (usize, &'static [u8]);
@@ -35,23 +34,13 @@ const THIRD: Piece = (
 const DAMAGED: Piece = (65_552, b"");
 
 /// The SHA-256 of those texts.
-const TEXTS: [[u8; 32]; 3] = [
+fn texts() -> [[u8; 32]; 3] {
     [
-        0xae, 0x98, 0xba, 0xde, 0x24, 0xd9, 0x49, 0x87, 0xe9, 0x65, 0x86, 0x4a, 0x7f, 0xf6, 0xfa,
-        0x75, 0xc4, 0x1c, 0x22, 0x3a, 0x9a, 0x78, 0xa1, 0xf2, 0xed, 0xbb, 0x35, 0xf4, 0x71, 0x4e,
-        0x59, 0x1f,
-    ],
-    [
-        0xa5, 0x5f, 0x8e, 0xff, 0xf6, 0x95, 0xbb, 0x1c, 0x80, 0x35, 0x77, 0x3e, 0xb0, 0xb7, 0x57,
-        0xb1, 0xc3, 0x1e, 0x8b, 0x82, 0xf5, 0x75, 0x47, 0x4e, 0xba, 0xd1, 0x84, 0x5a, 0xee, 0x76,
-        0x6c, 0x97,
-    ],
-    [
-        0x58, 0x91, 0xb5, 0xb5, 0x22, 0xd5, 0xdf, 0x08, 0x6d, 0x0f, 0xf0, 0xb1, 0x10, 0xfb, 0xd9,
-        0xd2, 0x1b, 0xb4, 0xfc, 0x71, 0x63, 0xaf, 0x34, 0xd0, 0x82, 0x86, 0xa2, 0xe8, 0x46, 0xf6,
-        0xbe, 0x03,
-    ],
-];
+        hex("ae98bade24d94987e965864a7ff6fa75c41c223a9a78a1f2edbb35f4714e591f"),
+        hex("a55f8efff695bb1c8035773eb0b757b1c31e8b82f575474ebad1845aee766c97"),
+        hex("5891b5b522d5df086d0ff0b110fbd9d21bb4fc7163af34d08286a2e846f6be03"),
+    ]
+}
 
 /// Keeps the reports.
 #[derive(Drop)]
@@ -143,7 +132,7 @@ fn chunks_up_to_the_limit_are_saved(rt: HostRuntime) {
     let text = sink.into_vec();
     assert_eq!(rt; text.len(), 131_072);
     let second = [lost(1, 65_536)];
-    expect_text(&rt, text.as_slice(), &TEXTS, &second);
+    expect_text(&rt, text.as_slice(), &texts(), &second);
     assert!(rt; reported.as_slice() == second.as_slice());
 }
 
@@ -172,7 +161,7 @@ fn failing_read_leaves_what_was_saved(rt: HostRuntime) {
         let mut sink = MemSink::new(Vec::new(alloc));
         let (answer, _) = salvaged(&rt, alloc, &mut source, &mut sink, &limits);
         let text = sink.into_vec();
-        expect_text(&rt, text.as_slice(), &TEXTS, &[]);
+        expect_text(&rt, text.as_slice(), &texts(), &[]);
         if source.failures == 0 {
             whole = answer.is_ok() && text.len() == 131_078;
             break;
@@ -190,7 +179,7 @@ fn failing_write_leaves_a_beginning(rt: HostRuntime) {
     let alloc = rt.alloc();
     let file = file_of(&rt, alloc, &[DAMAGED, DAMAGED, THIRD]);
     for room in [0, 1, 65_535, 65_536, 65_537, 131_072, 131_077] {
-        let mut sink = FailingSink::new(Vec::new(alloc), room);
+        let mut sink = FailingSink::new(alloc, 1, (room as u64).wrapping_add(1));
         let mut source = MemSource::new(file.as_slice());
         let (answer, reported) = salvaged(&rt, alloc, &mut source, &mut sink, &Limits::default());
         assert_eq!(rt; answer, Err(Fault::Write), "room for {room} bytes");

@@ -12,7 +12,7 @@ fn steps_write_and_read_the_same_file(rt: HostRuntime) {
     let limits = Limits::default();
     let recipients = key_recipients(&rt, alloc, 3);
     let plain = vec![in alloc; 7u8; 65_537].expect(&rt, "memory");
-    let (_, file) = encrypted(alloc, plain.as_slice(), &recipients, &limits);
+    let (_, file) = encrypted(alloc, plain.as_slice(), &recipients);
     let encryptor = Encryptor::new(alloc, recipients.as_slice(), &FRESH, &limits).expect(
         &rt, "no fault",
     );
@@ -23,7 +23,7 @@ fn steps_write_and_read_the_same_file(rt: HostRuntime) {
     assert!(rt; piece.is_ok() && done.is_ok_and(|done| done.chunks == 2));
     assert!(rt; sink.into_vec() == file);
     let mut source = MemSource::new(file.as_slice());
-    let decryptor = begin_decryptor(alloc, &mut source, &limits).expect(&rt, "no fault");
+    let decryptor = begin_decryptor(alloc, &mut source).expect(&rt, "no fault");
     assert_eq!(rt; decryptor.stanzas().len(), 1);
     let mut reader = unlocked(decryptor, alloc, key_identities(&rt, alloc, 3).as_slice()).expect(
         &rt, "no fault",
@@ -36,7 +36,7 @@ fn steps_write_and_read_the_same_file(rt: HostRuntime) {
     }
     assert!(rt; text == plain);
     let mut source = MemSource::new(file.as_slice());
-    let decryptor = begin_decryptor(alloc, &mut source, &limits).expect(&rt, "no fault");
+    let decryptor = begin_decryptor(alloc, &mut source).expect(&rt, "no fault");
     let other = unlocked(decryptor, alloc, key_identities(&rt, alloc, 4).as_slice());
     assert!(rt; matches!(&other, Err(Fault::WrongKey)));
 }

@@ -17,8 +17,8 @@ returns-in-Err-clause-fed g c =
     let inv = c.loop-n.invariant.fed in
     stopped_read inv.2 c.args.max inv.1 c.in-Err.ensures.lost
 
-pub returns-then-n-le-CHUNK_SIZE-clause-fed : goal.returns-then-n-le-CHUNK_SIZE-clause-fed
-returns-then-n-le-CHUNK_SIZE-clause-fed g c =
+pub returns-then-is_last-clause-fed : goal.returns-then-is_last-clause-fed
+returns-then-is_last-clause-fed g c =
     let inv = c.loop-n.invariant.fed in
     let f = c.in-Ok.ensures.bytes.1 in
     let now : Bytes = take c.loop-n.held c.loop-n.bytes in
