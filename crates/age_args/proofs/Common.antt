@@ -3,7 +3,7 @@ pub use Rattle.age_job.specs.Job.{IsBetween, NamesInput}
 pub use Rattle.age_job.specs.declared.job.Command.{Command}
 pub use Rattle.age_job.specs.declared.job.Command.TheVariants.{Decrypt, Encrypt, Inspect, Range, Rewrap, Salvage}
 pub use Rattle.age_job.specs.declared.job.Job.{Job}
-pub use Rattle.age_args.specs.CommandLine.{agep, opening, with_rule, with_rules, writing}
+pub use Rattle.age_args.specs.CommandLine.{agep}
 pub use Rattle.age_args.specs.JobOf.{AreWrong, AskForText, AsksForHelp, Becomes, HasNumber, IsPiped, IsShown, IsTaken, JobOf, Makes, Reads, header_limit, is_display, name_of, number_or, rest_of}
 pub use Rattle.age_args.specs.Words.{texts}
 pub use Rattle.age_args.specs.declared.fault.ArgsFault.TheVariants.{Memory, Refused}

@@ -18,7 +18,8 @@ read = option_map {U = Read} (λ p. (
   first_of (codes "input") p.1,
 ))
 
-given : ◌≡◌ {A = Option Read} (read (subcommand_of agep words)) (Some (codes "encrypt", Some (codes "a"), codes "b" ∷ [], 3, Some (codes "in")))
+given : ◌≡◌ {A = Option Read} (read (subcommand_of agep words))
+    (Some (codes "encrypt", Some (codes "a"), codes "b" ∷ [], 3, Some (codes "in")))
 unfolding clap_on_literals
 given = refl
 

@@ -33,11 +33,13 @@ help_fault : fault_of agep (codes "agep" ∷ codes "--help" ∷ []) ≡ DisplayH
 unfolding clap_on_literals
 help_fault = refl
 
-long_fault : (program : Text) → fault_of agep (program ∷ codes "help" ∷ codes "--help" ∷ []) ≡ DisplayHelp ∷ InvalidSubcommand ∷ []
+long_fault : (program : Text)
+    → fault_of agep (program ∷ codes "help" ∷ codes "--help" ∷ []) ≡ DisplayHelp ∷ InvalidSubcommand ∷ []
 unfolding clap_on_literals
 long_fault program = refl
 
-short_fault : (program : Text) → fault_of agep (program ∷ codes "help" ∷ codes "-h" ∷ []) ≡ DisplayHelp ∷ InvalidSubcommand ∷ []
+short_fault : (program : Text)
+    → fault_of agep (program ∷ codes "help" ∷ codes "-h" ∷ []) ≡ DisplayHelp ∷ InvalidSubcommand ∷ []
 unfolding clap_on_literals
 short_fault program = refl
 

@@ -1,11 +1,13 @@
 //! Parsing the arguments of the command line to a job.
-ghost use Rattle.std.specs.Prelude.{◌≡◌, ℕ, List, codes, drop, map, option_map, true, unwrap_or, IfOk, IfSome};
+ghost use Rattle.std.specs.Prelude.{◌≡◌, ℕ, List, codes, drop, map, option_map, true, unwrap_or};
+ghost use Rattle.std.specs.Prelude.{IfOk, IfSome};
 ghost use Rattle.std.specs.String.{string_bytes};
 ghost use Rattle.clap.specs.Values.{IsUnsignedIn};
 ghost use Rattle.clap.specs.Words.{first_of, found_of, one_of, rows_of};
 ghost use Rattle.clap.specs.Walk.{texts};
 ghost use Rattle.age_job.specs.Job.{IsInRange};
-ghost use Rattle.age_args.specs.JobOf.{AsksForHelp, IsTaken, JobOf, Reads, is_set, name_of, number_or, rest_of};
+ghost use Rattle.age_args.specs.JobOf.{AsksForHelp, IsTaken, JobOf, Reads, is_set, name_of};
+ghost use Rattle.age_args.specs.JobOf.{number_or, rest_of};
 
 use crate::fault::ArgsFault;
 use crate::options::{

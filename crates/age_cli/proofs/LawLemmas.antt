@@ -85,14 +85,14 @@ saved_all law some limits answers b xs taken new lost s all saves keeps =
 
 salvaged : OkIsAgeFile → SomeVerdict → (limits : Bounds) (answers : Answering) (b xs : Bytes) (taken new : Known)
     {A : Type 0} (input : Option A) (lost : LossesMoved) (work : Result ⊤ Fault)
-    → SalvagesAll limits answers input (Some b) (move_of (Some xs) taken) lost work
+    → SalvagesAll limits answers input ⊤ (Some b) (move_of (Some xs) taken) lost work
     → Ends taken new work (Ok tt) → Gained limits b xs new
 salvaged law some limits answers b xs taken new input lost work (Err fault, is_read, is, d) ends =
     absurd (cc (is, (ended taken new ends).0))
 salvaged law some limits answers b xs taken new input lost work (Ok s, is_read, is, d) ends =
     let all = both_true (is_whole_file s) is_read
     (if_ok (is_whole_file s && is_read) (BadChunk s.payload.chunks) (sym is ∙ (ended taken new ends).0)) in
-    saved_all law some limits answers b xs taken new lost s all.0 (d.2 (inr all.1)) (ended taken new ends).1
+    saved_all law some limits answers b xs taken new lost s all.0 (d.3 (inr all.1)) (ended taken new ends).1
 
 pub done_decrypt : OkIsAgeFile → SomeVerdict → (job : Job) (b xs : Bytes) (new : Known)
     → (job.command ≡ command.Decrypt) ⊎ (job.command ≡ command.Salvage)
@@ -172,7 +172,7 @@ abbrev pub GainedAtMost : (len : ℕ) (xs : Bytes) (new : Known) → Type 0
 GainedAtMost len xs new = (part : Bytes) × (length part ≤ len) × (new ≡ Some (xs ++ part))
 
 ranged : (job : Job) (secret : Secret) (from : Known) (xs : Bytes) (taken new : Known) (lost : LossesMoved)
-    (work : Result ⊤ Fault) → Performs job (task.Range secret) from (move_of (Some xs) taken) lost work
+    (work : Result ⊤ Fault) → Performs job (task.Range secret) ⊤ from (move_of (Some xs) taken) lost work
     → Ends taken new work (Ok tt) → GainedAtMost job.len xs new
 ranged job secret from xs taken new lost (Err fault) r ends = absurd (cc (ended taken new ends).0)
 ranged job secret from xs taken new lost (Ok u) (size, inl none) ends = absurd none

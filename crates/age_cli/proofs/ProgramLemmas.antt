@@ -1,9 +1,6 @@
 -- The result of a job, from the result of its task.
 use Rattle.age_cli.proofs.Common.{◌≡◌, ◌⊎◌, ℕ, List, arith, inl, inr, subst, sym, Option, None, Some, Result, Ok, Err, ⊤, Bytes, Known, Moved, Stays, move_by, move_of, Fault, Job, AreWrong, AskForText, Makes, Reads, Task, AnswersRefusal, FailsBeside, IsDevice, IsTaskOf, OfWork, Runs, RunsOn, Works}
 use Rattle.std.proofs.KnownBytes.{Keeps-refl}
-use Rattle.std.specs.Prelude.{IsSome}
-use Rattle.age_job.specs.Refusal.{MayEnd}
-use Rattle.age_job.specs.declared.failure.Failure.{Failure as JobFailure}
 use Rattle.age_args.specs.declared.fault.ArgsFault.{ArgsFault}
 use Rattle.age_args.specs.declared.fault.ArgsFault.TheVariants.{Memory, Refused}
 use Rattle.age_args.proofs.RefusalLemmas.{shown, wrong}
@@ -18,41 +15,39 @@ device_is told (Some name) standard device e h = absurd (cc)
 
 -- the result of a job, from that of its task
 pub completes : {F : Type 0} (remaining contents : F → Known) (job : Job) (task : Task) (from source : Known)
-    (sink : Moved) (r : Result ⊤ Failure) → IsTaskOf job task → IsDevice remaining job.input from source
+    (below unread : Type 0) (sink : Moved) (r : Result ⊤ Failure) → (below → unread) → IsTaskOf job task
+    → IsDevice remaining job.input from source
     → OfWork (λ done. (target : Moved)
     × IsDevice (λ (file : F × F). move_by contents file.0 file.1) job.output sink target
-    × Works job task source target done) (FailsBeside job sink) r
-    → OfWork (RunsOn remaining contents job from sink) (FailsBeside job sink) r
-completes remaining contents job task from source sink (Ok u) is i (target, o, w) =
+    × Works job task source target done) (FailsBeside job below sink) r
+    → OfWork (RunsOn remaining contents job from sink) (FailsBeside job unread sink) r
+completes remaining contents job task from source below unread sink (Ok u) keeps is i (target, o, w) =
     (source, i, (target, o, (task, is, w)))
-completes remaining contents job task from source sink (Err (AgeFile fault detail)) is i (target, o, w) =
-    (source, i, (target, o, (task, is, w)))
-completes remaining contents job task from source sink (Err (OfJob failure)) is i stays = stays
+completes remaining contents job task from source below unread sink (Err (AgeFile fault detail)) keeps is i
+    (target, o, w) = (source, i, (target, o, (task, is, w)))
+completes remaining contents job task from source below unread sink (Err (OfJob failure)) keeps is i
+    (stays, inl (may, same)) = (stays, inl (may, keeps same))
+completes remaining contents job task from source below unread sink (Err (OfJob failure)) keeps is i
+    (stays, inr ends) = (stays, inr ends)
 
 -- what was written by a job that failed
-pub begins : (meaning : Result ⊤ Fault → Type 0) (job : Job) (sink : Moved) (failure : Failure)
-    → OfWork meaning (FailsBeside job sink) (Err failure) → Stays sink ⊎ ((fault : Fault) × meaning (Err fault))
-begins meaning job sink (AgeFile fault detail) h = inr (fault, h)
-begins meaning job sink (OfJob failure) h = inl h.0
+pub begins : (meaning : Result ⊤ Fault → Type 0) (job : Job) (unread : Type 0) (sink : Moved) (failure : Failure)
+    → OfWork meaning (FailsBeside job unread sink) (Err failure)
+    → Stays sink ⊎ ((fault : Fault) × meaning (Err fault))
+begins meaning job unread sink (AgeFile fault detail) h = inr (fault, h)
+begins meaning job unread sink (OfJob failure) h = inl h.0
 
 -- the result of work that writes to this output
-pub performs : {F : Type 0} (contents : F → Known) (job : Job) (task : Task) (given : Known) {from : Known}
-    (sink target : Moved) (r : Result ⊤ Failure) → given ≡ from
+pub performs : {F : Type 0} (contents : F → Known) (job : Job) (task : Task) (from : Known) (unread : Type 0)
+    (sink target : Moved) (r : Result ⊤ Failure)
     → IsDevice (λ (file : F × F). move_by contents file.0 file.1) job.output sink target
-    → OfWork (Works job task given target) (λ _. ⊥) r
+    → OfWork (Works job task from target) (λ _. ⊥) r
     → OfWork (λ done. (target : Moved)
     × IsDevice (λ (file : F × F). move_by contents file.0 file.1) job.output sink target
-    × Works job task from target done) (FailsBeside job sink) r
-performs contents job task given sink target (Ok u) same o works = (target, o, rw same at works)
-performs contents job task given sink target (Err (AgeFile fault detail)) same o works =
-    (target, o, rw same at works)
-performs contents job task given sink target (Err (OfJob failure)) same o works = absurd works
-
--- a failure to end a named OUT
-pub ended : (job : Job) (sink : Moved) (failure : JobFailure) → Stays sink → IsSome job.output
-    → MayEnd job failure.fault → FailsBeside job sink failure
-ended job sink failure stays named (inl write) = (stays, inr (named, write))
-ended job sink failure stays named (inr h) = (stays, inl h)
+    × Works job task from target done) (FailsBeside job unread sink) r
+performs contents job task from unread sink target (Ok u) o works = (target, o, works)
+performs contents job task from unread sink target (Err (AgeFile fault detail)) o works = (target, o, works)
+performs contents job task from unread sink target (Err (OfJob failure)) o works = absurd works
 
 pub stays_known : {old new : Known} → new ≡ old → Stays (move_of old new)
 stays_known {old} e = subst (λ (k : Known). Stays (move_of old k)) (sym e) (Keeps-refl old)

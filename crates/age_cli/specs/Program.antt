@@ -1,5 +1,5 @@
 -- The results of a job, from its input to its output.
-use Rattle.std.specs.Prelude.{◌≡◌, ◌≤◌, ◌⊎◌, ◌^◌, ℕ, ⊤, Bool, false, [], List, Option, None, Some, IsSome, Result, Ok, Err}
+use Rattle.std.specs.Prelude.{◌≡◌, ◌≤◌, ◌⊎◌, ◌^◌, ℕ, ⊤, Bool, false, true, [], List, Option, None, Some, IsSome, Result, Ok, Err}
 use Rattle.age_header.specs.Device.{Bytes, Known, Moved, Stays, move_by, move_of}
 use Rattle.age_stream.specs.Salvage.{LossesMoved}
 use Rattle.age_file.specs.AgeFile.{Bounds}
@@ -7,9 +7,8 @@ use Rattle.age_file.specs.declared.fault.Fault.{Fault as FileFault}
 use Rattle.age_file.specs.declared.fault.Fault.TheVariants as file
 use Rattle.age_job.specs.declared.job.Command.TheVariants as command
 use Rattle.age_job.specs.declared.job.Job.{Job}
-use Rattle.age_job.specs.Refusal.{MayRefuse}
+use Rattle.age_job.specs.Refusal.{MayEnd, MayRefuse}
 use Rattle.age_job.specs.declared.failure.Failure.{Failure as JobFailure}
-use Rattle.age_job.specs.declared.fault.Fault.TheVariants.{Write}
 use Rattle.age_job.specs.Secret.{IsFileKeyOf, IsNewSecret, IsSecretOf}
 use Rattle.age_job.specs.declared.secret.Secret.{Secret}
 use Rattle.age_args.specs.declared.fault.ArgsFault.{ArgsFault}
@@ -42,12 +41,13 @@ IsTaskOf job (Range secret) = (job.command ≡ command.Range) × IsSecretFor job
 IsTaskOf job (Salvage secret) = (job.command ≡ command.Salvage) × IsSecretFor job secret
 
 -- The work of a task, where the input gives `from`: the output has `taken` after it, and is flushed
--- then. Nothing is known about the receiver of the reports: it is some receiver.
+-- then. Nothing is known about the receiver of the reports: it is some receiver. A read of a named
+-- IN may have failed.
 abbrev pub Works : (job : Job) (task : Task) (from : Known) (sink : Moved)
     (result : Result ⊤ FileFault) → Type 0
 Works job task from sink result =
     (taken : Known) × (work : Result ⊤ FileFault)
-    × ((lost : LossesMoved) × Performs job task from (move_of sink.before taken) lost work)
+    × ((lost : LossesMoved) × Performs job task ⊤ from (move_of sink.before taken) lost work)
     × PerformsQuietly task sink.before taken work × Ends taken sink.after work result
 
 -- a task of the job was performed, with this result
@@ -71,11 +71,13 @@ RunsOn {F} remaining contents job from sink result =
     × Runs job source target result)
 
 -- A job failed before its work, by a refusal that its options allow, or at the end of its named
--- OUT. Nothing was written to its standard output.
-abbrev pub FailsBeside : (job : Job) (sink : Moved) (failure : JobFailure) → Type 0
-FailsBeside job sink failure =
+-- OUT. Nothing was written to its standard output, and before the work its input was not read.
+abbrev pub FailsBeside : (job : Job) (unread : Type 0) (sink : Moved) (failure : JobFailure)
+    → Type 0
+FailsBeside job unread sink failure =
     Stays sink
-    × (MayRefuse job failure.fault ⊎ (IsSome job.output × (failure.fault ≡ Write)))
+    × ((MayRefuse job failure.fault × unread)
+    ⊎ (IsSome job.output × MayEnd job failure.fault))
 
 -- the result of work that has this meaning, or of a failure before it or after it
 abbrev pub OfWork : (meaning : Result ⊤ FileFault → Type 0) (other : JobFailure → Type 0)
@@ -86,10 +88,11 @@ OfWork meaning other (Err (OfJob failure)) = other failure
 
 -- What was saved takes the place of OUT: a loss is no failure of the output. It does not after a
 -- failed write, or if nothing was saved.
-abbrev pub keeps_output : (failure : Failure) (has_saved : Bool) → Bool
-keeps_output (AgeFile file.Write detail) has_saved = false
-keeps_output (AgeFile fault detail) has_saved = has_saved
-keeps_output (OfJob failure) has_saved = false
+abbrev pub keeps_output : (result : Result ⊤ Failure) (has_saved : Bool) → Bool
+keeps_output (Ok _) has_saved = true
+keeps_output (Err (AgeFile file.Write detail)) has_saved = false
+keeps_output (Err (AgeFile fault detail)) has_saved = has_saved
+keeps_output (Err (OfJob failure)) has_saved = false
 
 -- the limits set by the words
 abbrev pub word_limits : (words : List Bytes) → Bounds

@@ -54,8 +54,8 @@ Tells verbose text err =
 -- The job failed, and standard error got the line of its fault: of the fault of its work, or of a
 -- failure before or after it. Of `salvage`, which also prints lines on chunks, nothing is said.
 abbrev pub Told : {F : Type 0} (remaining contents : F → Known) (job : Job) (from : Known)
-    (sink : Moved) (err : Stream) → Type 0
-Told remaining contents job from sink err = job.command ≢ command.Salvage →
+    (unread : Type 0) (sink : Moved) (err : Stream) → Type 0
+Told remaining contents job from unread sink err = job.command ≢ command.Salvage →
     (failure : Failure)
-    × OfWork (RunsOn remaining contents job from sink) (FailsBeside job sink) (Err failure)
+    × OfWork (RunsOn remaining contents job from sink) (FailsBeside job unread sink) (Err failure)
     × Tells job.verbose (failure_text failure) err

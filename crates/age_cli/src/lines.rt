@@ -113,13 +113,36 @@ impl<'a, 'b, E: Sink> LossLines<'a, 'b, E> {
         let first = run.first;
         if first == 0 {
             self.print(
-                &"no chunk opens: the 16 bytes that follow the header may be damaged, or the header \
-                  may be that of another file",
+                &"no chunk opens: the 16 bytes that follow the header may be damaged, or the \
+                  header may be that of another file",
             );
         } else if first < run.last {
             self.print(&format_args!(
                 "no chunk opens from chunk {first} on: bytes may be missing there, or added"
             ));
+        }
+    }
+
+    /// Prints why the end of the file may not be the end of what was encrypted.
+    fn end_of(&mut self, saved: &Salvaged) {
+        let number = saved.chunks.saturating_sub(1);
+        match (saved.before, saved.last) {
+            (_, Saved::Padded(padding)) => {
+                self.print(&format_args!("chunk {number} is the last; bytes after it: {padding}"));
+            }
+            (_, Saved::Zeros) if saved.early.is_none() => {
+                let len = saved.bytes.saturating_sub(1) % CHUNK_SIZE as u128 + 1 + TAG_SIZE as u128;
+                self.print(&format_args!(
+                    "the file ends after {len} bytes of chunk {number}: more may be missing"
+                ));
+            }
+            (Saved::Zeros, Saved::Nothing) if saved.early.is_none() => {
+                let number = number.saturating_sub(1);
+                self.print(&format_args!(
+                    "up to {TAG_SIZE} bytes follow chunk {number}: more may be missing"
+                ));
+            }
+            _ => {}
         }
     }
 
@@ -162,41 +185,16 @@ impl<'a, 'b, E: Sink> Report for LossLines<'a, 'b, E> {
             self.print(&"the header was changed: the chunks were tried with the key that fits");
         }
         let payload = saved.payload;
-        let Salvaged {
-            bytes,
-            chunks,
-            early,
-            before,
-            last,
-            ..
-        } = payload;
-        if let Some(early) = early {
+        if let Some(early) = payload.early {
             self.early(early, &payload);
         }
         if payload.is_cut() {
+            let bytes = payload.bytes;
             self.print(&format_args!(
                 "the file is cut short: the plaintext from byte {bytes} on is missing"
             ));
         }
-        let number = chunks.saturating_sub(1);
-        match (before, last) {
-            (_, Saved::Padded(padding)) => {
-                self.print(&format_args!("chunk {number} is the last; bytes after it: {padding}"));
-            }
-            (_, Saved::Zeros) if early.is_none() => {
-                let len = bytes.saturating_sub(1) % CHUNK_SIZE as u128 + 1 + TAG_SIZE as u128;
-                self.print(&format_args!(
-                    "the file ends after {len} bytes of chunk {number}: more may be missing"
-                ));
-            }
-            (Saved::Zeros, Saved::Nothing) if early.is_none() => {
-                let number = number.saturating_sub(1);
-                self.print(&format_args!(
-                    "up to {TAG_SIZE} bytes follow chunk {number}: more may be missing"
-                ));
-            }
-            _ => {}
-        }
+        self.end_of(&payload);
     }
 
     fn unread(&mut self, unread: &Unread) {

@@ -1,11 +1,13 @@
 //! The program, over a reader and two writers.
-ghost use Rattle.std.specs.Prelude.{◌≡◌, ◌≢◌, ◌≤◌, ◌⊎◌, Err, None, Ok, false, codes, IfErr, IfOk, OnOk};
+ghost use Rattle.std.specs.Prelude.{◌≡◌, ◌≢◌, ◌≤◌, ◌⊎◌};
+ghost use Rattle.std.specs.Prelude.{Err, None, Ok, false, codes, IfErr, IfOk, OnOk};
 ghost use Rattle.age_job.specs.Job.{IsInRange};
 ghost use Rattle.age_job.specs.Refusal.{MayRefuse};
 ghost use Rattle.age_job.specs.declared.target.Target.TheVariants.{InPlace};
 ghost use Rattle.age_args.specs.JobOf.{AreWrong, AskForText, Makes};
 ghost use Rattle.age_args.specs.Words.{texts};
-ghost use Rattle.age_cli.specs.Program.{AnswersRefusal, FailsBeside, IsDevice, IsTaskOf, OfWork, RunsOn, Works, keeps_output};
+ghost use Rattle.age_cli.specs.Program.{AnswersRefusal, FailsBeside, IsDevice, IsTaskOf, OfWork};
+ghost use Rattle.age_cli.specs.Program.{RunsOn, Works, keeps_output};
 ghost use Rattle.age_cli.specs.Told.{Tells, Told, stream_by};
 ghost use Rattle.age_file.specs.Texts.{fault_text};
 ghost use Rattle.age_header.specs.Device.{Moved, Stays, move_by};
@@ -77,12 +79,13 @@ pub fn run<
         (R.remaining input.old) (move_by W.contents out.old out.new) (Err fault)))) }
     // Status 1: the words ask for a text, or `err` got the line of refused memory, or that of the
     // fault that ended the job of these words: of its work or, if `out` is unchanged, one that its
-    // options allow.
+    // options allow; then `input` is unread too, or OUT is named.
     ensures told { let err = stream_by E.taken E.failed err.old err.new in
         result ≡ 1 → AskForText (texts words.now)
         ⊎ (Tells false (codes "out of memory") err
         ⊎ ((job : Job) × Makes (texts words.now) job × Told F.File.remaining F.File.contents job
-        (R.remaining input.old) (move_by W.contents out.old out.new) err)) }
+        (R.remaining input.old) (input.new ≡ input.old) (move_by W.contents out.old out.new)
+        err)) }
     // If the words make a job, `input` is not read if it names IN, and nothing is written to `out`
     // if it names OUT. Otherwise `input` is not read, and only a text that they ask for is written.
     ensures streams { (AskForText (texts words.now) × (input.new ≡ input.old))
@@ -124,10 +127,11 @@ pub fn run_job<
         ⊎ ((fault : Fault) × RunsOn F.File.remaining F.File.contents job.now
         (R.remaining input.old) (move_by W.contents out.old out.new) (Err fault)) }
     // Status 1, but not of `salvage`: `err` got the line of the fault that ended the job: of its
-    // work or, if `out` is unchanged, one that its options allow. After a failed write it has a
-    // prefix of that line, and with `--verbose` more may follow the line.
+    // work or, if `out` is unchanged, one that its options allow; then `input` is unread too, or
+    // OUT is named. After a failed write it has a prefix of that line, and with `--verbose` more
+    // may follow the line.
     ensures told { result ≡ 1 → Told F.File.remaining F.File.contents job.now
-        (R.remaining input.old) (move_by W.contents out.old out.new)
+        (R.remaining input.old) (input.new ≡ input.old) (move_by W.contents out.old out.new)
         (stream_by E.taken E.failed err.old err.new) }
 {
     let is_shown = shows_progress(rt, job, out, err);
@@ -184,7 +188,6 @@ struct Work<'a> {
 }
 
 /// Reads the small files, opens the input, creates the output, performs the task, in this order.
-#[tactic(auto, using(crate::proofs::ProgramLemmas::completes))]
 fn perform<'a, F: Files + Clock + AllocGlobal, R: Read, W: Write + IsTerminal, L: Saving>(
     rt: &F,
     work: &mut Work<'a>,
@@ -196,7 +199,8 @@ fn perform<'a, F: Files + Clock + AllocGlobal, R: Read, W: Write + IsTerminal, L
     ensures silent { OnOk result (lines.new ≡ lines.old) }
     ensures completes { let sink = move_by W.contents out.old out.new in
         OfWork (RunsOn F.File.remaining F.File.contents work.old.job.now
-        (R.remaining input.old) sink) (FailsBeside work.old.job.now sink) result }
+        (R.remaining input.old) sink) (FailsBeside work.old.job.now (input.new ≡ input.old) sink)
+        result }
     ensures input { work.old.job.now.input ≢ None → input.new ≡ input.old }
     ensures output { work.old.job.now.output ≢ None → out.new ≡ out.old }
 {
@@ -207,13 +211,19 @@ fn perform<'a, F: Files + Clock + AllocGlobal, R: Read, W: Write + IsTerminal, L
             let file = work.read.open_input(rt, job.command, name.as_str())?;
             let size = work.read.input_size(job.command);
             let input = Shown::over(rt, job, file, size, work.is_shown);
-            perform_on(rt, work, task, input, out, lines)
+            let mut input = Watched::new(rt.alloc(), input, kept_prefix(job));
+            perform_on(rt, work, task, &mut input, out, lines)
         }
         None => {
             work.read.add_standard_input()?;
             let size = work.read.input_size(job.command);
-            let input = Shown::over(rt, job, Pipe(input), size, work.is_shown);
-            perform_on(rt, work, task, input, out, lines)
+            let shown = Shown::over(rt, job, Pipe(input), size, work.is_shown);
+            let mut watched = Watched::new(rt.alloc(), shown, kept_prefix(job));
+            let done = perform_on(rt, work, task, &mut watched, out, lines);
+            let input = watched.reader.reader.0;
+            // No effect at run time. The proof reads here whether `input` was read.
+            let _ = &*input;
+            done
         }
     }
 }
@@ -254,11 +264,11 @@ fn seed_from(bytes: &[u8; SEED_LEN]) -> Seed {
 }
 
 /// Creates the output, and performs the task on this input.
-fn perform_on<'a, F: Files + AllocGlobal, R: Read + Seek + Drop, W: Write, L: Saving>(
+fn perform_on<'a, F: Files + AllocGlobal, R: Read + Seek, W: Write, L: Saving>(
     rt: &F,
     work: &Work<'a>,
     task: Task,
-    input: R,
+    input: &mut Watched<R>,
     out: &mut W,
     lines: &mut L,
 ) -> Result<(), Failure<'a>>
@@ -268,41 +278,34 @@ fn perform_on<'a, F: Files + AllocGlobal, R: Read + Seek + Drop, W: Write, L: Sa
         OfWork (λ done. (target : Moved)
         × IsDevice (λ (file : F.File × F.File). move_by F.File.contents file.0 file.1)
         work.now.job.now.output sink target
-        × Works work.now.job.now task (R.remaining input) target done)
-        (FailsBeside work.now.job.now sink) result }
+        × Works work.now.job.now task (R.remaining input.old.reader) target done)
+        (FailsBeside work.now.job.now (input.new ≡ input.old) sink) result }
     ensures output { work.now.job.now.output ≢ None → out.new ≡ out.old }
 {
     let (job, target) = (work.job, work.target);
-    let mut input = Watched::new(rt.alloc(), input, kept_prefix(job));
-    match &job.output {
-        Some(name) => {
-            let mut output = target.create(rt, job, &work.read, name.as_str())?;
-            match perform_to(rt.alloc(), job, task, &mut input, &mut output, lines) {
-                Ok(()) => Ok(target.finish(rt, job, output, name.as_str())?),
-                Err(failure) => {
-                    if is_kept(&failure, lines.has_saved(output.written())) {
-                        target.finish(rt, job, output, name.as_str())?;
-                    } else {
-                        target.discard(rt);
-                    }
-                    Err(failure)
-                }
-            }
-        }
-        None => {
-            work.read.refuse_standard_output()?;
-            perform_to(rt.alloc(), job, task, &mut input, out, lines)
-        }
+    let Some(name) = &job.output else {
+        work.read.refuse_standard_output()?;
+        return perform_to(rt.alloc(), job, task, input, out, lines);
+    };
+    let name = name.as_str();
+    let mut output = target.create(rt, job, &work.read, name)?;
+    let done = perform_to(rt.alloc(), job, task, input, &mut output, lines);
+    if is_kept(&done, lines.has_saved(output.written())) {
+        target.finish(rt, job, output, name)?;
+    } else {
+        target.discard(rt);
     }
+    done
 }
 
-/// Whether what was written takes the place of OUT after this failure.
-fn is_kept(failure: &Failure<'_>, has_saved: bool) -> bool
-    ensures { result ≡ keeps_output failure.now has_saved }
+/// Whether what was written takes the place of OUT after this result.
+fn is_kept(done: &Result<(), Failure<'_>>, has_saved: bool) -> bool
+    ensures { result ≡ keeps_output done.now has_saved }
 {
-    match failure {
-        Failure::AgeFile(Fault::Write, _) | Failure::Job(_) => false,
-        Failure::AgeFile(_, _) => has_saved,
+    match done {
+        Ok(()) => true,
+        Err(Failure::AgeFile(Fault::Write, _) | Failure::Job(_)) => false,
+        Err(Failure::AgeFile(_, _)) => has_saved,
     }
 }
 

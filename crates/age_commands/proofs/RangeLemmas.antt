@@ -1,5 +1,5 @@
 -- What is written of a range, piece by piece.
-use Rattle.age_commands.proofs.Common.{◌≡◌, ◌∙◌, ◌⊎◌, ◌++◌, ◌+◌, ◌-◌, ◌*◌, ◌%◌, ◌<◌, ◌≤◌, ℕ, [], ap, arith, inl, inr, length, min, refl, slice_index, subst, sym, take, Appends-nil, Appends-trans, length-append, length-take, length-take-le, take-append-le, get_or-take, get_or_append_left, get_or-append-add, Appends, Bytes, Known, WritesPart, move_of, chunk_size, OfBytes, WritesBytes}
+use Rattle.age_commands.proofs.Common.{◌≡◌, ◌∙◌, ◌++◌, ◌+◌, ◌-◌, ◌%◌, ◌≤◌, ℕ, [], ap, arith, inl, inr, length, min, refl, slice_index, subst, sym, take, Appends-nil, Appends-trans, length-append, length-take, length-take-le, take-append-le, get_or-take, get_or_append_left, get_or-append-add, Appends, Bytes, Known, WritesPart, move_of, chunk_size, OfBytes, WritesBytes}
 use Rattle.std.proofs.lemmas.Bool.{cases_lt}
 
 -- nothing is written

@@ -1,40 +1,75 @@
 -- What salvaging comes to from a source that may skip what cannot be read.
-use Rattle.age_commands.proofs.Common.{arith, ◌≡◌, ◌⊎◌, ◌∙◌, [], ap, subst, cond, false, true, Bool, ℕ, Option, None, Result, Ok, Err, OnOk, IfOk, inl, inr, sym, refl, ◌&&◌, ⊤, IfSome, is_some, Consumes-whole, Bytes, CountsIf, Known, Moved, OfGiven, Seen, flow, KnownLosses, is_whole_to, losses_of, Fault, BadChunk, SalvagedFile, Bounds, IsQuiet, is_write, SalvagesFile, is_whole_file, Answering, SalvagesAll, if_whole}
+use Rattle.age_commands.proofs.Common.{arith, append-nil, ◌≡◌, ◌⊎◌, ◌∙◌, ◌++◌, [], ap, subst, cond, false, true, Bool, ℕ, Option, None, Result, Ok, Err, OnOk, IfOk, inl, inr, sym, refl, ◌&&◌, ⊤, IfSome, is_some, Consumes-whole, Bytes, CountsIf, Known, Moved, OfGiven, Seen, flow, KnownLosses, is_whole_to, losses_of, Fault, BadChunk, SalvagedFile, Bounds, IsQuiet, is_write, SalvagesFile, is_whole_file, Answering, SalvagesAll, if_whole, of_any, some_none, reports_none}
 use Rattle.std.proofs.lemmas.Bool.Decides.{nat_tests}
 use Rattle.age_stream.specs.declared.salvaged.Saved.{Saved}
 use Rattle.age_stream.specs.declared.salvaged.Saved.TheVariants.{LastChunk}
 use Rattle.age_commands.specs.declared.skipping.Reached.{Reached}
 use Rattle.age_commands.specs.declared.skipping.Reached.TheVariants.{Place, End, Failure}
-use Rattle.age_commands.specs.Skipping.{HasRead, OfRead, come_by, is_end}
+use Rattle.age_commands.specs.Skipping.{HasRead, IsFirst, OfRead, come_by, is_end}
+use Rattle.age_commands.specs.Words.{Consumes}
+use Rattle.std.proofs.KnownBytes.{Consumes-kept}
+use Rattle.std.specs.Io.KnownBytes.{Keeps}
+
+-- after a failed read nothing more was returned, and the reader has what it had unless it counted a failure
+pub read_no_more : (reached : Reached) {next : Reached} {failed : Type 0} (start : Known) {R : Type 0}
+    (remaining : R → Known) (before : R) {mid after : R} (past : Bytes) → next ≡ Failure
+    → Keeps (remaining before) (remaining mid) → (after ≡ mid) ⊎ failed
+    → HasRead reached failed start (remaining before) past → HasRead next failed start (remaining after) (past ++ [])
+read_no_more reached {next} {failed} start remaining before {mid} {after} past is keeps moved read =
+    subst (λ n. HasRead n failed start (remaining after) (past ++ [])) (sym is)
+    (subst (λ b. Consumes start (remaining after) b ⊎ failed) (sym (append-nil past)) (go moved (kept reached read)))
+  where
+    kept : (r : Reached) → HasRead r failed start (remaining before) past
+        → Consumes start (remaining before) past ⊎ failed
+    kept Place h = inl h
+    kept End h = inl h.0
+    kept Failure h = h
+
+    go : (after ≡ mid) ⊎ failed → Consumes start (remaining before) past ⊎ failed
+        → Consumes start (remaining after) past ⊎ failed
+    go (inr bad) h = inr bad
+    go (inl same) (inr bad) = inr bad
+    go (inl same) (inl h) =
+        inl (subst (λ k. Consumes start k past) (sym (ap remaining same)) (Consumes-kept start _ _ past h keeps))
 
 -- what holds of the bytes that a source returned holds of those that its reader had, if it skips none or has read all
-pub read_of : {A : Type 0} (input : Option A) (reached : Reached) (start now : Known) {old new : Seen}
+pub read_of : {A : Type 0} (input : Option A) (reached : Reached) {failed : Type 0} (start now : Known) {old new : Seen}
     {P : Bytes → Type 0} → old.to_come ≡ come_by (is_some input) start → old.gave []
-    → ((past : Bytes) → new.gave past → HasRead reached start now past) → OfGiven (flow old new) P
-    → OfRead input (is_end reached) start P
-read_of {A} input reached start now {old} {new} {P} same none gave o = (o.given, o.holds, all)
+    → ((past : Bytes) → new.gave past → HasRead reached failed start now past) → OfGiven (flow old new) P
+    → OfRead input (is_end reached) failed start P
+read_of {A} input reached {failed} start now {old} {new} {P} same none gave o =
+    (o.given, o.holds, first reached read, all)
   where
-    ended : (r : Reached) → is_end r ≡ true → HasRead r start now o.given → IfSome start P
+    read : HasRead reached failed start now o.given
+    read = gave o.given (o.grew [] none)
+
+    first : (r : Reached) → HasRead r failed start now o.given → IsFirst start o.given ⊎ failed
+    first Place h = inl (now, h)
+    first End h = inl (now, h.0)
+    first Failure (inl h) = inl (now, h)
+    first Failure (inr h) = inr h
+
+    ended : (r : Reached) → is_end r ≡ true → HasRead r failed start now o.given → IfSome start P
     ended End is h = Consumes-whole start now o.given P h.0 h.1 o.holds
     ended Place is h = absurd (cc)
     ended Failure is h = absurd (cc)
 
     all : (input ≡ None) ⊎ (is_end reached ≡ true) → IfSome start P
     all (inl is) = subst (λ k. IfSome k P) (same ∙ ap (λ i. come_by (is_some i) start) is) o.known
-    all (inr is) = ended reached is (gave o.given (o.grew [] none))
+    all (inr is) = ended reached is read
 
 pub salvages_from : {A : Type 0} {limits : Bounds} {answers : Answering} (input : Option A) (reached : Reached)
-    (now : Known) (done : Result SalvagedFile Fault) {start from : Known} {old new : Seen} {sink : Moved}
-    {before mid after : KnownLosses} {is_read : Bool} {result : Result ⊤ Fault} → start ≡ from
+    (now : Known) (done : Result SalvagedFile Fault) {failed : Type 0} {start from : Known} {old new : Seen}
+    {sink : Moved} {before mid after : KnownLosses} {is_read : Bool} {result : Result ⊤ Fault} → start ≡ from
     → old.to_come ≡ come_by (is_some input) from → old.gave []
-    → ((past : Bytes) → new.gave past → HasRead reached start now past)
+    → ((past : Bytes) → new.gave past → HasRead reached failed start now past)
     → SalvagesFile limits answers (flow old new) sink (losses_of before mid) done → after ≡ mid
     → is_read ≡ is_end reached → result ≡ if_whole is_read done
-    → SalvagesAll limits answers input from sink (losses_of before after) result
-salvages_from {A} {limits} {answers} input reached now done {start} {from} {old} {new} {sink} {before} {mid} {after}
-    {is_read} {result} same told none gave h kept end is =
-    subst (λ k. SalvagesAll limits answers input k sink (losses_of before after) result) same
-    (subst (λ l. SalvagesAll limits answers input start sink (losses_of before l) result) (sym kept) (
+    → SalvagesAll limits answers input failed from sink (losses_of before after) result
+salvages_from {A} {limits} {answers} input reached now done {failed} {start} {from} {old} {new} {sink} {before} {mid}
+    {after} {is_read} {result} same told none gave h kept end is =
+    subst (λ k. SalvagesAll limits answers input failed k sink (losses_of before after) result) same
+    (subst (λ l. SalvagesAll limits answers input failed start sink (losses_of before l) result) (sym kept) (
       done,
       is_end reached,
       is ∙ ap (λ b. if_whole b done) end,
@@ -83,3 +118,5 @@ silent_whole {L} old mid new is_read (Ok s) is h kept =
     go true whole true same = same ∙ h (none_lost s.has_right_mac s.payload.last s.payload.lost s.payload.early whole)
     go true whole false same = tt
     go false whole r same = tt
+
+pub ruleset salvage = (of_any, some_none, reports_none)

@@ -55,14 +55,6 @@ pub keys_step : (f : Bytes → Unwrapped) (keys : List Bytes) {i : ℕ} (so_far 
 keys_step f keys {i} so_far next low is step before =
     answers_step f keys so_far next low (get_or_default keys i [] (get_or keys i []) low) is step before
 
--- one more follows the first
-pub guessed_more : {A S : Type 0} (f : A → S) (first : S) (xs : List A) {i : ℕ} {x : A} {old new : List S}
-    → i < length xs → x ≡ get_or xs i x → new ≡ old ++ f x ∷ [] → old ≡ first ∷ map f (take i xs)
-    → new ≡ first ∷ map f (take (i + 1) xs)
-guessed_more f first xs {i} {x} low at added before =
-    added ∙ ap (λ ys. ys ++ f x ∷ []) before ∙ ap (λ ys. first ∷ ys) (sym (map_push f (take i xs) x)
-    ∙ ap (map f) (ap (λ y. take i xs ++ y ∷ []) at ∙ sym (take_more xs i x low)))
-
 -- one more is made for the next key
 pub wrapped_more : {S : Type 0} (f : Bytes → S) (keys : List Bytes) (i : ℕ) {old one new : List S} → i < length keys
     → new ≡ old ++ one → one ≡ f (get_or keys i []) ∷ [] → old ≡ map f (take i keys) → new ≡ map f (take (i + 1) keys)

@@ -92,7 +92,7 @@ unopened at len {old} named = inl (named, Keeps-refl old)
 pub ranges_unseen : {D : Type 0} {found : D → Option ℕ} (job : Job) (secret : Secret) (from : Known) {new : D}
     {sink : Moved} (lost : LossesMoved) {r : Result ⊤ Fault}
     → RangingAny (λ source at byte. ⊤) found (limits_of job) (answers_of secret job.max_work) job.at job.len new sink r
-    → Performs job (Range secret) from sink lost r
+    → Performs job (Range secret) ⊤ from sink lost r
 ranges_unseen job secret from lost (inl none) = (None, inl none)
 ranges_unseen {found} job secret from lost (inr o) = (
   found o.source,

@@ -1,11 +1,10 @@
 -- The output and the results of the command `range`.
-use Rattle.std.specs.Prelude.{◌≡◌, ◌⊎◌, ◌<◌, ◌≤◌, ◌+◌, ◌*◌, ◌-◌, ◌/◌, ◌%◌}
-use Rattle.age_commands.specs.Words.{ℕ, ⊤, length, slice_get, slice_index, Option, None, Some, Result, Ok, Err, Bytes, Known, Moved, Took, Stays, Fault, BadChunk, Read, Write, Bounds, Answering}
+use Rattle.std.specs.Prelude.{◌≡◌, ◌⊎◌, ◌<◌, ◌≤◌, ◌+◌, ◌*◌}
+use Rattle.age_commands.specs.Words.{ℕ, ⊤, length, slice_index, Option, Result, Ok, Err, Bytes, Moved, Took, Stays, Fault, BadChunk, Read, Write, Bounds, Answering}
 use Rattle.age_stream.specs.declared.layout.Layout.{Layout}
-use Rattle.age_stream.specs.Ranges.{IsVerifiedByte, RangeState, bytes_from, source_opening, range_len}
+use Rattle.age_stream.specs.Ranges.{IsVerifiedByte, RangeState, range_len}
 use Rattle.age_stream.specs.Sizes.{chunk_size}
-use Rattle.age_stream.specs.Slice.{opening}
-use Rattle.age_file.specs.Ranges.{BeginsFile, IsOpenFault, IsRangesOf, MissesRanges}
+use Rattle.age_file.specs.Ranges.{BeginsFile, IsOpenFault}
 
 -- P holds of each of these bytes, the first of which is at offset `at`
 abbrev pub OfBytes : (P : (at byte : ℕ) → Type 0) (at : ℕ) (xs : Bytes) → Type 0

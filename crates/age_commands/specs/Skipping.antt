@@ -1,6 +1,6 @@
 -- Reading a file of which some bytes cannot be read.
-use Rattle.std.specs.Prelude.{◌≡◌, ◌⊎◌, if◌then◌else◌}
-use Rattle.age_commands.specs.Words.{ℕ, ⊤, Bool, true, false, IfSome, Option, None, Some, Consumes, IsAtEnd, Bytes, Known}
+use Rattle.std.specs.Prelude.{◌≡◌, ◌<◌, ◌⊎◌, if◌then◌else◌}
+use Rattle.age_commands.specs.Words.{ℕ, Bool, true, false, IfSome, Option, None, Some, Consumes, IsAtEnd, Bytes, Known}
 use Rattle.age_commands.specs.declared.skipping.Reached.{Reached}
 use Rattle.age_commands.specs.declared.skipping.Reached.TheVariants.{Place, End, Failure}
 use Rattle.age_commands.specs.declared.skipping.Unread.{Unread}
@@ -9,12 +9,18 @@ use Rattle.age_commands.specs.declared.skipping.Unread.{Unread}
 abbrev pub come_by : (skips : Bool) (from : Known) → Known
 come_by skips from = if skips then None else from
 
--- What was returned of a reader that began with the bytes `start`, of which `now` are to come.
--- After a failed read nothing is said, because zeros stand for the bytes that it did not return.
-abbrev pub HasRead : (reached : Reached) (start now : Known) (past : Bytes) → Type 0
-HasRead Place start now past = Consumes start now past
-HasRead End start now past = Consumes start now past × IsAtEnd now
-HasRead Failure start now past = ⊤
+-- A reader of this type counts more failures than before. Code that is generic over the type has
+-- such a reader only after a failed read.
+abbrev pub HasFailed : {R : Type 0} (failures : R → ℕ) (before : ℕ) → Type 0
+HasFailed {R} failures before = (later : R) × (before < failures later)
+
+-- What was returned of a reader that began with the bytes `start`, of which `now` are to come:
+-- those before them. Only if a read `failed`, others may have been returned.
+abbrev pub HasRead : (reached : Reached) (failed : Type 0) (start now : Known) (past : Bytes)
+    → Type 0
+HasRead Place failed start now past = Consumes start now past
+HasRead End failed start now past = Consumes start now past × IsAtEnd now
+HasRead Failure failed start now past = Consumes start now past ⊎ failed
 
 -- all bytes were read, up to the end
 abbrev pub is_end : Reached → Bool
@@ -26,9 +32,14 @@ abbrev pub unread_len : Option Unread → ℕ
 unread_len None = 0
 unread_len (Some unread) = unread.bytes
 
--- P holds of some bytes. It holds of the bytes to come as well, if they are known and IN is not
--- named or was read to its end.
-abbrev pub OfRead : {A : Type 0} (input : Option A) (is_read : Bool) (from : Known)
-    (P : Bytes → Type 0) → Type 0
-OfRead input is_read from P =
-    (given : Bytes) × P given × ((input ≡ None) ⊎ (is_read ≡ true) → IfSome from P)
+-- the first of the bytes to come, if they are known
+abbrev pub IsFirst : (from : Known) (bytes : Bytes) → Type 0
+IsFirst from bytes = (left : Known) × Consumes from left bytes
+
+-- P holds of the bytes that were read: the first of those to come, unless a read `failed`. It holds
+-- of all bytes to come, if they are known and IN is not named or was read to its end.
+abbrev pub OfRead : {A : Type 0} (input : Option A) (is_read : Bool) (failed : Type 0)
+    (from : Known) (P : Bytes → Type 0) → Type 0
+OfRead input is_read failed from P =
+    (given : Bytes) × P given × (IsFirst from given ⊎ failed)
+    × ((input ≡ None) ⊎ (is_read ≡ true) → IfSome from P)

@@ -33,38 +33,40 @@ if_whole is_read (Ok s) =
     if is_whole_file s && is_read then Ok tt else Err (BadChunk s.payload.chunks)
 if_whole is_read (Err fault) = Err fault
 
--- the result, the output and the reports of `salvage`, for an input with the bytes `from`
+-- the result, the output and the reports of `salvage`, for an input with the bytes `from`, of which
+-- a read may have failed
 abbrev pub SalvagesAll : {A : Type 0} (limits : Bounds) (answers : Answering) (input : Option A)
-    (from : Known) (sink : Moved) (lost : LossesMoved) (result : Result ⊤ Fault) → Type 0
-SalvagesAll limits answers input from sink lost result =
+    (failed : Type 0) (from : Known) (sink : Moved) (lost : LossesMoved) (result : Result ⊤ Fault)
+    → Type 0
+SalvagesAll limits answers input failed from sink lost result =
     (done : Result SalvagedFile Fault) × (is_read : Bool) × (result ≡ if_whole is_read done)
-    × OfRead input is_read from (λ b. SalvagesText limits answers b sink lost done)
+    × OfRead input is_read failed from (λ b. SalvagesText limits answers b sink lost done)
 
 -- P holds of some bytes, and of those to come, if they are known
 abbrev pub OfKnown : (from : Known) (P : Bytes → Type 0) → Type 0
 OfKnown from P = (given : Bytes) × P given × IfSome from P
 
--- The result, the output, and for `salvage` the reports, for an input with the bytes `from`. Of the
--- input of a range nothing is known: only the number of bytes written and the kind of fault are
--- bounded.
-abbrev pub Performs : (job : Job) (task : Task) (from : Known) (sink : Moved) (lost : LossesMoved)
-    (result : Result ⊤ Fault) → Type 0
-Performs job (Encrypt secret seed) from sink lost result =
+-- The result, the output, and for `salvage` the reports, for an input with the bytes `from`. Only
+-- for `salvage` it matters whether a read `failed`. Of the input of a range nothing is known: only
+-- the number of bytes written and the kind of fault are bounded.
+abbrev pub Performs : (job : Job) (task : Task) (failed : Type 0) (from : Known) (sink : Moved)
+    (lost : LossesMoved) (result : Result ⊤ Fault) → Type 0
+Performs job (Encrypt secret seed) failed from sink lost result =
     let gathered = gathering_of secret job.work seed.salt seed.fresh.file_key in
     (done : Result Done Fault) × (result ≡ without_counts done)
     × OfKnown from (λ b. EncryptsText (limits_of job) seed.fresh gathered b sink done)
     × IfErr done (RefusesFirst (limits_of job) seed.fresh.file_key gathered)
-Performs job (Decrypt secret) from sink lost result =
+Performs job (Decrypt secret) failed from sink lost result =
     (done : Result Done Fault) × (result ≡ without_counts done) × OfKnown from
     (λ b. DecryptsText (limits_of job) (answers_of secret job.max_work) b sink done)
-Performs job (Rewrap one other salt) from sink lost result =
+Performs job (Rewrap one other salt) failed from sink lost result =
     OfKnown from (λ b. RewrapsText (limits_of job) (answers_of one job.max_work)
     (gathering_of other job.work salt) b sink result)
-Performs job (Inspect key) from sink lost result =
+Performs job (Inspect key) failed from sink lost result =
     OfKnown from (λ b. InspectsText (limits_of job) job.raw key b sink result)
-Performs job (Salvage secret) from sink lost result = SalvagesAll (limits_of job)
-    (answers_of secret job.max_work) job.input from sink lost result
-Performs job (Range secret) from sink lost result =
+Performs job (Salvage secret) failed from sink lost result = SalvagesAll (limits_of job)
+    (answers_of secret job.max_work) job.input failed from sink lost result
+Performs job (Range secret) failed from sink lost result =
     (size : Option ℕ) × RangingAny (λ _ _ _. ⊤) (λ found. found) (limits_of job)
     (answers_of secret job.max_work) job.at job.len size sink result
 

@@ -6,7 +6,7 @@ ghost use Rattle.age_commands.specs.Skipping.{come_by};
 
 use crate::skipping::{Begun, SkippingSource};
 use age_file::{BUFFER_SIZE, Fault, FileAt, Limits, MAX_CHUNKS, ReadAt, ReadSource, Source};
-use age_job::Job;
+use age_job::{Input, Job};
 use std::alloc::Global;
 use std::io::{BufReader, Read, Seek};
 
@@ -52,17 +52,17 @@ pub(crate) fn file_source<R: Read + Drop>(
 
 /// Makes a source over this reader, for a damaged file. If `skips`, it continues after what cannot
 /// be read.
-pub(crate) fn skipping_source<R: Read + Seek + Drop, K: Begun>(
+pub(crate) fn skipping_source<'a, R: Input, K: Begun>(
     alloc: Global,
-    input: R,
+    input: &'a mut R,
     skips: bool,
-) -> Result<SkippingSource<BufReader<R>, K>, Fault>
-    requires { K.start ≡ R.remaining input }
-    ensures to_come { IfOk result
-        (λ source. ⟦<SkippingSource<BufReader<R>, K> as Source>⟧.to_come source
-        ≡ come_by skips (R.remaining input)) }
+) -> Result<SkippingSource<'a, R, K>, Fault>
+    requires start { K.start ≡ R.remaining input.old }
+    requires failed { K.failed ≡ R.failed input.old }
+    ensures to_come { IfOk result (λ source. ⟦<SkippingSource<'a, R, K> as Source>⟧.to_come source
+        ≡ come_by skips (R.remaining input.old)) }
     ensures gave { IfOk result
-        (λ source. ⟦<SkippingSource<BufReader<R>, K> as Source>⟧.gave source []) }
+        (λ source. ⟦<SkippingSource<'a, R, K> as Source>⟧.gave source []) }
     ensures err { IfErr result (λ fault. fault ≡ Fault.OutOfMemory) }
 {
     match BufReader::with_capacity(alloc, HEADER_BUFFER_LEN, input) {

@@ -5,7 +5,8 @@ ghost use Rattle.age_job.specs.Job.{IsInRange};
 ghost use Rattle.age_recipient.specs.Answer.{is_of};
 ghost use Rattle.age_recipient.specs.KeyedStanza.{keyed_type};
 ghost use Rattle.age_recipient.specs.PassphraseStanza.{scrypt_type};
-ghost use Rattle.age_commands.specs.Secret.{answers_of, guesses_of, keys_unwrap, passes_unwrap, unwraps_of};
+ghost use Rattle.age_commands.specs.Secret.{answers_of, guesses_of, keys_unwrap, passes_unwrap};
+ghost use Rattle.age_commands.specs.Secret.{unwraps_of};
 
 use age_file::{Identity, KeyIdentity, PassError, PassIdentity, Stanza, Unwrapped};
 use age_job::{Job, Secret};

@@ -5,7 +5,8 @@ ghost use Rattle.std.specs.Io.KnownBytes.{Appends};
 ghost use Rattle.age_header.specs.Device.{Bytes, CountsIf, flow_by, move_by};
 ghost use Rattle.age_file.specs.Device.{IsQuiet, is_write};
 ghost use Rattle.age_job.specs.Job.{IsInRange};
-ghost use Rattle.age_commands.specs.Inspect.{Inspecting, IsShown, IsTable, check_of, row, rows, spaced_arguments};
+ghost use Rattle.age_commands.specs.Inspect.{Inspecting, IsShown, IsTable, check_of, row, rows};
+ghost use Rattle.age_commands.specs.Inspect.{spaced_arguments};
 ghost use Rattle.age_commands.specs.Secret.{limits_of};
 
 use crate::buffering::limits_of;

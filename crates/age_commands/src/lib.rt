@@ -14,8 +14,8 @@
 //! Nothing here opens a file or prints: the crate `age_cli` does both.
 //!
 //! *What a contract sees.* A task is a command with its secrets. `specs/Secret.antt` says which
-//! recipient or identity a secret means. The input is a source: the bytes to come, if they are
-//! known, and those that it returned. A `WatchedSink` is its writer, and its count of failures.
+//! recipient or identity a secret means. The input is a reader: the bytes to come, if they are
+//! known, and its count of failed reads. A `WatchedSink` is its writer, and its count of failures.
 #![tactic(auto)]
 
 mod buffering;

@@ -3,6 +3,7 @@ ghost use Rattle.std.specs.Prelude.{◌≡◌, IfOk, OnOk};
 ghost use Rattle.age_file.specs.Device.{IsQuiet, is_write};
 ghost use Rattle.age_file.specs.Salvage.{SalvagesFile};
 ghost use Rattle.age_job.specs.Job.{IsInRange};
+ghost use Rattle.age_commands.specs.Skipping.{HasFailed};
 ghost use Rattle.age_commands.specs.Task.{SalvagesAll, if_whole};
 ghost use Rattle.age_commands.specs.Secret.{answers_of, limits_of};
 ghost use Rattle.age_header.specs.Device.{CountsIf, flow_by, move_by};
@@ -10,11 +11,10 @@ ghost use Rattle.age_stream.specs.Salvage.{losses_by};
 
 use crate::buffering::{limits_of, skipping_source};
 use crate::identity::SecretIdentity;
-use crate::skipping::{Begun, SkippingSource, Unread};
+use crate::skipping::{Begun, Unread};
 use age_file::{Fault, Identity, Losses, SalvagedFile, Sink, Source};
-use age_job::{Job, Secret};
+use age_job::{Input, Job, Secret};
 use std::alloc::Global;
-use std::io::{BufReader, Read, Seek};
 
 /// A receiver of the reports of `salvage`.
 pub trait Report: Losses {
@@ -33,7 +33,7 @@ pub trait Report: Losses {
 /// named, continues after what cannot be read. Reports each lost chunk. If the result is not whole,
 /// or not all was read, reports that too; the fault is then `BadChunk` with the number of pieces.
 #[tactic(auto, using(crate::proofs::TaskLemmas::no_source))]
-pub(crate) fn salvage_all<R: Read + Seek, W: Sink, L: Report, K: Begun>(
+pub(crate) fn salvage_all<R: Input, W: Sink, L: Report, K: Begun>(
     alloc: Global,
     job: &Job,
     secret: Secret,
@@ -43,19 +43,16 @@ pub(crate) fn salvage_all<R: Read + Seek, W: Sink, L: Report, K: Begun>(
 ) -> Result<(), Fault>
     requires range { IsInRange job.now }
     requires start { K.start ≡ R.remaining input.old }
+    requires failed { K.failed ≡ R.failed input.old }
     ensures salvages { SalvagesAll (limits_of job.now) (answers_of secret job.now.max_work)
-        job.now.input (R.remaining input.old) (move_by W.taken out.old out.new)
-        (losses_by L.lost report.old report.new) result }
+        job.now.input (HasFailed R.failed (R.failed input.old)) (R.remaining input.old)
+        (move_by W.taken out.old out.new) (losses_by L.lost report.old report.new) result }
     // If everything is read and saved, nothing was reported.
     ensures silent { OnOk result (report.new ≡ report.old) }
     ensures quiet { IsQuiet out.old out.new result }
     ensures writes { CountsIf is_write (W.failed out.old) (W.failed out.new) result }
 {
-    let mut source: SkippingSource<BufReader<&mut R>, K> = match skipping_source(
-        alloc,
-        input,
-        job.input.is_some(),
-    ) {
+    let mut source = match skipping_source::<R, K>(alloc, input, job.input.is_some()) {
         Ok(source) => source,
         Err(fault) => return Err(fault),
     };
@@ -91,7 +88,7 @@ fn judged<L: Report>(
 
 /// Saves what is left of the source to the sink with the identity of this secret, as
 /// `age_file::salvage` does. Reports each lost chunk.
-#[tactic(auto, using(age_header::proofs::DeviceLemmas::of_any, age_header::proofs::DeviceLemmas::some_none, age_stream::proofs::SalvageLemmas::reports_none))]
+#[tactic(auto, using(crate::proofs::SalvageLemmas::salvage))]
 fn salvage<S: Source, W: Sink, L: Losses>(
     alloc: Global,
     job: &Job,

@@ -1,21 +1,30 @@
 //! A source that continues after what cannot be read.
-ghost use Rattle.std.specs.Prelude.{◌≡◌, ◌≤◌, ◌<◌, ◌+◌, ◌-◌, ◌^◌, [], None, Some, true, min, IfSome, length, replicate, take};
+ghost use Rattle.std.specs.Prelude.{◌≡◌, ◌≤◌, ◌<◌, ◌+◌, ◌-◌, ◌^◌, ◌⊎◌, []};
+ghost use Rattle.std.specs.Prelude.{None, Some, true, min, IfSome, length, replicate, take};
+ghost use Rattle.std.specs.Io.Buffered.{reader_inner};
 ghost use Rattle.age_header.specs.Device.{Known};
-ghost use Rattle.age_commands.specs.Skipping.{HasRead, come_by, is_end, unread_len};
+ghost use Rattle.age_commands.specs.Skipping.{HasFailed, HasRead, come_by, is_end, unread_len};
 
 use age_file::{DeviceFault, NONCE_SIZE, Source};
+use age_job::Input;
 use std::io;
-use std::io::{ErrorKind, Read, Seek, SeekFrom};
+use std::io::{BufReader, ErrorKind, Read, Seek, SeekFrom};
 use std::marker::{Brand, PhantomData};
 
-/// What a reader holds at its start, for a proof. It ties what a `SkippingSource` has returned to
-/// what its reader held.
+/// What a reader holds at its start, and its count of failed reads, for a proof. It ties what a
+/// `SkippingSource` has returned to what its reader held.
 pub(crate) trait Begun {
+    ghost use Rattle.std.specs.Prelude.{ℕ};
+
     ghost start: { Known };
+
+    ghost failed: { ℕ };
 }
 
 impl Begun for Brand {
     ghost start = { None };
+
+    ghost failed = { 0 };
 }
 
 /// The bytes of a file for which zeros were returned, because they could not be read.
@@ -43,8 +52,10 @@ pub(crate) enum Reached {
 /// A source over a reader. Behind a failed read within the chunks of a payload it goes on, if it
 /// may: it returns zeros for the rest of the chunk.
 #[derive(Drop)]
-pub(crate) struct SkippingSource<R, K: Begun> {
-    reader: R,
+pub(crate) struct SkippingSource<'a, R, K: Begun> {
+    reader: BufReader<&'a mut R>,
+    /// The reader's count of failed reads at its start.
+    failed: u64,
     failures: u64,
     /// Whether it continues after a failed read.
     skips: bool,
@@ -53,19 +64,23 @@ pub(crate) struct SkippingSource<R, K: Begun> {
     reached: Reached,
     unread: Option<Unread>,
     begun: PhantomData<K>,
+    ghost counted: { failed ≡ K.failed },
 }
 
-impl<R: Read + Seek, K: Begun> SkippingSource<R, K> {
+impl<'a, R: Input, K: Begun> SkippingSource<'a, R, K> {
     /// Makes a source over this reader, which is at its start. If `skips`, it continues after
     /// failed reads of chunks.
-    pub(crate) fn new(reader: R, skips: bool) -> SkippingSource<R, K>
-        requires { K.start ≡ R.remaining reader }
-        ensures to_come { ⟦<SkippingSource<R, K> as Source>⟧.to_come result
-            ≡ come_by skips (R.remaining reader) }
-        ensures gave { ⟦<SkippingSource<R, K> as Source>⟧.gave result [] }
+    pub(crate) fn new(reader: BufReader<&'a mut R>, skips: bool) -> SkippingSource<'a, R, K>
+        requires start { K.start ≡ ⟦<BufReader<&'a mut R> as Read>⟧.remaining reader }
+        requires failed { K.failed ≡ R.failed (reader_inner reader).now }
+        ensures to_come { ⟦<SkippingSource<'a, R, K> as Source>⟧.to_come result
+            ≡ come_by skips (⟦<BufReader<&'a mut R> as Read>⟧.remaining reader.entry) }
+        ensures gave { ⟦<SkippingSource<'a, R, K> as Source>⟧.gave result [] }
     {
+        let failed = reader.get_ref().failures();
         SkippingSource {
             reader,
+            failed,
             failures: 0,
             skips,
             is_at_chunks: false,
@@ -98,13 +113,19 @@ impl<R: Read + Seek, K: Begun> SkippingSource<R, K> {
         ensures noted { IfSome result (λ n. unread_len self.new.unread
             ≡ min (unread_len self.old.unread + n) (2 ^ 64 - 1)) }
         ensures reached { self.new.reached ≡ Reached.Failure }
+        // The reader is moved only if it counted a failed read.
+        ensures moved { (self.new.reader ≡ self.old.reader) ⊎ HasFailed R.failed K.failed }
         ensures stays { (self.new.skips ≡ self.old.skips)
             × (self.new.failures ≡ self.old.failures) }
-        // Only a source that may goes on.
-        ensures may { IfSome result (λ _. self.old.skips ≡ true) }
+        // Only a source that may goes on, and only if the reader counted a failed read.
+        ensures may { IfSome result
+            (λ _. (self.old.skips ≡ true) × HasFailed R.failed K.failed) }
     {
         self.reached = Reached::Failure;
         if !self.skips || !self.is_at_chunks || reason.kind() == ErrorKind::Interrupted {
+            return None;
+        }
+        if self.reader.get_ref().failures() <= self.failed {
             return None;
         }
         let (at, n) = pass_over(&mut self.reader, buf)?;
@@ -150,12 +171,13 @@ fn pass_over<R: Seek>(reader: &mut R, buf: &mut [u8]) -> Option<(u64, usize)>
     Some((at, n))
 }
 
-impl<R: Read + Seek, K: Begun> Source for SkippingSource<R, K> {
+impl<'a, R: Input, K: Begun> Source for SkippingSource<'a, R, K> {
     ghost failed = { λ s. s.failures };
 
-    ghost to_come = { λ s. come_by s.skips (R.remaining s.reader) };
+    ghost to_come = { λ s. come_by s.skips (⟦<BufReader<&'a mut R> as Read>⟧.remaining s.reader) };
 
-    ghost gave = { λ s past. HasRead s.reached K.start (R.remaining s.reader) past };
+    ghost gave = { λ s past. HasRead s.reached (HasFailed R.failed K.failed) K.start
+        (⟦<BufReader<&'a mut R> as Read>⟧.remaining s.reader) past };
 
     fn read(&mut self, buf: &mut [u8]) -> Result<usize, DeviceFault> {
         if buf.len() > NONCE_SIZE {

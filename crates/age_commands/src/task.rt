@@ -1,6 +1,7 @@
 //! A command with its secrets, from an input to an output.
 ghost use Rattle.std.specs.Prelude.{◌≡◌, OnOk};
 ghost use Rattle.age_job.specs.Job.{IsInRange};
+ghost use Rattle.age_commands.specs.Skipping.{HasFailed};
 ghost use Rattle.age_commands.specs.Task.{Performs, PerformsQuietly, without_counts};
 ghost use Rattle.age_file.specs.Device.{is_write};
 ghost use Rattle.age_header.specs.Device.{CountsIf, move_by};
@@ -15,9 +16,8 @@ use crate::rewrap::rewrap;
 use crate::salvage::{Report, salvage_all};
 use crate::seed::Seed;
 use age_file::{Done, Fault, ReadSource, Sink};
-use age_job::{Job, Secret};
+use age_job::{Input, Job, Secret};
 use std::alloc::Global;
-use std::io::{Read, Seek};
 use std::marker::Brand;
 
 /// A command with all that it needs besides its job and its input.
@@ -36,7 +36,7 @@ pub enum Task {
 /// Performs this task from this input to this sink. `salvage` reports the lost chunks to `report`.
 /// A range reads its input at offsets, the other tasks read it from start to end.
 #[tactic(auto, using(crate::proofs::TaskLemmas::no_memory))]
-pub fn perform_between<R: Read + Seek, W: Sink, L: Report>(
+pub fn perform_between<R: Input, W: Sink, L: Report>(
     alloc: Global,
     job: &Job,
     task: Task,
@@ -47,9 +47,11 @@ pub fn perform_between<R: Read + Seek, W: Sink, L: Report>(
     requires { IsInRange job.now }
     // Returns, writes and reports what the library does for the recipient, the identity and the
     // limits of the job and its secrets. `encrypt` uses the seed's file key, nonce and salt,
-    // `rewrap` its salt.
-    ensures performs { Performs job.now task (R.remaining input.old)
-        (move_by W.taken out.old out.new) (losses_by L.lost report.old report.new) result }
+    // `rewrap` its salt. What `salvage` reads of a named IN are the bytes of IN, unless a read of
+    // it failed, which raised its count.
+    ensures performs { Performs job.now task (HasFailed R.failed (R.failed input.old))
+        (R.remaining input.old) (move_by W.taken out.old out.new)
+        (losses_by L.lost report.old report.new) result }
     // On a fault other than a chunk's, `TooManyChunks`, `Read` and `Write` the sink is unchanged,
     // whether or not its contents are known. But `inspect` writes a header whose MAC is wrong.
     ensures quiet { PerformsQuietly task out.old out.new result }

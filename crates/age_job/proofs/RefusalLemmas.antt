@@ -10,8 +10,9 @@ use Rattle.age_job.specs.declared.job.Command.TheVariants as command
 use Rattle.age_job.specs.declared.job.Job.{Job}
 use Rattle.age_job.specs.declared.small_files.SecretFiles.{SecretFiles}
 use Rattle.age_job.specs.declared.small_files.SecretFiles.TheVariants as files
-use Rattle.age_job.specs.Refusal.{IsFileFault, IsNamed, IsPassphraseFault, IsRead, MakesHeader, MayRefuse, IsOutput, IsSameFault}
+use Rattle.age_job.specs.Refusal.{IsFileFault, IsNamed, IsPassphraseFault, IsRead, MakesHeader, MayRefuse}
 use Rattle.age_job.specs.Secret.{IsChoice, IsFilesFault, IsListFault}
+use Rattle.age_job.proofs.SecretLemmas.{chosen}
 
 pub of_file : (job : Job) (role : Role) (name : List ℕ) (fault : Fault) → IsRead job role name
     → IsFileFault name fault → MayRefuse job fault
@@ -105,9 +106,8 @@ pub of_file_key : (job : Job) (name : List ℕ) (fault : Fault) → job.command 
 of_file_key job name fault inspects named some (inl h) = of_file job roles.FileKey name fault (inspects, named) h
 of_file_key job name fault inspects named some (inr same) = rw same (inspects, some)
 
--- an OUT that may be a file that is read
-pub of_same : (job : Job) (name : List ℕ) (fault : Fault) → IsOutput job.output name → IsSameFault name fault
-    → MayRefuse job fault
-of_same job name (faults.Unidentified named) is h = tt
-of_same job name (faults.OutputIsRead role named) is h = rw h is
-of_same job name fault is h = absurd h
+pub ruleset read_secret = (chosen, of_files)
+
+pub ruleset read_encrypt_secrets = (chosen, of_new_files, of_seed)
+
+pub ruleset read_rewrap_secrets = (chosen, of_files, of_other_files, of_seed)

@@ -1,6 +1,6 @@
 //! A fault of a job's files, and what `--verbose` prints after it.
 
-ghost use Rattle.std.specs.Prelude.{◌≡◌};
+ghost use Rattle.std.specs.Prelude.{◌≡◌, Some};
 ghost use Rattle.age_job.specs.declared.fault.Fault.TheVariants.{OutOfMemory};
 
 use crate::fault::Fault;
@@ -60,7 +60,11 @@ impl<'a> Failure<'a> {
         name: &'a str,
         reason: io::Error,
     ) -> Failure<'a>
-        ensures { result.fault ≡ fault.entry }
+        // The fault that was passed.
+        ensures fault { result.fault ≡ fault.entry }
+        // The operation on this file, and the reason.
+        ensures detail { result.detail
+            ≡ Some (Detail.System operation (record { 0 = name.entry }) reason) }
     {
         Failure::with(fault, Detail::System(operation, Name(name), reason))
     }
@@ -69,6 +73,8 @@ impl<'a> Failure<'a> {
     pub fn with(fault: Fault<'a>, detail: Detail<'a>) -> Failure<'a>
         // The fault that was passed.
         ensures fault { result.fault ≡ fault.entry }
+        // What was passed about it.
+        ensures detail { result.detail ≡ Some detail.entry }
     {
         Failure {
             fault,

@@ -2,7 +2,8 @@
 
 ghost use Rattle.std.specs.Prelude.{◌≡◌, Some, false};
 ghost use Rattle.std.specs.Fmt.{WritesOnOk};
-ghost use Rattle.age_job.specs.Names.{directs_writing, escaped_name, escaped_char, needs_quotes, quoted_name};
+ghost use Rattle.age_job.specs.Names.{directs_writing, escaped_name, escaped_char, needs_quotes};
+ghost use Rattle.age_job.specs.Names.{quoted_name};
 ghost use Rattle.age_job.specs.Refusal.{may_be_replaced};
 ghost use Rattle.age_job.specs.Texts.{role_text, role_words};
 

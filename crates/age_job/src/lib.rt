@@ -11,9 +11,9 @@
 //!
 //! `job` has the job, and `ranges` the ranges of its numbers. `files` opens the files to read,
 //! `inode` identifies them, and `small_files` reads the secrets, each of which is a `secret`.
-//! `output` is the file to write, `target` a new file that takes the place of OUT, `watched` keeps
-//! the reason of a failed read, and `progress` shows at a terminal how much was read. `fault` and
-//! `file_names` have the texts of errors, `failure` those of `--verbose`.
+//! `output` is the file to write, `target` a new file that takes the place of OUT, `watched` counts
+//! failed reads and keeps the reason of the last one, and `progress` shows at a terminal how much
+//! was read. `fault` and `file_names` have the texts of errors, `failure` those of `--verbose`.
 //!
 //! *What a contract sees.* A `Job` is the record of its fields, and a secret is a passphrase's
 //! bytes or a list of keys. A file is the bytes that its reader will return (`remaining`) and those
@@ -51,4 +51,4 @@ pub use ranges::{
 pub use secret::{SEED_LEN, Secret, exactly};
 pub use small_files::{read_encrypt_secrets, read_file_key, read_rewrap_secrets, read_secret};
 pub use target::Target;
-pub use watched::{Pipe, Watched};
+pub use watched::{Input, Pipe, Watched};

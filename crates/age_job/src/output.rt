@@ -59,8 +59,8 @@ pub(crate) fn open_in_place<'a, F: Files>(
     read: &ReadFiles<'a>,
     name: &'a str,
 ) -> Result<Output<F::File>, Failure<'a>>
-    requires { IsNamed job.now.output name.now }
-    ensures { IfErr result (λ failure. MayRefuse job.now failure.fault) }
+    ensures { IsNamed job.now.output name.now
+        → IfErr result (λ failure. MayRefuse job.now failure.fault) }
 {
     let mut options = new_file(new_mode(job.command));
     match options.open(rt, name) {
@@ -140,7 +140,9 @@ impl<F: OpenFile> Output<F> {
     }
 
     /// Returns the number of bytes written.
-    pub fn written(&self) -> u64 {
+    pub fn written(&self) -> u64
+        ensures { result ≡ self.now.written }
+    {
         self.written
     }
 

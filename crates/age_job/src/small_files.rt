@@ -1,10 +1,13 @@
 //! The small files that hold a job's secrets: passphrases, keys and seeds.
 
-ghost use Rattle.std.specs.Prelude.{◌≡◌, ◌≤◌, ◌<◌, ◌+◌, ◌⊎◌, [], ℕ, List, length, vec_len, IfErr, IfOk};
+ghost use Rattle.std.specs.Prelude.{◌≡◌, ◌≤◌, ◌<◌, ◌+◌, ◌⊎◌, [], ℕ};
+ghost use Rattle.std.specs.Prelude.{List, length, vec_len, IfErr, IfOk};
 ghost use Rattle.std.specs.String.{string_bytes};
 ghost use Rattle.age_job.specs.Passphrase.{IsNewPassphrase};
-ghost use Rattle.age_job.specs.Refusal.{IsFileFault, IsNoChoice, IsPassphraseFault, MakesHeader, MayRefuse};
-ghost use Rattle.age_job.specs.Secret.{IsChoice, IsFileKeyOf, IsFilesFault, IsNewSecret, IsReadFrom, IsSecretOf};
+ghost use Rattle.age_job.specs.Refusal.{IsFileFault, IsNoChoice, IsPassphraseFault, MakesHeader};
+ghost use Rattle.age_job.specs.Refusal.{MayRefuse};
+ghost use Rattle.age_job.specs.Secret.{IsChoice, IsFileKeyOf, IsFilesFault, IsNewSecret};
+ghost use Rattle.age_job.specs.Secret.{IsReadFrom, IsSecretOf};
 
 use crate::failure::{Detail, Failure};
 use crate::fault::Fault;
@@ -22,7 +25,7 @@ use std::io::{IsTerminal, Seek, SeekFrom};
 use std::rt::Files;
 
 /// Reads the secret of a command that has only one.
-#[tactic(auto, using(crate::proofs::SecretLemmas::chosen, crate::proofs::RefusalLemmas::of_files))]
+#[tactic(auto, using(crate::proofs::RefusalLemmas::read_secret))]
 pub fn read_secret<'a, F: Files + AllocGlobal>(
     rt: &F,
     job: &'a Job,
@@ -40,7 +43,7 @@ pub fn read_secret<'a, F: Files + AllocGlobal>(
 }
 
 /// Reads the secret and the seed for a new file, which is written to `out` if the job names no OUT.
-#[tactic(auto, using(crate::proofs::SecretLemmas::chosen, crate::proofs::RefusalLemmas::of_new_files, crate::proofs::RefusalLemmas::of_seed))]
+#[tactic(auto, using(crate::proofs::RefusalLemmas::read_encrypt_secrets))]
 pub fn read_encrypt_secrets<'a, F: Files + AllocGlobal, W: IsTerminal>(
     rt: &F,
     job: &'a Job,
@@ -65,7 +68,7 @@ pub fn read_encrypt_secrets<'a, F: Files + AllocGlobal, W: IsTerminal>(
 
 /// Reads the old secret, the new one, and the seed for a file that is written to `out` if the job
 /// names no OUT. The arguments must name the files of both secrets.
-#[tactic(auto, using(crate::proofs::SecretLemmas::chosen, crate::proofs::RefusalLemmas::of_files, crate::proofs::RefusalLemmas::of_other_files, crate::proofs::RefusalLemmas::of_seed))]
+#[tactic(auto, using(crate::proofs::RefusalLemmas::read_rewrap_secrets))]
 pub fn read_rewrap_secrets<'a, F: Files + AllocGlobal, W: IsTerminal>(
     rt: &F,
     job: &'a Job,

@@ -1,6 +1,6 @@
 //! How OUT is written: in place, or with `--atomic` by a new file that takes its place.
 
-ghost use Rattle.std.specs.Prelude.{◌≡◌, IfErr, false, true};
+ghost use Rattle.std.specs.Prelude.{◌≡◌, ◌≢◌, IfErr, IsSome, false, true};
 ghost use Rattle.age_job.specs.Refusal.{IsFoundFault, IsNamed, MayEnd, MayRefuse};
 
 use crate::failure::{Detail, Failure, Operation};
@@ -48,7 +48,10 @@ impl Target {
     /// Finds out how this job writes OUT.
     pub fn of<F: Files + AllocGlobal>(rt: &F, job: &Job) -> Target
         // Without `--atomic` OUT itself is written.
-        ensures { job.now.atomic ≡ false → result ≡ Target.InPlace }
+        ensures in_place { job.now.atomic ≡ false → result ≡ Target.InPlace }
+        // With it OUT is replaced.
+        ensures replaced { job.now.atomic ≡ true → IsSome job.now.output
+            → result ≢ Target.InPlace }
     {
         match &job.output {
             Some(name) if job.atomic => Target::Replaced(Replacement::of(rt, name.as_str())),
@@ -66,9 +69,10 @@ impl Target {
         read: &ReadFiles<'a>,
         name: &'a str,
     ) -> Result<Output<F::File>, Failure<'a>>
-        requires name { IsNamed job.now.output name.now }
-        requires target { job.now.atomic ≡ false → self.now ≡ Target.InPlace }
-        ensures { IfErr result (λ failure. MayRefuse job.now failure.fault) }
+        // A refusal of the OUT of this job, for which this was made, is one that the job allows.
+        ensures { IsNamed job.now.output name.now
+            → (job.now.atomic ≡ false → self.now ≡ Target.InPlace)
+            → IfErr result (λ failure. MayRefuse job.now failure.fault) }
     {
         let Target::Replaced(found) = self else {
             return open_in_place(rt, job, read, name);
@@ -193,9 +197,8 @@ impl Replacement {
         read: &ReadFiles<'a>,
         name: &'a str,
     ) -> Result<Output<F::File>, Failure<'a>>
-        requires name { IsNamed job.now.output name.now }
-        requires atomic { job.now.atomic ≡ true }
-        ensures { IfErr result (λ failure. MayRefuse job.now failure.fault) }
+        ensures { IsNamed job.now.output name.now → job.now.atomic ≡ true
+            → IfErr result (λ failure. MayRefuse job.now failure.fault) }
     {
         let found = self.found(rt, read, name)?;
         let mode = match &found {

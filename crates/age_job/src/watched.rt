@@ -1,15 +1,30 @@
 //! The input of a command, with what messages about it need.
-ghost use Rattle.std.specs.Prelude.{◌≡◌};
+ghost use Rattle.std.specs.Prelude.{◌≡◌, ◌+◌, ◌-◌, ◌^◌, [], None, min, MatchResult};
+ghost use Rattle.std.specs.Io.{ReadsAtMost};
+ghost use Rattle.std.specs.Io.KnownBytes.{ReadConsumes};
 
 use std::alloc::Global;
 use std::io;
 use std::io::{ErrorKind, Read, Seek, SeekFrom};
 
-/// A reader that keeps the reason of its last failed read, the first bytes read, and the offset of
-/// its end.
+/// A reader that counts its failed reads, so that clauses can speak of them.
+pub trait Input: Read + Seek {
+    ghost use Rattle.std.specs.Prelude.{ℕ};
+
+    // The number of failed reads, saturating at the largest `u64`.
+    ghost failed: { Self → ℕ };
+
+    /// The number of failed reads, saturating at the largest `u64`.
+    fn failures(&self) -> u64
+        ensures { result ≡ failed self.now };
+}
+
+/// A reader that counts its failed reads, and keeps the reason of the last one, the first bytes
+/// read, and the offset of its end.
 #[derive(Drop)]
 pub struct Watched<R> {
     pub reader: R,
+    failures: u64,
     reason: Option<io::Error>,
     prefix: Vec<u8>,
     /// The maximum length of `prefix`.
@@ -42,10 +57,16 @@ impl<R> Watched<R> {
     /// Watches this reader, which is at its first byte. Keeps at most `most` bytes.
     pub fn new(alloc: Global, reader: R, most: usize) -> Watched<R>
         // Reading from the result is reading from this reader.
-        ensures { result.reader ≡ reader }
+        ensures reader { result.reader ≡ reader }
+        // It keeps no more bytes than that.
+        ensures most { result.most ≡ most }
+        // No read has failed, and nothing was read.
+        ensures start { (result.failures ≡ 0) × (result.reason ≡ None) × (result.prefix.items ≡ [])
+            × (result.at ≡ 0) × (result.end ≡ None) }
     {
         Watched {
             reader,
+            failures: 0,
             reason: None,
             prefix: Vec::new(alloc),
             most,
@@ -55,29 +76,38 @@ impl<R> Watched<R> {
     }
 
     /// Returns the reason of the last failed read.
-    pub fn reason(&self) -> Option<io::Error> {
+    pub fn reason(&self) -> Option<io::Error>
+        ensures { result ≡ self.now.reason }
+    {
         self.reason
     }
 
     /// Returns the first bytes read.
-    pub fn prefix(&self) -> &[u8] {
+    pub fn prefix(&self) -> &[u8]
+        ensures { result.now ≡ self.now.prefix.items }
+    {
         self.prefix.as_slice()
     }
 
     /// Returns the offset of the next byte.
-    pub fn at(&self) -> u64 {
+    pub fn at(&self) -> u64
+        ensures { result ≡ self.now.at }
+    {
         self.at
     }
 
     /// Returns the size of the file, if a read or a seek found its end.
-    pub fn end(&self) -> Option<u64> {
+    pub fn end(&self) -> Option<u64>
+        ensures { result ≡ self.now.end }
+    {
         self.end
     }
 
     /// Notes the bytes that a read returned, and whether they are the last. Keeps them if they
     /// follow those kept so far, and keeps no more once memory is refused.
     fn note(&mut self, bytes: &[u8], is_end: bool)
-        ensures { self.new.reader ≡ self.old.reader }
+        ensures reader { self.new.reader ≡ self.old.reader }
+        ensures count { self.new.failures ≡ self.old.failures }
     {
         if is_end {
             self.end = Some(self.at);
@@ -97,7 +127,15 @@ impl<R> Watched<R> {
 impl<R: Read> Read for Watched<R> {
     ghost remaining = { λ watched. R.remaining watched.reader };
 
-    fn read(&mut self, buf: &mut [u8]) -> io::Result<usize> {
+    fn read(&mut self, buf: &mut [u8]) -> io::Result<usize>
+        ensures bound { ReadsAtMost result buf.new }
+        // On Ok these are the reader's next bytes. On an error it still has them.
+        ensures bytes { ReadConsumes (R.remaining self.old.reader) (R.remaining self.new.reader)
+            result buf.new }
+        // A failed read raises the count. On Ok the count is unchanged.
+        ensures count { MatchResult result (λ _. self.new.failures ≡ self.old.failures)
+            (λ _. self.new.failures ≡ min (self.old.failures + 1) (2 ^ 64 - 1)) }
+    {
         match self.reader.read(buf) {
             Ok(n) => {
                 let is_end = n == 0 && !buf.is_empty();
@@ -105,10 +143,19 @@ impl<R: Read> Read for Watched<R> {
                 Ok(n)
             }
             Err(reason) => {
+                self.failures = self.failures.saturating_add(1);
                 self.reason = Some(reason);
                 Err(reason)
             }
         }
+    }
+}
+
+impl<R: Read + Seek> Input for Watched<R> {
+    ghost failed = { λ watched. watched.failures };
+
+    fn failures(&self) -> u64 {
+        self.failures
     }
 }
 

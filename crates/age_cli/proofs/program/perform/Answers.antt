@@ -1,4 +1,4 @@
-use Rattle.age_cli.proofs.Common.{◌≡◌, ap, inl, refl, rules, Err, move_by}
+use Rattle.age_cli.proofs.Common.{◌≡◌, ◌∙◌, ap, inl, refl, rules, Err, move_by}
 use Rattle.age_cli.proofs.ProgramLemmas.{completes, stays_known}
 use Rattle.age_cli.specs.declared.failure.Failure.TheVariants.{Job as OfJob}
 use Rattle.age_job.proofs.RefusalLemmas.{of_file}
@@ -9,8 +9,12 @@ pub returns-in_ok-file-in-Some-clause-completes : goal.returns-in_ok-file-in-Som
 returns-in_ok-file-in-Some-clause-completes g c =
     let sink = move_by g.W.Write.contents c.args.out.now c.perform_on.new.out in
     completes g.F.File.Read.remaining g.F.File.Write.contents c.args.work.now.job.now c.in_ok-task.task
-    (g.R.Read.remaining c.args.input.now) (g.F.File.Read.remaining c.over-input.result.reader) sink c.perform_on.result
-    (search rules) (rw c.in-Some.is (c.in_ok-file-in-Some.file, ap g.F.File.Read.remaining c.over-input.ensures))
+    (g.R.Read.remaining c.args.input.now) (g.F.File.Read.remaining c.new-input.result.reader.reader) _ _ sink
+    c.perform_on.result (λ same. refl) (search rules)
+    (rw c.in-Some.is (
+      c.in_ok-file-in-Some.file,
+      ap g.F.File.Read.remaining (ap (λ shown. shown.reader) c.new-input.ensures.reader ∙ c.over-input.ensures),
+    ))
     c.perform_on.ensures.performs
 
 pub returns-in_err-file-in-Some-clause-completes : goal.returns-in_err-file-in-Some-clause-completes
@@ -18,6 +22,26 @@ returns-in_err-file-in-Some-clause-completes g c =
     let is : c.from_residual-in_err-file-in-Some.result ≡ Err (OfJob c.in_err-file-in-Some.field-0.0) = search rules in
     rw is (
       stays_known refl,
-      inl (of_file c.args.work.now.job.now roles.Input c.as_str.result.now c.in_err-file-in-Some.field-0.0.fault
-          (rw c.in-Some.is c.as_str.ensures.value) c.in_err-file-in-Some.ensures),
+      inl (
+        of_file c.args.work.now.job.now roles.Input c.as_str.result.now c.in_err-file-in-Some.field-0.0.fault
+            (rw c.in-Some.is c.as_str.ensures.value) c.in_err-file-in-Some.ensures,
+        refl,
+      ),
     )
+
+pub returns-in_ok-add_standard_input-in-None-clause-completes :
+    goal.returns-in_ok-add_standard_input-in-None-clause-completes
+returns-in_ok-add_standard_input-in-None-clause-completes g c =
+    let sink = move_by g.W.Write.contents c.args.out.now c.perform_on-done.new.out in
+    let is : c.new-watched.result.reader.reader.0.now ≡ c.args.input.now =
+    ap (λ shown. shown.reader.0.now) c.new-watched.ensures.reader ∙ ap (λ pipe. pipe.0.now) c.over-shown.ensures in
+    completes g.F.File.Read.remaining g.F.File.Write.contents c.args.work.now.job.now c.in_ok-task.task
+    (g.R.Read.remaining c.args.input.now) (g.R.Read.remaining c.new-watched.result.reader.reader.0.now)
+    (c.perform_on-done.new.input ≡ c.new-watched.result) _ sink c.perform_on-done.result
+    (λ same.
+    let name = ap (λ watched. watched.reader.reader.0.ghost_name) same
+    ∙ ap (λ shown. shown.reader.0.ghost_name) c.new-watched.ensures.reader
+    ∙ ap (λ pipe. pipe.0.ghost_name) c.over-shown.ensures in
+    let now = ap (λ watched. watched.reader.reader.0.now) same ∙ is in
+    search rules) (search rules)
+    (rw c.in-None.is (ap g.R.Read.remaining is)) c.perform_on-done.ensures.performs

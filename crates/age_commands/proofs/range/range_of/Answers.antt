@@ -1,4 +1,4 @@
-use Rattle.age_commands.proofs.Common.{◌≡◌, ◌∙◌, ◌∷◌, [], rules, Err, subst, sym, CountsIf, move_by, is_read, OutOfMemory, WritesAny, limits_of}
+use Rattle.age_commands.proofs.Common.{◌≡◌, ◌∙◌, ◌∷◌, [], rules, Err, subst, sym, move_by, OutOfMemory, WritesAny}
 use Rattle.age_commands.proofs.SecretLemmas.{answers_meant, made_reads}
 use Rattle.age_commands.proofs.VerifiedLemmas as verified
 use Rattle.age_commands.proofs.range.range_of.Goals as goal

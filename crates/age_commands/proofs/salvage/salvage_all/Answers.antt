@@ -3,9 +3,9 @@ use Rattle.age_commands.proofs.salvage.salvage_all.Goals as goal
 
 pub returns-clause-salvages : goal.returns-clause-salvages
 returns-clause-salvages g c =
-    salvages_from c.args.job.now.input c.salvage-done.new.input.reached _ c.salvage-done.result c.requires.start
-    (rw c.is_some.ensures at c.in-Ok.ensures.to_come) c.in-Ok.ensures.gave (λ past h. h)
-    c.salvage-done.ensures.salvages c.judged.ensures.lost c.is_read.ensures c.judged.ensures.result
+    rw c.requires.failed at (salvages_from c.args.job.now.input c.salvage-done.new.input.reached _ c.salvage-done.result
+    c.requires.start (rw c.is_some.ensures at c.in-Ok.ensures.to_come) c.in-Ok.ensures.gave (λ past h. h)
+    c.salvage-done.ensures.salvages c.judged.ensures.lost c.is_read.ensures c.judged.ensures.result)
 
 pub returns-clause-silent : goal.returns-clause-silent
 returns-clause-silent g c =
