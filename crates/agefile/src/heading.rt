@@ -5,7 +5,8 @@ ghost use Rattle.std.specs.String.{string_bytes};
 ghost use Rattle.age_header.specs.Base64.{IsBase64};
 ghost use Rattle.age_header.specs.Header.{mac_size};
 ghost use Rattle.age_kdf.specs.Bytes.{Bytes};
-ghost use Rattle.agefile.specs.Heading.{BeginsFile, FindsMac, GivesHeader, MakesHeader, heading, in_text, lines_in, probe};
+ghost use Rattle.agefile.specs.Heading.{BeginsFile, FindsMac, GivesHeader, MakesHeader, heading};
+ghost use Rattle.agefile.specs.Heading.{in_text, lines_in, probe};
 ghost use Rattle.agefile.specs.Report.{Refuses};
 
 use crate::code::{OK, OUT_OF_MEMORY};

@@ -1,7 +1,10 @@
 //! Laws about the definitions alone. Each is the contract of a function that does nothing.
 
 ghost use Rattle.std.specs.Prelude.{◌∷◌, ◌≤◌, ◌%◌, ◌++◌, ◌+◌, ◌/◌, ◌<◌, ◌≡◌, ◌≢◌, ◌⊎◌};
-ghost use Rattle.agefile.specs.Words.{Ok, List, [], drop, length, map, take, true, ℕ, Bytes, IsStanza, StanzaParts, chunk_size, nonce_size, tag_size, Fault, HeaderTruncated, NonceTruncated, Answering, IsVerdict, Payload, Report};
+ghost use Rattle.agefile.specs.Words.{Ok, List, [], drop, length, map, take, true, ℕ, Bytes};
+ghost use Rattle.agefile.specs.Words.{IsStanza, StanzaParts, chunk_size, nonce_size, tag_size};
+ghost use Rattle.agefile.specs.Words.{Fault, HeaderTruncated, NonceTruncated, Answering, IsVerdict};
+ghost use Rattle.agefile.specs.Words.{Payload, Report};
 ghost use Rattle.std.specs.List.{concat};
 ghost use Rattle.age_stream.specs.Payload.{chunks, pieces, sealed_chunks_from};
 ghost use Rattle.age_stream.specs.Reading.{Reading, outcome, whole};
@@ -11,7 +14,8 @@ ghost use Rattle.age_file.specs.AgeFile.{AgeFile};
 ghost use Rattle.agefile.specs.declared.ranges.Ranges.{Ranges};
 ghost use Rattle.agefile.specs.Codes.{code_of, fault_code, ok, out_of_memory, too_many_chunks};
 ghost use Rattle.agefile.specs.WholeFiles.{IsNewFile};
-ghost use Rattle.agefile.specs.Groups.{OpensGroups, OpensRun, SealsGroups, SealsRun, all_of, unended_chunks};
+ghost use Rattle.agefile.specs.Groups.{OpensGroups, OpensRun, SealsGroups, SealsRun, all_of};
+ghost use Rattle.agefile.specs.Groups.{unended_chunks};
 ghost use Rattle.agefile.specs.Heading.{BeginsFile};
 ghost use Rattle.agefile.specs.Sizes.{limits, front_size};
 ghost use Rattle.agefile.specs.Unlock.{IsStart, Opens, Unlocks, by_file_key};

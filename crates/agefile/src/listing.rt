@@ -2,7 +2,8 @@
 
 ghost use Rattle.std.specs.Prelude.{◌≡◌, ◌⊎◌, ◌++◌, map, IfOk, OnOk};
 ghost use Rattle.age_kdf.specs.Bytes.{Bytes};
-ghost use Rattle.agefile.specs.Inspect.{GivesList, GivesStanzas, InspectsStanzas, arguments_text, list_text, stanza_summary};
+ghost use Rattle.agefile.specs.Inspect.{GivesList, GivesStanzas, InspectsStanzas, arguments_text};
+ghost use Rattle.agefile.specs.Inspect.{list_text, stanza_summary};
 ghost use Rattle.agefile.specs.Sizes.{IsFront};
 ghost use Rattle.agefile.specs.Codes.{out_of_memory};
 ghost use Rattle.agefile.specs.Report.{Returns};

@@ -1,7 +1,8 @@
 //! A part of a payload: some of its chunks, without the last, for another thread to open or seal.
 
 ghost use Rattle.std.specs.Prelude.{◌≡◌, ◌<◌};
-ghost use Rattle.agefile.specs.Part.{OpensNext, SealsNext, TakesPart, closed_part, may_take, payload_of, with_payload};
+ghost use Rattle.agefile.specs.Part.{OpensNext, SealsNext, TakesPart, closed_part, may_take};
+ghost use Rattle.agefile.specs.Part.{payload_of, with_payload};
 
 use crate::code::{OK, OUT_OF_ORDER};
 use crate::payload::{Payload, agefile_open_next, agefile_seal_next};

@@ -2,7 +2,8 @@
 
 ghost use Rattle.std.specs.Prelude.{◌≡◌, ◌+◌, ◌^◌, ◌<◌};
 ghost use Rattle.agefile.specs.Codes.{ok};
-ghost use Rattle.agefile.specs.Payload.{OpensNext, SealsNext, after_chunk, before_first, closed_payload, may_open, may_seal};
+ghost use Rattle.agefile.specs.Payload.{OpensNext, SealsNext, after_chunk, before_first};
+ghost use Rattle.agefile.specs.Payload.{closed_payload, may_open, may_seal};
 
 use crate::chunk::{has_text, is_chunk_len, open_as, seal_as};
 use crate::code::{OK, OUT_OF_ORDER};

@@ -1,7 +1,8 @@
 //! Encrypting a whole plaintext for a text of stanzas.
 
 ghost use Rattle.std.specs.Prelude.{◌≡◌, ◌+◌, ◌*◌, ◌≤◌, ◌++◌};
-ghost use Rattle.agefile.specs.Words.{[], drop, length, min, nat_le, take, sealed_text, chunk_size, tag_size};
+ghost use Rattle.agefile.specs.Words.{[], drop, length, min, nat_le, take, sealed_text, chunk_size};
+ghost use Rattle.agefile.specs.Words.{tag_size};
 ghost use Rattle.std.specs.List.{concat};
 ghost use Rattle.age_stream.specs.Payload.{chunk_nonce, chunks, payload, sealed_chunks_from};
 ghost use Rattle.agefile.specs.WholeFiles.{Encrypts};

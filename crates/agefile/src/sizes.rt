@@ -1,7 +1,8 @@
 //! Sufficient sizes of buffers.
 
 ghost use Rattle.std.specs.Prelude.{◌≡◌, ◌-◌, ◌^◌, ◌<◌, ◌≤◌, ◌++◌};
-ghost use Rattle.agefile.specs.Words.{ℕ, length, min, Bytes, IsStanza, FileKey, payload, Reading, nonce_size, Fault, Answering, IsVerdict};
+ghost use Rattle.agefile.specs.Words.{ℕ, length, min, Bytes, IsStanza, FileKey, payload, Reading};
+ghost use Rattle.agefile.specs.Words.{nonce_size, Fault, Answering, IsVerdict};
 ghost use Rattle.age_recipient.specs.Key.{file_key_size};
 ghost use Rattle.age_recipient.specs.KeyedStanza.{keyed_stanza};
 ghost use Rattle.age_recipient.specs.PassphraseHolders.{WorkFits};
