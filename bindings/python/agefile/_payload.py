@@ -9,7 +9,7 @@ import io
 import operator
 import os
 from collections.abc import Iterator
-from typing import Any, BinaryIO
+from typing import Any, BinaryIO, NamedTuple
 
 from . import _library as lib
 from ._errors import AgeError, Code
@@ -104,13 +104,8 @@ class Chunk:
         self.base = ctypes.addressof(ctypes.c_char.from_buffer(self.room))
 
 
-class _Step:
-    """The processing of a chunk: its length before and after, and the library's functions."""
-
-    def __init__(self, take: int, give: int, one: str, of_part: str) -> None:
-        self.take, self.give, self.one, self.of_part = take, give, one, of_part
-
-
+# The processing of a chunk: its length before and after, and the library's functions.
+_Step = NamedTuple("_Step", [("take", int), ("give", int), ("one", str), ("of_part", str)])
 OPENING = _Step(lib.SEALED_CHUNK, lib.TEXT_CHUNK, "open_next", "part_open_next")
 SEALING = _Step(lib.TEXT_CHUNK, lib.SEALED_CHUNK, "seal_next", "part_seal_next")
 
@@ -156,10 +151,6 @@ class _Batch:
                 return index, error
         return PART, None
 
-    def pieces(self, count: int) -> Iterator[memoryview]:
-        for at in range(0, count * lib.SEALED_CHUNK, lib.SEALED_CHUNK):
-            yield self.room.view[at : at + self.step.give]
-
 
 def _read_batch(step: _Step, source: BinaryIO, room: Chunk) -> int:
     """Reads the chunks of a batch, each to its place. Returns the number of bytes."""
@@ -184,14 +175,12 @@ def run(step: _Step, payload: lib.Payload, source: BinaryIO, sink: Any, threads:
     def finish_first() -> int:
         batch, future = waiting.popleft()
         count, error = future.result()
-        written = 0
-        for piece in batch.pieces(count):
-            write_all(sink, piece)
-            written += len(piece)
+        for at in range(0, count * lib.SEALED_CHUNK, lib.SEALED_CHUNK):
+            write_all(sink, batch.room.view[at : at + step.give])
         spare.append(batch.room)
         if error is not None:
             raise error
-        return written
+        return int(count) * step.give
 
     with concurrent.futures.ThreadPoolExecutor(threads) as pool:
         try:

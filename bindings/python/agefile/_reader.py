@@ -79,7 +79,7 @@ class _Chunks:
 
     @staticmethod
     def unlocked(source: _Source, identities: Identities) -> lib.Ranges:
-        """Unlocks a source. Reads only its header and nonce."""
+        """Unlocks a source. Reads only its beginning."""
         front, ranges = Front(source), lib.Ranges()
         _, file_key = front.unlock(identities)
         text = bytes(front.bytes)

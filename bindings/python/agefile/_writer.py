@@ -89,7 +89,7 @@ class _Sealer(io.RawIOBase):
 
     def _check_ours(self) -> None:
         if not self.writable() or not self.is_parent():
-            raise OSError("only the process that opened this file writes it")
+            _refuse()
 
     def _check_usable(self) -> None:
         self._check_ours()
@@ -362,13 +362,14 @@ def caller() -> tuple[str, int]:
 _writers: weakref.WeakSet[Writer] = weakref.WeakSet()
 
 
-def _refuse_in_child() -> None:
-    def write(data: Any, /) -> int:
-        raise OSError("only the process that opened this file writes it")
+def _refuse(*_: Any) -> Any:
+    raise OSError("only the process that opened this file writes it")
 
+
+def _refuse_in_child() -> None:
     for writer in list(_writers):
         # The buffer would take a few bytes, and lose them.
-        writer._write = write
+        writer._write = _refuse
 
 
 os.register_at_fork(after_in_child=_refuse_in_child)

@@ -21,6 +21,7 @@ from __future__ import annotations
 
 import contextlib
 import errno
+import functools
 import io
 import os
 import shutil
@@ -55,10 +56,6 @@ def _refuse_unknown(options: dict[str, Any], known: str) -> None:
 
 # How a file that does not exist is reported.
 _ABSENT = FileNotFoundError, NotADirectoryError, IsADirectoryError
-
-# What is done by the file system below; `du` is the size of the files, encrypted.
-_BELOW = "mkdir makedirs rmdir rm rm_file created modified exists isfile isdir du ukey".split()
-
 
 def _below(name: str) -> Any:
     def method(self: AgeFileSystem, path: Any, *arguments: Any, **options: Any) -> Any:
@@ -176,8 +173,10 @@ class AgeFileSystem(AbstractFileSystem):  # type: ignore[misc]
         files = [{**each, "size": None} if each["type"] == "file" else each for each in found]
         return files if detail else [each["name"] for each in files]
 
-    mkdir, makedirs, rmdir, rm, rm_file, created = map(_below, _BELOW[:6])
-    modified, exists, isfile, isdir, du, ukey = map(_below, _BELOW[6:])
+    # `du` is the size of the files, encrypted.
+    mkdir, makedirs, rmdir, rm, rm_file = map(_below, "mkdir makedirs rmdir rm rm_file".split())
+    created, modified, exists, isfile = map(_below, "created modified exists isfile".split())
+    isdir, du, ukey = map(_below, "isdir du ukey".split())
 
     def cp_file(self, path1: str, path2: str, **options: Any) -> None:
         self.fs.cp_file(self._strip_protocol(path1), self._strip_protocol(path2), **options)
@@ -256,9 +255,9 @@ class AgeFileSystem(AbstractFileSystem):  # type: ignore[misc]
             self.fs.invalidate_cache(name)
 
     def __reduce__(self) -> tuple[Any, ...]:
-        words = {"identities": self._identities, "recipients": self._recipients}
-        more = {"fo": self._target, "atomic": self._atomic}
-        return _restore, (self.fs, {**words, **more}, self._keys, self._token)
+        words = {"fs": self.fs, "identities": self._identities, "recipients": self._recipients}
+        make = functools.partial(AgeFileSystem, fo=self._target, atomic=self._atomic, **words)
+        return make, (), {"_keys": self._keys, "_token": self._token}
 
 
 class _Opener:
@@ -328,13 +327,6 @@ def mount(system: AgeFileSystem, folder: str, where: str) -> None:
                 raise OSError(errno.EIO, str(error)) from error
 
     fuse.FUSE(Operations(system, folder), where, foreground=True, nothreads=True, ro=True)
-
-
-def _restore(fs: Any, words: Any, keys: dict[str, tuple[str, bytes]], token: str) -> AgeFileSystem:
-    found = AgeFileSystem(fs=fs, **words)
-    found._keys.update(keys)
-    found._token = token
-    return found
 
 
 _getitems = FSMap.getitems

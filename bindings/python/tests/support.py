@@ -1,9 +1,12 @@
 """Shared by the tests of the package: a key, texts, damage, threads, and the messages of agep."""
 
+import collections
 import concurrent.futures
+import errno
 import functools
 import io
 import os
+import re
 import sys
 import tempfile
 import threading
@@ -16,10 +19,6 @@ ROOT = os.path.join(os.path.dirname(os.path.abspath(__file__)), "../../..")
 sys.path.append(os.path.join(ROOT, "tests"))
 from messages import message, pattern
 
-__all__ = [
-    "AGEP", "KEY", "ROOT", "SEALED", "TEXT", "InFolder", "broken", "copied", "damaged", "error_of", "fault_of", "in_child", "in_threads", "in_time", "message", "pattern", "text",
-]
-
 AGEP = os.path.join(ROOT, "crates/agep/out/agep")
 KEY = Key(bytes(range(32)))
 TEXT, SEALED = 65536, 65552
@@ -28,6 +27,15 @@ TEXT, SEALED = 65536, 65552
 @functools.lru_cache
 def text(length):
     return bytes(i * 7 + i // 251 & 255 for i in range(length))
+
+
+def program(number, **places):
+    """The program of this number in the package's README.md, with other folders than its own."""
+    with open(os.path.join(ROOT, "bindings/python/README.md"), encoding="utf-8") as page:
+        found = re.findall(r"^```python\n(.*?)^```$", page.read(), re.MULTILINE | re.DOTALL)[number - 1]
+    for name, place in places.items():
+        found = found.replace(f"/{name}", place)
+    return found
 
 
 def damaged(file, *chunks):
@@ -101,6 +109,70 @@ def fault_of(call, kind=AgeError):
     """The code and the place of this error."""
     error = error_of(call, kind)
     return error.code, error.place
+
+
+class Device(io.RawIOBase):
+    """A file in memory. Its call of this kind and number fails, or each from this one on: it raises an exception, or
+    returns what a function makes of the number of bytes asked for. Bad blocks of 512 bytes, given by number, cannot be
+    read: a read ends before one and fails in it, or fails as soon as it reaches one."""
+
+    def __init__(self, data=b"", kind="", number=0, failure=None, once=True, most=40000, bad=(), ends_before=True, can_seek=True):
+        self.below, self.most, self.fault, self.once = io.BytesIO(data), most, (kind, failure), once
+        self.first, self.is_closing = number, False
+        self.bad, self.ends_before, self.seekable = set(bad), ends_before, lambda: can_seek
+        # How many calls of each kind were made, and the file's offset at those that failed.
+        self.calls, self.failed = collections.Counter(), []
+
+    def fails(self, kind):
+        number, self.calls[kind] = self.calls[kind], self.calls[kind] + 1
+        if kind != self.fault[0] or not (number == self.first if self.once else number >= self.first):
+            return False
+        self.failed.append(self.below.tell())
+        if isinstance(self.fault[1], BaseException):
+            raise self.fault[1]
+        return True
+
+    def readinto(self, room):
+        if self.fails("read"):
+            return self.fault[1](len(room))
+        at = self.below.tell()
+        reached = at + (1 if self.ends_before else len(room))
+        if any(at // 512 <= block and 512 * block < reached for block in self.bad):
+            self.failed.append(at)
+            raise OSError(errno.EIO, "Input/output error")
+        ends = [512 * block - at for block in self.bad if 512 * block > at]
+        return self.below.readinto(memoryview(room)[: min([self.most, *ends])])
+
+    def write(self, data):
+        if self.fails("write"):
+            return self.fault[1](len(data))
+        return self.below.write(bytes(data[: self.most]))
+
+    def seek(self, at, whence=0):
+        if self.fails("seek") or not self.seekable():
+            raise io.UnsupportedOperation("seek")
+        return self.below.seek(at, whence)
+
+    def tell(self):
+        return self.below.tell()
+
+    def flush(self):
+        if not self.is_closing:
+            self.fails("flush")
+
+    def close(self):
+        self.is_closing = True
+        super().close()
+
+    def readable(self):
+        return True
+
+    writable = readable
+
+    def __str__(self):
+        kind, failure = self.fault
+        said = repr(failure) if isinstance(failure, BaseException) else f"{failure(1)!r} of 1"
+        return f"{kind} {self.first}{'' if self.once else ' and all later'}: {said}"
 
 
 class InFolder(unittest.TestCase):

@@ -1,5 +1,6 @@
 """AgeError: its base classes, its hints compared with the second line of `agep -v`, its pickles."""
 
+import copy
 import io
 import json
 import os
@@ -43,10 +44,11 @@ class Kinds(InFolder):
                     self.assertNotIn(b"agefile._", pickled.replace(b"agefile._reopen", b""))
                     pickle.loads(pickled)
 
-    def test_pickles_keep_the_hint(self):
-        for error in (AgeError(13, 4, 0, "a.age", "why"), AgeError(9), agefile.AgeMemoryError(17), agefile.AgeChangedError(13, 2)):
-            other = pickle.loads(pickle.dumps(error))
-            self.assertEqual((repr(other), other.hint, vars(other)), (f"{type(error).__name__}({str(error)!r})", error.hint, vars(error)))
+    def test_pickles_and_copies_keep_all(self):
+        for error in (AgeError(13, 4, 0, "a.age", "why"), AgeError(8, 0, 4), AgeError.of(17), agefile.AgeChangedError(13, 2)):
+            self.assertEqual(isinstance(error, MemoryError), error.code == 17)
+            for other in (pickle.loads(pickle.dumps(error)), copy.copy(error), copy.deepcopy(error)):
+                self.assertEqual((repr(other), vars(other)), (f"{type(error).__name__}({str(error)!r})", vars(error)))
         self.assertEqual(getattr(AgeError(13, hint="why"), "__notes__", ["why"]), ["why"])
 
     def test_made_from_a_text(self):

@@ -58,38 +58,6 @@ class Reading(InFolder):
             file.seek(10)
             self.assertEqual(file.seek(5, os.SEEK_CUR), 15)
 
-    def test_like_a_file_that_is_not_encrypted(self):
-        """Random calls, short and long ones in turn, return the same as over the plaintext."""
-        plain = b"".join(b"%d\n" % number for number in range(60000))
-        choose = random.Random(1)
-        with agefile.open(self.made(plain), identities=KEY) as file:
-            other = io.BytesIO(plain)
-            for number in range(2000):
-                size = choose.choice((0, 1, 7, 8192, 65535, 65536, 65537, 140000, -1, None))
-                kind = choose.choice(("read", "readline", "readinto", "seek", "seek", "peek", "read1", "readinto1", "next"))
-                with self.subTest(f"call {number}: {kind} {size}"):
-                    self.same_call(file, other, kind, size, choose.randrange(len(plain) + 9))
-                    self.assertEqual(file.tell(), other.tell())
-
-    def same_call(self, file, other, kind, size, at):
-        if kind == "next":
-            self.assertEqual(next(file, None), next(other, None))
-        elif kind == "seek":
-            self.assertEqual(file.seek(at), other.seek(at))
-        elif kind == "readinto":
-            rooms = bytearray(size or 0 if size != -1 else 70000), bytearray(size or 0 if size != -1 else 70000)
-            self.assertEqual((file.readinto(rooms[0]), rooms[0]), (other.readinto(rooms[1]), rooms[1]))
-        elif kind in ("read", "readline"):
-            self.assertEqual(getattr(file, kind)(size), getattr(other, kind)(size))
-        else:
-            # These may choose how much they return.
-            room = bytearray(1000)
-            found = {"peek": file.peek, "read1": file.read1, "readinto1": lambda: room[: file.readinto1(room)]}[kind]()
-            rest = other.read(len(found) or 1)
-            self.assertEqual(found, rest)
-            if kind == "peek":
-                other.seek(-len(found), os.SEEK_CUR)
-
     def test_lines(self):
         rows = [[str(number), "ä" * (number % 70)] for number in range(5000)]
         with agefile.open("t.age", "w", recipients=KEY, newline="") as file:

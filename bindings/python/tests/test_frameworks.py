@@ -33,7 +33,7 @@ def imported(name):
         return importlib.import_module(name)
 
 
-dask, joblib, numpy, pandas, xarray, zarr = map(imported, "dask joblib numpy pandas xarray zarr".split())
+dask, joblib, numpy, pandas, torch, xarray, zarr = map(imported, "dask joblib numpy pandas torch xarray zarr".split())
 
 
 class Place:
@@ -173,11 +173,14 @@ ROWS = dict((
     ("dask.dataframe read_json", (lines, lambda at: dask.dataframe.read_json(at.url(), blocksize=100000, **at.options), value_of)),
     ("joblib+numpy load", (lambda at, seed: joblib.dump(numbers(seed), at.path(), compress=seed == 1), Place.file, lambda file: joblib.load(file))),
     ("joblib+numpy Memory", (Place.remember, None, Place.remember)),
+    ("torch load", (lambda at, seed: torch.save(torch.arange(20000 * seed), at.path()), Place.file, lambda file: torch.load(file).tolist())),
+    ("torch+numpy DataLoader", (lambda at, seed: at.put({"a": numbers(seed)[: 10000 * seed].tobytes()}), lambda at: (at, range(0, at.system.size(at.path()), 80000)),
+        lambda found: [*torch.utils.data.DataLoader(found[1], collate_fn=lambda starts: found[0].system.cat_file(found[0].path(), starts[0], starts[0] + 80000))])),
 ))
 # A cache computes again what it cannot load, and logs why.
 COMPUTES = ("joblib+numpy Memory",)
-# Dask reads the bytes that the file had when its blocks were made, of a plain file too.
-KEEPS_LENGTHS = ("pandas+dask.bag read_text in blocks", "dask.dataframe read_csv", "dask.dataframe read_json")
+# They read as many bytes as the file had when its blocks were made, of a plain file too.
+KEEPS_LENGTHS = ("pandas+dask.bag read_text in blocks", "dask.dataframe read_csv", "dask.dataframe read_json", "torch+numpy DataLoader")
 
 
 def states(file):

@@ -31,7 +31,7 @@ except ImportError:
     pandas = None
 
 from agefile import AgeError, Code, Key, Passphrase, Stanza
-from support import KEY, TEXT, InFolder, broken, damaged, error_of, in_time, message, text
+from support import KEY, TEXT, InFolder, broken, damaged, error_of, in_time, message, program, text
 
 
 class Counted:
@@ -375,8 +375,8 @@ try:
 except ImportError:
     import fusepy
     sys.modules["fuse"] = fusepy
-import agefile.fsspec
-agefile.fsspec.mount(agefile.fsspec.AgeFileSystem(identities=agefile.Key(bytes(range(32)))), *sys.argv[1:])
+import agefile
+secret = agefile.Key(bytes(range(32)))
 """
 
 
@@ -388,12 +388,12 @@ def can_mount():
 @unittest.skipUnless(can_mount(), "fusepy, /dev/fuse or the right to mount is missing")
 class Mounts(InSystem):
     def test_a_mount(self):
-        """Any program can read the plaintexts, and fails where a chunk is damaged."""
+        """By the lines of README.md, any program can read the plaintexts, and fails where a chunk is damaged."""
         plain = text(300000)
         os.mkdir("files"), os.mkdir("mount")
         self.new("files/whole", plain, KEY), self.put(damaged(self.got("files/whole"), 2), "files/bad")
         self.put(self.got("files/whole")[:-1], "files/cut")
-        words = [sys.executable, "-c", MOUNT, "files", "mount"]
+        words = [sys.executable, "-c", MOUNT + program(4, **{"mnt/data": "mount", "data": "files"})]
         mount = subprocess.Popen(words, stderr=subprocess.DEVNULL)
         self.addCleanup(mount.wait), self.addCleanup(mount.kill)
         self.addCleanup(subprocess.run, ["umount", "-l", self.path("mount")], capture_output=True)
@@ -643,9 +643,21 @@ class Writes(InSystem):
             self.assertEqual(self.system.open(path, **words).read(), b"old")
         for words in ({"asynchronous": False}, {"loop": None}, {"batch_size": 5}, {"max_paths": 5}, {"listings_expiry_time": 5}, {"use_listings_cache": True}):
             self.assertEqual(fsspec.filesystem("age", identities=self.identity, **words).cat_file(path), b"old")
-        self.new("a.age", b"a\r\n\xff")
-        with self.system.open(path, "r", newline="", errors="replace") as file:
-            self.assertEqual(file.read(), "a\r\n\ufffd")
+
+    def test_words_of_text(self):
+        """They are those of Python's own files."""
+        path = self.path("a.age")
+        for words in {"newline": "\r\n"}, {"newline": ""}, {"encoding": "utf-16"}, {"encoding": "ascii", "errors": "replace"}:
+            words = {"encoding": "utf-8", **words}
+            for system, name in ((self.system, path), (io, "plain")):
+                with system.open(name, "w", **words) as file:
+                    file.write("\u00fc\r\n\n")
+            self.assertEqual(self.system.cat_file(path), self.got("plain"))
+            found = []
+            for system, name in ((self.system, path), (io, "plain")):
+                with system.open(name, "r", **words) as file:
+                    found.append(file.read())
+            self.assertEqual(*found)
 
     @unittest.skipIf(pandas is None, "pandas is missing")
     def test_pandas(self):
@@ -672,6 +684,14 @@ class Writes(InSystem):
         for atomic in (False, True):
             table.to_csv("age://" + path, index=False, storage_options={**words, "atomic": atomic})
             self.assertTrue(pandas.read_csv("age://" + path, storage_options=words).equals(table))
+
+    @unittest.skipIf(pandas is None, "pandas is missing")
+    def test_the_page(self):
+        """By the lines of README.md, a table is written with the secrets of fsspec's configuration."""
+        table = pandas.DataFrame({"a": range(1000)})
+        self.addCleanup(fsspec.config.conf.pop, "age")
+        exec(program(3, data=self.folder), {"fsspec": fsspec, "secret": KEY, "table": table})
+        self.assertTrue(pandas.read_csv("age://" + self.path("table.csv.age"), index_col=0).equals(table))
 
     def test_a_pickled_system(self):
         """A worker writes for the same recipients, and replaces as its sender would."""

@@ -1,17 +1,16 @@
 """salvage: small files of every kind compared with a model, failing reads, and its arguments. What
 is saved after a failed read follows by arithmetic."""
 
-import errno
 import io
-import itertools
 import os
 import pickle
 import threading
+import types
 import unittest
 
 import agefile
 from agefile import AgeError, Code, Key, LostChunks
-from support import KEY, SEALED, TEXT, InFolder, damaged, error_of, in_time, text
+from support import KEY, SEALED, TEXT, Device, InFolder, damaged, error_of, in_time, text
 
 import fixture
 import test_salvage
@@ -60,42 +59,6 @@ class Model(test_salvage.Payloads):
             self.assertEqual((facts[1], out.getvalue()), (facts[0], b""))
 
 
-class Disk(io.RawIOBase):
-    """A file with bad blocks of 512 bytes, given by number. A read ends before a bad block and
-    fails in it, or fails as soon as it reaches one."""
-
-    def __init__(self, data, bad, can_seek=True, ends_before=True):
-        self.data, self.bad, self.at, self.failed = data, set(bad), 0, 0
-        self.can_seek, self.ends_before = can_seek, ends_before
-
-    def readable(self):
-        return True
-
-    def seekable(self):
-        return self.can_seek
-
-    def seek(self, at, whence=0):
-        if not self.can_seek:
-            raise io.UnsupportedOperation("seek")
-        self.at = at + (len(self.data) if whence == 2 else self.at if whence == 1 else 0)
-        return self.at
-
-    def tell(self):
-        return self.seek(0, 1)
-
-    def readinto(self, room):
-        reached = self.at + (1 if self.ends_before else len(room))
-        if any(self.at // 512 <= block and 512 * block < reached for block in self.bad):
-            self.failed += 1
-            raise OSError(errno.EIO, "Input/output error")
-        end = min(self.at + len(room), len(self.data))
-        end = min([end, *(512 * block for block in self.bad if 512 * block > self.at)])
-        piece = self.data[self.at : end]
-        room[: len(piece)] = piece
-        self.at += len(piece)
-        return len(piece)
-
-
 class FailedReads(unittest.TestCase):
     def setUp(self):
         self.plain = text(4 * TEXT + 1000)
@@ -121,16 +84,16 @@ class FailedReads(unittest.TestCase):
         blocks = range(-(-FRONT // 512), -(-len(self.file) // 512))
         for block in [*blocks[:3], *blocks[::37], *(len(self.file) // 512 - 1, len(self.file) // 512)]:
             first, last = ((at - FRONT) // SEALED for at in (512 * block, min(512 * block + 511, len(self.file) - 1)))
-            disks = [Disk(self.file, [block]), Disk(self.file, [block])]
+            disks = [Device(self.file, bad=[block]), Device(self.file, bad=[block])]
             sources = [disks[0], io.BufferedReader(disks[1])]
             if 512 * block > 4096:
-                disks.append(Disk(self.file, [block], ends_before=False))
+                disks.append(Device(self.file, bad=[block], ends_before=False, most=len(self.file)))
             for kind, disk, source in zip(("ends before", "buffered", "fails"), disks, sources + disks[2:]):
                 with self.subTest(block=block, kind=kind):
                     chunks = range(first, last + 1)
                     self.assert_lost(source, chunks, (chunks, True))
                     # The end of the file may also be on it.
-                    self.assertLessEqual(disk.failed, len(chunks) + 1)
+                    self.assertLessEqual(len(disk.failed), len(chunks) + 1)
 
     def test_many_bad_blocks(self):
         """Several in one chunk, in adjacent and in separate chunks, all from some block on, and all
@@ -149,72 +112,25 @@ class FailedReads(unittest.TestCase):
         ):
             with self.subTest(name):
                 rows = [(run, True) for run in runs(chunks)]
-                in_time(lambda: self.assert_lost(Disk(self.file, bad), chunks, *rows))
+                in_time(lambda: self.assert_lost(Device(self.file, bad=bad), chunks, *rows))
 
     def test_damage_beside_it(self):
         """Damaged chunks and chunks that could not be read are different runs."""
-        disk = Disk(damaged(self.file, 1, 2), [(FRONT + 3 * SEALED) // 512 + 9])
+        disk = Device(damaged(self.file, 1, 2), bad=[(FRONT + 3 * SEALED) // 512 + 9])
         self.assert_lost(disk, [1, 2, 3], (range(1, 3), False), (range(3, 4), True))
 
     def test_position(self):
         """A file object is read from its position on."""
         before = bytes(1000)
-        disk = Disk(before + self.file, [(1000 + FRONT + SEALED) // 512 + 9])
+        disk = Device(before + self.file, bad=[(1000 + FRONT + SEALED) // 512 + 9])
         disk.seek(1000)
         self.assert_lost(disk, [1], (range(1, 2), True))
-
-    def test_one_failure(self):
-        """Each read fails once in turn: in the header this is an error, at the end it does not
-        matter, and elsewhere a chunk is lost."""
-        for number in itertools.count():
-            disk, calls = Disk(self.file, []), itertools.count()
-            read = disk.readinto
-
-            def failing(room, calls=calls, read=read, number=number):
-                if next(calls) == number:
-                    raise OSError(errno.EIO, "failed")
-                return read(room)
-
-            disk.readinto = failing
-            with self.subTest(number):
-                if number == 0:
-                    self.assertRaisesRegex(OSError, "failed", saved, disk)
-                    continue
-                found, report = saved(disk)
-                self.assertEqual(len(found), len(self.plain))
-                self.assertTrue(found == self.without(*(lost.chunks[0] for lost in report.lost)))
-                self.assertEqual([(len(lost.chunks), lost.unread) for lost in report.lost], [] if report.whole else [(1, True)])
-                if report.whole:
-                    break
-        self.assertGreater(number, 5)
-
-    def test_not_of_the_disk(self):
-        """A read that would block, or was interrupted, costs no chunk: it is the error."""
-        for kind in (BlockingIOError, InterruptedError):
-            disk = Disk(self.file, [])
-            read = disk.readinto
-
-            def failing(room, disk=disk, read=read, kind=kind):
-                if disk.at > TEXT:
-                    raise kind(errno.EINTR, "not of the disk")
-                return read(room)
-
-            disk.readinto = failing
-            self.assertRaisesRegex(kind, "not of the disk", saved, disk)
-
-    def test_header(self):
-        """A read that fails in the header is an error."""
-        for block in (0, FRONT // 512):
-            out = io.BytesIO()
-            with self.subTest(block), self.assertRaises(OSError):
-                agefile.salvage(Disk(self.file, [block]), out, identities=KEY)
-            self.assertEqual(out.getvalue(), b"")
 
     def test_no_seek(self):
         """With a source that cannot seek, salvaging ends there: the part before is written, and the
         error is raised."""
         bad = [(FRONT + 2 * SEALED) // 512 + 9]
-        for disk in (Disk(self.file, bad, can_seek=False), ReadOnly(Disk(self.file, bad, can_seek=False))):
+        for disk in (Device(self.file, bad=bad, can_seek=False), types.SimpleNamespace(read=Device(self.file, bad=bad).read)):
             out = io.BytesIO()
             self.assertRaisesRegex(OSError, "Input/output error", agefile.salvage, disk, out, identities=KEY)
             self.assertTrue(out.getvalue() == self.plain[: 2 * TEXT])
@@ -222,16 +138,10 @@ class FailedReads(unittest.TestCase):
     def test_no_end(self):
         """If the file ends before the failed read, as files without a known length do, the error is
         raised."""
-        disk = Disk(self.file, [(FRONT + 2 * SEALED) // 512 + 9])
-        seek, disk.seek = disk.seek, lambda at, whence=0: disk.at if whence == 1 else seek(at) if whence == 0 else FRONT
+        disk = Device(self.file, bad=[(FRONT + 2 * SEALED) // 512 + 9])
+        seek = disk.seek
+        disk.seek = lambda at, whence=0: FRONT if whence == os.SEEK_END else seek(at, whence)
         self.assertRaisesRegex(OSError, "Input/output error", saved, disk)
-
-
-class ReadOnly:
-    """A source that has only `read`."""
-
-    def __init__(self, file):
-        self.read = file.read
 
 
 class Arguments(InFolder):
@@ -269,7 +179,7 @@ class Arguments(InFolder):
             self.put(b"old", "out")
             error = error_of(lambda: agefile.salvage(name, "out", **words))
             self.assertEqual((error.code, error.filename, self.got("out")), (Code.WRONG_KEY, name, b"old"))
-        disk = Disk(self.got(name), [(FRONT + SEALED) // 512 + 9], can_seek=False)
+        disk = Device(self.got(name), bad=[(FRONT + SEALED) // 512 + 9], can_seek=False)
         self.assertRaises(OSError, agefile.salvage, disk, "out", identities=KEY, atomic=True)
         self.assertEqual((self.got("out"), sorted(os.listdir())), (b"old", ["a.age", "out"]))
         self.assertTrue(agefile.salvage(name, "out", identities=KEY, atomic=True).whole)
@@ -284,7 +194,7 @@ class Arguments(InFolder):
         agefile.salvage(name, io.BytesIO(), identities=KEY, progress=lambda *numbers: told.append(numbers))
         self.assertEqual((told[-1], sorted(told)), ((size, size), told))
         told.clear()
-        disk = Disk(self.got(name), [(FRONT + SEALED) // 512 + 9])
+        disk = Device(self.got(name), bad=[(FRONT + SEALED) // 512 + 9])
         agefile.salvage(disk, io.BytesIO(), identities=KEY, progress=lambda *numbers: told.append(numbers))
         self.assertEqual(told[-1], (size, None))
 

@@ -2,12 +2,10 @@
 
 import array
 import contextlib
-import copy
 import functools
 import io
 import itertools
 import mmap
-import multiprocessing
 import os
 import pickle
 import pydoc
@@ -195,7 +193,8 @@ class Wrong(unittest.TestCase):
         self.assertRaises(TypeError, agefile.encrypt, b"", KEY)
         self.assertRaises(TypeError, agefile.encrypt, b"", recipients=[5])
         self.assertRaises(TypeError, agefile.copy, io.BytesIO(), io.BytesIO())
-        self.assertRaises(ValueError, Key, bytes(31))
+        for length in (0, 16, 31, 33, 64):
+            self.assertRaises(ValueError, Key, bytes(length))
         self.assertRaises(ValueError, agefile.copy, io.BytesIO(), io.BytesIO(), recipients=KEY, threads=0)
         for work in (0, 31):
             self.assertRaises(AgeError, Passphrase, "x", work=work)
@@ -228,13 +227,6 @@ class Wrong(unittest.TestCase):
         file = fixture.for_passphrase(b"hello\n", b"", 1)
         self.assertEqual(agefile.decrypt(file, identities=empty), b"hello\n")
         self.assertEqual(agefile.rewrap(file, identities=empty, recipients=KEY)[-22:], file[-22:])
-
-    def test_errors_are_pickled_and_copied(self):
-        for error in (AgeError(13, 7, 0, "a.age", "a hint"), AgeError(8, 0, 4), agefile.AgeMemoryError(17), agefile.AgeChangedError(11, 3)):
-            for other in (pickle.loads(pickle.dumps(error)), copy.copy(error), copy.deepcopy(error)):
-                self.assertEqual((type(other), str(other), other.code), (type(error), str(error), error.code))
-                self.assertEqual((other.place, other.detail, other.filename, other.hint), (error.place, error.detail, error.filename, error.hint))
-        self.assertIsInstance(AgeError.of(17), MemoryError)
 
     def test_help(self):
         """The example in the package's help is shown as it must be typed."""
@@ -336,53 +328,16 @@ class Devices(unittest.TestCase):
 
     PLAIN = text(200000)
 
-    def copy_to(self, sink, threads=1):
-        return in_time(lambda: agefile.copy(io.BytesIO(self.PLAIN), sink, recipients=KEY, threads=threads))
-
-    def write_to(self, sink):
-        def work():
-            with agefile.open(sink, "wb", recipients=KEY) as file:
-                return file.write(self.PLAIN)
-
-        return in_time(work)
-
-    def test_sinks(self):
-        """The result of `write` is believed, and an impossible result is an OSError."""
-        for name, returned, error in (
-            ("all", len, None),
-            ("a part", lambda data: max(len(data) // 2, 1), None),
-            ("one byte", lambda data: 1 if len(data) < 200 else len(data) - 100, None),
-            ("None of an object", lambda data: None, None),
-            ("nothing", lambda data: 0, OSError),
-            ("too much", lambda data: len(data) + 1, OSError),
-            ("less than nothing", lambda data: -1, OSError),
-            ("a word", lambda data: "all", TypeError),
-        ):
-            class Sink:
-                taken = b""
-
-                def write(self, data):
-                    found = returned(data)
-                    self.taken += data[:found] if isinstance(found, int) else data
-                    return found
-
-            for work in (self.copy_to, lambda sink: self.copy_to(sink, 2), self.write_to):
-                with self.subTest(name):
-                    found = work(sink := Sink())
-                    if error is None:
-                        self.assertEqual(found, len(self.PLAIN))
-                        self.assertEqual(agefile.decrypt(sink.taken, identities=KEY) == self.PLAIN, True)
-                    else:
-                        self.assertIsInstance(found, error)
-
     def test_a_source_that_returns_too_much(self):
         """Nothing of it is dropped in silence."""
-        class Source:
-            def read(self, size):
-                return text(100000)
-
-        error = in_time(lambda: agefile.copy(Source(), io.BytesIO(), recipients=KEY))
+        error = in_time(lambda: agefile.copy(types.SimpleNamespace(read=lambda size: text(100000)), io.BytesIO(), recipients=KEY))
         self.assertEqual(str(error), "the read returned 100000, not 0 to 65536")
+
+    def test_a_sink_that_returns_nothing(self):
+        """An object that is no raw file takes all."""
+        taken = []
+        agefile.copy(io.BytesIO(self.PLAIN), types.SimpleNamespace(write=lambda data: taken.append(bytes(data))), recipients=KEY)
+        self.assertEqual(agefile.decrypt(b"".join(taken), identities=KEY) == self.PLAIN, True)
 
     def test_a_sink_of_short_writes_on_threads(self):
         """For each chunk of several batches, and the count is the sum."""
@@ -475,46 +430,6 @@ class Devices(unittest.TestCase):
             agefile.copy(open(os.devnull, "rb"), sink := Sink(), recipients=KEY)
             self.assertEqual(agefile.decrypt(sink.getvalue(), identities=KEY), b"")
 
-    def test_a_raw_sink_that_would_block(self):
-        class Sink(io.RawIOBase):
-            def write(self, data):
-                return None
-
-        for work in (self.copy_to, lambda sink: self.copy_to(sink, 2), self.write_to):
-            self.assertIsInstance(work(Sink()), BlockingIOError)
-
-    def test_sources(self):
-        file = agefile.encrypt(self.PLAIN, recipients=KEY)
-        for name, given, error in (
-            ("one byte", lambda source, room: source.readinto(room[:1]), None),
-            ("pieces", lambda source, room: source.readinto(room[:1000]), None),
-            ("less than nothing", lambda source, room: -1, Exception),
-            ("too much", lambda source, room: len(room) + 1, Exception),
-            ("it would block", lambda source, room: None, BlockingIOError),
-        ):
-            class Source(io.RawIOBase):
-                def __init__(self, data):
-                    self.below = io.BytesIO(data)
-
-                def readable(self):
-                    return True
-
-                def readinto(self, room):
-                    return given(self.below, memoryview(room))
-
-            for threads in (1, 2):
-                with self.subTest(f"{name}, {threads} threads"):
-                    sealed, opened = io.BytesIO(), io.BytesIO()
-                    found = in_time(lambda: agefile.copy(Source(self.PLAIN), sealed, recipients=KEY, threads=threads))
-                    other = in_time(lambda: agefile.copy(Source(file), opened, identities=KEY, threads=threads))
-                    if error is None:
-                        self.assertEqual((found, other), (len(self.PLAIN), len(self.PLAIN)))
-                        self.assertEqual(agefile.decrypt(sealed.getvalue(), identities=KEY) == self.PLAIN, True)
-                        self.assertEqual(opened.getvalue() == self.PLAIN, True)
-                    else:
-                        self.assertIsInstance(found, error)
-                        self.assertIsInstance(other, error)
-
     def test_a_pipe_that_would_block(self):
         """It has not ended, so no part of it is taken for the whole."""
         file = agefile.encrypt(self.PLAIN, recipients=KEY)
@@ -562,6 +477,8 @@ class Devices(unittest.TestCase):
     def test_a_great_header_by_single_bytes(self):
         """Its last byte decides, and that takes seconds and not minutes."""
         head = b"age-encryption.org/v1\n" + b"-> a\n\n" * 10911 + b"--- " + b"A" * 43 + b"\n"
+        found = agefile.inspect(head)
+        self.assertEqual((len(found.stanzas), found.length, found.mac), (10911, len(head), bytes(32)))
         began = time.process_time()
         error = self.opened_in_pieces(*(head[at : at + 1] for at in range(len(head))))
         self.assertEqual(error.code, Code.NO_MATCH)
@@ -656,11 +573,6 @@ class Processes(unittest.TestCase):
         done = subprocess.run([sys.executable, "-c", code], capture_output=True, text=True)
         self.assertEqual((done.stdout, done.stderr), (f"<Code.OUT_OF_MEMORY: 17> {message('OutOfMemory')}\n", ""))
 
-    def test_errors_of_workers(self):
-        with multiprocessing.get_context("fork").Pool(2) as pool:
-            waiting = pool.map_async(fails, range(4))
-            self.assertRaisesRegex(AgeError, pattern("NotAge"), waiting.get, timeout=20)
-
 
 # Prints by how many KiB a call raises the peak memory of its process. The call may use `key`, and
 # `name` and `data`: a file and its bytes.
@@ -730,18 +642,3 @@ class Costs(unittest.TestCase):
                 self.assertLess(self.peak_of(self.plain, code), 16)
         most = 4 * 2 * (os.cpu_count() or 1) + 16
         self.assertLess(self.peak_of(self.plain, "agefile.copy(open(name, 'rb'), open('/dev/null', 'wb'), recipients=key, threads=2000)"), most)
-
-    def test_a_great_header(self):
-        """The 10,911 stanzas of a header are listed in a tenth of a second."""
-        head = b"age-encryption.org/v1\n" + b"-> a\n\n" * 10911 + b"--- " + b"A" * 43 + b"\n"
-        times = []
-        for _ in range(5):
-            began = time.process_time()
-            found = agefile.inspect(head)
-            times.append(time.process_time() - began)
-        self.assertEqual((len(found.stanzas), found.length, found.mac), (10911, len(head), bytes(32)))
-        self.assertLess(min(times), 0.1)
-
-
-def fails(_):
-    return agefile.decrypt(b"hello", identities=KEY)

@@ -155,7 +155,8 @@ class Writing(InFolder):
             (AgeError, lambda: agefile.copy("bad.age", "old", identities=KEY)),
             (AgeError, lambda: agefile.copy("a.age", "old", recipients=[])),
             (FileNotFoundError, lambda: agefile.copy("absent", "old", recipients=KEY)),
-            (IsADirectoryError, lambda: agefile.copy(".", "old", recipients=KEY)),
+            # Its first read fails.
+            (OSError, lambda: agefile.copy("/proc/self/mem", "old", recipients=KEY)),
             (AgeError, lambda: agefile.rewrap_copy("a.age", "old", identities=Key(bytes(32)), recipients=KEY)),
             (AgeError, lambda: agefile.rewrap_copy("a.age", "old", identities=KEY, recipients=[])),
             (ValueError, lambda: agefile.copy("old", "old", recipients=KEY)),
@@ -440,9 +441,11 @@ class Writing(InFolder):
     def test_atomic_and_the_owner(self):
         self.put(b"old", "o.age")
         os.chown("o.age", 1234, 5678)
+        # A change of the owner takes these bits off, so the mode must follow it.
+        os.chmod("o.age", 0o6750)
         self.written(b"", "o.age", atomic=True)
         found = os.stat("o.age")
-        self.assertEqual((found.st_uid, found.st_gid), (1234, 5678))
+        self.assertEqual((found.st_uid, found.st_gid, found.st_mode & 0o7777), (1234, 5678, 0o6750))
         # As in a container that does not map the owner: the mode stays.
         for mode in (0o600, 0o664):
             os.chmod("o.age", mode)
@@ -571,6 +574,7 @@ class Writing(InFolder):
             noted.append(os.path.basename(os.readlink(f"/proc/self/fd/{descriptor}")))
 
         def note_replace(old, new):
+            self.assertEqual(self.read(old), b"text")
             replace(old, new)
             noted.append("replace")
 
@@ -611,14 +615,14 @@ class Writing(InFolder):
                 file.close()
                 self.assertEqual(os.listdir(), ["o.age"])
                 self.assertEqual(agefile.decrypt(self.got("o.age"), identities=KEY), b"old")
-        for kind, call in ((_Sealer, "_take"), (agefile.Writer, "write")):
-            file = agefile.open("o.age", "w", recipients=KEY)
-            file.write("secret")
-            error = type("Limit", (ValueError,), {})
-            with mock.patch.object(kind, call, side_effect=error):
-                self.assertRaises(error, file.write, "text" * 20000)
-            self.assertRaises(OSError, file.close)
-            self.assertEqual(agefile.decrypt(self.got("o.age"), identities=KEY), b"old")
+        for error in type("Limit", (ValueError,), {}), KeyboardInterrupt:
+            for kind, call in ((_Sealer, "_take"), (agefile.Writer, "write")):
+                file = agefile.open("o.age", "w", recipients=KEY)
+                file.write("secret")
+                with mock.patch.object(kind, call, side_effect=error):
+                    self.assertRaises(error, file.write, "text" * 20000)
+                self.assertRaises(OSError, file.close)
+                self.assertEqual(agefile.decrypt(self.got("o.age"), identities=KEY), b"old")
         with agefile.open("o.age", "w", recipients=KEY, encoding="ascii") as file:
             self.assertRaises(UnicodeError, file.write, "ü")
             self.assertRaises(TypeError, file.write, b"text")
@@ -633,41 +637,6 @@ class Writing(InFolder):
             agefile.copy(source, "s.age", recipients=KEY)
             self.assertFalse(source._rolled)
         self.assertEqual(agefile.decrypt(self.got("s.age"), identities=KEY), b"text")
-
-    def test_a_sink_that_fails(self):
-        class Full(io.RawIOBase):
-            def __init__(self, room):
-                self.taken, self.room = bytearray(), room
-
-            def writable(self):
-                return True
-
-            def write(self, data):
-                if len(self.taken) + len(data) > self.room:
-                    raise OSError(28, "No space left on device")
-                self.taken += data[: max(len(data) // 2, 1)]
-                return max(len(data) // 2, 1)
-
-        whole = Full(1 << 20)
-        with agefile.open(whole, "wb", recipients=KEY) as file:
-            file.write(text(200000))
-        self.assertEqual(agefile.decrypt(whole.taken, identities=KEY), text(200000))
-        full = Full(100000)
-        file = agefile.open(full, "wb", recipients=KEY)
-        self.assertRaises(OSError, file.write, text(300000))
-        for call in (lambda: file.write(text(100000)), file.close):
-            self.assertRaisesRegex(OSError, "an earlier write failed", call)
-        self.assertTrue(file.closed)
-        self.assertRaises(AgeError, agefile.decrypt, full.taken, identities=KEY)
-        full = Full(0)
-        file = agefile.open(full, "wb", recipients=KEY)
-        self.assertRaises(OSError, file.flush)
-        full.room = 1 << 20
-        self.assertRaisesRegex(OSError, "an earlier write failed", file.close)
-        self.assertEqual(full.taken, b"")
-        with self.assertRaisesRegex(OSError, "an earlier write failed"):
-            with agefile.open(Full(100000), "w", recipients=KEY) as file, contextlib.suppress(OSError):
-                file.write("text" * 75000)
 
     def test_modes(self):
         with agefile.open("x.age", "xb", recipients=KEY) as file:
