@@ -213,7 +213,9 @@ int fchmod(int file, mode_t mode)
 {
     static long calls;
     int (*next)(int, mode_t) = (int (*)(int, mode_t))real("fchmod");
-    return allowed("fchmod", &calls, 0) < 0 ? -1 : next(file, mode);
+    int result = allowed("fchmod", &calls, 0) < 0 ? -1 : next(file, mode);
+    trace("fchmod", file, result);
+    return result;
 }
 
 int lchown(const char *name, uid_t owner, gid_t group)
@@ -221,5 +223,7 @@ int lchown(const char *name, uid_t owner, gid_t group)
     static long calls;
     int (*next)(const char *, uid_t, gid_t) =
         (int (*)(const char *, uid_t, gid_t))real("lchown");
-    return allowed("lchown", &calls, 0) < 0 ? -1 : next(name, owner, group);
+    int result = allowed("lchown", &calls, 0) < 0 ? -1 : next(name, owner, group);
+    trace_name("lchown", name, result);
+    return result;
 }

@@ -1,6 +1,7 @@
 """`--atomic` and `--no-clobber`: whatever fails, OUT is the old file or the complete new one, and no other
 file stays."""
 
+import errno
 import itertools
 import os
 import shutil
@@ -11,13 +12,37 @@ import unittest
 
 import fixture
 from fixture import HELLO, KEY, NEW_KEY, with_other_mac
-from messages import message
+from messages import filled, message
 from program import AGEP, IO_ERROR, OPENING, ProgramCase, fault, preload, read, write
-from test_calls import YESTERDAY, CallCase
+from test_calls import ERRORS, YESTERDAY, CallCase, Job
 from test_files import WRITING, Files
 
 ATOMIC = "--atomic -o"
 NEW = "made.agep-new"
+# Each call of a run with OUT, by its kind and number: the fault if it fails, and what the second
+# line of -v says; or None if the run goes on.
+SITES = {
+    ("statx", "1"): ("Unidentified: made", "identifying made"), **{("statx", number): None for number in "234568"},
+    ("open", "1"): ("CannotOpen: key", "opening key"), ("statx", "7"): ("Unidentified: key", "identifying key"),
+    **{("read", number): ("Read", "reading the key file key") for number in "12"},
+    ("open", "2"): ("CannotOpen: small.age", "opening small.age"), ("statx", "9"): ("Unidentified: made", "identifying made"),
+    ("open", "3"): ("CannotCreate: made", "creating made"), ("open", "4"): ("CannotCreate: made", f"creating {NEW}"),
+    ("lchown", "1"): None, ("fchmod", "1"): ("CannotCreate: made", f"creating {NEW}"),
+    **{("read", number): ("Read", "reading small.age") for number in "34"},
+    ("ftruncate", "1"): ("Write", "writing made"), ("write", "1"): ("Write", "writing made"), ("fsync", "1"): ("Write", "syncing made"),
+    ("open", "5"): ("Write", "syncing ."), ("rename", "1"): ("Write", "replacing made"), ("fsync", "2"): ("Write", "syncing ."),
+}
+# Errors after which a run goes on: OUT need not exist, and not every folder can be read or synced.
+GOES_ON = {
+    ("statx", "1"): (errno.ENOENT,), ("statx", "9"): (errno.ENOENT,), ("open", "5"): (errno.EPERM, errno.EACCES),
+    ("fsync", "2"): (errno.EINVAL,),
+}
+# Errors with lines of their own.
+SPECIAL = {
+    ("open", "4", errno.EEXIST): (f"NewFileExists: {NEW}", f"{NEW}: if no agep is writing it, remove it"),
+    **{("statx", "1", it): ("CannotCreate: made", f"creating made: {os.strerror(it)}") for it in (errno.ENOTDIR, errno.ENAMETOOLONG, errno.ELOOP)},
+    **{(kind, number, errno.ENOMEM): ("OutOfMemory", "") for kind, number in (("read", "1"), ("read", "2"), ("statx", "1"))},
+}
 
 
 def wait_for(is_met):
@@ -96,22 +121,31 @@ class Calls(CallCase):
         os.remove("made")
         os.remove("target")
 
-    def test_short(self):
-        """A short write is followed by another one."""
-        for job in self.jobs:
-            if job.has_out:
-                self.each_call("write", "one", job, ATOMIC, self.is_whole)
-
     def test_order(self):
-        """The new file is written, synced and renamed, in this order, and then its folder is synced; OUT is not
-        touched."""
+        """The new file gets its owner and then its permissions; it is written, synced and renamed, in this order,
+        and then its folder is synced. OUT is not touched."""
         self.is_whole(self.run_job(self.jobs[1], ATOMIC), self.jobs[1], ATOMIC)
         lines = read("trace").decode().splitlines()
         kinds = [line.split()[0] for line in lines if NEW in line]
-        self.assertEqual([kinds[0], *kinds[-2:]], ["ftruncate", "fsync", "rename"])
-        self.assertEqual(set(kinds[1:-2]), {"write"})
+        self.assertEqual([*kinds[:3], *kinds[-2:]], ["lchown", "fchmod", "ftruncate", "fsync", "rename"])
+        self.assertEqual(set(kinds[3:-2]), {"write"})
         self.assertNotIn(" made ", read("trace").decode())
         self.assertEqual(lines[-2:], [f"rename {NEW} 0", f"fsync {os.path.basename(self.folder)} 0"])
+        with self.subTest("a link to another folder"):
+            os.mkdir("other")
+            os.remove("made")
+            os.symlink("other/target", "made")
+            self.is_whole(self.run_job(self.jobs[1], ATOMIC), self.jobs[1], ATOMIC)
+            self.assertEqual(read("trace").decode().splitlines()[-2:], ["rename target.agep-new 0", "fsync other 0"])
+            os.remove("made")
+            shutil.rmtree("other")
+        if os.access("/", os.W_OK):
+            with self.subTest("in the root folder"):
+                name = f"/agep-test-{os.getpid()}"
+                os.symlink(name, "made")
+                self.addCleanup(os.remove, "made"), self.addCleanup(os.remove, name)
+                self.is_whole(self.run_job(self.jobs[1], ATOMIC), self.jobs[1], ATOMIC)
+                self.assertEqual(read("trace").decode().splitlines()[-1], "fsync  0")
 
     def test_left(self):
         """A new file that cannot be removed stays, and the next run is refused until it is removed."""
@@ -131,19 +165,25 @@ class Calls(CallCase):
                 self.writes(b"", *words)
                 self.assertNotEqual(read("made"), YESTERDAY)
 
-    def test_explained(self):
-        """With -v the second line says what failed."""
-        for call, number, name, more in (
-            ("open", 3, message("CannotCreate", "made"), "creating made"), ("open", 4, message("CannotCreate", "made"), f"creating {NEW}"),
-            ("fchmod", 1, message("CannotCreate", "made"), f"creating {NEW}"), ("fsync", 1, message("Write"), "syncing made"),
-            ("open", 5, message("Write"), "syncing ."), ("rename", 1, message("Write"), "replacing made"), ("fsync", 2, message("Write"), "syncing ."),
-        ):
-            with self.subTest(f"{call} {number}"):
-                write("made", YESTERDAY)
-                env = {"LD_PRELOAD": preload("calls"), "CALL": call, "NUMBER": str(number), "DO": IO_ERROR}
-                words = "decrypt", "-v", "-k", "key", "--atomic", "-o", "made", "key.age"
-                self.says(name, *words, more=f"{more}: Input/output error", env=env)
+    def test_each_error(self):
+        """Each call of a run fails with each error. The second line of -v has the system's words for it."""
+        write("small.age", fixture.for_keys(HELLO, KEY))
+        job = Job("decrypt -v -k key", "small.age", HELLO, 4, 1)
+        for site in SITES:
+            with self.subTest(" ".join(site)):
+                for number in ERRORS:
+                    self.judge_error(job, site, number)
 
+    def judge_error(self, job, site, number):
+        ran = self.run_job(job, ATOMIC, call=site[0], number=site[1], do=number)
+        self.assertTrue(self.met)
+        self.assertFalse(os.path.exists(NEW))
+        if SITES[site] is None or number in GOES_ON.get(site, ()) or number == errno.EINTR and ran.status == 0:
+            self.is_whole(ran, job, ATOMIC)
+            return
+        name, more = SPECIAL.get((*site, number)) or (SITES[site][0], f"{SITES[site][1]}: {os.strerror(number)}")
+        self.assert_ended(ran, 1, f"{filled(f'agep: <{name}>')}\n{more and f'agep: {more}' + chr(10)}")
+        self.assert_bytes(self.made, HELLO if site == ("fsync", "2") else YESTERDAY, "OUT")
 
 class Runs(ProgramCase):
     def start(self, *words):
@@ -190,24 +230,27 @@ class Atomic(Files):
                 os.remove(name)
         super().tearDown()
 
+    def makes(self, line, expected):
+        with self.subTest(line):
+            self.assert_ended(self.run_line(line))
+            self.assert_file("made", expected)
+            self.assertFalse(os.path.exists(NEW))
+        os.remove("made")
+
     def test_made(self):
-        """Each command creates OUT, or replaces the old one by a new file, and writes the same as without the
-        option."""
+        """Each command creates OUT, or replaces the old one by a new file, and writes the same as without these
+        options."""
         for line in WRITING:
             line += " -s seed" * line.startswith(("encrypt", "rewrap"))
             expected = self.run_line(line).out
-            for is_old in (False, True):
-                with self.subTest(f"{line}, {'an' if is_old else 'no'} OUT was there"):
-                    if is_old:
-                        write("made", YESTERDAY)
-                        os.link("made", "hard")
-                    self.assert_ended(self.run_line(f"{line} --atomic -o made"))
-                    self.assert_file("made", expected)
-                    self.assertFalse(os.path.exists(NEW))
-                    if is_old:
-                        self.assert_file("hard", YESTERDAY)
-                        os.remove("hard")
-                    os.remove("made")
+            self.assert_ended(self.run_line(f"{line} -n"), out=expected)
+            for options in ("--atomic", "-n", "--atomic -n"):
+                self.makes(f"{line} {options} -o made", expected)
+            write("made", YESTERDAY)
+            os.link("made", "hard")
+            self.makes(f"{line} --atomic -o made", expected)
+            self.assert_file("hard", YESTERDAY)
+            os.remove("hard")
 
     def test_faults(self):
         """After a fault of the age file, OUT is as it was, or does not exist."""
@@ -260,7 +303,7 @@ class Atomic(Files):
             self.assert_file("made", YESTERDAY)
 
     def test_in(self):
-        """IN may be OUT, by any name; a secret may not."""
+        """IN may be OUT, by any name."""
         rotated = fixture.for_keys(HELLO, NEW_KEY)
         for line, source, expected in (
             ("encrypt -k key -s seed", HELLO, read("key.age")), ("decrypt -k key", read("key.age"), HELLO), ("salvage -k key", read("key.age"), HELLO),
@@ -273,50 +316,31 @@ class Atomic(Files):
                         os.symlink("made", "linked")
                     self.assert_ended(self.run_line(f"{line} --atomic -o made {name}"))
                     self.assert_file("made", expected)
-        for role, name, line in (
-            ("Key", "key", "encrypt -k key hello"), ("Key", "key", "decrypt -k key key.age"), ("NewKey", "new.key", "rewrap -k key -K new.key key.age"),
-            ("Passphrase", "pass", "decrypt -p pass pass.age"), ("Seed", "seed", "encrypt -k key -s seed hello"), ("Key", "key", "encrypt -k key key"),
-            ("NewPassphrase", "new.pass", "rewrap -p pass -P new.pass pass.age"), ("Passphrase", "pass", "encrypt -p pass -w 1 hello"),
-        ):
-            with self.subTest(f"{line}, {name}"):
-                self.changes_nothing(f"OutputIsRead: {role}, {name}", f"{line} --atomic -o {name}")
 
     def test_modes(self):
-        """A new file has the permissions and the owner of the old one. A group that cannot be kept gets none."""
-        for mode in (0o640, 0o604, 0o666, 0o400, 0o4755, 0o2755, 0o1777):
-            for umask in (0o000, 0o077):
-                with self.subTest(f"{mode:o}, umask {umask:03o}"):
-                    write("made", YESTERDAY)
-                    os.chmod("made", mode)
-                    self.assert_ended(self.run_line("decrypt -k key --atomic -o made key.age", umask=umask))
-                    self.assertEqual(f"{os.stat('made').st_mode & 0o7777:o}", f"{mode & 0o777:o}")
-                    os.remove("made")
-        with self.subTest("the system does not let the owner be kept"):
-            write("made", YESTERDAY)
-            os.chmod("made", 0o664)
-            env = {"LD_PRELOAD": preload("calls"), "CALL": "lchown", "NUMBER": "0", "DO": "1"}
-            self.assert_ended(self.run_line("decrypt -k key --atomic -o made key.age", env=env))
-            self.assertEqual(f"{os.stat('made').st_mode & 0o7777:o}", "604")
-            os.remove("made")
-        with self.subTest("the system lets only the group be kept"):
-            write("made", YESTERDAY)
-            os.chmod("made", 0o664)
-            env = {"LD_PRELOAD": preload("calls"), "CALL": "lchown", "NUMBER": "1", "DO": "1"}
-            self.assert_ended(self.run_line("decrypt -k key --atomic -o made key.age", env=env))
-            self.assertEqual(f"{os.stat('made').st_mode & 0o7777:o}", "664")
-            os.remove("made")
+        """A new file has the permissions, the owner and the group of the old one. If the system does not let the owner
+        be kept, the group is; a group that is not gets no permission."""
+        mine = os.geteuid(), os.getegid()
+        other = (65534, 65533) if mine[0] == 0 else mine
+        for mode, umask, (refused, kept, owner) in itertools.product(
+            (0o640, 0o604, 0o666, 0o664, 0o400, 0o4755, 0o2755, 0o1777), (0o000, 0o077),
+            (("none", 0o777, other), ("1", 0o777, (mine[0], other[1])), ("0", 0o707, mine)),
+        ):
+            with self.subTest(f"{mode:o}, umask {umask:03o}, lchown refused: {refused}"):
+                write("made", YESTERDAY)
+                os.chown("made", *other)
+                os.chmod("made", mode)
+                env = {} if refused == "none" else {"LD_PRELOAD": preload("calls"), "CALL": "lchown", "NUMBER": refused, "DO": "1"}
+                self.assert_ended(self.run_line("decrypt -k key --atomic -o made key.age", umask=umask, env=env))
+                found = os.stat("made")
+                self.assertEqual((f"{found.st_mode & 0o7777:o}", found.st_uid, found.st_gid), (f"{mode & kept:o}", *owner))
+                os.remove("made")
         for line in WRITING:
             mode = 0o666 if line.startswith(("encrypt", "rewrap")) else 0o600
             with self.subTest(f"{line}, a new OUT"):
                 self.assert_ended(self.run_line(f"{line} --atomic -o made", umask=0o022))
                 self.assertEqual(f"{os.stat('made').st_mode & 0o777:o}", f"{mode & 0o755:o}")
                 os.remove("made")
-        if os.geteuid() == 0:
-            with self.subTest("another owner"):
-                write("made", YESTERDAY)
-                os.chown("made", 65534, 65533)
-                self.assert_ended(self.run_line("decrypt -k key --atomic -o made key.age"))
-                self.assertEqual((os.stat("made").st_uid, os.stat("made").st_gid), (65534, 65533))
 
     def test_links(self):
         """A symbolic link stays a link, and the file to which it leads is replaced, in its own folder."""
@@ -405,19 +429,6 @@ class NoClobber(Files):
                     with self.subTest(f"{command} {option} -o {name}"):
                         self.changes_nothing(f"OutputExists: {name}", f"{command} {option} -o {name} absent")
         self.assertEqual(os.readlink("dangling"), "nowhere")
-
-    def test_made(self):
-        """Otherwise it changes nothing, even without OUT."""
-        for line in WRITING:
-            line += " -s seed" * line.startswith(("encrypt", "rewrap"))
-            expected = self.run_line(line).out
-            for options in ("-n -o made", "--atomic -n -o made"):
-                with self.subTest(f"{line} {options}"):
-                    self.assert_ended(self.run_line(f"{line} {options}"))
-                    self.assert_file("made", expected)
-                    os.remove("made")
-            with self.subTest(f"{line} -n"):
-                self.assert_ended(self.run_line(f"{line} -n"), out=expected)
 
     def test_made_meanwhile(self):
         """An OUT that was created after the first check stays."""

@@ -2,6 +2,8 @@
 turn. A short call changes nothing. A failing call ends with its message, status 1 and a prefix of the right
 output, and never with status 0 and an incomplete file."""
 
+import errno
+import functools
 import itertools
 import os
 import resource
@@ -22,6 +24,10 @@ PART = PLAIN[65530 : 65530 + 65550]
 # The sizes of the header with the nonce, and of the whole file.
 HEAD, FILE = 172, 172 + 2 * SEALED + 117
 YESTERDAY = b"".join(b"%d\n" % i for i in range(1, 50001))
+# The system's errors for calls on files.
+ERRORS = (
+    *range(1, 41), errno.ENODATA, errno.EOVERFLOW, errno.EOPNOTSUPP, errno.ETIMEDOUT, errno.ESTALE, errno.EREMOTEIO, errno.EDQUOT,
+)
 
 
 class Job:
@@ -104,9 +110,10 @@ class CallCase(ProgramCase):
         return judge
 
     def each_call(self, kind, what, job, form, judge):
-        """Changes each call of a kind in turn, until a run has no such call; that run must be complete."""
+        """Changes all calls of a kind, unless they are repeated then, and each in turn, until a run has no such
+        call; that run must be complete."""
         with self.subTest(f"{job} {form}, each {kind} in turn, DO={what}"):
-            for number in range(1, 1000):
+            for number in range(what == INTERRUPTED, 1000):
                 ran = self.run_job(job, form, call=kind, number=number, do=what)
                 if not self.met:
                     break
@@ -141,9 +148,10 @@ class Order(CallCase):
 
     def test_no_byte(self):
         """If there is no output, OUT is truncated and synced; after a fault it is left alone."""
-        job = Job("decrypt -k key", "empty.age", b"", 5, 0)
-        self.is_whole(self.run_job(job, "-o"), job, "-o")
-        self.assertEqual([kind for kind, _ in self.calls()], ["ftruncate", "fsync"])
+        for words, name in ("decrypt -k key", "empty.age"), ("salvage -k key", "empty.age"), ("range -k key 3 0", "key.age"):
+            job = Job(words, name, b"", 5, 0)
+            self.is_whole(self.run_job(job, "-o"), job, "-o")
+            self.assertEqual([kind for kind, _ in self.calls()], ["ftruncate", "fsync"])
         job = Job("decrypt -k other.key", "key.age", b"", 4, 0)
         self.assert_ended(self.run_job(job, "-o"), 1, fault(message("WrongKey")))
         self.assertEqual((self.calls(), self.made), ([], YESTERDAY))
@@ -151,22 +159,19 @@ class Order(CallCase):
 
 class ShortCalls(CallCase):
     def test_in_turn(self):
-        """A short read or write is followed by another one."""
+        """A short read or write is followed by another one, and so if all are short."""
         for job in self.jobs:
             for form in job.forms():
                 for kind in ("read", "write"):
                     for what in ("one", "half"):
                         self.each_call(kind, what, job, form, self.is_whole)
 
-    def test_all(self):
-        """Every read, or every write, is short."""
-        for job in self.jobs:
-            for form in job.forms():
-                for kind in ("read", "write"):
-                    for what in ("one", "half"):
-                        with self.subTest(f"{job} {form}, {kind} {what}"):
-                            self.is_whole(self.run_job(job, form, call=kind, number=0, do=what), job, form)
-                            self.assertTrue(self.met)
+    def test_nothing_saved(self):
+        """Zeros in place of each chunk are nothing saved, though written in parts: the old OUT stays."""
+        write("lost.age", functools.reduce(fixture.changed, (180, 65800, 131300), read("key.age")))
+        self.run_job(Job("salvage -k key --atomic", "lost.age", b"", 5, 3), "-o", call="write", number=0, do="half")
+        self.assertTrue(self.met)
+        self.assert_bytes(self.made, YESTERDAY)
 
     def test_interrupted(self):
         """After an interrupted call the rest is read or written later, or the command fails."""
@@ -227,7 +232,7 @@ class UnreadChunks(CallCase):
 
     def test_places(self):
         """A part of the file can never be read, or all from an offset on."""
-        for first in (HEAD, HEAD + 1, HEAD + 8000, HEAD + SEALED - 1, HEAD + SEALED, HEAD + SEALED + 1, HEAD + 2 * SEALED, FILE - 1):
+        for first in (HEAD, HEAD + 1, HEAD + 8000, HEAD + SEALED - 1, HEAD + SEALED, HEAD + SEALED + 1, HEAD + 2 * SEALED, FILE - 2, FILE - 1):
             for last in (first + 1, first + 4096, first + SEALED, FILE):
                 last = min(last, FILE)
                 with self.subTest(f"from {first} to {last}"):
@@ -253,12 +258,15 @@ class UnreadChunks(CallCase):
         self.assert_bytes(self.made, LONG_PLAIN[:65536] + bytes(len(LONG_PLAIN) - 65536))
 
     def test_reasons(self):
-        """Whatever the system's reason is: a disk may also say that it has no data."""
-        for error, reason in ("61", "No data available"), ("110", "Connection timed out"):
-            with self.subTest(reason):
-                ran = self.run_job(self.job, "-o", call="read", number=4, do=error)
+        """Whatever the system's reason is, but not after an interrupted call."""
+        for number in ERRORS:
+            with self.subTest(os.strerror(number)):
+                ran = self.run_job(self.job, "-o", call="read", number=4, do=number)
+                if str(number) == INTERRUPTED:
+                    self.has_failed(message("Read"))(ran, self.job, "-o")
+                    continue
                 lines = ["chunk 0 is lost: bytes 0 to 65535 of the plaintext"]
-                lines.append(f"reading IN.age: {reason}; {HEAD + SEALED - 8192} bytes were left out, the first at byte 8192")
+                lines.append(f"reading IN.age: {os.strerror(number)}; {HEAD + SEALED - 8192} bytes were left out, the first at byte 8192")
                 self.assert_ended(ran, 1, "".join(map(fault, lines)), None)
                 self.assert_bytes(self.made, bytes(65536) + LONG_PLAIN[65536:])
 
@@ -288,6 +296,16 @@ class FailingCalls(CallCase):
             for form in job.forms():
                 if (job.words[0], form) != ("salvage", "-o"):
                     self.each_call("read", IO_ERROR, job, form, judge)
+
+    def test_first_chunk(self):
+        """Before the first chunk is complete, a failed read leaves OUT alone."""
+        def is_old(ran, job, form):
+            self.assert_ended(ran, 1, fault(message("Read")))
+            self.assert_bytes(self.made, YESTERDAY, "OUT")
+
+        write("start", PLAIN[:65535])
+        job = Job("encrypt -k key -s seed", "start", fixture.for_keys(PLAIN[:65535], KEY), 5, 2)
+        self.each_call("read", IO_ERROR, job, "-o", is_old)
 
     def test_writes(self):
         """A write that fails, or writes nothing."""
@@ -337,6 +355,7 @@ class FailingCalls(CallCase):
             ("decrypt -k key -o key.age", "key.age", True), ("rewrap -k key -P pass -o key.age", "key.age", True),
             ("salvage -k key -o key.age", "key.age", False), ("salvage -k key -o key.age", "key.age", True),
             ("range -k key -o key.age 0 9", "key.age", False), ("range -k key -o key 0 9", "key", False),
+            ("range -k key --atomic -o key 0 9", "key", False),
         ):
             source = "key.age" if words.startswith("range") else "plain" if name == "seed" else name
             old = read(name)
@@ -370,15 +389,10 @@ class FailingCalls(CallCase):
                 self.assert_ended(ran, 1, fault(message("CannotOpen", "key.age")), None)
 
     def test_explained(self):
-        """With -v the second line names the file that cannot be synced, truncated or read."""
-        rows = [
-            ("fsync", "key.age", "syncing made"), ("ftruncate", "key.age", "writing made"), ("ftruncate", "empty.age", "truncating made"),
-        ]
-        for kind, name, more in rows:
-            with self.subTest(more):
-                write("made", YESTERDAY)
-                env = {"LD_PRELOAD": preload("calls"), "CALL": kind, "NUMBER": "1", "DO": IO_ERROR}
-                self.says(message("Write"), "decrypt", "-v", "-k", "key", "-o", "made", name, more=f"{more}: Input/output error", env=env)
+        """With -v the second line says that OUT could not be emptied."""
+        write("made", YESTERDAY)
+        env = {"LD_PRELOAD": preload("calls"), "CALL": "ftruncate", "NUMBER": "1", "DO": IO_ERROR}
+        self.says(message("Write"), *"decrypt -v -k key -o made empty.age".split(), more="truncating made: Input/output error", env=env)
 
 
 class Messages(CallCase):
@@ -404,87 +418,14 @@ class Messages(CallCase):
                 self.assert_ended(run(count + 1, IO_ERROR), status, said, None)
 
 
-class Devices(ProgramCase):
-    """Standard output that takes single bytes and then none, and standard input that returns single bytes and
-    then fails."""
-
-    def test_room(self):
-        """A device without space for the whole output."""
-        header = b"age-encryption.org/v1\n-> a\n\n--- " + b"A" * 43 + b"\n"
-        self.assertEqual(len(header), 76)
-        write("header", header)
-        write("sealed", fixture.for_keys(header, KEY))
-        rows = [("encrypt -k key", "header", 264), ("inspect -r", "header", 76), ("decrypt -k key", "sealed", 76)]
-        for words, name in (("inspect", "header"), ("--help", "header")):
-            with open(name, "rb") as stdin:
-                rows.append((words, name, len(self.run_agep(*words.split(), input=stdin).out)))
-        for words, name, size in rows:
-            for room in (0, 1, size // 2, size - 1, size):
-                with self.subTest(f"{words}: room for {room} of {size} bytes"), open(name, "rb") as stdin:
-                    ran = self.run_agep(*words.split(), input=stdin, env={"ROOM": str(room), "LD_PRELOAD": preload("devices")})
-                    self.assert_ended(ran, int(room < size), fault(message("Write")) if room < size else "", None)
-                    self.assertEqual(len(ran.out), room)
-
-    def test_breaks(self):
-        """An input that fails after some bytes."""
-        env = {"BREAKS": "1", "LD_PRELOAD": preload("devices")}
-        for words in ("encrypt -k key", "decrypt -k key", "inspect"):
-            with self.subTest(words):
-                write("start", read("key.age")[:50])
-                with open("start", "rb") as stdin:
-                    self.says(message("Read"), *words.split(), input=stdin, env=env)
-                command, *rest = words.split()
-                with open("start", "rb") as stdin:
-                    more = "reading standard input: Input/output error"
-                    self.says(message("Read"), command, "-v", *rest, more=more, input=stdin, env=env)
-        for size in (0, 65535):
-            with self.subTest(f"an OUT that was there stays, after {size} bytes"):
-                write("start", PLAIN[:size])
-                write("made", YESTERDAY)
-                os.utime("made", (10**9, 10**9))
-                with open("start", "rb") as stdin:
-                    self.says(message("Read"), "encrypt", "-k", "key", "-o", "made", input=stdin, env=env)
-                self.assertEqual((read("made"), os.stat("made").st_mtime), (YESTERDAY, 10**9))
-        with self.subTest("after a chunk OUT holds the start of the new file"):
-            write("made", YESTERDAY)
-            with open("two_chunks", "rb") as stdin:
-                self.says(message("Read"), "encrypt", "-k", "key", "-s", "seed", "-o", "made", input=stdin, env=env)
-            made = read("made")
-            self.assertTrue(made)
-            self.assert_bytes(made, read("two.age")[: len(made)], "OUT")
-
-
 class Syncs(ProgramCase):
-    """Which outputs the program syncs."""
-
-    def counted(self, *words, fails=False):
-        """Runs the program, optionally with each sync failing, and counts the syncs."""
-        if os.path.exists("trace"):
-            os.remove("trace")
-        env = {"LD_PRELOAD": preload("calls"), "TRACE": "trace"}
-        if fails:
-            env.update(CALL="fsync", NUMBER="0", DO=IO_ERROR)
-        ran = self.run_agep(*words, env=env)
-        return ran, sum(line.startswith(b"fsync ") for line in read("trace").splitlines())
-
-    def test_syncs(self):
-        """OUT is synced once before status 0; devices and standard output are not."""
+    def test_none(self):
+        """Devices and standard output are not synced."""
+        env = {"LD_PRELOAD": preload("calls"), "CALL": "fsync", "NUMBER": "0", "DO": IO_ERROR}
         for words in (
-            "encrypt -k key hello", "decrypt -k key key.age", "decrypt -k key empty.age", "range -k key 0 5 key.age",
-            "rewrap -p pass -K new.key pass.age", "salvage -k key key.age",
+            "encrypt -k key hello", "decrypt -k key key.age", "range -k key 0 5 key.age", "rewrap -p pass -K new.key pass.age", "salvage -k key key.age",
         ):
-            with self.subTest(words):
-                ran, count = self.counted(*words.split(), "-o", "made")
-                self.assert_ended(ran, 0)
-                self.assertEqual(count, 1)
-                ran, _ = self.counted(*words.split(), "-o", "made", fails=True)
-                self.assert_ended(ran, 1, fault(message("Write")))
-            for title, options in ("a device", ("-o", "/dev/null")), ("standard output", ()):
-                with self.subTest(f"{words}, {title}"):
-                    ran, count = self.counted(*words.split(), *options, fails=True)
-                    self.assert_ended(ran, 0, "", None)
-                    self.assertEqual(count, 0)
-        with self.subTest("not after a fault"):
-            ran, count = self.counted("decrypt", "-k", "key", "-o", "made", "damaged.age")
-            self.assert_ended(ran, 1, fault(message("BadChunk", 0)))
-            self.assertEqual(count, 0)
+            for options in ("-o /dev/null", ""):
+                with self.subTest(f"{words} {options}"):
+                    self.assert_ended(self.run_agep(*words.split(), *options.split(), env=env), 0, "", None)
+                    self.assertFalse(os.path.exists("met"))

@@ -13,7 +13,7 @@ import unittest
 import fixture
 from fixture import HELLO, KEY, PLAIN
 from messages import message
-from program import AGEP, ProgramCase, fault, read, write
+from program import AGEP, ProgramCase, fault, preload, read, write
 from test_progress import ERASE, drained
 
 
@@ -184,19 +184,21 @@ class DefaultSeed(ProgramCase):
     """The seed is read from /dev/urandom only if that is a character device. These tests replace it for their
     own processes."""
 
-    def with_device(self, device, *words):
+    def with_device(self, device, *words, under=()):
         done = subprocess.run(
-            ["unshare", "-m", "bash", "-c", f'mount --bind {device} /dev/urandom && exec "$@"', "bash", AGEP, *words],
+            ["unshare", "-m", "bash", "-c", f'mount --bind {device} /dev/urandom && exec "$@"', "bash", *under, AGEP, *words],
             stdin=subprocess.DEVNULL, capture_output=True, timeout=600,
         )
         return done.returncode, done.stderr.decode(), len(done.stdout) > 0
 
     def test_devices(self):
-        """A regular file there is refused; a character device is used, and so is the file that -s names."""
+        """A regular file there is refused; a character device is used, and so is the file that -s names. If the
+        system does not tell which it is, a file with an end is refused."""
         tool("unshare")
         allowed = subprocess.run(["unshare", "-m", "mount", "--bind", "/dev/null", "/dev/urandom"], stderr=subprocess.DEVNULL)
         if allowed.returncode != 0:
             self.skipTest("this needs the right to mount")
+        untold = "env", f"LD_PRELOAD={preload('calls')}", "CALL=statx", "NUMBER=0", "DO=38"
         for words in ("encrypt -k key hello", "rewrap -k key -K other.key key.age"):
             with self.subTest(words):
                 line, more = message("CannotOpen", "/dev/urandom"), "seed file /dev/urandom: not a device, so its bytes may repeat"
@@ -204,6 +206,8 @@ class DefaultSeed(ProgramCase):
                 self.assertEqual(self.with_device("seed", *words.split(), "-v"), (1, fault(line, more), False))
                 self.assertEqual(self.with_device("/dev/zero", *words.split()), (0, "", True))
                 self.assertEqual(self.with_device("seed", *words.split(), "-s", "seed"), (0, "", True))
+                self.assertEqual(self.with_device("seed", *words.split(), under=untold), (1, fault(message("Unidentified", "/dev/urandom")), False))
+                self.assertEqual(self.with_device("/dev/zero", *words.split(), under=untold), (0, "", True))
 
 
 class SameInode(ProgramCase):

@@ -172,7 +172,3 @@ class Generated(unittest.TestCase):
                     self.assertIn(name, done.stdout)
             (tree / name).write_text(text)
         self.assertEqual(subprocess.run([tree / "tests/generated.sh"], stdout=subprocess.DEVNULL).returncode, 0)
-
-
-if __name__ == "__main__":
-    unittest.main()

@@ -1,13 +1,30 @@
-"""What protects a user's files, for each command: existing OUTs, files that are read, modes.
-tests/cli/files.console has an example of each."""
+"""What protects a user's files, for each command: existing OUTs, files that are read, modes."""
 
 import os
+import subprocess
 
 from fixture import HELLO
 from messages import message
 from program import BY_PASSPHRASE, IO_ERROR, OPENING, ProgramCase, fault, preload, read, write
 
 WRITING = ("encrypt -k key hello", "range -k key 0 5 key.age", *(f"{command} key.age" for command in OPENING))
+
+
+ROLES = {"-p": "Passphrase", "-k": "Key", "-P": "NewPassphrase", "-K": "NewKey", "-s": "Seed", "-f": "FileKey"}
+
+
+def lines():
+    """Each command with each option that names a file."""
+    yield from ("encrypt -p pass -s seed hello", "encrypt -k other.key -k key -s seed hello", "inspect -f file.key key.age")
+    for secrets, source in ("-p other.pass -p pass", "pass.age"), ("-k other.key -k key", "key.age"):
+        for command in ("decrypt", "range 0 5", "salvage", "rewrap -P new.pass -s seed", "rewrap -K third.key -K new.key -s seed"):
+            yield f"{command} {secrets} {source}"
+
+
+def roles(line):
+    """The role and the name of each file that a line reads. The last word is IN."""
+    *words, source = line.split()
+    return [(ROLES[option], name) for option, name in zip(words, words[1:]) if option in ROLES] + [("Input", source)]
 
 
 class Files(ProgramCase):
@@ -128,6 +145,17 @@ class Out(Files):
                 self.assertEqual(f"{os.stat('made').st_mode & 0o777:03o}", "640")
                 os.remove("made")
 
+    def test_named_pipe(self):
+        """A pipe as OUT gets what standard output would."""
+        os.mkfifo("pipe")
+        for options in ("decrypt -k key", "range -k key 0 9", "salvage -k key"):
+            reader = subprocess.Popen(["cat", "pipe"], stdout=subprocess.PIPE)
+            self.addCleanup(reader.kill)
+            with self.subTest(options):
+                self.assert_ended(self.run_line(f"{options} -o pipe key.age"))
+                self.assert_bytes(reader.communicate(timeout=20)[0], HELLO)
+                self.assert_ended(self.run_line(f"{options} -o /dev/stdout key.age"), out=HELLO)
+
 
 class OutIsRead(Files):
     """OUT must not be a file that is read."""
@@ -136,52 +164,35 @@ class OutIsRead(Files):
         with self.subTest(line):
             self.changes_nothing(f"OutputIsRead: {role}, {out}", line)
 
-    def test_in(self):
-        """IN by any name, even if it is empty."""
-        write("in", HELLO)
-        os.symlink("in", "linked")
-        os.link("in", "hard")
+    def outs(self, line, role, name):
+        """Each way to name this file as OUT or as standard output: the name in messages, and the line. With
+        --atomic OUT may be IN."""
+        standard = [f"{line[: line.rindex(' ')]} <{name}"] * (role == "Input" and not line.startswith("range"))
+        atomic = [f"{line} --atomic"] * (role != "Input")
+        yield from (("standard output", f"{it} >>{name}") for it in (line, *standard))
+        for out in (name, f"./{name}", f"folder/../{name}", "linked", "hard", f"{self.folder}/{name}"):
+            if not line.startswith("inspect"):
+                yield from ((out, f"{it} -o {out}") for it in (line, *standard, *atomic))
+
+    def test_each_role(self):
+        """IN, a secret or the seed, by each of its names."""
+        for line, (role, name) in ((line, it) for line in lines() for it in roles(line)):
+            os.symlink(name, "linked")
+            os.link(name, "hard")
+            for out, run in self.outs(line, role, name):
+                self.refuses_out(role, out, run)
+            os.remove("linked")
+            os.remove("hard")
+
+    def test_two_roles(self):
+        """A file that is read twice, as the first of them, and an empty one."""
         write("both", b"")
-        for name in ("in", "./in", "folder/../in", "linked", "hard", f"{self.folder}/in"):
-            for command in ("encrypt -k key -s seed", "rewrap -p pass -K new.key", *OPENING):
-                self.refuses_out("Input", name, f"{command} -o {name} in")
-                if not command.startswith("range"):
-                    self.refuses_out("Input", name, f"{command} -o {name} <in")
-            self.refuses_out("Key", "key", f"encrypt -k key -s seed -o key {name}")
-        linked = [f"{it} -o in linked" for it in ("encrypt -k key -s seed", *OPENING)]
-        for line in ("encrypt -p in -o in in", *linked):
-            self.refuses_out("Input", "in", line)
+        os.symlink("hello", "linked.in")
         for command in ("encrypt -k key", *OPENING):
             self.refuses_out("Input", "both", f"{command} -o both both")
-        for command in OPENING:
-            self.refuses_out("Input", "key.age", f"{command} -o key.age key.age")
-            if not command.startswith("range"):
-                self.refuses_out("Input", "key.age", f"{command} -o key.age <key.age")
-
-    def test_small_files(self):
-        """A secret or the seed."""
-        os.symlink("other.key", "linked.other")
-        os.symlink("new.key", "linked.new")
-        for command in BY_PASSPHRASE:
-            self.refuses_out("Passphrase", "pass", f"{command} -o pass pass.age")
-        for command in OPENING:
-            self.refuses_out("Key", "key", f"{command} -o key key.age")
-        for role, out, line in (
-            ("Passphrase", "pass", "encrypt -p pass -o pass hello"),
-            ("Passphrase", "pass", "rewrap -p pass -K new.key -o pass pass.age"),
-            ("Passphrase", "pass", "rewrap -p pass -P pass -o pass pass.age"),
-            ("Key", "key", "rewrap -k key -K new.key -o key key.age"),
-            ("Key", "other.key", "encrypt -k key -k other.key -o other.key hello"),
-            ("Key", "linked.other", "decrypt -k key -k other.key -o linked.other key.age"),
-            ("Key", "linked.other", "salvage -k key -k other.key -o linked.other key.age"),
-            ("NewPassphrase", "new.pass", "rewrap -p pass -P new.pass -o new.pass pass.age"),
-            ("NewKey", "new.key", "rewrap -p pass -K new.key -o new.key pass.age"),
-            ("NewKey", "new.key", "rewrap -p pass -K key -K new.key -o new.key pass.age"),
-            ("NewKey", "linked.new", "rewrap -p pass -K new.key -o linked.new pass.age"),
-            ("Seed", "seed", "encrypt -k key -s seed -o seed hello"),
-            ("Seed", "seed", "rewrap -p pass -K new.key -s seed -o seed pass.age"),
-        ):
-            self.refuses_out(role, out, line)
+            self.refuses_out("Input", "hello", f"{command} -o hello linked.in")
+        self.refuses_out("Input", "pass", "encrypt -p pass -o pass pass")
+        self.refuses_out("Passphrase", "pass", "rewrap -p pass -P pass -o pass pass.age")
 
     def test_numbers(self):
         """All 64 bits of the numbers of files are compared; here they are the sizes times 2^32."""
@@ -191,22 +202,3 @@ class OutIsRead(Files):
         self.assert_file("made", read("key.age"))
         write("made", b"hallo\n")
         self.changes_nothing("OutputIsRead: Input, made", "encrypt -k key -s seed -o made hello", env=env)
-
-    def test_standard_output(self):
-        """Standard output appends to a file that is read."""
-        write("keyed", read("key.age"))
-        write("plain.in", HELLO)
-        for name in ("key", "file.key", "pass", "seed"):
-            write(f"own.{name}", read(name))
-        own = [it.replace("-k key", "-k own.key") for it in OPENING]
-        for role, line in (
-            ("Input", "encrypt -k key plain.in >>plain.in"),
-            ("Input", "encrypt -k key <plain.in >>plain.in"),
-            ("Key", "encrypt -k own.key hello >>own.key"),
-            ("FileKey", "inspect -f own.file.key keyed >>own.file.key"),
-            ("Passphrase", "decrypt -p own.pass pass.age >>own.pass"),
-            ("Seed", "encrypt -k key -s own.seed hello >>own.seed"),
-            *(("Input", f"{it} keyed >>keyed") for it in ("inspect", "inspect -r", "rewrap -k key -K new.key", *OPENING)),
-            *(("Key", f"{it} keyed >>own.key") for it in own),
-        ):
-            self.refuses_out(role, "standard output", line)

@@ -71,6 +71,8 @@ class Instructions(ProgramCase):
     def test_scrypt(self):
         """The cost of work factor 10 above that of 9, for 512 KiB."""
         write("hello", b"hello\n")
-        nine, ten = (counted("encrypt", "-p", "pass", "-w", work, "-s", "seed", "-o", "made", "hello") for work in ("9", "10"))
-        self.assertLessEqual(ten - nine, 512 * KIB[self.level])
-        self.assertGreater(ten - nine, 512 * 1024)
+        for words in ("encrypt -p pass -w {0} -s seed -o made.{0} hello", "decrypt -p pass -o back made.{0}"):
+            with self.subTest(words):
+                nine, ten = (counted(*words.format(work).split()) for work in (9, 10))
+                self.assertLessEqual(ten - nine, 512 * KIB[self.level])
+                self.assertGreater(ten - nine, 512 * 1024)

@@ -17,6 +17,7 @@ import codes
 import header
 import model
 
+import fixture
 import test_damaged_files
 import test_vectors
 import testkit
@@ -687,15 +688,19 @@ class Vectors(unittest.TestCase):
 
 class Document(unittest.TestCase):
     def test_python(self):
-        """The first programs in README.md and bindings/python/README.md run, and print what the pages show."""
+        """The program in README.md and the first two in bindings/python/README.md run, and print what the pages show."""
         environment = os.environ | {"PYTHONPATH": str(ROOT / "bindings/python"), "AGEFILE_LIBRARY": str(prefix() / "lib" / SONAME)}
-        for page in ("README.md", "bindings/python/README.md"):
-            block = re.search(r"^```python\n(.*?)^```$", (ROOT / page).read_text(), re.M | re.S)[1]
-            lines = re.findall(r"print\(.*\)  # (.*)", block)
+        losses = ["65536 bytes from 65536 on are zeros", "do not take this for the whole file"]
+        for page, last in ("README.md", []), ("bindings/python/README.md", losses):
+            blocks = re.findall(r"^```python\n(.*?)^```$", (ROOT / page).read_text(), re.M | re.S)[:2]
+            lines = re.findall(r"print\(.*\)  # (.*)", blocks[0])
             self.assertTrue(lines)
+            passphrase = re.search(r'Passphrase\("(.*)"\)', blocks[0])[1].encode()
+            (work() / "damaged.age").write_bytes(fixture.changed(fixture.for_passphrase(fixture.PLAIN, passphrase), 70000))
             with self.subTest(page):
-                done = run(sys.executable, "-c", block, cwd=work(), env=environment, status=0)
-                self.assertEqual(done.stdout.decode().splitlines()[: len(lines)], lines)
+                done = run(sys.executable, "-c", "".join(blocks), cwd=work(), env=environment, status=0)
+                said = done.stdout.decode().splitlines()
+                self.assertEqual((said[: len(lines)], said[len(said) - len(last) :]), (lines, last))
 
     def test_program(self):
         """The program in docs/C.md decrypts, built by both of its command lines, and reports errors."""
@@ -734,7 +739,3 @@ class Document(unittest.TestCase):
                     self.assertEqual(back, plain)
             for length in (0, 65536, 65537):
                 self.assertEqual(run(built("breaks", "-O2"), length, sealing).returncode, 1)
-
-
-if __name__ == "__main__":
-    unittest.main()

@@ -7,7 +7,7 @@ import unittest
 
 import fixture
 import reference
-from fixture import HELLO, KEY, OTHER_KEY, PLAIN, SALT, SEED
+from fixture import HELLO, KEY, OTHER_KEY, SALT, SEED
 from messages import message
 from program import AGEP, BY_PASSPHRASE, ProgramCase, preload, read, write
 from test_headers import ZERO_MAC, ZERO_SALT, header_in, header_of, table
@@ -222,19 +222,6 @@ class Offsets(ProgramCase):
         with self.subTest("into the hole"):
             out = self.texts[2**32 // CHUNK]
             self.says(message("BadChunk", 65537), "range", "-k", "key", str(2**32), str(CHUNK + 1), "great.age", out=out)
-
-
-class FiveGib(ProgramCase):
-    def test_ends(self):
-        """A file of 5 GiB whose chunks are a hole, except for the first and the last one."""
-        hole, plain = 81000, PLAIN[:65636]
-        with open("great.age", "wb") as out:
-            out.write(reference.header(SEED[:16], [reference.key_stanza(KEY, SALT)]))
-            reference.write_payload(out, SEED[:16], SEED[16:32], reference.chunks_of(plain), hole)
-        skip_unless_holes("great.age")
-        self.writes(plain[10:30], "range", "-k", "key", "10", "20", "great.age")
-        self.writes(plain[65626:], "range", "-k", "key", str(CHUNK * (hole + 1) + 90), "20", "great.age")
-        self.says(message("BadChunk", 1), "range", "-k", "key", "65530", "10", "great.age", out=plain[65530:65536])
 
 
 class GreatPlaintext(ProgramCase):

@@ -378,10 +378,18 @@ class Packages(unittest.TestCase):
         include = self.unpacked("libagefile-dev*.deb") / "usr/include"
         run("cc", "-std=c11", "-fsyntax-only", f"-I{include}", source)
 
+    def by_the_readme(self, start, folder):
+        """Runs the line of README.md that begins so, in a folder that has the packages."""
+        line = re.search(f"^{start} .*$", (ROOT / "README.md").read_text(), re.MULTILINE)[0]
+        for path in self.dist.iterdir():
+            shutil.copy(path, folder)
+        run("sh", "-ec", line, cwd=folder, env=os.environ | {"HOME": str(folder), "PIP_NO_INDEX": "1"})
+
     def test_the_wheel(self):
-        folder = self.work / "venv"
-        run(sys.executable, "-m", "venv", folder)
-        run(folder / "bin/pip", "install", "--no-index", "--no-deps", self.one("*.whl"))
+        """Installed by the command of README.md."""
+        work = Path(tempfile.mkdtemp(dir=self.work))
+        self.by_the_readme("python3 -m venv", work)
+        folder = work / "v"
         said = run(folder / "bin/python", "-c", "import agefile; print(agefile.__version__, agefile.library_version())")
         self.assertEqual(said, f"{self.for_python} {last_release()}\n")
         run(folder / "bin/pip", "uninstall", "-y", "agefile")
@@ -397,29 +405,38 @@ class Packages(unittest.TestCase):
         self.assertEqual(said, f"{self.for_python}\n")
 
     def test_the_crate(self):
-        """A program takes it by the commands in its README.md, and runs."""
+        """A project takes it by the commands in its README.md, and the programs there run."""
         root = self.unpacked("libagefile-dev*.deb", "libagefile[0-9]*.deb")
         tree = Path(tempfile.mkdtemp(dir=self.work))
         shutil.copy(self.one("*.crate"), tree)
-        commands = re.search(r"^```sh\n(.*?)^```$", (ROOT / "bindings/rust/README.md").read_text(), re.M | re.S)[1]
-        (tree / "src").mkdir()
+        page = (ROOT / "bindings/rust/README.md").read_text()
+        (tree / "src/bin").mkdir(parents=True)
         (tree / "Cargo.toml").write_text('[package]\nname = "user"\nversion = "0.1.0"\nedition = "2021"\n')
-        (tree / "src/main.rs").write_text(
-            "fn main() {\n    let key = agefile::Key::new([7; 32]);\n"
-            '    let file = agefile::encrypt(b"text", &[&key]).unwrap();\n'
-            '    assert_eq!(agefile::decrypt(&file, &[&key]).unwrap(), b"text");\n}\n'
-        )
+        for name, program in zip(("writes", "reads"), re.findall(r"^```rust,no_run\n(.*?)^```$", page, re.M | re.S)):
+            (tree / f"src/bin/{name}.rs").write_text(program)
         environment = os.environ | {
             "AGEFILE_LIB_DIR": str(root / "usr/lib/x86_64-linux-gnu"),
             "CARGO_TARGET_DIR": str(tree / "target"),
         }
-        run("sh", "-ec", f"{commands}cargo run --offline --quiet", cwd=tree, env=environment)
+        run("sh", "-ec", re.search(r"^```sh\n(.*?)^```$", page, re.M | re.S)[1], cwd=tree, env=environment)
+
+        def said_by(name, **options):
+            return run("cargo", "run", "--offline", "--quiet", "--bin", name, cwd=tree, env=environment, **options)
+
+        (tree / "key").write_bytes(fixture.KEY)
+        self.assertEqual(said_by("writes", input="text\n" * 300000), "")
+        made = (tree / "notes.age").rename(tree / "disk.age").read_bytes()
+        self.assertEqual(subprocess.check_output([AGEP, "decrypt", "-k", "key", "disk.age"], cwd=tree), b"text\n" * 300000)
+        for name, file in ("damaged.age", fixture.changed(made, 70000)), ("notes.age", fixture.for_passphrase(b"hello\n")), ("passphrase", fixture.PASSPHRASE):
+            (tree / name).write_bytes(file)
+        self.assertEqual(said_by("reads"), "bytes 65536 to 131071 are lost\nsomething is missing\n")
+        self.assertEqual(((tree / "notes").read_bytes(), (tree / "saved").stat().st_size), (b"hello\n", 1500000))
 
     def test_the_tarball(self):
-        """Installed in a home, by the commands of docs/PACKAGES.md."""
+        """Installed in a home, by the command of README.md and by those of docs/PACKAGES.md."""
         home = self.work / "home"
         home.mkdir()
-        shutil.copy(self.one("agep-*.tar.xz"), home)
+        self.by_the_readme("mkdir -p", home)
         shutil.copy(ROOT / "bindings/c/examples/stream.c", home / "program.c")
         commands = re.findall(r"^\$ (.*)$", (ROOT / "docs/PACKAGES.md").read_text(), re.MULTILINE)
         self.assertEqual(len(commands), 4)
@@ -743,7 +760,3 @@ class ForRust(unittest.TestCase):
     @needs("rustfmt")
     def test_layout(self):
         run("cargo", "fmt", "--check", cwd=ROOT / "bindings/rust", env=self.environment)
-
-
-if __name__ == "__main__":
-    unittest.main()

@@ -3,6 +3,7 @@ program as ./install installs it, in an environment like theirs; passphrases typ
 lines of README.md and the manual page; files of other programs. The commands of CONTRIBUTING.md for one crate."""
 
 import base64
+import glob
 import os
 import re
 import shlex
@@ -56,14 +57,36 @@ def run(line, **environment):
     ).stdout
 
 
+# The test that runs each block of a page, by the language of the block, in order. tests/cli.sh
+# runs the blocks `console` of README.md and docs/USE.md.
+RUN_BY = {
+    "README.md": ("sh test_packages.Packages.test_the_wheel", "sh Typed.test_lines", "python test_library.Document.test_python"),
+    "docs/USE.md": ("sh Blocks.test_secrets", "sh Typed.test_lines", "crontab Cron.test_backup", "ini Systemd.test_service", "sh Moved.test_age"),
+    "docs/C.md": ("sh test_library.Document.test_program", "c test_library.Document.test_program", "c test_library.Document.test_loop"),
+    "docs/PACKAGES.md": (*2 * ("console test_packages.Packages.test_the_tarball",), "sh test_releases.Release.test_release"),
+    "docs/PROMISES.md": ("console test_sources.Documents.test_commands",),
+    "CONTRIBUTING.md": ("sh test_sources.Documents.test_commands",),
+    "bindings/python/README.md": (*2 * ("python test_library.Document.test_python",), "python test_fsspec.Writes.test_the_page", "python test_fsspec.Mounts.test_a_mount"),
+    "bindings/rust/README.md": (*2 * ("rust,no_run test_packages.Packages.test_the_crate",), "sh test_packages.Packages.test_the_crate"),
+}
+
+
 class Blocks(unittest.TestCase):
     def test_each_runs(self):
-        """A transcript runs the blocks of docs/USE.md with commands and output; a test of this file all others."""
-        page = text_of("docs/USE.md")
-        kinds = [kind for kind in re.findall("^```(.*)$", page, re.MULTILINE) if kind not in ("", "console")]
-        self.assertEqual(sorted(kinds), ["crontab", "ini", "sh", "sh", "sh"])
-        for heading in ("Make a passphrase or a key file", "Type a passphrase", "Move from age or gpg"):
-            self.assertTrue(lines_below(heading), heading)
+        """A transcript or a test runs each block of each page. Blocks without a language, of Rattle and of
+        proofs are no commands, except those with a container, of which the page says so."""
+        pages = glob.glob(f"{ROOT}/*.md") + glob.glob(f"{ROOT}/*/*.md")
+        for page in sorted({*RUN_BY, *(os.path.relpath(name, ROOT) for name in pages)}):
+            not_run = {"", "antt", "rust", *["console"] * (page in ("README.md", "docs/USE.md"))}
+            kinds = [kind for kind in re.findall("^ *```(.*)$", text_of(page), re.MULTILINE) if kind not in not_run]
+            rows = [row.split() for row in RUN_BY.get(page, ())]
+            with self.subTest(page):
+                self.assertEqual(kinds, [kind for kind, _ in rows])
+                for _, name in rows:
+                    *module, case, test = name.split(".")
+                    folder = "bindings/python/tests" if module == ["test_fsspec"] else "tests"
+                    found = text_of(f"{folder}/{(module or ['test_recipes'])[0]}.py").partition(f"\nclass {case}(")[2]
+                    self.assertIn(f"    def {test}(self", found.partition("\nclass ")[0], name)
 
     def test_secrets(self):
         """The lines that make a passphrase and a key make files that only their owner can read."""
@@ -419,7 +442,3 @@ class OneCrate(unittest.TestCase):
                 said = process.communicate()[0]
                 self.assertEqual(process.returncode, 0, said)
                 self.assertIn(ANSWERS[command], said)
-
-
-if __name__ == "__main__":
-    unittest.main()

@@ -10,7 +10,7 @@ from pathlib import Path
 
 import program
 import stand_in
-from test_packages import needs, run
+from test_packages import DEBIAN, MODULES, needs, run
 
 ROOT = Path(program.ROOT)
 LAST = program.version()
@@ -127,6 +127,7 @@ class Versions(Case):
         commit = self.commit()
         self.assert_version(f"0.8.0-dev.0+g{commit}")
 
+    @needs(*DEBIAN, *MODULES)
     def test_changes(self):
         """With local changes the version names the tree of all files that git does not ignore, and the source
         package has these."""
@@ -203,9 +204,10 @@ class Folder(Case):
     def test_sums_of_others(self):
         """Nothing is removed if SHA256SUMS names a file that is not a package, or is signed."""
         self.put("debian.iso")
-        (self.dist / "SHA256SUMS").write_text(f"{'0' * 64}  debian.iso\n")
-        line = f"package: SHA256SUMS in {self.dist} was not written by this script: it names debian.iso"
-        self.refused(line, "./package", self.dist)
+        for name in "debian.iso", "agep_1/../mine.deb", "agep_1 mine.deb":
+            (self.dist / "SHA256SUMS").write_text(f"{'0' * 64}  {name}\n")
+            line = f"package: SHA256SUMS in {self.dist} was not written by this script: it names {name}"
+            self.refused(line, "./package", self.dist)
         (self.dist / "SHA256SUMS").write_text("")
         self.put("SHA256SUMS.sig")
         self.refused(f"package: {self.dist} has a signed release", "./package", self.dist)
@@ -260,13 +262,16 @@ class Release(Case):
         self.right("./package", cwd=archive)
         self.assertEqual((archive / "dist/SHA256SUMS").read_text(), (self.folder / "SHA256SUMS").read_text())
 
-    def test_gate(self):
-        """If the gate fails, nothing is packed and everything is as before, so that a second attempt gets as
-        far."""
-        self.write("../wrong", "")
-        lines = ["release: the gate failed", "release: removed the commit, the tag and the packages again"]
-        for tries in (1, 2):
+    def test_failures(self):
+        """If the gate or a command of docs/PACKAGES.md fails, everything is as before, so that a second attempt
+        gets as far."""
+        page = (self.tree / "docs/PACKAGES.md").read_text().replace("\n```sh\n", "\n```sh\nfalse\n", 1)
+        check, gate = ("docs/PACKAGES.md", page, "+ false"), ("../wrong", "", "release: the gate failed")
+        for tries, (name, text, line) in enumerate((check, gate, gate), 1):
+            self.write(name, text)
+            self.before = self.commit()
             done = self.run_here(*self.release())
+            lines = [line, "release: removed the commit, the tag and the packages again"]
             self.assertEqual((done.returncode, done.stderr.splitlines()[-2:]), (1, lines))
             self.assertEqual((self.work / "gate").read_text(), "Release 80.9.2\n" * tries)
             found = self.git("rev-parse", "HEAD")[:10], self.git("tag"), self.git("status", "--porcelain")
@@ -308,7 +313,3 @@ class Release(Case):
         self.write("CHANGELOG.md", RELEASED)
         self.commit()
         self.refused("release: the first heading of CHANGELOG.md is not Unreleased", *self.release())
-
-
-if __name__ == "__main__":
-    unittest.main()

@@ -94,7 +94,9 @@ class Builds(unittest.TestCase):
             *((name, f"touch {name}", True) for name in self.sources),
             ("a new source", ">tree/crates/agefile/src/new.rt", True), ("a source that went", "rm tree/crates/agefile/src/new.rt", True),
             ("what is no source", "touch tree/install tree/crates/agep/README.md", False),
-            ("a source that changes meanwhile", f"echo touch $PWD/{self.sources[0]} >meanwhile; touch tree/crates.txt", True),
+            # Files that are made within one tick of the system's clock are of the same age.
+            ("a source that changes meanwhile",
+             f"echo 'sleep 0.1; touch' $PWD/{self.sources[0]} >meanwhile; touch tree/crates.txt", True),
             ("what it changed under", "rm meanwhile", True), ("all is current again", "", False),
         ]
         for script, every in SCRIPTS.items():
@@ -244,8 +246,10 @@ class Builds(unittest.TestCase):
             with self.subTest(words):
                 here, program = run(["tree/agep", *words]), run([AGEP, *words])
                 self.assertEqual((here.returncode, here.stdout, here.stderr), (program.returncode, program.stdout, program.stderr))
-        stand_in.tool("tree/crates/agep/out/agep", "echo $PPID")
+        stand_in.tool("tree/crates/agep/out/agep", "echo $PPID; exit 127")
         self.assertEqual(int(run(["tree/agep"]).stdout), os.getpid())
+        for words in ["tree/agep", "--version"], ["tree/agep"], ["tree/install", "prefix"]:
+            self.assertEqual((run(words).returncode, os.path.exists("prefix")), (127, False), words)
 
     def test_toolchains(self):
         """Another toolchain builds again; without a toolchain the existing build is run and installed."""
@@ -323,7 +327,3 @@ class Installs(unittest.TestCase):
             for first in ((), ("--uninstall",)):
                 with self.subTest(first + words):
                     self.assertEqual(self.run_install(*first, *words), (2, "", self.USAGE))
-
-
-if __name__ == "__main__":
-    unittest.main()

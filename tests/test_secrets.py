@@ -256,6 +256,24 @@ class KeyFiles(ProgramCase):
                 write("near", fixture.changed(KEY, at))
                 self.says(message("WrongKey"), "decrypt", "-k", "near", "key.age")
 
+    def test_many(self):
+        """Each of a dozen keys or passphrases counts, wherever several may be given."""
+        keys = [bytes([number]) * 32 for number in range(12)]
+        for number, key in enumerate(keys):
+            write(f"key.{number}", key)
+            write(f"pass.{number}", b"%d" % number)
+        write("made.key", reference.age_file(SEED, [reference.key_stanza(keys[-1], SALT)], HELLO))
+        write("made.pass", fixture.for_passphrase(HELLO, b"11", 1))
+        named = lambda letter, name: [word for number in range(12) for word in (letter, f"{name}.{number}")]
+        expected = reference.age_file(SEED, [reference.key_stanza(key, SALT) for key in keys], HELLO)
+        self.writes(expected, "encrypt", *named("-k", "key"), "-s", "seed", "hello")
+        self.writes(expected, "rewrap", "-k", "key", *named("-K", "key"), "-s", "seed", "key.age")
+        for letter, name in (("-k", "key"), ("-p", "pass")):
+            for command, *more in (["decrypt"], ["range", "0", "9"], ["salvage"]):
+                with self.subTest(f"{command} {letter}"):
+                    self.writes(HELLO, command, *named(letter, name), *more, f"made.{name}")
+            self.writes(read("key.age"), "rewrap", *named(letter, name), "-K", "key", "-s", "seed", f"made.{name}")
+
 
 class Seeds(ProgramCase):
     def test_longer(self):

@@ -3,7 +3,7 @@
 import fixture
 import reference
 from fixture import KEY, NEW_KEY, OTHER_KEY, PLAIN, SEED
-from program import ProgramCase, preload, write
+from program import ProgramCase, write
 
 SIZES = [0, 1, 32, 65535, 65536, 65537, 131072, 131073]
 # The sizes of a header with a passphrase stanza (a work factor of two digits), and with a keyed
@@ -97,27 +97,3 @@ class Sizes(ProgramCase):
             for secret, name in (("-p", "pass"), "plain_pass.age"), (("-k", "key"), "plain.age"):
                 with self.subTest(f"{size} bytes from {at} on, {secret[0]}"):
                     self.writes(PLAIN[at : at + size], "range", *secret, str(at), str(size), name)
-
-
-class Pieces(ProgramCase):
-    """Reads of standard input that return a few bytes, or a chunk and one byte more."""
-
-    def test_short_reads(self):
-        """Short reads give the same file and plaintext."""
-        devices = preload("devices")
-        for size in (65535, 65536, 65537, 131072, 131073):
-            plain, file = PLAIN[:size], fixture.for_passphrase(PLAIN[:size])
-            write("plain", plain)
-            write("file", file)
-            for piece in (1, 7, 65536, 65537):
-                with self.subTest(f"encrypt {size} bytes in reads of at most {piece}"), open("plain", "rb") as stdin:
-                    self.writes(
-                        file, "encrypt", "-p", "pass", "-w", "10", "-s", "seed",
-                        input=stdin, env={"PIECE": str(piece), "LD_PRELOAD": devices},
-                    )
-            for piece in (1, 65551, 65552, 65553):
-                with self.subTest(f"decrypt {size} bytes in reads of at most {piece}"), open("file", "rb") as stdin:
-                    self.writes(
-                        plain, "decrypt", "-p", "pass",
-                        input=stdin, env={"PIECE": str(piece), "LD_PRELOAD": devices},
-                    )

@@ -1,11 +1,13 @@
 """Standard input by each of its names, from a file, from a pipe and closed; and the roles in which it is
 refused."""
 
+import itertools
 import os
 
 from fixture import HELLO
 from messages import message
 from program import ProgramCase, read
+from test_files import lines, roles
 from test_headers import header_in, table
 
 NAMES = ["/dev/stdin", "/dev/fd/0", "/proc/self/fd/0"]
@@ -68,6 +70,11 @@ class StandardInput(ProgramCase):
             self.says(message("KeyLength"), "decrypt", "-k", "/dev/zero", input=stdin)
 
 
+def with_names(line, names):
+    """The line with other names in place of these."""
+    return " ".join(names.get(word, word) for word in line.split())
+
+
 class Refused(ProgramCase):
     def refused(self, name, line):
         """Runs a line, which must end with this fault and create no OUT."""
@@ -75,76 +82,35 @@ class Refused(ProgramCase):
             self.line_says(name, line)
             self.assertFalse(os.path.exists("made"))
 
-    def test_in_and_another(self):
-        """If IN is not given, no option may name standard input."""
-        rows = [
-            ("Key", ("encrypt -k NAME", "encrypt -k key -k NAME", "decrypt -k NAME", "salvage -k NAME", "rewrap -K new.key -k NAME")),
-            ("NewKey", ("rewrap -p pass -K NAME",)),
-            ("Seed", ("encrypt -k key -s NAME", "rewrap -p pass -K new.key -s NAME")),
-            ("Passphrase", ("encrypt -p NAME", "decrypt -p NAME", "salvage -p NAME", "rewrap -K new.key -p NAME")),
-            ("NewPassphrase", ("rewrap -p pass -P NAME",)),
-        ]
-        for role, words, name in ((role, words, name) for role, lines in rows for words in lines for name in NAMES):
-            for stdin in ("< <(cat seed)", "<seed", "<&-"):
-                self.refused(f"StandardInputTwice: Input, {role}", f"{words.replace('NAME', name)} -o made {stdin}")
+    def test_each_role(self):
+        """No file may be standard input beside IN; if it is closed, none can be read. `-` is not a name of it."""
+        for line, (role, name) in ((line, it) for line in lines() for it in roles(line)):
+            out = "" if line.startswith("inspect") else " -o made"
+            self.refused("CannotOpen: -", f"{with_names(line, {name: '-'})}{out} <yesterday")
+            for standard in NAMES:
+                named = with_names(line, {name: standard})
+                self.refused(f"CannotOpen: {standard}", f"{named}{out} <&-")
+                if role != "Input" and not line.startswith("range"):
+                    for stdin in ("< <(cat yesterday)", "<yesterday", "<&-"):
+                        self.refused(f"StandardInputTwice: Input, {role}", f"{named[: named.rindex(' ')]}{out} {stdin}")
 
-    def test_in_by_a_name(self):
-        """IN is standard input by any of its names, and a secret even by a link."""
+    def test_two_roles(self):
+        """Nor may two files be standard input, by any of its names, which is found before it is read. IN comes first,
+        then they come as they are read."""
+        order = ["Input", "Passphrase", "Key", "NewPassphrase", "NewKey", "Seed", "FileKey"]
+        for line, two in ((line, two) for line in lines() for two in itertools.combinations(roles(line), 2)):
+            said = ", ".join(sorted({role for role, _ in two}, key=order.index))
+            out = "" if line.startswith("inspect") else " -o made"
+            for names, stdin in itertools.product((NAMES[:2], NAMES[:0:-1]), ("< <(cat yesterday)", "</dev/zero")):
+                named = with_names(line, {name: standard for (_, name), standard in zip(two, names)})
+                self.refused(f"StandardInputTwice: {said}", f"{named}{out} {stdin}")
+
+    def test_link(self):
+        """A secret is standard input even by a link."""
         os.symlink("key", "linked.key")
-        for role, line in (
-            ("Passphrase", "decrypt -p /dev/stdin <pass.age"),
-            ("Passphrase", "encrypt -p /dev/stdin -w 1 /dev/fd/0 <seed"),
-            ("Passphrase", "rewrap -p /dev/stdin -K new.key /dev/fd/0 <pass.age"),
-            ("Key", "decrypt -k /dev/fd/0 -o made <key.age"),
-            ("Key", "range -k /dev/stdin 0 1 /dev/fd/0 <key.age"),
-            ("Key", "salvage -k /dev/stdin /dev/fd/0 <key.age"),
-            ("Key", "encrypt -k linked.key <key"),
-            ("FileKey", "inspect -f /dev/stdin <key.age"),
-        ):
-            self.refused(f"StandardInputTwice: Input, {role}", line)
-
-    def test_two_options(self):
-        """Nor may two options name standard input."""
-        rows = [
-            ("Key", "encrypt -k /dev/stdin -k /dev/stdin hello"),
-            ("Key", "decrypt -k key -k /dev/stdin -k /dev/fd/0 key.age"),
-            ("Key", "range -k /dev/stdin -k /dev/fd/0 0 5 key.age"),
-            ("Key", "salvage -k /dev/stdin -k /dev/fd/0 key.age"),
-            ("Key", "rewrap -k /dev/stdin -k /dev/fd/0 -K new.key key.age"),
-            ("Key, Seed", "encrypt -k key -k /dev/stdin -s /dev/stdin hello"),
-            ("Key, NewKey", "rewrap -k /dev/stdin -K /dev/stdin key.age"),
-            ("Key, NewKey", "rewrap -k key -k /dev/stdin -K new.key -K /dev/stdin key.age"),
-            ("Key, NewPassphrase", "rewrap -k /dev/fd/0 -P /dev/stdin key.age"),
-            ("Passphrase, Seed", "encrypt -p /dev/stdin -s /dev/fd/0 hello"),
-            ("Passphrase, NewPassphrase", "rewrap -p /dev/stdin -P /dev/fd/0 pass.age"),
-            ("Passphrase, NewKey", "rewrap -p /dev/stdin -K /dev/fd/0 pass.age"),
-            ("NewKey", "rewrap -k key -K /dev/stdin -K /dev/stdin key.age"),
-            ("NewKey", "rewrap -p pass -K key -K /dev/stdin -K /dev/fd/0 pass.age"),
-            ("NewKey, Seed", "rewrap -k key -K new.key -K /dev/stdin -s /dev/stdin key.age"),
-            ("NewKey, Seed", "rewrap -p pass -K /dev/stdin -s /dev/stdin pass.age"),
-            ("NewPassphrase, Seed", "rewrap -k key -P /dev/stdin -s /dev/stdin key.age"),
-        ]
-        for roles, words in rows:
-            for stdin in ("< <(cat seed)", "<seed"):
-                self.refused(f"StandardInputTwice: {roles}", f"{words} -o made {stdin}")
-
-    def test_dash(self):
-        """`-` is not a name of standard input."""
-        for words in (
-            "decrypt -k key -", "salvage -k key -", "range -k key 0 1 -", "inspect -", "decrypt -k - key.age", "salvage -k - key.age",
-            "encrypt -p - hello", "encrypt -k key -s - hello", "inspect -f - key.age", "rewrap -k key -K - key.age", "rewrap -k key -P - key.age",
-        ):
-            self.refused("CannotOpen: -", f"{words} <key.age")
+        self.refused("StandardInputTwice: Input, Key", "encrypt -k linked.key <key")
 
     def test_closed(self):
-        """A closed standard input cannot be read, by any name."""
+        """A closed standard input cannot be read."""
         for words in ("encrypt -k key", "decrypt -k key", "salvage -k key", "rewrap -k key -K key", "inspect"):
             self.refused("Read", f"{words} <&-")
-        for name in NAMES:
-            for words in (
-                "encrypt -k key NAME", "decrypt -k key NAME", "salvage -k key NAME", "rewrap -k key -K key NAME", "range -k key 0 1 NAME",
-                "inspect NAME", "encrypt -k NAME hello", "encrypt -p NAME hello", "encrypt -k key -s NAME hello", "decrypt -k NAME key.age",
-                "decrypt -p NAME pass.age", "salvage -k NAME key.age", "range -k NAME 0 1 key.age", "rewrap -k NAME -K key key.age",
-                "rewrap -k key -K NAME key.age", "rewrap -k key -P NAME key.age", "inspect -f NAME key.age",
-            ):
-                self.refused(f"CannotOpen: {name}", f"{words.replace('NAME', name)} <&-")

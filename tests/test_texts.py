@@ -10,7 +10,7 @@ import subprocess
 import unittest
 
 from program import AGEP, ROOT, ProgramCase, read, scratch, version, write
-from shells import FOLDER, offered
+from shells import FOLDER, STARTS, at_terminal, offered
 
 PAGE = ROOT + "/share/man/agep.1"
 
@@ -277,6 +277,15 @@ class Completions(unittest.TestCase):
         self.assert_offered({"agep ": every + own, "agep help ": every, "agep e": ["encrypt"]}, ["bash"])
         self.assert_offered({"agep ": every, "agep -": own, "agep help ": every, "agep e": ["encrypt"], "agep -V e": [], "agep -h -": []}, ["zsh"])
         self.assert_offered({"agep ": every, "agep -": own, "agep help ": commands(), "agep e": ["encrypt"]}, ["fish"])
+
+    def test_blank(self):
+        """A blank follows an option that the shell completes."""
+        for shell in STARTS:
+            with self.subTest(shell):
+                if not shutil.which(shell.split()[0]):
+                    self.skipTest(f"{shell} is missing")
+                *_, words = at_terminal(shell, ["agep encrypt --no-c\tx"], scratch())
+                self.assertEqual(words, ["encrypt", "--no-clobber", "x"])
 
     def test_options(self):
         """Each option of each command, and after it a file if its value is a file, and nothing if it is a

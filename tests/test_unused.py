@@ -1,5 +1,5 @@
 """tests/planted/find_unused and tests/margin.sh: lemmas that nothing cites, answers that the check does not
-need, and answers that it needs with --margin."""
+need, clauses that no proof uses, and answers that the check needs with --margin."""
 
 import os
 import shutil
@@ -65,9 +65,32 @@ case "$*" in *--margin*) goals=returns-clause-len;; *) goals=bounds-x;; esac
 for goal in $goals; do
     grep -q "^$goal c" proofs/f/Answers.antt || open="$open\\`$goal\\`"
 done
+grep -q "ensures len" src/lib.rt && grep -q "ensures both" src/lib.rt || exit 1
 [ -z "$open" ] || {
     echo "fn one::f: no proof: expected answers in ./proofs/f/Answers.antt; \\`search\\` did not prove $open"
     exit 1
+}
+"""
+
+SOURCE = """trait T {
+    fn g(&self)
+        ensures text { a };
+}
+
+/// A function.
+fn f(x: u8)
+    // The first
+    // clause.
+    ensures text { IfOk result
+        (a { b }) }
+    ensures len { c }
+    ensures both { d }
+{
+}
+
+pub fn h(x: u8)
+    ensures text { a }
+{
 }
 """
 
@@ -82,6 +105,7 @@ class Unused(unittest.TestCase):
         self.put("crates/one/proofs/Common.antt", COMMON)
         self.put("crates/one/proofs/Lemmas.antt", LEMMAS)
         self.put("crates/one/proofs/f/Answers.antt", ANSWERS)
+        self.put("crates/one/src/lib.rt", SOURCE)
         self.put("bin/rt", RT)
         os.chmod(self.tree + "/bin/rt", 0o755)
         subprocess.run("git init -q && git add -A", cwd=self.tree, shell=True, check=True)
@@ -98,6 +122,11 @@ class Unused(unittest.TestCase):
 
     def find(self, *crates):
         return self.run_script("planted/find_unused", *crates)
+
+    def test_this_repository(self):
+        """No lemma here is unused."""
+        done = subprocess.run(f"{TESTS}/planted/find_unused", stdout=subprocess.PIPE, text=True)
+        self.assertEqual((done.returncode, done.stdout), (0, ""))
 
     def test_lemmas(self):
         """It names the lemmas that only their own proofs cite, and the names that Common re-exports for nobody."""
@@ -116,6 +145,17 @@ class Unused(unittest.TestCase):
             self.assertEqual(file.read(), ANSWERS)
         self.put("crates/one/proofs/f/Answers.antt", ANSWERS.split("\n\npub returns-clause-text")[0])
         self.assertEqual(self.find("one"), (0, ""))
+
+    def test_clauses(self):
+        """It names the clauses of private functions without which all is proved, and tries none twice."""
+        tried = self.tree + "/tried"
+        for number in range(2):
+            self.assertEqual(self.find("--clauses", tried, "one"), (1, "crates/one/src/lib.rt: f text\n"))
+            with open(tried, encoding="utf-8") as file:
+                self.assertEqual(file.read(), "".join(f"one src/lib.rt f {it}\n" for it in ("both: needed", "len: needed", "text: unused")))
+            self.put("bin/rt", "#!/bin/sh\nexit 1\n")
+        with open(self.tree + "/crates/one/src/lib.rt", encoding="utf-8") as file:
+            self.assertEqual(file.read(), SOURCE)
 
     def test_margin(self):
         """margin.sh names the goals that are not proved with --margin, in all crates or in those given."""

@@ -221,6 +221,8 @@ class Headers(Verbose):
         for types, shown in ("a b c d e a", "a, b, c, d, e"), ("a b c d e a f scrypt2", "a, b, c, d, e, .."):
             write("made", header_of("".join(f"-> {kind}\n\n" for kind in types.split())))
             self.explains("NoMatch", f"standard input: its stanzas are of type {shown}; another tool opens it", "decrypt -k key < <(cat made)")
+        just = "decrypt -k key -H 65534 data/recipients_668.age"  # whose header is that long
+        self.explains("NoMatch", "data/recipients_668.age: its stanzas are of type X25519; another tool opens it", just)
         own = "its stanzas are of type example.org/key; -k opens it"
         for command in BY_PASSPHRASE:
             self.explains("NoMatch", f"key.age: {own}", f"{command} key.age")
