@@ -3,6 +3,7 @@ program as ./install installs it, in an environment like theirs; passphrases typ
 lines of README.md and the manual page; files of other programs. The commands of CONTRIBUTING.md for one crate."""
 
 import base64
+import fcntl
 import glob
 import os
 import re
@@ -159,6 +160,13 @@ class Cron(unittest.TestCase):
         self.path = self.path.partition(":")[2]
         return job
 
+    def kill(self, job):
+        """Ends a run with all that it has started: its lock is free when the last of these has gone."""
+        os.killpg(job.pid, signal.SIGKILL)
+        job.wait()
+        with open("data.lock") as lock:
+            fcntl.flock(lock, fcntl.LOCK_EX)
+
     def test_running(self):
         """While one runs, another one does not touch its files."""
         job = self.start_half()
@@ -166,14 +174,12 @@ class Cron(unittest.TestCase):
         self.assertTrue(header)
         self.says(self.SAYS)
         self.assertEqual((read("data.age"), read("data.age.new")[:150]), (b"old", header))
-        os.killpg(job.pid, signal.SIGKILL)
-        job.wait()
+        self.kill(job)
 
     def test_killed(self):
         """After a run that was killed, the next one makes the backup."""
         job = self.start_half()
-        os.killpg(job.pid, signal.SIGKILL)
-        job.wait()
+        self.kill(job)
         self.assertEqual(read("data.age"), b"old")
         self.says("")
         self.assert_backup(b"text")
