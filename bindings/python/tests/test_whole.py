@@ -248,7 +248,7 @@ class Callers(unittest.TestCase):
         self.addCleanup(signal.signal, signal.SIGALRM, signal.signal(signal.SIGALRM, interrupt))
         file, before = agefile.encrypt(b"text", recipients=Passphrase("x", work=18)), threading.active_count()
         for call in (lambda: agefile.encrypt(b"text", recipients=Passphrase("x")), lambda: agefile.decrypt(file, identities=Passphrase("y"))):
-            signal.setitimer(signal.ITIMER_REAL, 0.05)
+            signal.setitimer(signal.ITIMER_REAL, 0.2)
             self.assertRaises(KeyboardInterrupt, call)
             self.assertTrue(threading.enumerate()[-1].daemon, "the process would wait for it")
             while threading.active_count() > before:

@@ -160,7 +160,10 @@ impl<R: Read + Seek> Input for Watched<R> {
 }
 
 impl<R: Seek> Seek for Watched<R> {
-    fn seek(&mut self, pos: SeekFrom) -> io::Result<u64> {
+    fn seek(&mut self, pos: SeekFrom) -> io::Result<u64>
+        // A seek is no read: it leaves the count, also if it fails.
+        ensures count { self.new.failures ≡ self.old.failures }
+    {
         match self.reader.seek(pos) {
             Ok(at) => {
                 if pos == SeekFrom::End(0) {
