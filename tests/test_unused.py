@@ -77,6 +77,13 @@ SOURCE = """trait T {
         ensures text { a };
 }
 
+impl T for S {
+    fn g(&self)
+        ensures text { a }
+    {
+    }
+}
+
 /// A function.
 fn f(x: u8)
     // The first
@@ -88,7 +95,7 @@ fn f(x: u8)
 {
 }
 
-pub fn h(x: u8)
+pub extern "C" fn h(x: u8)
     ensures text { a }
 {
 }
