@@ -107,7 +107,6 @@ impl<'a, R: Input, K: Begun> SkippingSource<'a, R, K> {
     /// Continues after a read that failed for this reason, if it may, and counts the bytes for
     /// which it returns zeros.
     fn skip(&mut self, buf: &mut [u8], reason: io::Error) -> Option<usize>
-        ensures len { length buf.new ≡ length buf.old }
         ensures zeros { IfSome result
             (λ n. (n ≤ length buf.new) × (take n buf.new ≡ replicate n 0)) }
         ensures noted { IfSome result (λ n. unread_len self.new.unread
@@ -148,7 +147,6 @@ impl<'a, R: Input, K: Begun> SkippingSource<'a, R, K> {
 /// for, because a chunk is read together with the first byte of the next. None at the end of the
 /// file, or if the reader has no offsets.
 fn pass_over<R: Seek>(reader: &mut R, buf: &mut [u8]) -> Option<(u64, usize)>
-    ensures len { length buf.new ≡ length buf.old }
     ensures zeros { IfSome result
         (λ r. (r.1 ≤ length buf.new) × (take r.1 buf.new ≡ replicate r.1 0)) }
     // No more zeros follow than the file has bytes, and the reader goes on behind them.

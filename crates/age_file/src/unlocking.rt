@@ -58,7 +58,6 @@ pub(crate) fn found_key(
 ) -> Result<(FileKey, bool), Fault>
     ensures key { (result ≡ Err Fault.OutOfMemory)
         ⊎ (result ≡ found_key (answers_by identities.now (λ i s. meaning i s)) header.now) }
-    ensures no_device { IfErr result IsNoDeviceFault }
     ensures mixed { is_mixed header.now.stanzas ≡ true → result ≡ Err Fault.MixedPassphrase }
     ensures memory { result ≡ Err Fault.OutOfMemory → MayLackMemory
         (answers_by identities.now (λ i s. meaning i s) header.now.stanzas)
@@ -79,7 +78,6 @@ fn tested(
     ensures key { (result ≡ Err Fault.OutOfMemory) ⊎ (result ≡ result_map_both
         (λ k. (k, bytes_eq header.now.mac (header_mac k.0 header.now.stanzas))) unlock_fault
         chosen) }
-    ensures no_device { IfErr result IsNoDeviceFault }
     ensures memory { result ≡ Err Fault.OutOfMemory
         → (chosen ≡ Err UnlockFault.Memory) ⊎ ((k : FileKey) × (chosen ≡ Ok k)) }
 {

@@ -43,7 +43,6 @@ pub fn fill_from<S: Source>(
 /// One read into `buf` after its first `at` bytes.
 fn read_after<S: Source>(input: &mut S, buf: &mut [u8], at: usize) -> Result<usize, DeviceFault>
     requires { at ≤ length buf.old }
-    ensures len { length buf.new ≡ length buf.old }
     ensures bytes { IfOk result
         (λ n. Got at n buf.old buf.new (flow_by S.to_come S.gave input.old input.new)) }
     ensures lost { OnErr result (GaveSome (flow_by S.to_come S.gave input.old input.new)) }

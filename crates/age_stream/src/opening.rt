@@ -283,7 +283,6 @@ fn carry(bytes: &mut [u8], size: usize, ahead: usize)
     requires size { length bytes.old ≡ size + 1 }
     requires ahead { ahead ≤ 1 }
     requires some { 0 < size }
-    ensures len { length bytes.new ≡ size + 1 }
     ensures prefix { take ahead bytes.new ≡ take ahead (drop size bytes.old) }
 {
     let (prefix, end) = bytes.split_at_mut(size);
@@ -355,7 +354,6 @@ pub(crate) fn open_prefix(key: &[u8; 32], nonce: &[u8; 12], bytes: &mut [u8], en
     requires low { tag_size ≤ end }
     requires high { end ≤ length bytes.old }
     requires size { end ≤ sealed_chunk_size }
-    ensures len { length bytes.new ≡ length bytes.old }
     ensures rest { drop (end - tag_size) bytes.new ≡ drop (end - tag_size) bytes.old }
     ensures unchanged { OnFalse result (bytes.new ≡ bytes.old) }
     ensures opened { OnTrue result (opened_text key.now nonce.now [] (take end bytes.old)

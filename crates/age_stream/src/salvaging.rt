@@ -91,7 +91,6 @@ fn save_pieces<S: Source, W: Sink, L: Losses>(
         (λ rest. SavesParts max (parts key.now 0 (pieces rest)) (move_by W.taken out.old out.new)
         (losses_by L.lost losses.old losses.new) result) }
     ensures silent { IfOk result (λ s. s.lost ≡ 0 → losses.new ≡ losses.old) }
-    ensures pieces { IfErr result IsOfPieces }
     ensures ends { IfErr result (λ f. (f ≡ StreamFault.Read) ⊎ EndsAt max 0
         (flow_by S.to_come S.gave source.old source.new) (move_by W.taken out.old out.new) f) }
     ensures reads { CountsIf is_read (S.failed source.old) (S.failed source.new) result }
@@ -186,7 +185,6 @@ fn open_padded(key: &[u8; 32], i: u128, bytes: &mut [u8], end: usize) -> Option<
     requires high { end ≤ length bytes.old }
     requires size { end ≤ sealed_chunk_size }
     requires small { i < most_chunks }
-    ensures len { length bytes.new ≡ length bytes.old }
     ensures opened { IfSome result (λ k.
         padded_part key.now i 1 max_padding (take end bytes.old)
         ≡ record { text = take (end - tag_size - k) bytes.new; saved = Saved.Padded k }) }

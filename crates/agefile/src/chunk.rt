@@ -45,7 +45,6 @@ pub(crate) fn seal_as(
     requires low { tag_size ≤ length chunk.old }
     requires high { length chunk.old ≤ sealed_chunk_size }
     ensures seals { SealsAs key.now number last chunk.old chunk.new report.new result }
-    ensures within { result ≡ ok → number < limits.max_chunks }
 {
     if number as u128 >= MAX_CHUNKS {
         return report_fault(0, Fault::TooManyChunks, report);
