@@ -19,7 +19,7 @@ pub use Rattle.age_recipient.specs.KeyedStanza.{keyed_stanza}
 pub use Rattle.age_recipient.specs.PassphraseHolders.{pass_unwraps}
 pub use Rattle.age_stream.proofs.SalvageLemmas.{reports_none}
 pub use Rattle.age_stream.specs.Offsets.{StaysGiven}
-pub use Rattle.age_stream.specs.Ranges.{IsVerifiedByte, KeepsVerified, RangeState, Stops, range_len}
+pub use Rattle.age_stream.specs.Ranges.{IsVerifiedByte, RangeState, Stops, range_len}
 pub use Rattle.age_stream.specs.Salvage.{KnownLosses, LossesMoved, is_whole_to, losses_of}
 pub use Rattle.age_stream.specs.Sizes.{chunk_size}
 pub use Rattle.age_stream.specs.declared.fault.StreamFault.{StreamFault}

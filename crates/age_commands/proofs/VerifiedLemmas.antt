@@ -13,9 +13,9 @@ filled {gave} {layout} at {n} buf le verified k lt =
     (verified k (omega (arith, l, lt)))
 
 -- a range that stops within its first piece has written nothing
-pub stopped : {gave : ℕ → ℕ → Type 0} {told : Known} {s : RangeState} (at left : ℕ) {most : ℕ} {was buf : Bytes}
+pub stopped : {gave : ℕ → ℕ → Type 0} {s : RangeState} (at left : ℕ) {most : ℕ} {was buf : Bytes}
     {opened : ℕ} {fault : StreamFault} {named : Fault} {old : Known} → most ≤ left → named ≡ stream_fault fault
-    → Stops told s at (range_len s at most) was buf opened fault
+    → Stops gave s at (range_len s at most) was buf opened fault
     → WritesAny gave s at left (move_of old old) (Err named)
 stopped {gave} {s} at left {most} {old} le is stops =
     let some : 0 < range_len s at most = stops.some in

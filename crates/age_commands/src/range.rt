@@ -1,7 +1,7 @@
 //! The command `range`: a part of the plaintext of a file of the format.
 ghost use Rattle.std.specs.Prelude.{◌≤◌, ◌<◌, ◌≡◌, ◌+◌, ◌-◌, ◌^◌, ◌%◌, length, min, IfOk};
 ghost use Rattle.age_stream.specs.Offsets.{StaysGiven};
-ghost use Rattle.age_stream.specs.Ranges.{KeepsVerified, chunks_of, range_len, source_at_of};
+ghost use Rattle.age_stream.specs.Ranges.{range_len};
 ghost use Rattle.age_stream.specs.Sizes.{chunk_size};
 ghost use Rattle.age_file.specs.Device.{IsQuiet, is_write};
 ghost use Rattle.age_job.specs.Job.{IsInRange};
@@ -62,10 +62,8 @@ fn write_range<D: ReadAt, W: Sink>(
     requires at { at ≤ MAX_OFFSET }
     requires len { len ≤ MAX_OFFSET }
     requires piece { length piece.old ≡ CHUNK_SIZE }
-    ensures same_reference { (source_at_of reader.new).ghost_name
-        ≡ (source_at_of reader.old).ghost_name }
-    ensures any { KeepsVerified (D.gave (source_at_of reader.old).now) (chunks_of reader.old)
-        → WritesAny (D.gave (source_at_of reader.new).now) (chunks_of reader.old) at len
+    ensures same_reference { reader.new.dev.ghost_name ≡ reader.old.dev.ghost_name }
+    ensures any { WritesAny (D.gave reader.new.dev.now) reader.old.chunks at len
         (move_by W.taken out.old out.new) result }
     ensures writes { CountsIf is_write (W.failed out.old) (W.failed out.new) result }
 {
@@ -95,19 +93,13 @@ fn write_next<D: ReadAt, W: Sink>(
     requires end { at + left < 2 ^ 64 }
     requires left { 0 < left }
     requires piece { length piece.old ≡ CHUNK_SIZE }
-    ensures same_reference { (source_at_of reader.new).ghost_name
-        ≡ (source_at_of reader.old).ghost_name }
+    ensures same_reference { reader.new.dev.ghost_name ≡ reader.old.dev.ghost_name }
     ensures piece { length piece.new ≡ CHUNK_SIZE }
-    ensures same { (chunks_of reader.new).layout ≡ (chunks_of reader.old).layout }
+    ensures same { reader.new.chunks.layout ≡ reader.old.chunks.layout }
     ensures number { IfOk result (λ n. n
-        ≡ range_len (chunks_of reader.old) at (min left (chunk_size - at % chunk_size))) }
-    ensures stays_given { StaysGiven (D.gave (source_at_of reader.old).now)
-        (D.gave (source_at_of reader.new).now) }
-    ensures keeps_verified { let gave = D.gave (source_at_of reader.old).now in
-        KeepsVerified gave (chunks_of reader.old)
-        → KeepsVerified (D.gave (source_at_of reader.new).now) (chunks_of reader.new) }
-    ensures any { KeepsVerified (D.gave (source_at_of reader.old).now) (chunks_of reader.old)
-        → WritesNextAny (D.gave (source_at_of reader.new).now) (chunks_of reader.old) at left
+        ≡ range_len reader.old.chunks at (min left (chunk_size - at % chunk_size))) }
+    ensures stays_given { StaysGiven (D.gave reader.old.dev.now) (D.gave reader.new.dev.now) }
+    ensures any { WritesNextAny (D.gave reader.new.dev.now) reader.old.chunks at left
         (move_by W.taken out.old out.new) result }
     ensures writes { CountsIf is_write (W.failed out.old) (W.failed out.new) result }
 {

@@ -1,42 +1,49 @@
 -- A source read from its first byte on.
-use Rattle.age_file.proofs.Common.{◌≡◌, ℕ, [], refl, slice_index, inl, inr, ◌++◌, ◌+◌, ◌-◌, ◌^◌, ◌<◌, ◌≤◌, length, take, drop, min, sym, ◌∙◌, ap, arith, subst, IfOk, Option, Some, None, Result, Ok, cases_lt, length-append, length-drop, length-take, length-take-le, drop-drop, drop_all, get_or-append_right, get_or-take, get_or_append_left, take-append-drop, Bytes, Gives, Grows, Known, flow_by, move_of, AtState, GaveFirst, IsWithin, GaveAt, GivesAt, HasOffsets, StaysGiven, option_map}
+use Rattle.age_file.proofs.Common.{◌≡◌, ℕ, [], refl, slice_index, inl, inr, ◌++◌, ◌+◌, ◌-◌, ◌^◌, ◌<◌, ◌≤◌, length, take, drop, min, sym, ◌∙◌, ap, arith, subst, IfOk, Option, Some, None, Result, Ok, cases_lt, length-append, length-drop, length-take, length-take-le, drop-drop, drop_all, get_or-append_right, get_or-take, get_or_append_left, take-append-drop, Bytes, Gives, Grows, Known, flow_by, move_of, AtState, GaveFirst, IsWithin, EmptyAtEnd, GaveAt, HasOffsets, StaysGiven, option_map}
+
+-- what a source gave there is what its known contents have there
+abbrev pub HasThere : (told : Known) (at : ℕ) (xs : Bytes) → Type 0
+HasThere told at xs = (b : Bytes) → told ≡ Some b → xs ≡ take (length xs) (drop at b)
+
+-- the next offset is not past the end
+pub within_on : (told : Known) (at at2 n : ℕ) (buf : Bytes) → IsWithin told at → n ≤ length buf
+    → at2 ≡ min (at + n) (2 ^ 64 - 1) → HasThere told at (take n buf) → IsWithin told at2
+within_on None at at2 n buf within le next has = tt
+within_on (Some b) at at2 n buf within le next has =
+    let l = length-take-le n buf le in
+    let d = length-drop at b in
+    omega (arith, next, within, l, d, ap length (has b refl), length-take (length (take n buf)) (drop at b))
 
 -- a read at the current offset returns the next bytes
 pub gives_on : {E : Type 0} (told : Known) (size : Option ℕ) (at at2 n : ℕ) (buf : Bytes) (r : Result ℕ E) → r ≡ Ok n
     → HasOffsets told → IsWithin told at → n ≤ length buf
-    → at2 ≡ min (at + n) (2 ^ 64 - 1) → GivesAt told size at r buf
+    → at2 ≡ min (at + n) (2 ^ 64 - 1) → EmptyAtEnd told size at r buf
+    → HasThere told at (take n buf)
     → Gives (move_of (option_map (drop at) told) (option_map (drop at2) told)) r buf
-gives_on {E} told size at at2 n buf r is offsets within le next h =
+gives_on {E} told size at at2 n buf r is offsets within le next ends has =
     subst (λ (x : Result ℕ E). Gives (move_of (option_map (drop at) told) (option_map (drop at2) told)) x buf) (sym is)
-    (go told offsets within (subst (λ (x : Result ℕ E). GivesAt told size at x buf) is h))
+    (go told offsets within (subst (λ (x : Result ℕ E). EmptyAtEnd told size at x buf) is ends) has)
   where
-    go : (t : Known) → HasOffsets t → IsWithin t at → GivesAt {E = E} t size at (Ok n) buf
+    go : (t : Known) → HasOffsets t → IsWithin t at → EmptyAtEnd {E = E} t size at (Ok n) buf
+        → HasThere t at (take n buf)
         → Gives {E = E} (move_of (option_map (drop at) t) (option_map (drop at2) t)) (Ok n) buf
-    go None p w g = (tt, λ e some. tt)
-    go (Some bytes) p w g =
+    go None p w g has = (tt, λ e some. tt)
+    go (Some bytes) p w g has =
         let fits : length bytes < 2 ^ 64 = p in
         let inside : at ≤ length bytes = w in
         let l : length (take n buf) ≡ n = length-take-le n buf le in
         let d : length (drop at bytes) ≡ length bytes - at = length-drop at bytes in
-        let had : take n buf ≡ take n (drop at bytes) = g.0 ∙ ap (λ k. take k (drop at bytes)) l in
+        let had : take n buf ≡ take n (drop at bytes) = has bytes refl ∙ ap (λ k. take k (drop at bytes)) l in
         let room : n ≡ min n (length (drop at bytes)) = sym l ∙ ap length had ∙ length-take n (drop at bytes) in
         let sum : at2 ≡ at + n = omega arith in (
           sym (take-append-drop n (drop at bytes)) ∙ ap (λ x. x ++ drop n (drop at bytes)) (sym had)
               ∙ ap (λ x. take n buf ++ x) (drop-drop n at bytes ∙ ap (λ k. drop k bytes) (sym sum)),
-          λ e some. let past : length bytes ≤ at = (g.1 e some).0 in drop_all at2 bytes (omega arith),
+          λ e some. let past : length bytes ≤ at = (g e some).0 in drop_all at2 bytes (omega arith),
         )
 
 -- no byte was returned yet
 pub first_none : (gave : ℕ → ℕ → Type 0) → GaveFirst gave 0 []
 first_none gave = (refl, λ k lt. absurd (omega (arith, lt)))
-
--- bytes that were returned stay returned
-pub first_stays : (old new : ℕ → ℕ → Type 0) (at : ℕ) (bytes : Bytes) → StaysGiven old new
-    → GaveFirst old at bytes → GaveFirst new at bytes
-first_stays old new at bytes stays first = (
-  first.0,
-  λ k lt. stays (0 + k) (slice_index (take at bytes) k) (first.1 k lt),
-)
 
 -- the bytes of one read more
 pub first_then : (old new : ℕ → ℕ → Type 0) (at at2 : ℕ) (past more : Bytes) → StaysGiven old new

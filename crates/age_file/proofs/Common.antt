@@ -6,9 +6,9 @@ pub use Rattle.std.proofs.lemmas.List.{append-nil, drop-drop, drop-map, drop_all
 pub use Rattle.std.proofs.lemmas.Option.{none-some}
 pub use Rattle.std.proofs.lemmas.Result.{err_from_is_err_and}
 pub use Rattle.std.proofs.lemmas.Slice.Eq.{bytes_eq-Decides}
-pub use Rattle.std.specs.Io.KnownBytes.{Appends, Consumes}
+pub use Rattle.std.specs.Io.KnownBytes.{Appends}
 pub use Rattle.std.specs.List.{AllZip, concat, list_any, position_from}
-pub use Rattle.std.specs.Prelude.{IfErr, IfNone, IfSome, if◌then◌else◌, option_map, ⊤, ◌&&◌}
+pub use Rattle.std.specs.Prelude.{IfErr, IfNone, if◌then◌else◌, option_map, ⊤, ◌&&◌}
 pub use Rattle.std.specs.Result.{result_map_both}
 pub use Rattle.std.specs.Str.{bytes_eq}
 pub use Rattle.age_file.specs.AgeFile.{AgeFile, Bounds, is_mixed, is_scrypt}
@@ -17,7 +17,7 @@ pub use Rattle.age_file.specs.Decrypt.{Decrypts, DecryptsText, TookThrough, Took
 pub use Rattle.age_file.specs.Device.{IsLate, IsNoDeviceFault, is_read}
 pub use Rattle.age_file.specs.Inspect.{Inspects, ReadsFront}
 pub use Rattle.age_file.specs.NewFile.{BegunFile, EncryptsGiven, FailsHeading, FillsChunk, Gathered, Gathering, Gathers, IsHeading, IsIncompatible, IsNewHeader, TookChunks, TookWhileEncrypting, WrapsAll, gathering_from, with_stanzas}
-pub use Rattle.age_file.specs.Ranges.{AtState, BeginsFile, GaveFirst, GaveHeader, HasHeader, IsOpenFault, IsRangeFault, IsRangesOf, IsWithin, MissesHeader, MissesRanges, RefusesRanges, ranges_under}
+pub use Rattle.age_file.specs.Ranges.{AtState, BeginsFile, GaveFirst, GaveHeader, IsOpenFault, IsRangeFault, IsWithin, MissesHeader, MissesRanges, RefusesRanges, ranges_under}
 pub use Rattle.age_file.specs.Rewrap.{BeginsRewrapped, IsRewrapped, RefusesRewrap, Rewrapped, Rewraps, RewrapsText, TookWhileRewrapping}
 pub use Rattle.age_file.specs.Salvage.{SalvagesFile, SalvagesText, SavesAfter, SavesFile, SavesNone, SavesUnder, is_whole_file, salvaged_file}
 pub use Rattle.age_file.specs.Verdict.{Answering, IsVerdict, answers_by, finding, found_key, header_fault, header_key, if_right, parts_of, reading_after, reading_under, stream_fault, unlock_fault, with_file_fault}
@@ -52,16 +52,16 @@ pub use Rattle.age_stream.proofs.SalvageLemmas.{reports_none}
 pub use Rattle.age_stream.proofs.SalvageReading.{payload_exactly, payload_plaintext, payload_whole}
 pub use Rattle.age_stream.proofs.SealingLemmas.{filled_finishes, filled_seals}
 pub use Rattle.age_stream.proofs.WholeSlices.{whole_len, whole_opens, whole_slice}
-pub use Rattle.age_stream.specs.Offsets.{GaveAt, GivesAt, HasOffsets, StaysGiven}
+pub use Rattle.age_stream.specs.Offsets.{Agrees, EmptyAtEnd, GaveAt, HasOffsets, StaysGiven}
 pub use Rattle.age_stream.specs.Opening.{EndsAt, OpenerState, Starts, WritesAll, WritesReading}
 pub use Rattle.age_stream.specs.Payload.{payload, payload_key, pieces, sealed_chunks}
-pub use Rattle.age_stream.specs.Ranges.{HasPlain, OpensRanges, RangeState, chunks_of}
+pub use Rattle.age_stream.specs.Ranges.{BeginsRanges, HasPlain, OpensRanges, RangeState}
 pub use Rattle.age_stream.specs.Reader.{StartsReader}
 pub use Rattle.age_stream.specs.Reading.{Reading, payload_reading, stop, whole}
 pub use Rattle.age_stream.specs.Salvage.{EndsSaving, IsOfPieces, KnownLosses, LossesMoved, Part, Reports, Salvages, Saves, SavesParts, SavesPayload, is_whole, losses, losses_by, losses_of, payload_parts, salvaged_text}
 pub use Rattle.age_stream.specs.Sealing.{Fills, FinishesBy, SealerState, SealsAll, Stopped, at_start}
 pub use Rattle.age_stream.specs.Sizes.{chunk_size, sealed_chunk_size}
-pub use Rattle.age_stream.specs.Slice.{IsSlice, last_piece, plain_len, range_outcome}
+pub use Rattle.age_stream.specs.Slice.{IsSlice, plain_len, range_outcome}
 pub use Rattle.age_stream.specs.declared.done.Done.{Done}
 pub use Rattle.age_stream.specs.declared.fault.StreamFault.{StreamFault}
 pub use Rattle.age_stream.specs.declared.salvaged.Salvaged.{Salvaged}

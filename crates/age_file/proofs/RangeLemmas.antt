@@ -1,45 +1,49 @@
 -- What opening a file for ranges does, from what its parts do.
-use Rattle.age_file.proofs.Common.{◌≡◌, ◌⊎◌, ℕ, [], ◌++◌, ◌+◌, ◌-◌, ◌≤◌, length, drop, sym, ◌∙◌, ap, refl, subst, arith, inl, inr, Option, Some, None, Result, Ok, Err, IfErr, IfSome, if◌then◌else◌, result_map_both, Consumes, append-nil, length-append, length-drop, Bytes, CountsFaultIf, Known, Seen, flow, flow_by, move_of, HeaderFault, HeaderParts, of_known, begins_found, Refuses, HeaderVerdict, FileKey, UnlockFault, StreamFault, StaysGiven, OpensRanges, last_piece, range_outcome, Fault, OutOfMemory, Read, Bounds, Inspects, ReadsFront, IsNoDeviceFault, is_read, AtState, BeginsFile, GaveFirst, GaveHeader, HasHeader, IsOpenFault, IsRangesOf, IsWithin, MissesHeader, MissesRanges, RefusesRanges, ranges_under, Answering, finding, header_fault, stream_fault, unlock_fault, header_key, option_map, ◌^◌, min}
+use Rattle.age_file.proofs.Common.{◌≡◌, ◌⊎◌, ℕ, [], ◌++◌, ◌+◌, ◌-◌, ◌≤◌, length, drop, sym, ◌∙◌, ap, refl, subst, arith, inl, inr, Option, Some, None, Result, Ok, Err, IfErr, if◌then◌else◌, result_map_both, append-nil, Agrees, BeginsRanges, Bytes, CountsFaultIf, Known, Seen, flow, flow_by, move_of, HeaderFault, HeaderParts, of_known, begins_found, Refuses, HeaderVerdict, FileKey, UnlockFault, StreamFault, StaysGiven, OpensRanges, range_outcome, Fault, OutOfMemory, Read, Bounds, Inspects, ReadsFront, IsNoDeviceFault, is_read, AtState, BeginsFile, GaveFirst, GaveHeader, IsOpenFault, MissesHeader, MissesRanges, RefusesRanges, ranges_under, Answering, finding, header_fault, stream_fault, unlock_fault, header_key, option_map, ◌^◌, min, take, ◌<◌, ◌*◌, take_all, take-append-drop, slice_index, Moved, GaveAt}
 use Rattle.age_header.specs.declared.fault.HeaderFault.TheVariants as header
 use Rattle.age_recipient.specs.declared.choice.UnlockFault.TheVariants as unlock
 use Rattle.age_stream.specs.declared.fault.StreamFault.TheVariants as fault
 use Rattle.age_stream.specs.Counts as counts
 use Rattle.age_stream.specs.Ranges as stream
+use Rattle.age_header.proofs.VerdictUniqueLemmas.{found_again}
+use Rattle.age_stream.proofs.JudgesLastLemmas.{refused_there}
+use Rattle.age_stream.proofs.ReadAtLemmas.{has_at}
 use Rattle.age_file.proofs.FileLemmas.{key_faults}
-use Rattle.age_file.proofs.AtStateLemmas.{first_none, first_stays}
+use Rattle.age_file.proofs.AtStateLemmas.{first_none}
 use Rattle.age_file.proofs.FrontLemmas.{saving_front}
 use Rattle.age_file.proofs.DecryptLemmas.{err_err, found_key, headed, reads_file}
 
 -- a header that was read from the first byte on
-pub range_header_found : (limits : Bounds) (told : Known) (at : ℕ) {a b : Seen} (h : HeaderParts)
-    → a.to_come ≡ option_map (drop 0) told → b.to_come ≡ option_map (drop at) told → IsWithin told at
-    → Inspects limits (flow a b) (Ok h) → HasHeader limits told at h
-range_header_found limits None at h old new w i = tt
-range_header_found limits (Some b) at {a = x} {b = y} h old new w i =
-    let is = headed limits i in
-    let all : b ≡ is.text ++ drop at b = subst (λ (t : Known). Consumes (Some b) t is.text) new
-    (subst (λ (t : Known). Consumes t y.to_come is.text) old is.took.consumes) in
-    let d : length (drop at b) ≡ length b - at = length-drop at b in
-    let l : length b ≡ length is.text + length (drop at b) = ap length all ∙ length-append is.text (drop at b) in
-    let inside : at ≤ length b = w in (
-      is.text,
-      omega arith,
-      subst (λ x. HeaderVerdict x limits.max_header (Ok (finding is.text h))) (sym all) (is.verdict (drop at b)),
-    )
-
--- the same whether or not the contents are known
 pub header_gave : {D : Type 0} (to_come : AtState D → Known) (gave : D → ℕ → ℕ → Type 0) {limits : Bounds}
-    {old new : AtState D} {h : HeaderParts} → old.at ≡ 0
+    {old new : AtState D} {h : HeaderParts} → limits.max_header < 2 ^ 64 → old.at ≡ 0
     → Inspects limits (flow_by to_come (λ s. GaveFirst (gave s.dev) s.at) old new) (Ok h)
     → GaveHeader limits (gave new.dev) new.at h
-header_gave to_come gave {limits} {old} {h} start i =
+header_gave to_come gave {limits} {old} {new} {h} small start i =
     let is = headed limits i in
+    let (at, read) = is.took.grew []
+    (subst (λ n. GaveFirst (gave old.dev) n []) (sym start) (first_none (gave old.dev))) in
+    let verdict = subst (λ t. HeaderVerdict t limits.max_header (Ok (finding is.text h))) (append-nil is.text)
+    (is.verdict []) in
+    let found = begins_found is.text limits.max_header (finding is.text h) verdict in
+    let len : length is.text ≡ new.at = omega (arith, at, found.fits, small) in
     record {
       text = is.text;
-      gave_text = is.took.grew [] (subst (λ n. GaveFirst (gave old.dev) n []) (sym start) (first_none (gave old.dev)));
-      verdict = subst (λ t. HeaderVerdict t limits.max_header (Ok (finding is.text h))) (append-nil is.text)
-          (is.verdict []);
+      len = len;
+      read = subst (GaveAt (gave new.dev) 0) (take_all new.at is.text (omega (arith, len))) read;
+      verdict = verdict;
     }
+
+-- it is that of the known contents
+pub header_known : (b : Bytes) {gave : ℕ → ℕ → Type 0} {found : Option ℕ} {limits : Bounds} {at : ℕ} {h : HeaderParts}
+    → Agrees b gave found → (first : GaveHeader limits gave at h)
+    → HeaderVerdict b limits.max_header (Ok (finding first.text h))
+header_known b {limits = limits} {h = h} agrees first =
+    let text : Bytes = first.text in
+    let prefix : text ≡ take (length text) b = has_at b text 0 agrees first.read in
+    let all : text ++ drop (length text) b ≡ b =
+    ap (λ x. x ++ drop (length text) b) prefix ∙ take-append-drop (length text) b in
+    subst (λ x. HeaderVerdict x limits.max_header (Ok (finding text h))) all
+    (found_again text limits.max_header (finding text h) first.verdict (drop (length text) b))
 
 -- how much was read of a header that was refused
 pub header_most : {D : Type 0} (to_come : AtState D → Known) (gave : D → ℕ → ℕ → Type 0) (limits : Bounds)
@@ -76,33 +80,39 @@ missed_ranges limits answers None fault (inr (inr h)) = inr (inr tt)
 missed_ranges limits answers (Some b) fault (inr (inr h)) = inr (inr (Err h.0, h.1, h.2))
 
 -- no key
-pub locked_ranges : (limits : Bounds) (answers : Answering) (told : Known) (at : ℕ) (h : HeaderParts) (fault : Fault)
-    → HasHeader limits told at h
+pub locked_ranges : {limits : Bounds} (answers : Answering) (told : Known) {gave : ℕ → ℕ → Type 0} {found : Option ℕ}
+    {at : ℕ} {h : HeaderParts} (fault : Fault) → ((b : Bytes) → told ≡ Some b → Agrees b gave found)
+    → GaveHeader limits gave at h
     → (◌≡◌ {A = Result FileKey Fault} (Err fault) (Err OutOfMemory)) ⊎ (Err fault ≡ header_key answers h)
     → MissesRanges limits answers told fault
-locked_ranges limits answers told at h fault found (inl memory) =
-    inr (inl (err_err {A = FileKey} fault OutOfMemory memory))
-locked_ranges limits answers None at h fault found (inr key) = inr (inr tt)
-locked_ranges limits answers (Some b) at h fault found (inr key) =
-    inr (inr (Ok (finding found.0 h), found.2, ap (ranges_under limits (drop (length found.0) b)) (sym key)))
+locked_ranges answers told fault agrees first (inl memory) = inr (inl (err_err {A = FileKey} fault OutOfMemory memory))
+locked_ranges answers None fault agrees first (inr key) = inr (inr tt)
+locked_ranges {limits} answers (Some b) {h = h} fault agrees first (inr key) = inr (inr (
+  Ok (finding first.text h),
+  header_known b (agrees b refl) first,
+  ap (ranges_under limits (drop (length first.text) b)) (sym key),
+))
 
 -- a payload that was not opened
-pub payload_missed : (limits : Bounds) (answers : Answering) (told : Known) (at : ℕ) (h : HeaderParts) (k : FileKey)
-    (fault : StreamFault) → HasHeader limits told at h
+pub payload_missed : {limits : Bounds} (answers : Answering) (told : Known) {gave : ℕ → ℕ → Type 0} {found : Option ℕ}
+    {at : ℕ} {h : HeaderParts} (k : FileKey) (e : StreamFault) → ((b : Bytes) → told ≡ Some b → Agrees b gave found)
+    → GaveHeader limits gave at h
     → (◌≡◌ {A = Result FileKey Fault} (Ok k) (Err OutOfMemory)) ⊎ (Ok k ≡ header_key answers h)
-    → OpensRanges k limits.max_chunks at told (Err fault)
-    → MissesRanges limits answers told (stream_fault fault)
-payload_missed limits answers told at h k fault found (inl memory) o = absurd (cc)
-payload_missed limits answers told at h k fault found (inr key) (inl e) = inl (ap stream_fault e)
-payload_missed limits answers told at h k fault found (inr key) (inr (inl e)) = inr (inl (ap stream_fault e))
-payload_missed limits answers None at h k fault found (inr key) (inr (inr e)) = inr (inr tt)
-payload_missed limits answers (Some b) at h k fault found (inr key) (inr (inr e)) = inr (inr (
-  Ok (finding found.0 h),
-  found.2,
-  ap (ranges_under limits (drop (length found.0) b)) (sym key)
-      ∙ ap (λ n. result_map_both (λ text. text) stream_fault (range_outcome k limits.max_chunks (drop n b))) found.1
-      ∙ ap (result_map_both (λ text. text) stream_fault) e,
-))
+    → OpensRanges k limits.max_chunks at gave found (Err e) → MissesRanges limits answers told (stream_fault e)
+payload_missed answers told k e agrees first (inl memory) opens = absurd (cc)
+payload_missed answers None k e agrees first (inr key) opens = inr (inr tt)
+payload_missed {limits} answers (Some b) {at = at} {h} k e agrees first (inr key) opens =
+    elim (refused_there b k limits.max_chunks at e (agrees b refl) opens) [
+      | inl is ↦ inl (ap stream_fault is)
+      | inr (inl is) ↦ inr (inl (ap stream_fault is))
+      | inr (inr is) ↦ inr (inr (
+        Ok (finding first.text h),
+        header_known b (agrees b refl) first,
+        ap (ranges_under limits (drop (length first.text) b)) (sym key)
+            ∙ ap (λ n. result_map_both (λ text. text) stream_fault (range_outcome k limits.max_chunks (drop n b)))
+            first.len ∙ ap (result_map_both (λ text. text) stream_fault) is,
+      ))
+    ]
 
 -- ---- the faults' names
 
@@ -134,6 +144,16 @@ payload_named e h = tt
 
 -- ---- why a file was not opened
 
+-- bytes that were returned stay returned
+pub header_stays : {limits : Bounds} {old new : ℕ → ℕ → Type 0} {at : ℕ} {h : HeaderParts} → StaysGiven old new
+    → GaveHeader limits old at h → GaveHeader limits new at h
+header_stays stays first = record {
+  text = first.text;
+  len = first.len;
+  read = λ k lt. stays (0 + k) (slice_index first.text k) (first.read k lt);
+  verdict = first.verdict;
+}
+
 pub header_refuses : (limits : Bounds) (answers : Answering) (told : Known) {told2 : Known} (given : ℕ) {given2 : ℕ}
     (failed : ℕ) {failed2 : ℕ} {fault : Fault} → MissesHeader limits told fault → IsOpenFault fault
     → (fault ≡ Read) ⊎ (given2 ≤ given + limits.max_header)
@@ -150,23 +170,24 @@ header_refuses limits answers told given {given2} failed {fault} m early front s
 -- a header that was found fits into its limit
 header_fits : {limits : Bounds} {gave : ℕ → ℕ → Type 0} {at : ℕ} {h : HeaderParts} → GaveHeader limits gave at h
     → at ≤ limits.max_header
-header_fits {limits} {h} first =
+header_fits {limits} {h = h} first =
     let found = begins_found first.text limits.max_header (finding first.text h) first.verdict in
-    omega (arith, first.gave_text.0, found.fits)
+    omega (arith, first.len, found.fits)
 
 none_counted : (fault : Fault) (old new : ℕ) → IsNoDeviceFault fault → new ≡ old → CountsFaultIf is_read old new fault
 none_counted fault old new none same =
     subst (λ b. new ≡ (if b then min (old + 1) (2 ^ 64 - 1) else old)) (sym none.0) same
 
 pub locked_refuses : (limits : Bounds) (answers : Answering) (told mid told2 : Known)
-    (given given1 given2 failed failed2 at : ℕ) {gave : ℕ → ℕ → Type 0} (h : HeaderParts) (fault : Fault) → mid ≡ told
-    → given1 ≤ given + at → HasHeader limits told at h → GaveHeader limits gave at h
+    (given given1 given2 failed failed2 at : ℕ) {gave : ℕ → ℕ → Type 0} {found : Option ℕ} (h : HeaderParts)
+    (fault : Fault) → ((b : Bytes) → mid ≡ Some b → Agrees b gave found) → mid ≡ told → given1 ≤ given + at
+    → GaveHeader limits gave at h
     → (◌≡◌ {A = Result FileKey Fault} (Err fault) (Err OutOfMemory)) ⊎ (Err fault ≡ header_key answers h)
     → IsNoDeviceFault fault → told2 ≡ mid → given2 ≡ given1 → failed2 ≡ failed
     → RefusesRanges limits answers (move_of told told2) given given2 failed failed2 fault
-locked_refuses limits answers told mid told2 given given1 given2 failed failed2 at h fault same le found first key none
+locked_refuses limits answers told mid told2 given given1 given2 failed failed2 at h fault agrees same le first key none
     stay kept count = record {
-      misses = locked_ranges limits answers told at h fault found key;
+      misses = locked_ranges answers told fault (λ b is. agrees b (same ∙ is)) first key;
       named = locked_named answers h fault key;
       front = inr (inr (inr (let fits = header_fits first in omega (arith, le, kept, fits))));
       stay = stay ∙ same;
@@ -174,18 +195,19 @@ locked_refuses limits answers told mid told2 given given1 given2 failed failed2 
     }
 
 pub payload_refuses : (limits : Bounds) (answers : Answering) (told mid told2 : Known)
-    (given given2 failed failed1 failed2 at max : ℕ) (h : HeaderParts) (k : FileKey) (fault : StreamFault) → mid ≡ told
-    → failed1 ≡ failed → max ≡ limits.max_chunks → HasHeader limits told at h
+    (given given2 failed failed1 failed2 at max : ℕ) (h : HeaderParts) (k : FileKey) (fault : StreamFault)
+    {early gave : ℕ → ℕ → Type 0} {size : Option ℕ} → ((b : Bytes) → told2 ≡ Some b → Agrees b gave size)
+    → mid ≡ told → failed1 ≡ failed → max ≡ limits.max_chunks → GaveHeader limits early at h
+    → StaysGiven early gave
     → (◌≡◌ {A = Result FileKey Fault} (Ok k) (Err OutOfMemory)) ⊎ (Ok k ≡ header_key answers h)
-    → OpensRanges k max at mid (Err fault) → stream.IsOpenFault fault → told2 ≡ mid
+    → OpensRanges k max at gave size (Err fault) → stream.IsOpenFault fault → told2 ≡ mid
     → CountsFaultIf counts.is_read failed1 failed2 fault
     → RefusesRanges limits answers (move_of told told2) given given2 failed failed2 (stream_fault fault)
-payload_refuses limits answers told mid told2 given given2 failed failed1 failed2 at max h k fault same before most
-    found key opens early stay count = record {
-      misses = payload_missed limits answers told at h k fault found key
-          (subst (λ m. OpensRanges k m at told (Err fault)) most
-          (subst (λ t. OpensRanges k max at t (Err fault)) same opens));
-      named = payload_named fault early;
+payload_refuses limits answers told mid told2 given given2 failed failed1 failed2 at max h k fault {early} {gave} {size}
+    agrees same before most first stays key opens named stay count = record {
+      misses = payload_missed answers told k fault (λ b is. agrees b (stay ∙ same ∙ is)) (header_stays stays first) key
+          (subst (λ m. OpensRanges k m at gave size (Err fault)) most opens);
+      named = payload_named fault named;
       front = saving_front fault;
       stay = stay ∙ same;
       counted = subst (λ n. CountsFaultIf is_read n failed2 (stream_fault fault)) before
@@ -195,40 +217,20 @@ payload_refuses limits answers told mid told2 given given2 failed failed1 failed
 -- ---- a file that was opened
 
 pub file_begins : (limits : Bounds) (answers : Answering) {gave : ℕ → ℕ → Type 0} {size : Option ℕ}
-    {chunks : stream.RangeState} (at : ℕ) (h : HeaderParts) (k : FileKey) → GaveHeader limits gave at h
+    {chunks : stream.RangeState} {max : ℕ} (at : ℕ) (h : HeaderParts) (k : FileKey) → max ≡ limits.max_chunks
+    → GaveHeader limits gave at h
     → (◌≡◌ {A = Result FileKey Fault} (Ok k) (Err OutOfMemory)) ⊎ (Ok k ≡ header_key answers h)
-    → stream.BeginsAt k at gave size chunks → BeginsFile limits answers gave size chunks
-file_begins limits answers at h k first key b =
-    record { header = h; at = at; first = first; key = k; chosen = found_key key; begins = b }
+    → BeginsRanges k max at gave size chunks → BeginsFile limits answers gave size chunks
+file_begins limits answers at h k most first key b =
+    record { header = h; at = at; first = first; key = k; chosen = found_key key; begins = rw most at b }
 
--- bytes that were returned stay returned
-pub header_stays : {limits : Bounds} {old new : ℕ → ℕ → Type 0} {at : ℕ} {h : HeaderParts} → StaysGiven old new
-    → GaveHeader limits old at h → GaveHeader limits new at h
-header_stays {old} {new} {at} stays first = record {
-  text = first.text;
-  gave_text = first_stays old new at first.text stays first.gave_text;
-  verdict = first.verdict;
-}
-
-pub file_ranges : (limits : Bounds) (answers : Answering) (told : Known) {mid told2 : Known} (given : ℕ)
-    {given1 given2 at max : ℕ} (h : HeaderParts) {k : FileKey} (chunks : stream.RangeState)
-    → mid ≡ told → given1 ≤ given + at
-    → max ≡ limits.max_chunks → HasHeader limits told at h
-    → (◌≡◌ {A = Result FileKey Fault} (Ok k) (Err OutOfMemory)) ⊎ (Ok k ≡ header_key answers h)
-    → OpensRanges k max at mid (Ok chunks) → stream.Probes (move_of mid told2) at given1 given2
-    → IfSome told (λ b. IsRangesOf limits answers b chunks given given2)
-file_ranges limits answers None given {at} {max} h {k} chunks same le most found key opens probes = tt
-file_ranges limits answers (Some b) {told2} given {given1} {given2} {at} {max} h {k} chunks same le most found key opens
-    probes =
-    let o = subst (λ t. OpensRanges k max at t (Ok chunks)) same opens in
-    let p = subst (λ t. stream.Probes (move_of t told2) at given1 given2) same probes in
-    record {
-      found = finding found.0 h;
-      header = found.2;
-      key = k;
-      chosen = found_key key;
-      opened = subst (λ m. stream.IsOpened k m (Some b) (length found.0) chunks) most
-          (subst (λ n. stream.IsOpened k max (Some b) n chunks) (sym found.1) o.2);
-      gave = subst (λ n. given2 ≤ given + n + (16 + length (last_piece (drop (n + 16) b)))) (sym found.1)
-          (omega (arith, le, p.last));
-    }
+-- how much was read
+pub file_most : {k : FileKey} {max at given1 given2 : ℕ} (given : ℕ) {gave : ℕ → ℕ → Type 0} {size : Option ℕ}
+    {source : Moved} (chunks : stream.RangeState) → given1 ≤ given + at → BeginsRanges k max at gave size chunks
+    → stream.Probes source size at given1 given2
+    → given2 ≤ given + (chunks.layout.first + stream.last_len (chunks.layout.plain + 16 * chunks.layout.count))
+file_most {at = at} given chunks le begins probes =
+    let last = rw begins.end at probes.last in
+    let after : chunks.layout.first + (chunks.layout.plain + 16 * chunks.layout.count) - (at + 16)
+    ≡ chunks.layout.plain + 16 * chunks.layout.count = omega (arith, begins.after) in
+    omega (arith, le, begins.after, rw after at last)

@@ -1,5 +1,5 @@
 -- Ranges of a file whose verdict has no fault.
-use Rattle.age_file.proofs.Common.{◌≡◌, ◌⊎◌, ℕ, length, take, drop, sym, ◌∙◌, ap, subst, inl, inr, Some, Result, Ok, Err, result_map_both, drop-drop, Bytes, HeaderFault, Found, FileKey, HasPlain, RangeState, payload_reading, whole, IsSlice, plain_len, whole_len, whole_opens, whole_slice, Fault, OutOfMemory, Read, Bounds, IsRangeFault, IsRangesOf, MissesRanges, ranges_under, Answering, IsVerdict, header_fault, reading_after, parts_of, reading_under, stream_fault, header_key}
+use Rattle.age_file.proofs.Common.{◌≡◌, ◌⊎◌, ℕ, length, take, drop, sym, ◌∙◌, ap, subst, inl, inr, Option, Some, Result, Ok, Err, result_map_both, drop-drop, Bytes, HeaderFault, Found, FileKey, HasPlain, RangeState, payload_reading, whole, IsSlice, plain_len, whole_len, whole_opens, whole_slice, Fault, OutOfMemory, Read, Bounds, Agrees, BeginsFile, finding, IsRangeFault, MissesRanges, ranges_under, Answering, IsVerdict, header_fault, reading_after, parts_of, reading_under, stream_fault, header_key}
 use Rattle.age_header.proofs.VerdictUniqueLemmas as headers
 use Rattle.std.proofs.Common.{◌*◌, ◌<◌}
 use Rattle.age_stream.specs.declared.layout.Layout.{Layout}
@@ -7,7 +7,9 @@ use Rattle.age_stream.specs.Payload.{payload_key}
 use Rattle.age_stream.specs.Ranges.{source_opening}
 use Rattle.age_stream.specs.Sizes.{chunk_size}
 use Rattle.age_stream.specs.Slice.{opening}
+use Rattle.age_stream.proofs.JudgesLastLemmas.{opened_there}
 use Rattle.age_stream.proofs.WholeSlices.{whole_chunk}
+use Rattle.age_file.proofs.RangeLemmas.{header_known}
 use Rattle.age_file.proofs.FileLemmas.{never_stops, with_file_fault_whole}
 
 -- under the key that was chosen
@@ -48,44 +50,46 @@ record IsWholeUnder (max : ℕ) (b p : Bytes) (layout : Layout) : Type 0 where
   chunk_key : layout.key ≡ payload_key key (take 16 rest)
   sealed : drop layout.first b ≡ drop 16 rest
 
-whole_under : (limits : Bounds) (answers : Answering) (b p : Bytes) (chunks : RangeState) (given given2 : ℕ)
-    → IsVerdict limits answers b (whole p) → IsRangesOf limits answers b chunks given given2
-    → IsWholeUnder limits.max_chunks b p chunks.layout
-whole_under limits answers b p chunks given given2 v r =
-    let n : ℕ = length r.found.text in
+whole_under : (limits : Bounds) (answers : Answering) (b p : Bytes) (chunks : RangeState) {gave : ℕ → ℕ → Type 0}
+    {size : Option ℕ} → Agrees b gave size → IsVerdict limits answers b (whole p)
+    → BeginsFile limits answers gave size chunks → IsWholeUnder limits.max_chunks b p chunks.layout
+whole_under limits answers b p chunks agrees v f =
+    let opened = opened_there b f.key limits.max_chunks f.at chunks agrees f.begins in
+    let found : Found = finding f.first.text f.header in
     record {
-      key = r.key;
-      rest = drop n b;
+      key = f.key;
+      rest = drop f.at b;
       reads = with_file_fault_whole (v.is ∙ ap (reading_after limits answers b)
-          (headers.one_verdict b limits.max_header v.header (Ok r.found) v.header_verdict r.header)
-          ∙ ap (reading_under limits (drop n b)) r.chosen);
-      plain = r.opened.plain ∙ ap plain_len (sym (drop-drop 16 n b));
-      chunk_key = r.opened.key;
-      sealed = ap (λ m. drop m b) r.opened.first ∙ sym (drop-drop 16 n b);
+          (headers.one_verdict b limits.max_header v.header (Ok found) v.header_verdict (header_known b agrees f.first))
+          ∙ ap (λ n. reading_under limits (drop n b) (header_key answers f.header)) f.first.len
+          ∙ ap (reading_under limits (drop f.at b)) f.chosen);
+      plain = opened.plain ∙ ap plain_len (sym (drop-drop 16 f.at b));
+      chunk_key = opened.key;
+      sealed = ap (λ m. drop m b) opened.first ∙ sym (drop-drop 16 f.at b);
     }
 
-pub file_has_len : (limits : Bounds) (answers : Answering) (b p : Bytes) (chunks : RangeState) (given given2 : ℕ)
-    → IsVerdict limits answers b (whole p)
-    → IsRangesOf limits answers b chunks given given2 → chunks.layout.plain ≡ length p
-file_has_len limits answers b p chunks given given2 v r =
-    let w = whole_under limits answers b p chunks given given2 v r in
+pub file_has_len : (limits : Bounds) (answers : Answering) (b p : Bytes) (chunks : RangeState) {gave : ℕ → ℕ → Type 0}
+    {size : Option ℕ} → Agrees b gave size → IsVerdict limits answers b (whole p)
+    → BeginsFile limits answers gave size chunks → chunks.layout.plain ≡ length p
+file_has_len limits answers b p chunks agrees v f =
+    let w = whole_under limits answers b p chunks agrees v f in
     w.plain ∙ whole_len w.key w.rest p limits.max_chunks w.reads
 
-pub file_slice : (limits : Bounds) (answers : Answering) (b p xs : Bytes) (chunks : RangeState) (given given2 at : ℕ)
-    → IsVerdict limits answers b (whole p)
-    → IsRangesOf limits answers b chunks given given2 → HasPlain (Some b) chunks.layout at xs
+pub file_slice : (limits : Bounds) (answers : Answering) (b p xs : Bytes) (chunks : RangeState) (at : ℕ)
+    {gave : ℕ → ℕ → Type 0} {size : Option ℕ} → Agrees b gave size → IsVerdict limits answers b (whole p)
+    → BeginsFile limits answers gave size chunks → HasPlain (Some b) chunks.layout at xs
     → xs ≡ take (length xs) (drop at p)
-file_slice limits answers b p xs chunks given given2 at v r s =
-    let w = whole_under limits answers b p chunks given given2 v r in
+file_slice limits answers b p xs chunks at agrees v f s =
+    let w = whole_under limits answers b p chunks agrees v f in
     whole_slice w.key w.rest p xs limits.max_chunks at w.reads
     (subst (λ k. IsSlice k (drop 16 w.rest) at xs) w.chunk_key
     (subst (λ t. IsSlice chunks.layout.key t at xs) w.sealed s))
 
-pub file_chunk : (limits : Bounds) (answers : Answering) (b p : Bytes) (chunks : RangeState) (given given2 i : ℕ)
-    → IsVerdict limits answers b (whole p)
-    → IsRangesOf limits answers b chunks given given2 → chunk_size * i < length p
+pub file_chunk : (limits : Bounds) (answers : Answering) (b p : Bytes) (chunks : RangeState) (i : ℕ)
+    {gave : ℕ → ℕ → Type 0} {size : Option ℕ} → Agrees b gave size → IsVerdict limits answers b (whole p)
+    → BeginsFile limits answers gave size chunks → chunk_size * i < length p
     → source_opening (Some b) chunks.layout i ≡ Some (take chunk_size (drop (chunk_size * i) p))
-file_chunk limits answers b p chunks given given2 i v r less =
-    let w = whole_under limits answers b p chunks given given2 v r in
+file_chunk limits answers b p chunks i agrees v f less =
+    let w = whole_under limits answers b p chunks agrees v f in
     ap (λ t. opening chunks.layout.key t i) w.sealed ∙ ap (λ k. opening k (drop 16 w.rest) i) w.chunk_key
     ∙ whole_chunk w.key w.rest p limits.max_chunks i w.reads less

@@ -1,5 +1,5 @@
 -- Opening a file for ranges of its plaintext.
-use Rattle.std.specs.Prelude.{◌≡◌, ◌⊎◌, ℕ, ◌+◌, ◌-◌, ◌^◌, ◌≤◌, min, length, take, drop, IfSome, ⊤, Option, Some, Result, Ok, Err}
+use Rattle.std.specs.Prelude.{◌≡◌, ◌⊎◌, ℕ, ◌+◌, ◌*◌, ◌-◌, ◌^◌, ◌≤◌, min, length, take, drop, IfSome, ⊤, Option, Some, Result, Ok, Err}
 use Rattle.std.specs.Result.{result_map_both}
 use Rattle.age_header.specs.Device.{Bytes, CountsFaultIf, Known, Moved, move_by}
 use Rattle.age_header.specs.declared.fault.HeaderFault.{HeaderFault}
@@ -7,14 +7,14 @@ use Rattle.age_header.specs.Header.{HeaderParts}
 use Rattle.age_header.specs.Verdict.{Found, HeaderVerdict}
 use Rattle.age_header.specs.declared.file_key.FileKey.{FileKey}
 use Rattle.age_stream.specs.Offsets.{GaveAt}
-use Rattle.age_stream.specs.Ranges.{BeginsAt, IsOpened, KeepsVerified, RangeState}
-use Rattle.age_stream.specs.Slice.{last_piece, range_outcome}
+use Rattle.age_stream.specs.Ranges.{BeginsRanges, RangeState, last_len}
+use Rattle.age_stream.specs.Slice.{range_outcome}
 use Rattle.age_file.specs.declared.fault.Fault.{Fault}
 use Rattle.age_file.specs.declared.fault.Fault.TheVariants.{IncompatibleRecipients, NoRecipients, NonceTruncated, OutOfMemory, Read, Refused, Write}
 use Rattle.age_file.specs.AgeFile.{Bounds}
 use Rattle.age_file.specs.Device.{IsLate, is_read}
 use Rattle.age_file.specs.Verdict.{Answering, finding, header_fault, parts_of, stream_fault, header_key}
-use Rattle.age_stream.specs.Sizes.{nonce_size}
+use Rattle.age_stream.specs.Sizes.{tag_size}
 
 -- a source that is read at offsets, from its first byte on, and the next offset
 pub record AtState (D : Type 0) : Type 0 where
@@ -37,17 +37,12 @@ IsOpenFault (Refused i code) = ⊥
 IsOpenFault (IncompatibleRecipients i) = ⊥
 IsOpenFault _ = ⊤
 
--- the known bytes begin with this header, whose length is `at`
-abbrev pub HasHeader : (limits : Bounds) (told : Known) (at : ℕ) (h : HeaderParts) → Type 0
-HasHeader limits told at h =
-    IfSome told (λ b. (text : Bytes) × (length text ≡ at)
-    × HeaderVerdict b limits.max_header (Ok (finding text h)))
-
 -- this header was read from the source's first byte on, and `at` is the next offset
 pub record GaveHeader (limits : Bounds) (gave : (at byte : ℕ) → Type 0) (at : ℕ) (h : HeaderParts)
     : Type 0 where
   pub text : Bytes
-  pub gave_text : GaveFirst gave at text
+  pub len : length text ≡ at
+  pub read : GaveAt gave 0 text
   pub verdict : HeaderVerdict text limits.max_header (Ok (finding text h))
 
 -- the known bytes do not begin with a header, and this is the fault; or a read failed, or memory
@@ -81,21 +76,9 @@ MissesRanges limits answers told fault =
     × HeaderVerdict b limits.max_header header
     × IsRangeFault limits answers b header fault))
 
--- A reader of the ranges of b: after b's header, under the key chosen. At most the header, the
--- nonce and the last piece were read.
-pub record IsRangesOf (limits : Bounds) (answers : Answering) (b : Bytes) (chunks : RangeState)
-    (given given2 : ℕ) : Type 0 where
-  pub found : Found
-  pub header : HeaderVerdict b limits.max_header (Ok found)
-  pub key : FileKey
-  pub chosen : header_key answers (parts_of found) ≡ Ok key
-  pub opened : IsOpened key limits.max_chunks (Some b) (length found.text) chunks
-  pub gave : given2
-      ≤ given + length found.text
-      + (nonce_size + length (last_piece (drop (length found.text + nonce_size) b)))
-
 -- A reader was opened, whether or not the source's contents are known: under the key chosen for the
--- header read, and for the nonce read after it. Its pieces end where the source does.
+-- header read, and for the nonce read after it. Its pieces end where the source does, and the piece
+-- read last gave the last chunk.
 pub record BeginsFile (limits : Bounds) (answers : Answering) (gave : (at byte : ℕ) → Type 0)
     (size : Option ℕ) (chunks : RangeState) : Type 0 where
   pub header : HeaderParts
@@ -103,7 +86,7 @@ pub record BeginsFile (limits : Bounds) (answers : Answering) (gave : (at byte :
   pub first : GaveHeader limits gave at header
   pub key : FileKey
   pub chosen : header_key answers header ≡ Ok key
-  pub begins : BeginsAt key at gave size chunks
+  pub begins : BeginsRanges key limits.max_chunks at gave size chunks
 
 -- Opening a file for ranges failed with the first fault of the known bytes, a failed read or out of
 -- memory. The contents are unchanged, and a failed read was counted. On a fault of the header or
@@ -119,15 +102,16 @@ pub record RefusesRanges (limits : Bounds) (answers : Answering) (source : Moved
   pub counted : CountsFaultIf is_read failed failed2 fault
 
 -- The result of opening a file for ranges, and its effect on the source: a reader, which keeps the
--- last chunk, or the fault. `StartsRanges` of age_stream explains the functions.
+-- last chunk, or the fault. At most the header, the nonce and the last piece were read.
+-- `StartsRanges` of age_stream explains the functions.
 abbrev pub StartsFileRanges : {D : Type 0} (told : D → Known) (given failed : D → ℕ)
     (gave : D → (at byte : ℕ) → Type 0) (found : D → Option ℕ) (limits : Bounds)
     (answers : Answering) (old new : D) (r : Result RangeState Fault) → Type 0
 StartsFileRanges told given failed gave found limits answers old new (Ok chunks) =
     (told new ≡ told old)
-    × IfSome (told old) (λ b. IsRangesOf limits answers b chunks (given old) (given new))
     × BeginsFile limits answers (gave new) (found new) chunks
-    × KeepsVerified (gave new) chunks
+    × (given new ≤ given old + (chunks.layout.first
+    + last_len (chunks.layout.plain + tag_size * chunks.layout.count)))
     × (chunks.index ≡ Some (chunks.layout.count - 1)) × (chunks.opened ≡ 1)
     × (failed new ≡ failed old)
 StartsFileRanges told given failed gave found limits answers old new (Err fault) =

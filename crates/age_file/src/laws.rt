@@ -4,7 +4,8 @@ ghost use Rattle.std.specs.Prelude.{◌≡◌, ◌↔◌, ◌⊎◌, ◌<◌, �
 ghost use Rattle.std.specs.Prelude.{replicate, length, take, drop, Option, Some, None, Ok, Err};
 ghost use Rattle.std.specs.Prelude.{true};
 ghost use Rattle.age_header.specs.Device.{Bytes, Moved, Took};
-ghost use Rattle.age_header.specs.Header.{StanzaParts};
+ghost use Rattle.age_header.specs.Header.{HeaderParts, StanzaParts};
+ghost use Rattle.age_header.specs.Verdict.{HeaderVerdict};
 ghost use Rattle.age_header.specs.declared.file_key.FileKey.{FileKey};
 ghost use Rattle.age_recipient.specs.Choice.{choice};
 ghost use Rattle.age_recipient.specs.Key.{IsFileKey};
@@ -18,13 +19,14 @@ ghost use Rattle.age_file.specs.declared.fault.Fault.TheVariants.{BadMac, OutOfM
 ghost use Rattle.age_file.specs.AgeFile.{AgeFile, Bounds};
 ghost use Rattle.age_file.specs.Device.{IsLate};
 ghost use Rattle.age_file.specs.NewFile.{IsIncompatible};
-ghost use Rattle.age_file.specs.Ranges.{IsRangesOf, MissesRanges};
+ghost use Rattle.age_file.specs.Ranges.{BeginsFile, GaveHeader, MissesRanges};
 ghost use Rattle.age_file.specs.Rewrap.{Rewrapped};
 ghost use Rattle.age_file.specs.Salvage.{SavesFile, is_whole_file};
 ghost use Rattle.age_file.specs.declared.salvaging.SalvagedFile.{SalvagedFile};
-ghost use Rattle.age_file.specs.Verdict.{Answering, IsVerdict};
+ghost use Rattle.age_file.specs.Verdict.{Answering, IsVerdict, finding};
 
 use age_recipient::{Labels, Matched};
+use age_stream::ReadAt;
 
 /// The verdict is this plaintext without fault exactly on the age files of this plaintext for the
 /// file key that the identities choose. All bytes have exactly one verdict.
@@ -50,22 +52,30 @@ pub fn pair_opens<M: Matched>(pair: &M)
 
 /// Bytes whose verdict is this plaintext (by `ok_is_age_file`, an age file of it for the key that
 /// the identities choose) open for ranges: the only faults are a failed read and out of memory. The
-/// length for ranges is the plaintext's, and each slice is a part of the plaintext. Each chunk
-/// opens to its part of the plaintext, so no chunk is bad.
-pub fn file_is_sliced()
+/// length of a reader opened on a source of these bytes is the plaintext's, and each slice is a
+/// part of the plaintext. Each chunk opens to its part of the plaintext, so no chunk is bad. The
+/// first clause holds of all known bytes: a header that was read is theirs.
+pub fn file_is_sliced<D: ReadAt>()
+    ensures header { (dev : D) (limits : Bounds) (b : Bytes) (at : ℕ) (h : HeaderParts)
+        (first : GaveHeader limits (D.gave dev) at h) → D.bytes dev ≡ Some b
+        → HeaderVerdict b limits.max_header (Ok (finding first.text h)) }
     ensures opens { (limits : Bounds) (answers : Answering) (b plain : Bytes) (fault : Fault)
         → IsVerdict limits answers b (whole plain) → MissesRanges limits answers (Some b) fault
         → (fault ≡ Read) ⊎ (fault ≡ OutOfMemory) }
-    ensures len { (limits : Bounds) (answers : Answering) (b plain : Bytes) (chunks : RangeState)
-        (before after : ℕ) → IsVerdict limits answers b (whole plain)
-        → IsRangesOf limits answers b chunks before after → chunks.layout.plain ≡ length plain }
-    ensures slice { (limits : Bounds) (answers : Answering) (b plain xs : Bytes)
-        (chunks : RangeState) (before after at : ℕ) → IsVerdict limits answers b (whole plain)
-        → IsRangesOf limits answers b chunks before after → HasPlain (Some b) chunks.layout at xs
-        → xs ≡ take (length xs) (drop at plain) }
-    ensures chunk { (limits : Bounds) (answers : Answering) (b plain : Bytes) (chunks : RangeState)
-        (before after i : ℕ) → IsVerdict limits answers b (whole plain)
-        → IsRangesOf limits answers b chunks before after → chunk_size * i < length plain
+    ensures len { (dev : D) (limits : Bounds) (answers : Answering) (b plain : Bytes)
+        (chunks : RangeState) → D.bytes dev ≡ Some b → IsVerdict limits answers b (whole plain)
+        → BeginsFile limits answers (D.gave dev) (D.found dev) chunks
+        → chunks.layout.plain ≡ length plain }
+    ensures slice { (dev : D) (limits : Bounds) (answers : Answering) (b plain xs : Bytes)
+        (chunks : RangeState) (at : ℕ) → D.bytes dev ≡ Some b
+        → IsVerdict limits answers b (whole plain)
+        → BeginsFile limits answers (D.gave dev) (D.found dev) chunks
+        → HasPlain (Some b) chunks.layout at xs → xs ≡ take (length xs) (drop at plain) }
+    ensures chunk { (dev : D) (limits : Bounds) (answers : Answering) (b plain : Bytes)
+        (chunks : RangeState) (i : ℕ) → D.bytes dev ≡ Some b
+        → IsVerdict limits answers b (whole plain)
+        → BeginsFile limits answers (D.gave dev) (D.found dev) chunks
+        → chunk_size * i < length plain
         → source_opening (Some b) chunks.layout i
         ≡ Some (take chunk_size (drop (chunk_size * i) plain)) }
 {}

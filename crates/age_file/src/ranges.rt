@@ -2,10 +2,9 @@
 
 ghost use Rattle.std.specs.Prelude.{◌≡◌, ◌⊎◌, ◌+◌, ◌≤◌, Ok, Err, IfOk, IfErr};
 ghost use Rattle.age_header.specs.Device.{CountsFaultIf};
-ghost use Rattle.age_stream.specs.Ranges.{chunks_of, source_at_of};
 ghost use Rattle.age_file.specs.Device.{is_read};
 ghost use Rattle.age_stream.specs.Writer.{device_of, fault_of};
-ghost use Rattle.age_file.specs.Ranges.{GaveHeader, HasHeader, IsOpenFault, MissesHeader};
+ghost use Rattle.age_file.specs.Ranges.{GaveHeader, IsOpenFault, MissesHeader};
 ghost use Rattle.age_file.specs.Ranges.{StartsFileRanges};
 ghost use Rattle.age_file.specs.Verdict.{answers_by};
 
@@ -42,7 +41,6 @@ fn header_at<'a, D: ReadAt, K: Origin>(
     ensures stay { IfOk result (λ found. D.bytes found.dev.now ≡ K.bytes) }
     ensures given { IfOk result (λ found. D.given found.dev.now ≤ K.given + found.at) }
     ensures uncounted { IfOk result (λ found. D.failed found.dev.now ≡ D.failed dev.old) }
-    ensures header { IfOk result (λ found. HasHeader limits.now K.bytes found.at found.header) }
     ensures first { IfOk result
         (λ found. GaveHeader limits.now (D.gave found.dev.now) found.at found.header) }
     ensures handed_back { IfErr result
@@ -59,6 +57,8 @@ fn header_at<'a, D: ReadAt, K: Origin>(
     let mut source: AtSource<'a, D, K> = AtSource::new(dev);
     match inspect(alloc, &mut source, limits) {
         Ok(header) => {
+            // The proof learns here that the length of a header fits a u64.
+            let _ = limits.max_header();
             let (dev, at) = source.into_parts();
             Ok(HeaderAt { header, dev, at })
         }
@@ -89,14 +89,14 @@ pub fn open_ranges<'a, D: ReadAt>(
     limits: &Limits,
 ) -> Result<RangeReader<'a, D>, Refused<'a, D, Fault>>
     ensures same_reference { IfOk result
-        (λ reader. (source_at_of reader).ghost_name ≡ dev.entry.ghost_name) }
+        (λ reader. reader.dev.ghost_name ≡ dev.entry.ghost_name) }
     // The reader has the payload after the file's header, under the key that the identities choose,
     // with its length. It keeps the last chunk; at most header, nonce and last piece were read.
-    // Even of a file, the header was read from byte 0 on, and the last chunk was verified under its
-    // key.
+    // Even of a file, the header was read from byte 0 on, and the piece read last gave the last
+    // chunk under that key.
     ensures ranges { IfOk result (λ reader. StartsFileRanges D.bytes D.given D.failed D.gave
         D.found limits.now (answers_by identities.now (λ i s. meaning i s)) dev.old
-        (source_at_of reader).now (Ok (chunks_of reader))) }
+        reader.dev.now (Ok reader.chunks)) }
     ensures handed_back { IfErr result
         (λ refused. (device_of refused).ghost_name ≡ dev.entry.ghost_name) }
     // The fault is the first that applies: those of `decrypt` up to a truncated nonce, too many

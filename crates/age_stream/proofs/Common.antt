@@ -2,7 +2,7 @@
 pub use Rattle.std.proofs.Common.{Bool, Err, Fits, List, None, Ok, Option, Result, Some, [], ap, append-nil, append_assoc, arith, cond, drop, false, get_or, inl, inr, length, length-append, map, min, nat_eq, nat_le, nat_lt, not, refl, rules, slice_get, slice_index, slice_index_or, slice_set, subst, suc, sym, take, true, zero, ℕ, ◌%◌, ◌&&◌, ◌*◌, ◌++◌, ◌+◌, ◌-◌, ◌/◌, ◌<◌, ◌^◌, ◌↔◌, ◌∙◌, ◌∷◌, ◌≡◌, ◌≤◌, ◌⊎◌, if◌then◌else◌}
 pub use Rattle.std.proofs.KnownBytes.{Appends-nil, Appends-trans}
 pub use Rattle.std.proofs.Math.Seq.{take-add}
-pub use Rattle.std.proofs.lemmas.Bool.{OnFalse_at, OnTrue_at, cases_Bool, cases_lt, eq-eqb, false≢true, le-leb, le-ltb, leb-false, lt-leb, lt-ltb, true≢false}
+pub use Rattle.std.proofs.lemmas.Bool.{OnFalse_at, OnTrue_at, cases_Bool, cases_lt, eq-eqb, le-leb, le-ltb, leb-false, lt-leb, lt-ltb, true≢false}
 pub use Rattle.std.proofs.lemmas.Bool.Decides.{nat_tests}
 pub use Rattle.std.proofs.lemmas.Grind.{common_steps}
 pub use Rattle.std.proofs.lemmas.List.{drop-append-le, drop-drop, drop_all, drop_at, ext_get_or, get_or-append-add, get_or-drop, get_or-take, get_or_append_left, length-drop, length-replicate, length-take, length-take-le, map-append, nil_from_length, take-append-drop, take-append-le, take-take, take_all, take_at, get_or-map, get_or_past}
@@ -22,11 +22,11 @@ pub use Rattle.age_header.specs.Filling.{Filled}
 pub use Rattle.age_header.specs.declared.file_key.FileKey.{FileKey}
 pub use Rattle.age_kdf.specs.Bytes.{Bytes}
 pub use Rattle.age_stream.specs.Cutting.{IsCut, cut, cut_after}
-pub use Rattle.age_stream.specs.Offsets.{EndsBefore, GaveAt, HasAt, StaysGiven}
+pub use Rattle.age_stream.specs.Offsets.{Agrees, GaveAt, StaysGiven}
 pub use Rattle.age_stream.specs.Opening.{Advances, EndsAt, GivesNonce, IsAtPiece, IsFilled, Loses, OpenerState, OpensNext, OpensPiece, GivesText, ReadsAhead, ReadsPiece, Starts, WritesAll, WritesReading, held_of, left_of, pieces_left, reading_left}
 pub use Rattle.age_stream.specs.Payload.{chunks, each, is_end, payload, pieces, sealed_chunk, sealed_chunks_from}
 unfoldable pub use Rattle.age_stream.specs.Payload.{chunk_nonce, payload_key}
-pub use Rattle.age_stream.specs.Ranges.{HasPlain, IsOpenFault, IsSound, IsThere, IsVerified, IsVerifiedByte, JudgesLast, KeepsVerified, OpenedAtLeast, OpensRanges, Probes, RangeState, bytes_from, first_to_open, kept_text, last_len, sealed_span, source_opening}
+pub use Rattle.age_stream.specs.Ranges.{BeginsAt, BeginsRanges, HasPlain, IsOpenFault, IsOpened, IsSound, IsThere, IsVerifiedByte, JudgesLast, OpenedAtLeast, OpensRanges, PieceOpens, RangeState, first_to_open, kept_text, last_index, last_len, sealed_span, source_opening}
 pub use Rattle.age_stream.specs.Reader.{StartsReader}
 pub use Rattle.age_stream.specs.Reading.{Reading, after_first, first_fault, first_outcome, outcomes, payload_reading, piece_opening, plaintext_of, reading_from, stop, whole}
 unfoldable pub use Rattle.age_stream.specs.Reading.{outcome}

@@ -1,78 +1,58 @@
 -- What the last piece gives, and what opening a payload for ranges finds.
-use Rattle.age_stream.proofs.Common.{Bool, Probes, move_of, ◌≡◌, ℕ, [], ◌+◌, ◌-◌, ◌*◌, ◌/◌, ◌<◌, ◌≤◌, length, take, drop, get_or, nat_eq, sym, ◌∙◌, ap, arith, true, refl, inl, inr, Some, None, Result, Ok, Err, IfSome, eq-eqb, le-leb, le-ltb, length-drop, length-take-le, drop-drop, take_all, Bytes, Known, FileKey, StreamFault, TooManyChunks, Write, Layout, sealed_chunk_size, chunk_buf_size, length-sealed_text, opened_text-sealed_text, IsAtPiece, pieces, chunk_nonce, payload_key, EndsBefore, HasAt, GaveAt, outcome, last_len, source_opening, IsOpenFault, IsVerified, JudgesLast, OpensRanges, opening, plain_len, chunk_len, last_piece, last_outcome, range_outcome}
+use Rattle.age_stream.proofs.Common.{Bool, ◌≡◌, ◌⊎◌, ℕ, [], ◌+◌, ◌-◌, ◌*◌, ◌<◌, ◌≤◌, length, take, drop, get_or, nat_eq, sym, ◌∙◌, ap, arith, true, refl, inl, inr, Option, None, Some, Result, Ok, Err, eq-eqb, le-leb, le-ltb, lt-ltb, length-drop, length-take-le, drop-drop, take_all, Agrees, Bytes, FileKey, StreamFault, Memory, Read, TooManyChunks, Write, Layout, sealed_chunk_size, chunk_buf_size, length-sealed_text, opened_text-sealed_text, IsAtPiece, pieces, chunk_nonce, payload_key, GaveAt, outcome, last_index, last_len, BeginsAt, BeginsRanges, IsOpenFault, IsOpened, JudgesLast, OpensRanges, PieceOpens, RangeState, plain_len, chunk_len, last_piece, last_outcome, range_outcome}
+use Rattle.std.specs.Option.{MatchOption}
 use Rattle.age_stream.proofs.PayloadLemmas.{outcome_opens}
 use Rattle.age_stream.proofs.LoadLemmas.{count_there, piece_count, some_or_none, tight_at}
-use Rattle.age_stream.proofs.SliceLemmas.{cut_at, opening_at, plain_count}
+use Rattle.age_stream.proofs.ReadAtLemmas.{has_at}
+use Rattle.age_stream.proofs.SliceLemmas.{cut_at, plain_count}
 
-last_index : (rest : Bytes) (last : ℕ) → last ≡ (length rest - 1) / sealed_chunk_size → length (pieces rest) - 1 ≡ last
-last_index rest last is = omega (arith, piece_count rest last is)
+last_number : (rest : Bytes) → length (pieces rest) - 1 ≡ last_index (length rest)
+last_number rest = omega (arith, piece_count rest (last_index (length rest)) refl)
 
-last_piece_is : (rest : Bytes) (last : ℕ) → last ≡ (length rest - 1) / sealed_chunk_size
-    → last_piece rest ≡ drop (sealed_chunk_size * last) rest
-last_piece_is rest last is =
+last_piece_is : (rest : Bytes) → last_piece rest ≡ drop (sealed_chunk_size * last_index (length rest)) rest
+last_piece_is rest =
+    let last : ℕ = last_index (length rest) in
     let d = length-drop (sealed_chunk_size * last) rest in
-    ap (λ k. get_or (pieces rest) k []) (last_index rest last is) ∙ cut_at sealed_chunk_size last rest (omega arith)
+    ap (λ k. get_or (pieces rest) k []) (last_number rest) ∙ cut_at sealed_chunk_size last rest (omega arith)
     ∙ take_all sealed_chunk_size (drop (sealed_chunk_size * last) rest) (omega arith)
 
--- how long the last piece is
-pub length_last : (rest : Bytes) → length (last_piece rest) ≡ last_len (length rest)
-length_last rest =
-    let last : ℕ = (length rest - 1) / sealed_chunk_size in
-    ap length (last_piece_is rest last refl) ∙ length-drop (sealed_chunk_size * last) rest
-
 -- what the last piece gives, its number and its offset written out
-pub last_is : (key : Bytes) (max : ℕ) (rest : Bytes) (last : ℕ) → last ≡ (length rest - 1) / sealed_chunk_size
-    → last_outcome key max rest ≡ outcome key max last true (drop (sealed_chunk_size * last) rest)
-last_is key max rest last is =
-    ap (λ k. outcome key max k true (last_piece rest)) (last_index rest last is)
-    ∙ ap (outcome key max last true) (last_piece_is rest last is)
-
-behind_len : (at n : ℕ) (bytes : Bytes) → length bytes ≡ at + n → length (drop at bytes) ≡ n
-behind_len at n bytes size = let d : length (drop at bytes) ≡ length bytes - at = length-drop at bytes in omega arith
+pub last_is : (key : Bytes) (max : ℕ) (rest : Bytes) {n : ℕ} → length rest ≡ n
+    → last_outcome key max rest ≡ outcome key max (last_index n) true (drop (sealed_chunk_size * last_index n) rest)
+last_is key max rest len = rw (← len)
+    (ap (λ k. outcome key max k true (last_piece rest)) (last_number rest)
+    ∙ ap (outcome key max (last_index (length rest)) true) (last_piece_is rest))
 
 outcome_many : (key : Bytes) (max i : ℕ) (last : Bool) (c : Bytes) → max ≤ i
     → outcome key max i last c ≡ Err TooManyChunks
 unfolding outcome
 outcome_many key max i last c le = rw (le-leb max i le) refl
 
--- too many pieces
-pub last_many : (key : Bytes) (max first sealed last : ℕ) (told : Known) → last ≡ (sealed - 1) / sealed_chunk_size
-    → max ≤ last
-    → IfSome told (λ bytes. length bytes ≡ first + sealed → last_outcome key max (drop first bytes) ≡ Err TooManyChunks)
-last_many key max first sealed last None is le = tt
-last_many key max first sealed last (Some bytes) is le = λ size.
-    last_is key max (drop first bytes) last
-    (is ∙ ap (λ n. (n - 1) / sealed_chunk_size) (sym (behind_len first sealed bytes size)))
-    ∙ outcome_many key max last true (drop (sealed_chunk_size * last) (drop first bytes)) le
+-- what was read of the last piece decides as it does in known contents
+judged_there : (b : Bytes) {gave : ℕ → ℕ → Type 0} {found : Option ℕ} (key : Bytes) (max first sealed : ℕ)
+    (r : Result Bytes StreamFault) → Agrees b gave found → length b ≡ first + sealed
+    → JudgesLast gave key max first sealed r → last_outcome key max (drop first b) ≡ r
+judged_there b key max first sealed r agrees size (inl (many, is)) =
+    let all = length-drop first b in
+    last_is key max (drop first b) (omega arith) ∙ outcome_many key max (last_index sealed) true
+    (drop (sealed_chunk_size * last_index sealed) (drop first b)) many ∙ sym is
+judged_there b key max first sealed r agrees size (inr (piece, len, read, is)) =
+    let at : ℕ = sealed_chunk_size * last_index sealed in
+    let all : length (drop first b) ≡ length b - first = length-drop first b in
+    let d : length (drop at (drop first b)) ≡ length (drop first b) - at = length-drop at (drop first b) in
+    let same : piece ≡ drop at (drop first b) = has_at b piece (first + at) agrees read
+    ∙ ap (take (length piece)) (sym (drop-drop at first b))
+    ∙ take_all (length piece) (drop at (drop first b)) (omega arith) in
+    last_is key max (drop first b) (omega arith) ∙ ap (outcome key max (last_index sealed) true) (sym same) ∙ is
 
--- the last piece was not there to be read
-pub last_gone : (key : Bytes) (max first sealed last end : ℕ) (told : Known) (fault : StreamFault)
-    → last ≡ (sealed - 1) / sealed_chunk_size → end ≡ sealed - sealed_chunk_size * last
-    → EndsBefore told (first + sealed_chunk_size * last + end)
-    → IfSome told (λ bytes. length bytes ≡ first + sealed → last_outcome key max (drop first bytes) ≡ Err fault)
-last_gone key max first sealed last end None fault is len gone = tt
-last_gone key max first sealed last end (Some bytes) fault is len gone = λ size.
-    absurd (omega (arith, gone))
-
--- what was read at the last piece's offset gives what the last piece does
-pub last_read : (key : Bytes) (max first sealed last end : ℕ) (told : Known) (buf : Bytes)
-    (r : Result Bytes StreamFault) → last ≡ (sealed - 1) / sealed_chunk_size
-    → end ≡ sealed - sealed_chunk_size * last → length buf ≡ chunk_buf_size
-    → HasAt told (first + sealed_chunk_size * last) (take end buf) → outcome key max last true (take end buf) ≡ r
-    → IfSome told (λ bytes. length bytes ≡ first + sealed → last_outcome key max (drop first bytes) ≡ r)
-last_read key max first sealed last end None buf r is len room has gives = tt
-last_read key max first sealed last end (Some bytes) buf r is len room has gives = λ size.
-    let rest : Bytes = drop first bytes in
-    let all : length rest ≡ sealed = behind_len first sealed bytes size in
-    let d : length (drop (sealed_chunk_size * last) rest) ≡ length rest - sealed_chunk_size * last =
-    length-drop (sealed_chunk_size * last) rest in
-    let l : length (take end buf) ≡ end = length-take-le end buf (omega arith) in
-    let same : take end buf ≡ drop (sealed_chunk_size * last) rest =
-    has ∙ ap (λ k. take k (drop (first + sealed_chunk_size * last) bytes)) l
-    ∙ ap (take end) (sym (drop-drop (sealed_chunk_size * last) first bytes))
-    ∙ take_all end (drop (sealed_chunk_size * last) rest) (omega arith) in
-    last_is key max rest last (is ∙ ap (λ n. (n - 1) / sealed_chunk_size) (sym all))
-    ∙ ap (outcome key max last true) (sym same) ∙ gives
+-- the last piece was read
+pub judged : (gave : ℕ → ℕ → Type 0) (key : Bytes) (max first sealed last end : ℕ) (buf : Bytes)
+    {r : Result Bytes StreamFault} → last ≡ last_index sealed → end ≡ sealed - sealed_chunk_size * last
+    → length buf ≡ chunk_buf_size → GaveAt gave (first + sealed_chunk_size * last) (take end buf)
+    → outcome key max last true (take end buf) ≡ r → JudgesLast gave key max first sealed r
+judged gave key max first sealed last end buf is len room read opens =
+    let size : length (take end buf) ≡ last_len sealed = length-take-le end buf (omega (arith, is)) ∙ rw is at len in
+    inr (take end buf, size, rw is at read, rw is at opens)
 
 -- how long a last piece is that opens
 pub open_len : (key : Bytes) (max i : ℕ) {end n : ℕ} (buf after : Bytes) → length buf ≡ chunk_buf_size
@@ -86,54 +66,23 @@ open_len key max i {end} {n} buf after room le opens within =
     (omega arith, λ pos. omega (arith, o.some refl pos))
 
 -- a last piece that was read, and opens
-pub last_verified : {gave : ℕ → ℕ → Type 0} {layout : Layout} (max last end : ℕ) {n : ℕ} (buf after : Bytes)
+pub last_opens : {gave : ℕ → ℕ → Type 0} {layout : Layout} (max last end : ℕ) {n : ℕ} (buf after : Bytes)
     → layout.count ≡ last + 1 → GaveAt gave (layout.first + sealed_chunk_size * last) (take end buf)
-    → outcome layout.key max last true (take end buf) ≡ Ok (take n after)
-    → n ≡ chunk_len layout.plain last → IsVerified gave layout (layout.count - 1)
-    (take (chunk_len layout.plain (layout.count - 1)) after)
-last_verified {gave} {layout} max last end {n} buf after count read opens len =
+    → length (take end buf) ≡ n + 16 → outcome layout.key max last true (take end buf) ≡ Ok (take n after)
+    → n ≡ chunk_len layout.plain last
+    → PieceOpens gave layout (layout.count - 1) (Some (take (chunk_len layout.plain (layout.count - 1)) after))
+last_opens {gave} {layout} max last end {n} buf after count read size opens len =
     let o = outcome_opens layout.key max last true (take end buf) (take n after) opens in
     let at : last ≡ layout.count - 1 = omega arith in
     let is_last : nat_eq (last + 1) layout.count ≡ true = eq-eqb (last + 1) layout.count (sym count) in
     let opens = opened_text-sealed_text layout.key (chunk_nonce last true) [] (take n after) in
-    rw (← at) (record { piece = take end buf; read = read; opens = rw (is_last, o.sealed_so, opens, len) })
-
--- a last piece that opens
-last_opens : (key : Bytes) (max : ℕ) (rest t : Bytes) (last : ℕ) → last ≡ (length rest - 1) / sealed_chunk_size
-    → last_outcome key max rest ≡ Ok t → opening key rest last ≡ Some t
-last_opens key max rest t last is h =
-    let piece : Bytes = drop (sealed_chunk_size * last) rest in
-    let d : length piece ≡ length rest - sealed_chunk_size * last = length-drop (sealed_chunk_size * last) rest in
-    let n : length (pieces rest) ≡ last + 1 = piece_count rest last is in
-    let o = outcome_opens key max last true piece t (sym (last_is key max rest last is) ∙ h) in
-    rw (
-      opening_at key rest last (omega arith),
-      le-leb (length rest) (sealed_chunk_size * (last + 1)) (omega arith),
-      take_all sealed_chunk_size piece (omega arith),
-      o.sealed_so,
-      opened_text-sealed_text key (chunk_nonce last true) [] t,
-    )
-
--- what is known of a nonce that was read, and of the n bytes after it
-abbrev pub IsNonce : Known → ℕ → Bytes → ℕ → Type 0
-IsNonce told at nonce n = IfSome told (λ bytes. (nonce ≡ take 16 (drop at bytes)) × (length bytes ≡ at + 16 + n))
-
--- what is after a nonce decides
-behind_nonce : (k : FileKey) (max at : ℕ) (bytes nonce : Bytes) (n : ℕ) → nonce ≡ take 16 (drop at bytes)
-    → length bytes ≡ at + 16 + n
-    → range_outcome k max (drop at bytes) ≡ last_outcome (payload_key k nonce) max (drop (at + 16) bytes)
-behind_nonce k max at bytes nonce n is size =
-    let d : length (drop at bytes) ≡ length bytes - at = length-drop at bytes in
-    rw (le-ltb (length (drop at bytes)) 16 (omega arith), ← is, drop-drop 16 at bytes)
-
--- the last piece's fault
-pub judged_err : (k : FileKey) (max at : ℕ) (told : Known) (nonce after : Bytes) (n : ℕ) (fault : StreamFault)
-    → IsNonce told at nonce n
-    → JudgesLast (payload_key k nonce) max (at + 16) n told after (Err fault) → OpensRanges k max at told (Err fault)
-judged_err k max at told nonce after n fault h (inl e) = inl e
-judged_err k max at None nonce after n fault h (inr j) = inr (inr tt)
-judged_err k max at (Some bytes) nonce after n fault h (inr j) =
-    inr (inr (behind_nonce k max at bytes nonce n h.0 h.1 ∙ j h.1))
+    rw (← at) (record {
+      within = omega (arith, count);
+      piece = take end buf;
+      read = read;
+      len = omega (arith, size, len);
+      opens = rw (is_last, o.sealed_so, opens, len);
+    })
 
 plain_there : (layout : Layout) (rest : Bytes) → length rest ≡ layout.plain + 16 * layout.count
     → plain_len rest ≡ layout.plain
@@ -143,46 +92,55 @@ plain_there layout rest size =
     let high = plain_count (layout.count - 1) rest more (omega (arith, layout.covers)) (omega (arith, layout.covers)) in
     omega (arith, layout.some, layout.covers, high)
 
--- the last piece opened
-pub judged_ok : (k : FileKey) (max at : ℕ) (told : Known) (nonce buf : Bytes) (n : ℕ) (layout : Layout)
-    → IsNonce told at nonce n → JudgesLast (payload_key k nonce) max (at + 16) n told buf (Ok layout)
-    → OpensRanges k max at told (Ok (record
-    { layout = layout; index = Some (layout.count - 1); buf = buf; opened = 1 }))
-judged_ok k max at None nonce buf n layout h j = (refl, refl, tt)
-judged_ok k max at (Some bytes) nonce buf n layout h j =
-    let text : Bytes = take (chunk_len layout.plain (layout.count - 1)) buf in
-    let size : length (drop (at + 16) bytes) ≡ n = behind_len (at + 16) n bytes h.1 in
-    let gives : last_outcome (payload_key k nonce) max (drop (at + 16) bytes) ≡ Ok text = j.3 h.1 in
-    let there : length (drop layout.first bytes) ≡ layout.plain + 16 * layout.count =
-    ap (λ f. length (drop f bytes)) j.1 ∙ size ∙ sym j.2 in
-    let opens : source_opening (Some bytes) layout (layout.count - 1) ≡ Some text =
-    rw (j.0, j.1) (last_opens (payload_key k nonce) max (drop (at + 16) bytes) text (layout.count - 1)
-    (count_there layout n j.2 ∙ ap (λ m. (m - 1) / sealed_chunk_size) (sym size)) gives) in (
-      refl,
-      refl,
-      record {
-        opens = behind_nonce k max at bytes nonce n h.0 h.1 ∙ gives;
-        key = j.0 ∙ ap (payload_key k) h.0;
-        first = j.1;
-        plain = sym (plain_there layout (drop layout.first bytes) there) ∙ ap (λ f. plain_len (drop f bytes)) j.1;
-        sound = record {
-          there = record { known = refl; size = there };
-          keeps = λ i e. let is : layout.count - 1 ≡ i = cc in rw (← is) opens;
-        };
-      },
+-- what opening a payload found is so of known contents
+begun_there : (b : Bytes) {gave : ℕ → ℕ → Type 0} {found : Option ℕ} (k : FileKey) (max at : ℕ) {key : Bytes}
+    {first sealed : ℕ} (r : Result Bytes StreamFault) → Agrees b gave found
+    → BeginsAt k max at gave found key first sealed r
+    → (length b ≡ first + sealed) × (key ≡ payload_key k (take 16 (drop at b))) × (range_outcome k max (drop at b) ≡ r)
+begun_there b k max at {key} {first} {sealed} r agrees begins =
+    let size : length b ≡ first + sealed = sym (rw begins.end at agrees.size) in
+    let nonce : begins.nonce ≡ take 16 (drop at b) = has_at b begins.nonce at agrees begins.read
+    ∙ ap (λ n. take n (drop at b)) begins.len in
+    let d : length (drop at b) ≡ length b - at = length-drop at b in
+    let derived : key ≡ payload_key k (take 16 (drop at b)) = begins.derived ∙ ap (payload_key k) nonce in
+    let judged = judged_there b key max first sealed r agrees size begins.judges in (
+      size,
+      derived,
+      rw (le-ltb (length (drop at b)) 16 (omega (arith, begins.after)), ← derived, drop-drop 16 at b, ← begins.after)
+          judged,
     )
 
--- what was given, with the last piece
-pub probes_last : (told : Known) {after : Known} (nonce : Bytes) (at n : ℕ) {new mid old : ℕ} → after ≡ told
-    → IsNonce told at nonce n → new ≤ mid + last_len n → mid ≤ old + 16 → Probes (move_of told after) at old new
-probes_last told nonce at n {new} {old = old} same h le le2 =
-    record { stay = same; most = omega arith; last = last told h }
-  where
-    last : (k : Known) → IsNonce k at nonce n
-        → IfSome k (λ bytes. new ≤ old + (16 + length (last_piece (drop (at + 16) bytes))))
-    last None i = tt
-    last (Some bytes) i =
-        omega (arith, length_last (drop (at + 16) bytes), ap last_len (behind_len (at + 16) n bytes i.1))
+pub opened_there : (b : Bytes) {gave : ℕ → ℕ → Type 0} {found : Option ℕ} (k : FileKey) (max at : ℕ) (s : RangeState)
+    → Agrees b gave found → BeginsRanges k max at gave found s → IsOpened k max (Some b) at s
+opened_there b k max at s agrees begins =
+    let (size, key, opens) = begun_there b k max at _ agrees begins in
+    let there : length (drop s.layout.first b) ≡ s.layout.plain + 16 * s.layout.count =
+    omega (arith, size, length-drop s.layout.first b) in
+    record {
+      opens = opens;
+      key = key;
+      first = begins.after;
+      plain = sym (plain_there s.layout (drop s.layout.first b) there) ∙ ap (λ f. plain_len (drop f b)) begins.after;
+      there = record { known = refl; size = there };
+    }
+
+pub refused_there : (b : Bytes) {gave : ℕ → ℕ → Type 0} {found : Option ℕ} (k : FileKey) (max at : ℕ)
+    (fault : StreamFault) → Agrees b gave found → OpensRanges k max at gave found (Err fault)
+    → (fault ≡ Read) ⊎ ((fault ≡ Memory) ⊎ (range_outcome k max (drop at b) ≡ Err fault))
+refused_there b k max at fault agrees (inl e) = inl e
+refused_there b k max at fault agrees (inr (inl e)) = inr (inl e)
+refused_there b k max at fault agrees (inr (inr (inl (is, (n, size, short))))) =
+    let all : n ≡ length b = rw size at agrees.size in
+    let d : length (drop at b) ≡ length b - at = length-drop at b in
+    inr (inr (rw (lt-ltb (length (drop at b)) 16 (omega arith), is) refl))
+refused_there b k max at fault agrees (inr (inr (inr (key, first, sealed, begins)))) =
+    inr (inr (begun_there b k max at (Err fault) agrees begins).2)
+
+-- at most the nonce was read
+pub probed : (size : Option ℕ) (at : ℕ) {old new : ℕ} → (size ≡ None → new ≤ old) → new ≤ old + 16
+    → MatchOption size (new ≤ old) (λ n. new ≤ old + (16 + last_len (n - (at + 16))))
+probed None at unread le = unread refl
+probed (Some n) at unread le = omega arith
 
 -- a fault of a piece is one of opening
 pub piece_named : (max i : ℕ) (fault : StreamFault) → IsAtPiece max i fault → IsOpenFault fault

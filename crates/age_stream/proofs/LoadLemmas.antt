@@ -1,5 +1,6 @@
 -- A piece that was read at its offset.
-use Rattle.age_stream.proofs.Common.{◌≡◌, ◌⊎◌, ℕ, [], ◌+◌, ◌-◌, ◌*◌, ◌/◌, Bytes, ◌<◌, ◌≤◌, length, take, drop, nat_le, nat_eq, ◌∙◌, sym, ap, arith, inl, inr, Some, None, cases_lt, false≢true, nat_tests, take_all, length-drop, length-take-le, drop-drop, opened_text, Known, Layout, chunk_size, sealed_chunk_size, chunk_buf_size, chunk_nonce, pieces, HasAt, bytes_from, source_opening, IsThere, chunk_len}
+use Rattle.age_stream.proofs.Common.{◌≡◌, ◌⊎◌, ℕ, [], ◌+◌, ◌-◌, ◌*◌, ◌/◌, Bytes, ◌<◌, ◌≤◌, length, take, drop, nat_le, nat_eq, ◌∙◌, sym, ap, arith, inl, inr, Option, Some, cases_lt, nat_tests, take_all, length-drop, length-take-le, drop-drop, opened_text, Agrees, Known, Layout, chunk_size, sealed_chunk_size, chunk_buf_size, chunk_nonce, pieces, GaveAt, PieceOpens, source_opening, IsThere, chunk_len}
+use Rattle.age_stream.proofs.ReadAtLemmas.{has_at}
 use Rattle.age_stream.proofs.ReadingLemmas.{cut_count}
 use Rattle.age_stream.proofs.SliceLemmas.{opening_at}
 
@@ -29,35 +30,42 @@ there_last : (layout : Layout) (rest : Bytes) (i : ℕ) → length rest ≡ layo
     → i < layout.count → nat_eq (i + 1) layout.count ≡ nat_le (length rest) (sealed_chunk_size * (i + 1))
 there_last layout rest i size lt = grind (arith, nat_tests, layout.tight, layout.covers, size, lt)
 
-there_piece : (told : Known) (layout : Layout) (i : ℕ) (piece : Bytes) → IsThere told layout → i < layout.count
-    → HasAt told (layout.first + sealed_chunk_size * i) piece → length piece ≡ chunk_len layout.plain i + 16
-    → piece ≡ take sealed_chunk_size (drop (sealed_chunk_size * i) (bytes_from told layout.first))
-there_piece None layout i piece there lt has len = absurd (false≢true there.known)
-there_piece (Some bytes) layout i piece there lt has len =
-    let rest : Bytes = drop layout.first bytes in
-    let size : length rest ≡ layout.plain + 16 * layout.count = there.size in
+-- a piece that was read, and what it opens to
+pub piece_opens : {gave : ℕ → ℕ → Type 0} {layout : Layout} {i : ℕ} (nonce buf : Bytes) (end : ℕ) (o : Known)
+    → i < layout.count → GaveAt gave (layout.first + sealed_chunk_size * i) (take end buf)
+    → end ≡ chunk_len layout.plain i + 16 → length buf ≡ chunk_buf_size
+    → nonce ≡ chunk_nonce i (nat_eq (i + 1) layout.count) → opened_text layout.key nonce [] (take end buf) ≡ o
+    → PieceOpens gave layout i o
+piece_opens nonce buf end o lt read len room at opens = record {
+  within = lt;
+  piece = take end buf;
+  read = read;
+  len = length-take-le end buf (omega arith) ∙ len;
+  opens = rw (← at) opens;
+}
+
+-- what a piece opens to is what it opens to in known contents
+pub opens_there : (b : Bytes) {gave : ℕ → ℕ → Type 0} {found : Option ℕ} (layout : Layout) (i : ℕ) (o : Known)
+    → Agrees b gave found → IsThere (Some b) layout → PieceOpens gave layout i o
+    → source_opening (Some b) layout i ≡ o
+opens_there b layout i o agrees there opens =
+    let rest : Bytes = drop layout.first b in
+    let lt = opens.within in
     let low = tight_at layout i lt in
     let d = length-drop (sealed_chunk_size * i) rest in
-    let at : piece ≡ take (length piece) (drop (sealed_chunk_size * i) rest) = has
-    ∙ ap (take (length piece)) (sym (drop-drop (sealed_chunk_size * i) layout.first bytes)) in
-    elim (cases_lt (i + 1) layout.count) [
+    let behind : Bytes = drop (sealed_chunk_size * i) rest in
+    let at : opens.piece ≡ take (length opens.piece) behind =
+    has_at b opens.piece (layout.first + sealed_chunk_size * i) agrees opens.read
+    ∙ ap (take (length opens.piece)) (sym (drop-drop (sealed_chunk_size * i) layout.first b)) in
+    let piece : opens.piece ≡ take sealed_chunk_size behind = elim (cases_lt (i + 1) layout.count) [
       | inl more ↦
-          let e : length piece ≡ sealed_chunk_size = omega (arith, layout.tight (omega arith)) in
-          at ∙ ap (λ k. take k (drop (sealed_chunk_size * i) rest)) e
-      | inr ge ↦ at ∙ take_all (length piece) (drop (sealed_chunk_size * i) rest) (omega (arith, layout.covers))
-          ∙ sym (take_all sealed_chunk_size (drop (sealed_chunk_size * i) rest) (omega (arith, layout.covers)))
-    ]
-
--- what was read at the offset of piece i and opened there
-pub open_there : (told : Known) (layout : Layout) (nonce buf : Bytes) (i end : ℕ) (o : Known) → IsThere told layout
-    → i < layout.count
-    → HasAt told (layout.first + sealed_chunk_size * i) (take end buf) → end ≡ chunk_len layout.plain i + 16
-    → length buf ≡ chunk_buf_size
-    → nonce ≡ chunk_nonce i (nat_eq (i + 1) layout.count) → opened_text layout.key nonce [] (take end buf) ≡ o
-    → source_opening told layout i ≡ o
-open_there told layout nonce buf i end o there lt has len room at opens =
-    let rest : Bytes = bytes_from told layout.first in
-    let count : length (pieces rest) ≡ layout.count = there_count layout rest there.size in
-    let size : length (take end buf) ≡ end = length-take-le end buf (omega arith) in
-    let piece = there_piece told layout i (take end buf) there lt has (size ∙ len) in
-    rw (opening_at layout.key rest i (omega arith), ← there_last layout rest i there.size lt, ← piece, ← at) opens
+          let e : length opens.piece ≡ sealed_chunk_size = omega (arith, opens.len, layout.tight (omega arith)) in
+          at ∙ ap (λ k. take k behind) e
+      | inr ge ↦ at ∙ take_all (length opens.piece) behind (omega (arith, opens.len, there.size, layout.covers))
+          ∙ sym (take_all sealed_chunk_size behind (omega (arith, there.size, layout.covers)))
+    ] in
+    rw (
+      opening_at layout.key rest i (omega (arith, there_count layout rest there.size)),
+      ← there_last layout rest i there.size lt,
+      ← piece,
+    ) opens.opens

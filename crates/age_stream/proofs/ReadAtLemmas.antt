@@ -1,20 +1,27 @@
--- Bytes that a source has at an offset.
-use Rattle.age_stream.proofs.Common.{◌≡◌, ℕ, ◌++◌, ◌+◌, ◌-◌, ◌<◌, ◌≤◌, length, take, drop, slice_index, ◌∙◌, sym, ap, subst, arith, inl, inr, Some, None, cases_lt, length-take-le, length-drop, drop-drop, get_or-take, get_or-drop, take-add, Bytes, Known, HasAt, StaysGiven, GaveAt}
+-- Bytes that a source gave at an offset.
+use Rattle.age_stream.proofs.Common.{◌≡◌, ℕ, ◌+◌, ◌-◌, ◌<◌, ◌≤◌, length, take, drop, min, slice_index, ◌∙◌, sym, ap, subst, arith, inl, inr, Option, cases_lt, length-take, length-take-le, length-drop, ext_get_or, get_or-take, get_or-drop, get_or_from_slice_get, slice_get_within, Agrees, Bytes, StaysGiven, GaveAt}
 
--- further bytes after those that were read
-pub has_on : (told : Known) (at got n : ℕ) (old new : Bytes) → got + n ≤ length new → length new ≡ length old
-    → take got new ≡ take got old
-    → HasAt told at (take got old) → HasAt told (at + got) (take n (drop got new)) → HasAt told at (take (got + n) new)
-has_on None at got n old new le len same so_far more = tt
-has_on (Some bytes) at got n old new le len same so_far more =
-    let a : length (take got old) ≡ got = length-take-le got old (omega arith) in
-    let d : length (drop got new) ≡ length new - got = length-drop got new in
-    let b : length (take n (drop got new)) ≡ n = length-take-le n (drop got new) (omega arith) in
-    let c : length (take (got + n) new) ≡ got + n = length-take-le (got + n) new le in
-    take-add got n new ∙ ap (λ x. x ++ take n (drop got new)) (same ∙ so_far ∙ ap (λ k. take k (drop at bytes)) a)
-    ∙ ap (λ x. take got (drop at bytes) ++ x)
-    (more ∙ ap (λ k. take k (drop (at + got) bytes)) b ∙ ap (take n) (sym (drop-drop got at bytes)))
-    ∙ sym (take-add got n (drop at bytes)) ∙ ap (λ k. take k (drop at bytes)) (sym c)
+sized : (b xs : Bytes) {gave : ℕ → ℕ → Type 0} {found : Option ℕ} (at : ℕ) → Agrees b gave found → GaveAt gave at xs
+    → length xs ≡ length (take (length xs) (drop at b))
+sized b xs at agrees given =
+    let n : ℕ = length xs in
+    let taken : length (take n (drop at b)) ≡ min n (length (drop at b)) = length-take n (drop at b) in
+    let dropped : length (drop at b) ≡ length b - at = length-drop at b in
+    elim (cases_lt 0 n) [
+      | inl some ↦
+          let last = slice_get_within b (at + (n - 1)) (slice_index xs (n - 1))
+          (agrees.given (at + (n - 1)) (slice_index xs (n - 1)) (given (n - 1) (omega arith))) in
+          omega (arith, last)
+      | inr none ↦ omega arith
+    ]
+
+-- what a source gave is what its known contents have there
+pub has_at : (b xs : Bytes) {gave : ℕ → ℕ → Type 0} {found : Option ℕ} (at : ℕ) → Agrees b gave found
+    → GaveAt gave at xs → xs ≡ take (length xs) (drop at b)
+has_at b xs at agrees given =
+    ext_get_or 0 xs (take (length xs) (drop at b)) (sized b xs at agrees given) (λ k lt.
+    sym (get_or-take (length xs) (drop at b) k 0 lt ∙ get_or-drop at b k 0
+    ∙ get_or_from_slice_get b (at + k) (slice_index xs k) 0 (agrees.given (at + k) (slice_index xs k) (given k lt))))
 
 -- what was read before, and then the next bytes
 pub read_on : (old_read new_read : ℕ → ℕ → Type 0) (at got n : ℕ) (old new : Bytes) → got + n ≤ length new

@@ -1,5 +1,5 @@
 -- Openings and slices by their offsets.
-use Rattle.age_stream.proofs.Common.{◌≡◌, ◌⊎◌, ℕ, List, [], ◌∷◌, ◌++◌, ◌+◌, ◌-◌, ◌*◌, ◌/◌, ◌%◌, ◌<◌, ◌≤◌, length, take, drop, get_or, slice_get, slice_index, sym, ◌∙◌, ap, arith, nat_le, inl, inr, Some, None, suc, zero, sum_by, cases_lt, le-leb, lt-leb, nat_tests, length-drop, length-take-le, take_all, drop_all, drop-drop, get_or_append_left, get_or-append-add, get_or-take, get_or-drop, ext_get_or, sum_by-cons, slice_get-get_or, Bytes, chunk_size, sealed_chunk_size, cut, pieces, is_end, piece_opening, openings, opening, plain_len, length-append, IsSlice, subst}
+use Rattle.age_stream.proofs.Common.{◌≡◌, ◌⊎◌, ℕ, List, [], ◌∷◌, ◌+◌, ◌-◌, ◌*◌, ◌<◌, ◌≤◌, length, take, drop, get_or, slice_index, sym, ◌∙◌, ap, arith, nat_le, inl, inr, None, suc, zero, sum_by, cases_lt, le-leb, lt-leb, nat_tests, length-drop, length-take-le, take_all, drop_all, drop-drop, get_or-take, get_or-drop, ext_get_or, sum_by-cons, Bytes, sealed_chunk_size, cut, pieces, is_end, piece_opening, openings, opening, plain_len}
 use Rattle.age_stream.proofs.CuttingLemmas.{cut_last}
 use Rattle.age_stream.proofs.ReadingLemmas.{cut_step, is_end_cut}
 
@@ -73,44 +73,6 @@ plain_count (suc n) rest (inr lt) le tag =
     ap (sum_by (λ piece. length piece - 16)) (cut_step sealed_chunk_size rest (omega arith) (omega arith))
     ∙ sum_by-cons (λ piece. length piece - 16) first (pieces behind) in
     omega (arith, step, plain_count n behind (inr (omega arith)) (omega arith) (omega arith))
-
--- byte `at` of a plaintext is in a text that is one of its chunk's
-abbrev pub IsByte : (Is : ℕ → Bytes → Type 0) (at byte : ℕ) → Type 0
-IsByte Is at byte =
-    (text : Bytes) × Is (at / chunk_size) text × (slice_get text (at % chunk_size) ≡ Some byte)
-
--- bytes of a plaintext go on within one chunk
-pub goes_on : (Is : ℕ → Bytes → Type 0) (xs text : Bytes) (at i skip n : ℕ) → at + length xs ≡ chunk_size * i + skip
-    → Is i text → skip + n ≤ length text → length text ≤ chunk_size
-    → ((k : ℕ) → k < length xs → IsByte Is (at + k) (slice_index xs k))
-    → (k : ℕ) → k < length (xs ++ take n (drop skip text))
-    → IsByte Is (at + k) (slice_index (xs ++ take n (drop skip text)) k)
-goes_on Is xs text at i skip n pos is within size so_far k lt =
-    let ys : Bytes = take n (drop skip text) in
-    let d : length (drop skip text) ≡ length text - skip = length-drop skip text in
-    let l : length ys ≡ n = length-take-le n (drop skip text) (omega arith) in
-    let all : length (xs ++ ys) ≡ length xs + length ys = length-append xs ys in
-    elim (cases_lt k (length xs)) [
-      | inl before ↦ subst (IsByte Is (at + k)) (sym (get_or_append_left xs ys 0 k before)) (so_far k before)
-      | inr ge ↦
-          let j : ℕ = k - length xs in
-          let sum : k ≡ length xs + j = omega arith in
-          let here : i ≡ (at + k) / chunk_size = omega arith in
-          let there : (at + k) % chunk_size ≡ skip + j = omega arith in
-          let inside : j < n = omega arith in
-          let value : slice_index (xs ++ ys) k ≡ slice_index text (skip + j) =
-          ap (slice_index (xs ++ ys)) sum ∙ get_or-append-add xs ys j 0 ∙ get_or-take n (drop skip text) j 0 inside
-          ∙ get_or-drop skip text j 0 in (
-            text,
-            subst (λ c. Is c text) here is,
-            ap (slice_get text) there ∙ slice_get-get_or text (skip + j) 0 (omega arith) ∙ ap Some (sym value),
-          )
-    ]
-
-pub slice_on : (key rest xs text : Bytes) (at i skip n : ℕ) → at + length xs ≡ chunk_size * i + skip
-    → opening key rest i ≡ Some text → skip + n ≤ length text → length text ≤ chunk_size
-    → IsSlice key rest at xs → IsSlice key rest at (xs ++ take n (drop skip text))
-slice_on key rest xs text at i skip n = goes_on (λ m t. opening key rest m ≡ Some t) xs text at i skip n
 
 -- a text whose bytes are those of another from an offset on
 pub slice_of : (xs p : Bytes) (at : ℕ)

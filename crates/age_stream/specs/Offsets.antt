@@ -1,27 +1,16 @@
 -- The results of a read at an offset: the bytes read, and the source's counts.
-use Rattle.std.specs.Prelude.{◌≡◌, ℕ, ◌+◌, ◌-◌, ◌^◌, ◌<◌, ◌≤◌, min, length, take, drop, slice_index, ⊤, IfSome, IfOk, MatchResult, Option, Some, None, Result}
+use Rattle.std.specs.Prelude.{◌≡◌, ℕ, ◌+◌, ◌-◌, ◌^◌, ◌<◌, ◌≤◌, min, length, slice_get, slice_index, IfSome, IfOk, MatchResult, Option, Some, Result}
 use Rattle.age_stream.specs.Words.{Bytes, Known}
-
--- xs are the known bytes from offset `at` on
-abbrev pub HasAt : (told : Known) (at : ℕ) (xs : Bytes) → Type 0
-HasAt None at xs = ⊤
-HasAt (Some bytes) at xs = xs ≡ take (length xs) (drop at bytes)
 
 -- no known byte has this offset
 abbrev pub IsPast : (told : Known) (at : ℕ) → Type 0
 IsPast told at = IfSome told (λ bytes. length bytes ≤ at)
 
--- the known bytes end before this offset
-abbrev pub EndsBefore : (told : Known) (at : ℕ) → Type 0
-EndsBefore told end = IfSome told (λ bytes. length bytes < end)
-
--- Ok(n) returns the n bytes from offset `at` on. n is 0 for a nonempty buffer only past the end of
--- the known bytes and of the known size.
-abbrev pub GivesAt : {E : Type 0} (told : Known) (size : Option ℕ) (at : ℕ) (r : Result ℕ E)
+-- a nonempty buffer gets no bytes only past the end of the known bytes and of the known size
+abbrev pub EmptyAtEnd : {E : Type 0} (told : Known) (size : Option ℕ) (at : ℕ) (r : Result ℕ E)
     (buf : Bytes) → Type 0
-GivesAt told size at r buf =
-    IfOk r (λ n. HasAt told at (take n buf)
-    × (n ≡ 0 → 0 < length buf → IsPast told at × IfSome size (λ s. s ≤ at)))
+EmptyAtEnd told size at r buf =
+    IfOk r (λ n. n ≡ 0 → 0 < length buf → IsPast told at × IfSome size (λ s. s ≤ at))
 
 -- each byte of xs was read at its offset, the first of them at `at`
 abbrev pub GaveAt : (gave : (at byte : ℕ) → Type 0) (at : ℕ) (xs : Bytes) → Type 0
@@ -45,3 +34,9 @@ FindsSize told old new r =
     MatchResult r
     (λ n. (new ≡ Some n) × IfSome old (λ s. n ≡ s) × IfSome told (λ bytes. n ≡ length bytes))
     (λ _. new ≡ old)
+
+-- what was read, and the size that was found, are those of these bytes
+pub record Agrees (bytes : Bytes) (gave : (at byte : ℕ) → Type 0) (found : Option ℕ)
+    : Type 0 where
+  pub given : (at byte : ℕ) → gave at byte → slice_get bytes at ≡ Some byte
+  pub size : IfSome found (λ n. n ≡ length bytes)

@@ -4,7 +4,7 @@ ghost use Rattle.std.specs.Prelude.{Some, None, IfOk, OnOk, OnErr, IfErr, if◌t
 ghost use Rattle.age_header.specs.Device.{CountsIf, move_by};
 ghost use Rattle.age_stream.specs.Counts.{is_read};
 ghost use Rattle.age_stream.specs.Offsets.{StaysGiven};
-ghost use Rattle.age_stream.specs.Ranges.{BeginsAt, IsLost, IsOpenFault, IsSound, KeepsVerified};
+ghost use Rattle.age_stream.specs.Ranges.{IsLost, IsOpenFault, IsSound};
 ghost use Rattle.age_stream.specs.Ranges.{OpenedAtLeast, OpensRanges, Probes, ReadsRange, is_kept};
 ghost use Rattle.age_stream.specs.Ranges.{kept_text};
 ghost use Rattle.age_stream.specs.Slice.{chunk_len};
@@ -100,13 +100,12 @@ impl Chunks {
         payload_at: u64,
         max_chunks: u128,
     ) -> Result<Chunks, StreamFault>
-        ensures probes { Probes (move_by D.bytes dev.old dev.new) payload_at (D.given dev.old)
-            (D.given dev.new) }
-        ensures opens { OpensRanges key.now max_chunks payload_at (D.bytes dev.old) result }
+        ensures probes { Probes (move_by D.bytes dev.old dev.new) (D.found dev.new) payload_at
+            (D.given dev.old) (D.given dev.new) }
+        ensures opens { OpensRanges key.now max_chunks payload_at (D.gave dev.new) (D.found dev.new)
+            result }
         ensures stays_given { StaysGiven (D.gave dev.old) (D.gave dev.new) }
-        ensures begins { IfOk result
-            (BeginsAt key.now payload_at (D.gave dev.new) (D.found dev.new)) }
-        ensures verified { IfOk result (KeepsVerified (D.gave dev.new)) }
+        ensures sound { IfOk result (IsSound (D.gave dev.new) (D.found dev.new)) }
         ensures named { IfErr result IsOpenFault }
         ensures count { CountsIf is_read (D.failed dev.old) (D.failed dev.new) result }
     {
@@ -135,15 +134,14 @@ impl Chunks {
     /// Opens and keeps chunk i, unless it is kept already.
     fn hold<D: ReadAt>(&mut self, dev: &mut D, i: u64) -> Result<(), StreamFault>
         requires within { i < self.old.layout.count }
+        requires sound { IsSound (D.gave dev.old) (D.found dev.old) self.old }
         ensures stay { D.bytes dev.new ≡ D.bytes dev.old }
         ensures same { self.new.layout ≡ self.old.layout }
         ensures kept_chunk { OnOk result (self.new.index ≡ Some i) }
         ensures none { OnErr result (self.new.index ≡ None) }
-        ensures sound { IsSound (D.bytes dev.old) self.old → IsSound (D.bytes dev.old) self.new }
+        ensures sound { IsSound (D.gave dev.new) (D.found dev.new) self.new }
         ensures stays_given { StaysGiven (D.gave dev.old) (D.gave dev.new) }
-        ensures keeps_verified { KeepsVerified (D.gave dev.old) self.old
-            → KeepsVerified (D.gave dev.new) self.new }
-        ensures lost { IfErr result (IsLost (D.bytes dev.old) self.old i) }
+        ensures lost { IfErr result (IsLost (D.gave dev.new) self.old.layout i) }
         ensures rises { self.old.opened ≤ self.new.opened }
         ensures counts { OpenedAtLeast self.old self.new.opened
             (if is_kept self.old.index i then 0 else 1) }
@@ -183,6 +181,8 @@ impl Chunks {
         at: u64,
         buf: &mut [u8],
     ) -> Result<usize, StreamFault>
+        requires sound { IsSound (D.gave dev.old) (D.found dev.old) self.old }
+        ensures sound { IsSound (D.gave dev.new) (D.found dev.new) self.new }
         ensures reads { ReadsRange D.bytes D.given D.failed D.gave at
             (record { source = dev.old; chunks = self.old; buf = buf.old })
             (record { source = dev.new; chunks = self.new; buf = buf.new }) result }

@@ -1,16 +1,22 @@
 //! Laws: facts about the definitions alone, each the contract of a function that does nothing.
 
-ghost use Rattle.std.specs.Prelude.{◌≡◌, ◌↔◌, ◌<◌, ◌≤◌, ◌+◌, ◌++◌, ℕ};
-ghost use Rattle.std.specs.Prelude.{List, None, Ok, drop, length, take, true};
+ghost use Rattle.std.specs.Prelude.{◌≡◌, ◌↔◌, ◌<◌, ◌≤◌, ◌+◌, ◌++◌, ◌⊎◌, ℕ};
+ghost use Rattle.std.specs.Prelude.{List, None, Some, Ok, Err, Option, drop, length, take, true};
 ghost use Rattle.age_kdf.specs.Bytes.{Bytes};
 ghost use Rattle.age_header.specs.declared.file_key.FileKey.{FileKey};
 ghost use Rattle.age_stream.specs.Cutting.{cut, IsCut};
 ghost use Rattle.age_stream.specs.Payload.{chunks, payload, payload_key, pieces};
+ghost use Rattle.age_stream.specs.Ranges.{BeginsRanges, Fills, HasPlain, IsOpened, IsThere};
+ghost use Rattle.age_stream.specs.Ranges.{OpensRanges, PieceOpens, RangeState, source_opening};
 ghost use Rattle.age_stream.specs.Reading.{payload_reading, whole};
 ghost use Rattle.age_stream.specs.Salvage.{is_whole, last_saved, padding, payload_parts};
 ghost use Rattle.age_stream.specs.Salvage.{salvaged_text, summary};
 ghost use Rattle.age_stream.specs.Slice.{IsSlice, plain_len, range_outcome};
 ghost use Rattle.age_stream.specs.Sizes.{nonce_size};
+ghost use Rattle.age_stream.specs.declared.fault.StreamFault.{StreamFault};
+ghost use Rattle.age_stream.specs.declared.layout.Layout.{Layout};
+
+use crate::read_at::ReadAt;
 
 /// A text has exactly one cut, the computed one.
 pub fn one_cut()
@@ -78,4 +84,27 @@ pub fn salvage_is_sliced()
     ensures len { (file_key : FileKey) (text : Bytes)
         → length (salvaged_text (payload_parts file_key text))
         + padding (last_saved (payload_parts file_key text)) ≡ plain_len (drop nonce_size text) }
+{}
+
+/// What a source with known contents gave is what they have there. So a range of it is a part of
+/// their plaintext, and a fault is theirs.
+pub fn given_is_known<D: ReadAt>()
+    // A reader was opened with the outcome and the layout of the known payload.
+    ensures opened { (dev : D) (b : Bytes) (file_key : FileKey) (max at : ℕ) (s : RangeState)
+        → D.bytes dev ≡ Some b → BeginsRanges file_key max at (D.gave dev) (D.found dev) s
+        → IsOpened file_key max (Some b) at s }
+    // A fault of opening, but for a failed read and refused memory, is that of the known payload.
+    ensures fault { (dev : D) (b : Bytes) (file_key : FileKey) (max at : ℕ) (fault : StreamFault)
+        → D.bytes dev ≡ Some b
+        → OpensRanges file_key max at (D.gave dev) (D.found dev) (Err fault)
+        → (fault ≡ StreamFault.Read) ⊎ ((fault ≡ StreamFault.Memory)
+        ⊎ (range_outcome file_key max (drop at b) ≡ Err fault)) }
+    // A piece that was read opens as the known piece does.
+    ensures piece { (dev : D) (b : Bytes) (layout : Layout) (i : ℕ) (opened : Option Bytes)
+        → D.bytes dev ≡ Some b → IsThere (Some b) layout → PieceOpens (D.gave dev) layout i opened
+        → source_opening (Some b) layout i ≡ opened }
+    // What a range returned is a part of the known plaintext.
+    ensures slice { (dev : D) (b old new : Bytes) (layout : Layout) (at n : ℕ)
+        → D.bytes dev ≡ Some b → IsThere (Some b) layout → n ≤ length new
+        → Fills (D.gave dev) layout at n old new → HasPlain (Some b) layout at (take n new) }
 {}

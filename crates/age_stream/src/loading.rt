@@ -1,12 +1,11 @@
 //! Reading pieces at their offsets, each opened in place.
 ghost use Rattle.std.specs.Prelude.{◌≡◌, ◌⊎◌, ◌^◌, ◌+◌, ◌-◌, ◌*◌, ◌<◌, ◌≤◌, length, take, drop};
-ghost use Rattle.std.specs.Prelude.{Some, None, IfOk, OnOk, OnErr, IfErr, IfSome};
-ghost use Rattle.std.specs.Bool.{OnTrue, OnFalse};
+ghost use Rattle.std.specs.Prelude.{ℕ, Some, None, Ok, Err, IfOk, OnOk, OnErr, IfErr, IfSome};
 ghost use Rattle.age_header.specs.Device.{Counts, CountsIf};
 ghost use Rattle.age_stream.specs.Counts.{is_read};
-ghost use Rattle.age_stream.specs.Offsets.{EndsBefore, HasAt, IsPast, StaysGiven, GaveAt};
-ghost use Rattle.age_stream.specs.Ranges.{IsOpenFault, IsThere, IsVerified, JudgesLast, last_len};
-ghost use Rattle.age_stream.specs.Ranges.{source_opening};
+ghost use Rattle.age_stream.specs.Offsets.{GaveAt, StaysGiven};
+ghost use Rattle.age_stream.specs.Ranges.{IsLost, IsOpenFault, JudgesLast, PieceOpens, end_of};
+ghost use Rattle.age_stream.specs.Ranges.{last_len};
 ghost use Rattle.age_stream.specs.Slice.{chunk_len};
 ghost use Rattle.age_stream.specs.Sizes.{nonce_size, tag_size, chunk_buf_size};
 
@@ -39,13 +38,12 @@ fn read_after<D: ReadAt>(
     ensures stay { D.bytes dev.new ≡ D.bytes dev.old }
     ensures within { IfOk result (λ n. got + n ≤ end) }
     ensures prefix { take got buf.new ≡ take got buf.old }
-    ensures gives { IfOk result
-        (λ n. HasAt (D.bytes dev.old) (at + got) (take n (drop got buf.new))) }
     ensures found { D.found dev.new ≡ D.found dev.old }
     ensures stays_given { StaysGiven (D.gave dev.old) (D.gave dev.new) }
     ensures read { IfOk result
         (λ n. GaveAt (D.gave dev.new) (at + got) (take n (drop got buf.new))) }
-    ensures end { IfOk result (λ n. n ≡ 0 → IsPast (D.bytes dev.old) (at + got)) }
+    ensures some { IfOk result
+        (λ n. n ≡ 0 → IfSome (D.found dev.old) (λ size. size ≤ at + got)) }
     ensures given { IfOk result (λ n. D.given dev.new ≤ D.given dev.old + n) }
     ensures none_given { OnErr result (D.given dev.new ≡ D.given dev.old) }
     ensures count { Counts (D.failed dev.old) (D.failed dev.new) result }
@@ -56,35 +54,30 @@ fn read_after<D: ReadAt>(
     dev.read_at(offset, hole)
 }
 
-/// Fills the first `end` bytes of `buf` from offset `at` of the source, in as many reads as needed;
-/// false if the source ends before.
+/// Fills the first `end` bytes of `buf` from offset `at` of the source, in as many reads as needed.
+/// The size that was found has them.
 pub(crate) fn read_full<D: ReadAt>(
     dev: &mut D,
     at: u64,
     buf: &mut [u8],
     end: usize,
-) -> Result<bool, DeviceFault>
+) -> Result<(), DeviceFault>
     requires fits { at + end < 2 ^ 64 }
     requires room { end ≤ length buf.old }
+    requires within { (size : ℕ) × (D.found dev.old ≡ Some size) × (at + end ≤ size) }
     ensures stay { D.bytes dev.new ≡ D.bytes dev.old }
-    ensures full { IfOk result (λ all. OnTrue all (HasAt (D.bytes dev.old) at (take end buf.new))) }
     ensures found { D.found dev.new ≡ D.found dev.old }
     ensures stays_given { StaysGiven (D.gave dev.old) (D.gave dev.new) }
-    ensures read { IfOk result
-        (λ all. OnTrue all (GaveAt (D.gave dev.new) at (take end buf.new))) }
-    ensures short { IfOk result (λ all. OnFalse all (EndsBefore (D.bytes dev.old) (at + end))) }
+    ensures read { OnOk result (GaveAt (D.gave dev.new) at (take end buf.new)) }
     ensures given { D.given dev.new ≤ D.given dev.old + end }
     ensures count { Counts (D.failed dev.old) (D.failed dev.new) result }
 {
     let mut got = 0;
     while got < end {
         let n = read_after(dev, at, buf, got, end)?;
-        if n == 0 {
-            return Ok(false);
-        }
         got += n;
     }
-    Ok(true)
+    Ok(())
 }
 
 /// The length of chunk i.
@@ -104,32 +97,25 @@ pub(crate) fn load<D: ReadAt>(
 ) -> Result<(), StreamFault>
     requires room { length buf.old ≡ chunk_buf_size }
     requires within { i < layout.count }
+    requires end { D.found dev.old ≡ Some (end_of layout) }
     ensures stay { D.bytes dev.new ≡ D.bytes dev.old }
-    ensures opens { OnOk result (IsThere (D.bytes dev.old) layout
-        → source_opening (D.bytes dev.old) layout i
-        ≡ Some (take (chunk_len layout.plain i) buf.new)) }
+    ensures found { D.found dev.new ≡ D.found dev.old }
+    ensures opens { OnOk result (PieceOpens (D.gave dev.new) layout i
+        (Some (take (chunk_len layout.plain i) buf.new))) }
     ensures stays_given { StaysGiven (D.gave dev.old) (D.gave dev.new) }
-    ensures verified { OnOk result (IsVerified (D.gave dev.new) layout i
-        (take (chunk_len layout.plain i) buf.new)) }
-    ensures lost { IfErr result (λ fault. (fault ≡ StreamFault.Read)
-        ⊎ ((fault ≡ StreamFault.BadChunk i)
-        × (IsThere (D.bytes dev.old) layout
-        → source_opening (D.bytes dev.old) layout i ≡ None))) }
+    ensures lost { IfErr result (IsLost (D.gave dev.new) layout i) }
     ensures given { D.given dev.new ≤ D.given dev.old + (chunk_len layout.plain i + tag_size) }
     ensures count { CountsIf is_read (D.failed dev.old) (D.failed dev.new) result }
 {
     let nonce = chunk_nonce(i as u128, i + 1 == layout.count);
     let end = chunk_len(layout, i) + TAG_SIZE;
-    match read_full(dev, layout.first + SEALED_CHUNK_SIZE as u64 * i, buf, end) {
-        Err(_) => Err(StreamFault::Read),
-        Ok(false) => Err(StreamFault::BadChunk(i as u128)),
-        Ok(true) => {
-            if open_prefix(&layout.key, &nonce, buf, end) {
-                Ok(())
-            } else {
-                Err(StreamFault::BadChunk(i as u128))
-            }
-        }
+    let Ok(()) = read_full(dev, layout.first + SEALED_CHUNK_SIZE as u64 * i, buf, end) else {
+        return Err(StreamFault::Read);
+    };
+    if open_prefix(&layout.key, &nonce, buf, end) {
+        Ok(())
+    } else {
+        Err(StreamFault::BadChunk(i as u128))
     }
 }
 
@@ -137,16 +123,15 @@ pub(crate) fn load<D: ReadAt>(
 pub(crate) fn payload_start<D: ReadAt>(dev: &mut D, at: u64) -> Result<PayloadStart, StreamFault>
     ensures stay { D.bytes dev.new ≡ D.bytes dev.old }
     ensures fits { IfOk result (λ start. at + nonce_size + start.sealed_len < 2 ^ 64) }
-    ensures ok { IfOk result (λ start. IfSome (D.bytes dev.old) (λ bytes. (start.nonce
-        ≡ take nonce_size (drop at bytes))
-        × (length bytes ≡ at + nonce_size + start.sealed_len))) }
     ensures stays_given { StaysGiven (D.gave dev.old) (D.gave dev.new) }
     ensures read { IfOk result (λ start. GaveAt (D.gave dev.new) at start.nonce) }
     ensures found { IfOk result
         (λ start. D.found dev.new ≡ Some (at + nonce_size + start.sealed_len)) }
     ensures err { IfErr result (λ fault. (fault ≡ StreamFault.Read)
-        ⊎ ((fault ≡ StreamFault.NonceTruncated) × EndsBefore (D.bytes dev.old) (at + nonce_size))) }
+        ⊎ ((fault ≡ StreamFault.NonceTruncated)
+        × ((n : ℕ) × (D.found dev.new ≡ Some n) × (n < at + nonce_size)))) }
     ensures given { D.given dev.new ≤ D.given dev.old + nonce_size }
+    ensures unread { D.found dev.new ≡ None → D.given dev.new ≤ D.given dev.old }
     ensures count { CountsIf is_read (D.failed dev.old) (D.failed dev.new) result }
 {
     let Ok(size) = dev.size() else {
@@ -157,14 +142,13 @@ pub(crate) fn payload_start<D: ReadAt>(dev: &mut D, at: u64) -> Result<PayloadSt
         return Err(StreamFault::NonceTruncated);
     }
     let mut nonce = [0; NONCE_SIZE];
-    match read_full(dev, at, &mut nonce, NONCE_SIZE) {
-        Err(_) => Err(StreamFault::Read),
-        Ok(false) => Err(StreamFault::NonceTruncated),
-        Ok(true) => Ok(PayloadStart {
-            nonce,
-            sealed_len: left - NONCE_SIZE as u64,
-        }),
-    }
+    let Ok(()) = read_full(dev, at, &mut nonce, NONCE_SIZE) else {
+        return Err(StreamFault::Read);
+    };
+    Ok(PayloadStart {
+        nonce,
+        sealed_len: left - NONCE_SIZE as u64,
+    })
 }
 
 /// Reads and opens the last of the pieces, which have this many bytes from offset `first` on. Its
@@ -180,12 +164,18 @@ pub(crate) fn load_last<D: ReadAt>(
 ) -> Result<Layout, StreamFault>
     requires room { length buf.old ≡ chunk_buf_size }
     requires fits { first + sealed < 2 ^ 64 }
+    requires end { D.found dev.old ≡ Some (first + sealed) }
     ensures stay { D.bytes dev.new ≡ D.bytes dev.old }
     ensures found { D.found dev.new ≡ D.found dev.old }
     ensures stays_given { StaysGiven (D.gave dev.old) (D.gave dev.new) }
-    ensures judges { JudgesLast key max first sealed (D.bytes dev.old) buf.new result }
-    ensures verified { IfOk result (λ layout. IsVerified (D.gave dev.new) layout
-        (layout.count - 1) (take (chunk_len layout.plain (layout.count - 1)) buf.new)) }
+    ensures layout { IfOk result (λ layout. (layout.key ≡ key) × (layout.first ≡ first)
+        × (layout.plain + tag_size * layout.count ≡ sealed)) }
+    ensures judges { IfOk result (λ layout. JudgesLast (D.gave dev.new) key max first sealed
+        (Ok (take (chunk_len layout.plain (layout.count - 1)) buf.new))) }
+    ensures opens { IfOk result (λ layout. PieceOpens (D.gave dev.new) layout (layout.count - 1)
+        (Some (take (chunk_len layout.plain (layout.count - 1)) buf.new))) }
+    ensures fails { IfErr result (λ fault. (fault ≡ StreamFault.Read)
+        ⊎ JudgesLast (D.gave dev.new) key max first sealed (Err fault)) }
     ensures named { IfErr result IsOpenFault }
     ensures given { D.given dev.new ≤ D.given dev.old + last_len sealed }
     ensures count { CountsIf is_read (D.failed dev.old) (D.failed dev.new) result }
@@ -195,11 +185,9 @@ pub(crate) fn load_last<D: ReadAt>(
         return Err(StreamFault::TooManyChunks);
     }
     let end = (sealed - SEALED_CHUNK_SIZE as u64 * last) as usize;
-    match read_full(dev, first + SEALED_CHUNK_SIZE as u64 * last, buf, end) {
-        Err(_) => return Err(StreamFault::Read),
-        Ok(false) => return Err(StreamFault::BadChunk(last as u128)),
-        Ok(true) => {}
-    }
+    let Ok(()) = read_full(dev, first + SEALED_CHUNK_SIZE as u64 * last, buf, end) else {
+        return Err(StreamFault::Read);
+    };
     let len = open_chunk(&key, max, last as u128, true, buf, end)?;
     Ok(Layout {
         key,

@@ -8,26 +8,28 @@ use crate::read_at::ReadAt;
 use crate::refused::Refused;
 use age_header::FileKey;
 use std::alloc::Global;
+use std::marker::Model;
 
 /// Reads any part of a payload's plaintext from a caller's source. It reads and opens only the
 /// chunks that a part touches, and keeps the chunk that it opened last. It allocates one
 /// `ChunkBuf`, once.
 #[derive(Drop)]
-pub struct RangeReader<'a, D, B = Chunks> {
+pub struct RangeReader<'a, D: ReadAt> {
     dev: &'a mut D,
-    chunks: B,
+    chunks: Chunks,
+}
+
+impl<'a, D: ReadAt> Model for RangeReader<'a, D> {
+    ghost use Rattle.age_stream.specs.Ranges.{IsSound, RangesOver};
+
+    ghost Value = { RangesOver D };
+
+    ghost view = { λ r. record { dev = r.dev; chunks = r.chunks } };
+
+    ghost invariant = { λ r. IsSound (D.gave r.dev.now) (D.found r.dev.now) r.chunks };
 }
 
 impl<'a, D: ReadAt> RangeReader<'a, D> {
-    /// Makes a reader of this source and these chunks.
-    fn over(dev: &'a mut D, chunks: Chunks) -> RangeReader<'a, D>
-        ensures same_reference { result.dev.ghost_name ≡ dev.entry.ghost_name }
-        ensures unchanged { result.dev.now ≡ dev.old }
-        ensures chunks { result.chunks ≡ chunks }
-    {
-        RangeReader { dev, chunks }
-    }
-
     /// Makes a reader of the payload that begins at offset `payload_at` of the source, under this
     /// file key (C2SP `age.md`, "Payload"). It allocates its buffer, reads the nonce, and reads and
     /// opens the last piece, whose length and tag prove where the payload ends. The last chunk is
@@ -49,20 +51,20 @@ impl<'a, D: ReadAt> RangeReader<'a, D> {
         ensures same_reference { IfOk result
             (λ reader. reader.dev.ghost_name ≡ dev.entry.ghost_name) }
         // The reader keeps the last chunk, has opened one, and has read at most the nonce and the
-        // last piece; the length is that of all chunks. Even of a file, the key is that of the file
-        // key and a nonce read at the offset, and the pieces end at the size that was found.
+        // last piece. Its key is that of the file key and the nonce read at the offset, its pieces
+        // end at the size that was found, and the piece read last gives the outcome.
         ensures opens { IfOk result (λ reader. StartsRanges D.bytes D.given D.failed D.gave
             D.found key.now max_chunks payload_at dev.old reader.dev.now (Ok reader.chunks)) }
         ensures handed_back { IfErr result
             (λ refused. refused.device.ghost_name ≡ dev.entry.ghost_name) }
-        // The fault is the first that applies: out of memory, a truncated nonce, too many pieces,
-        // the last piece's fault; or a failed read, which is counted. Even of a file, it is never a
-        // failed write.
+        // The fault is the first that applies to what was read: out of memory, a truncated nonce,
+        // too many pieces, the last piece's fault; or a failed read, which is counted. It is never
+        // a failed write.
         ensures refuses { IfErr result (λ refused. StartsRanges D.bytes D.given D.failed D.gave
             D.found key.now max_chunks payload_at dev.old refused.device.now (Err refused.fault)) }
     {
         match Chunks::open(alloc, key, dev, payload_at, max_chunks) {
-            Ok(chunks) => Ok(RangeReader::over(dev, chunks)),
+            Ok(chunks) => Ok(RangeReader { dev, chunks }),
             Err(fault) => Err(Refused::of(dev, fault)),
         }
     }

@@ -4,9 +4,11 @@ ghost use Rattle.std.specs.Prelude.{◌≡◌, ◌+◌, ◌-◌, ◌^◌, ℕ};
 ghost use Rattle.std.specs.Prelude.{Some, None, IfOk, length, min, slice_get, take, ⊤};
 ghost use Rattle.std.specs.declared.option.Option.{Option};
 ghost use Rattle.std.specs.Io.{ReadsAtMost};
+ghost use Rattle.std.proofs.Common.{rules};
+ghost use Rattle.age_kdf.specs.Bytes.{Bytes};
 ghost use Rattle.age_header.specs.Device.{Known, Counts};
-ghost use Rattle.age_stream.specs.Offsets.{CountsGiven, FindsSize, GivesAt, HasOffsets, StaysGiven};
-ghost use Rattle.age_stream.specs.Offsets.{GaveAt};
+ghost use Rattle.age_stream.specs.Offsets.{Agrees, CountsGiven, EmptyAtEnd, FindsSize, GaveAt};
+ghost use Rattle.age_stream.specs.Offsets.{HasOffsets, StaysGiven};
 
 use age_header::DeviceFault;
 use std::io::{Read, Seek, SeekFrom};
@@ -60,13 +62,13 @@ pub trait ReadAt {
         ensures bound { ReadsAtMost result buf.new }
         // The offsets of known contents fit a u64.
         ensures offsets { HasOffsets (bytes self.old) }
-        // On Ok the bytes from the offset on are at the start of the buffer. A nonempty buffer gets
-        // none only at or past the end of the known contents and of the size that was found: an
-        // earlier end is an error.
-        ensures bytes { GivesAt (bytes self.old) (found self.old) at result buf.new }
+        // A nonempty buffer gets no bytes only at or past the end of the known contents and of the
+        // size that was found: an earlier end is an error.
+        ensures end { EmptyAtEnd (bytes self.old) (found self.old) at result buf.new }
         // What was read before stays read.
         ensures stays_given { StaysGiven (gave self.old) (gave self.new) }
-        // The source gave each byte at its offset.
+        // On Ok the bytes from the offset on are at the start of the buffer: the source gave each
+        // at its offset.
         ensures read { IfOk result (λ n. GaveAt (gave self.new) at (take n buf.new)) }
         // The count of bytes rises by the number of bytes read, up to the largest u64.
         ensures given { CountsGiven (given self.old) (given self.new) result }
@@ -80,6 +82,9 @@ pub trait ReadAt {
     /// The number of failed calls, saturating at the largest `u64`.
     fn failures(&self) -> u64
         ensures { result ≡ failed self.now };
+
+    // What a source with known contents gave, and the size that was found, are theirs.
+    ghost agrees: { (s : Self) (b : Bytes) → bytes s ≡ Some b → Agrees b (gave s) (found s) };
 }
 
 /// A slice. Its calls never fail.
@@ -111,6 +116,8 @@ impl<'a> ReadAt for MemAt<'a> {
     ghost given = { λ s. s.given };
 
     ghost failed = { λ _. 0 };
+
+    ghost agrees = { Prim.search rules };
 
     fn size(&mut self) -> Result<u64, DeviceFault> {
         Ok(self.bytes.len() as u64)
@@ -201,6 +208,8 @@ impl<F: Read + Seek> ReadAt for FileAt<F> {
     ghost given = { λ s. s.given };
 
     ghost failed = { λ s. s.failures };
+
+    ghost agrees = { Prim.search rules };
 
     fn size(&mut self) -> Result<u64, DeviceFault> {
         if let Some(size) = self.size {

@@ -26,7 +26,8 @@ pub use Rattle.agefile.specs.Groups.{OpensPiece, OpensRun, PartOpens, PartSeals,
 pub use Rattle.agefile.specs.Heading.{BeginsFile, FindsMac, HasStanzas, MakesHeader, ReadsAs, gathering_of, heading, in_text, lines_in, probe, unless_mixed}
 pub use Rattle.agefile.specs.Inspect.{GivesStanzas, HeaderOf, Inspected, InspectsStanzas, arguments_text, list_text, stanza_summary}
 pub use Rattle.agefile.specs.Payload.{Opened, OpensNext, SealsAs, SealsNext, after_chunk, before_first, may_seal, phase_reading, phase_writing}
-pub use Rattle.agefile.specs.Ranges.{OpensRanges, last_index, piece_at, piece_outcome, plain_of}
+pub use Rattle.age_stream.specs.Ranges.{last_index}
+pub use Rattle.agefile.specs.Ranges.{OpensRanges, piece_at, piece_outcome, plain_of}
 pub use Rattle.agefile.specs.Report.{Refuses, Returns, Steps, report_of}
 pub use Rattle.agefile.specs.Sizes.{IsFront, chunk_count, file_len, front_size, limits, opened_len, plain_len_at_most, sealed_len}
 pub use Rattle.agefile.specs.Unlock.{FindsKey, FindsStart, GivesKey, IsKey, IsStart, Opens, StartsAt, Unlocks, by_file_key, gives_key, start_under, with_len}

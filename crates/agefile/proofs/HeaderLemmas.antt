@@ -1,5 +1,5 @@
 -- The header in front of bytes that lie in memory.
-use Rattle.agefile.proofs.Common.{◌≡◌, ◌⊎◌, ℕ, ◌<◌, ◌≤◌, ◌-◌, ◌^◌, List, [], ◌∷◌, ◌++◌, length, length-take, take, map, flat_map, min, sym, ◌∙◌, ap, refl, inl, inr, arith, Some, None, Result, Ok, Err, String, IfOk, take-take, Global, string_bytes, join_by, Bytes, CountsIf, Flow, HeaderFault, Head, HeaderParts, Found, HeaderVerdict, ReadsHeaderOf, one_text, begins_found, reads_known, Fault, OutOfMemory, Inspects, file_result, finding, header_fault, Report, fault_code, Refuses, Returns, report_of, GivesStanzas, HeaderOf, Inspected, InspectsStanzas, arguments_text, limits, front_size, IsFront}
+use Rattle.agefile.proofs.Common.{◌≡◌, ◌⊎◌, ℕ, ◌<◌, ◌≤◌, ◌-◌, ◌^◌, List, [], ◌∷◌, ◌++◌, length, length-take, take, map, min, sym, ◌∙◌, ap, refl, inl, inr, arith, Some, None, Result, Ok, Err, String, IfOk, take-take, Global, string_bytes, join_by, Bytes, CountsIf, Flow, HeaderFault, Head, HeaderParts, Found, HeaderVerdict, ReadsHeaderOf, one_text, begins_found, reads_known, Fault, Inspects, file_result, finding, header_fault, Report, fault_code, Refuses, Returns, report_of, GivesStanzas, HeaderOf, Inspected, InspectsStanzas, arguments_text, limits, front_size, IsFront}
 use Rattle.age_header.specs.declared.fault.HeaderFault.TheVariants as header
 use Rattle.age_file.specs.Device.{is_read}
 use Rattle.std.proofs.lemmas.List.Folds.{flat_map-map}

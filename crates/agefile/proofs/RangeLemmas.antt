@@ -1,9 +1,12 @@
 -- The pieces of a payload by their places in the file.
-use Rattle.agefile.proofs.Common.{◌≡◌, refl, ℕ, [], ◌++◌, ◌+◌, ◌-◌, ◌*◌, ◌/◌, ◌%◌, ◌<◌, length, take, drop, nat_le, sym, ◌∙◌, ap, arith, true, Bool, Some, Ok, length-drop, length-take, drop-drop, take_all, take_min, Bytes, length-sealed_text, opened_text-sealed_text, pieces, chunk_nonce, outcome, chunk_size, sealed_chunk_size, outcome_opens, Ranges, limits, piece_outcome, last_index, piece_at, plain_of}
+use Rattle.std.proofs.Common.{slice_get}
+use Rattle.std.proofs.lemmas.List.{get_or-drop}
+use Rattle.std.proofs.lemmas.Option.{slice_get-get_or}
+use Rattle.agefile.proofs.Common.{◌≡◌, refl, ℕ, [], ◌+◌, ◌-◌, ◌*◌, ◌/◌, ◌%◌, ◌<◌, length, take, drop, nat_le, sym, ◌∙◌, ap, arith, true, Bool, Some, Ok, length-drop, length-take, drop-drop, take_all, take_min, Bytes, length-sealed_text, opened_text-sealed_text, pieces, chunk_nonce, outcome, chunk_size, sealed_chunk_size, outcome_opens, Ranges, limits, piece_outcome, last_index, piece_at, plain_of}
 use Rattle.age_stream.specs.Slice.{IsSlice, last_outcome, opening, plain_len}
 use Rattle.age_stream.proofs.JudgesLastLemmas.{last_is}
 use Rattle.age_stream.proofs.LoadLemmas.{piece_count, some_or_none}
-use Rattle.age_stream.proofs.SliceLemmas.{opening_at, plain_count, slice_on}
+use Rattle.age_stream.proofs.SliceLemmas.{opening_at, plain_count}
 
 -- how many bytes are left from the first sealed chunk on
 left : (r : Ranges) (b : Bytes) → length b ≡ r.first + r.sealed_len → length (drop r.first b) ≡ r.sealed_len
@@ -27,7 +30,7 @@ last_there r b size =
     let n : length rest ≡ r.sealed_len = left r b size in
     let whole = take_all sealed_chunk_size (drop (sealed_chunk_size * last) rest)
     (omega (arith, length-drop (sealed_chunk_size * last) rest)) in
-    rw (piece_there r b last size, whole) (sym (last_is r.key limits.max_chunks rest last (rw n refl)))
+    rw (piece_there r b last size, whole) (sym (last_is r.key limits.max_chunks rest n))
 
 pub len_there : (r : Ranges) (b text : Bytes) → length b ≡ r.first + r.sealed_len
     → last_outcome r.key limits.max_chunks (drop r.first b) ≡ Ok text
@@ -39,7 +42,7 @@ len_there r b text size h =
     let is : last ≡ (length rest - 1) / sealed_chunk_size = rw n refl in
     let piece : Bytes = drop (sealed_chunk_size * last) rest in
     let o = outcome_opens r.key limits.max_chunks last true piece text
-    (sym (last_is r.key limits.max_chunks rest last is) ∙ h) in
+    (sym (last_is r.key limits.max_chunks rest n) ∙ h) in
     let len : length piece ≡ length text + 16 = ap length o.sealed_so
     ∙ length-sealed_text r.key (chunk_nonce last true) [] text in
     let d = length-drop (sealed_chunk_size * last) rest in
@@ -67,9 +70,15 @@ slice_there r b text at size within h =
     ∙ length-sealed_text r.key (chunk_nonce i flag) [] text in
     let opens : opening r.key rest i ≡ Some text =
     rw (opening_at r.key rest i (omega arith), n, o.sealed_so)
-    (opened_text-sealed_text r.key (chunk_nonce i flag) [] text) in
-    let t = length-drop skip text in
-    let part : IsSlice r.key rest at ([] ++ take (length text - skip) (drop skip text)) =
-    slice_on r.key rest [] text at i skip (length text - skip) (omega arith) opens (omega arith) (omega arith)
-    (λ k lt. absurd (omega arith)) in
-    (omega arith, rw (take_all (length text - skip) (drop skip text) (omega arith)) at part)
+    (opened_text-sealed_text r.key (chunk_nonce i flag) [] text) in (
+      omega arith,
+      λ k lt.
+          let inside : k < length text - skip = omega (arith, lt, length-drop skip text) in
+          let here : i ≡ (at + k) / chunk_size = omega (arith, inside, len, l) in
+          let there : (at + k) % chunk_size ≡ skip + k = omega (arith, inside, len, l) in (
+            text,
+            rw (← here) opens,
+            ap (slice_get text) there ∙ slice_get-get_or text (skip + k) 0 (omega (arith, inside))
+                ∙ ap Some (sym (get_or-drop skip text k 0)),
+          ),
+    )

@@ -1,5 +1,5 @@
 -- What runs of calls that save chunks give.
-use Rattle.agefile.proofs.Common.{◌≡◌, ℕ, ◌+◌, ◌<◌, List, [], ◌∷◌, ◌++◌, ◌∙◌, ap, sym, length, take, map, Bool, true, false, refl, arith, inl, inr, take-append_seam, length-append, Option, Some, None, is_end, pieces, before_first, after_chunk, sealed_chunk_size, Bytes, Payload, Report, phase_reading}
+use Rattle.agefile.proofs.Common.{◌≡◌, ℕ, ◌+◌, List, [], ◌∷◌, ◌++◌, ◌∙◌, ap, sym, length, take, map, Bool, true, false, refl, arith, inl, inr, take-append_seam, length-append, Option, Some, None, is_end, pieces, before_first, after_chunk, sealed_chunk_size, Bytes, Payload, Report, phase_reading}
 use Rattle.agefile.specs.Words.{nat_eq, nat_le}
 use Rattle.std.proofs.lemmas.Bool.{ne_eqb}
 use Rattle.age_stream.proofs.ReadingLemmas.{is_end_cut}

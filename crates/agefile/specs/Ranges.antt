@@ -1,6 +1,7 @@
 -- Reading parts of a plaintext in steps: the caller reads one sealed chunk of the file at a time
 -- (C2SP age.md, "Payload").
 use Rattle.std.specs.Prelude.{◌≡◌, ◌⊎◌, ◌<◌, ◌≤◌, ◌+◌, ◌-◌, ◌*◌, ◌/◌, ◌%◌, ◌^◌, ◌++◌, ◌&&◌, ◌||◌}
+use Rattle.age_stream.specs.Ranges.{last_index}
 use Rattle.agefile.specs.Words.{ℕ, Bool, length, take, drop, min, nat_eq, nat_le, nat_lt, replicate, None, Result, Ok, Err, Bytes, StreamFault, outcome, Fault, Answering, stream_fault, Report, Start, tag_size, chunk_size, sealed_chunk_size}
 use Rattle.agefile.specs.declared.ranges.Ranges.{Ranges}
 use Rattle.agefile.specs.Codes.{ok, out_of_order}
@@ -19,10 +20,6 @@ state_open = 1
 -- open, with the last piece verified
 abbrev pub state_verified : ℕ
 state_verified = 2
-
--- the index of the last piece, if all pieces together have `sealed` bytes
-abbrev pub last_index : ℕ → ℕ
-last_index sealed = (sealed - 1) / sealed_chunk_size
 
 -- the length of piece i, if all pieces together have `sealed` bytes
 abbrev pub piece_len : (sealed i : ℕ) → ℕ

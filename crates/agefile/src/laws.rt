@@ -9,6 +9,7 @@ ghost use Rattle.std.specs.List.{concat};
 ghost use Rattle.age_stream.specs.Payload.{chunks, pieces, sealed_chunks_from};
 ghost use Rattle.age_stream.specs.Reading.{Reading, outcome, whole};
 ghost use Rattle.age_stream.specs.Salvage.{parts, summary};
+ghost use Rattle.age_stream.specs.Ranges.{last_index};
 ghost use Rattle.age_stream.specs.Slice.{IsSlice, last_outcome, plain_len};
 ghost use Rattle.age_file.specs.AgeFile.{AgeFile};
 ghost use Rattle.agefile.specs.declared.ranges.Ranges.{Ranges};
@@ -20,7 +21,7 @@ ghost use Rattle.agefile.specs.Heading.{BeginsFile};
 ghost use Rattle.agefile.specs.Sizes.{limits, front_size};
 ghost use Rattle.agefile.specs.Unlock.{IsStart, Opens, Unlocks, by_file_key};
 ghost use Rattle.agefile.specs.Payload.{OpensNext, SealsNext, before_first, phase_reading};
-ghost use Rattle.agefile.specs.Ranges.{OpensRanges, piece_outcome, last_index, piece_at, plain_of};
+ghost use Rattle.agefile.specs.Ranges.{OpensRanges, piece_outcome, piece_at, plain_of};
 ghost use Rattle.agefile.specs.Report.{report_of};
 ghost use Rattle.agefile.specs.Salvage.{Given, SavesRun, given_of, verdict_of};
 

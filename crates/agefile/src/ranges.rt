@@ -3,10 +3,11 @@
 ghost use Rattle.std.specs.Prelude.{◌≡◌, ◌≤◌, ◌/◌};
 ghost use Rattle.agefile.specs.Words.{None, true, outcome, chunk_size};
 ghost use Rattle.std.specs.Bool.{OnFalse, OnTrue};
+ghost use Rattle.age_stream.specs.Ranges.{last_index};
 ghost use Rattle.agefile.specs.Sizes.{limits};
 ghost use Rattle.agefile.specs.Unlock.{by_file_key};
 ghost use Rattle.agefile.specs.Ranges.{GivesFrom, OpensAt, OpensRanges, Verified, closed_ranges};
-ghost use Rattle.agefile.specs.Ranges.{piece_outcome, has_byte, last_index, may_open, may_verify};
+ghost use Rattle.agefile.specs.Ranges.{piece_outcome, has_byte, may_open, may_verify};
 ghost use Rattle.agefile.specs.Ranges.{piece_len, piece_report, plain_of};
 ghost use Rattle.agefile.specs.Report.{Returns, report_of};
 ghost use Rattle.agefile.specs.Codes.{ok, out_of_order};

@@ -1,44 +1,61 @@
 -- Calls on one reader of ranges, one after another.
-use Rattle.std.proofs.Common.{◌≡◌, ◌∙◌, ℕ, List, [], ◌∷◌, ◌++◌, ◌+◌, ◌-◌, ◌*◌, ◌<◌, length, take, drop, get_or, set, ap, sym, arith, refl, inl, inr, Result, Ok, Err}
+use Rattle.std.proofs.Common.{◌≡◌, ◌∙◌, ℕ, List, [], ◌∷◌, ◌++◌, ◌+◌, ◌-◌, ◌*◌, ◌/◌, ◌<◌, ◌≤◌, length, take, drop, get_or, set, ap, sym, arith, refl, inl, inr, Option, Some, None, Result, Ok, Err}
 use Rattle.std.specs.List.{FoldsTo, zip}
+use Rattle.std.proofs.lemmas.Bool.{false≢true}
 use Rattle.std.proofs.lemmas.Fn.{FoldsTo-push}
 use Rattle.std.proofs.lemmas.List.{drop-drop, drop-set-lt, drop_more, length-take-le, take_more, take_more_set}
 use Rattle.age_stream.specs.declared.fault.StreamFault.{StreamFault}
-use Rattle.age_stream.specs.Ranges.{Fills, IsSound, RangeParts, RangeState, ReadsRange, range_len}
+use Rattle.age_stream.specs.declared.layout.Layout.{Layout}
+use Rattle.age_stream.proofs.LoadLemmas.{opens_there}
+use Rattle.age_stream.proofs.RangeLemmas.{slice_there}
+use Rattle.age_stream.specs.Offsets.{Agrees}
+use Rattle.age_stream.specs.Ranges.{Fills, IsThere, PieceOpens, RangeParts, RangeState, ReadsRange, range_len, source_opening}
 use Rattle.age_stream.specs.Sizes.{chunk_size}
 use Rattle.age_file.specs.Words.{Bytes, Known}
-use Rattle.round_trip.specs.Calls.{Answers, Touches}
+use Rattle.round_trip.specs.Calls.{Answers, FillsKnown, Touches}
 
--- a slice by a later state of the reader is one by its first
-fills_first : {told t : Known} {s r : RangeState} (at n : ℕ) (old new : Bytes) → t ≡ told → r.layout ≡ s.layout
-    → (IsSound told s → IsSound told r) → Fills t r at n old new → Fills told s at n old new
-fills_first at n old new stay same sound (rest, slice) = (rest, λ is. rw same at ((rw stay at slice) (sound is)))
+-- what a piece that was read opens to is known
+known_opens : {gave : ℕ → ℕ → Type 0} {found : Option ℕ} (told : Known) (layout : Layout) (i : ℕ) (o : Known)
+    → ((b : Bytes) → told ≡ Some b → Agrees b gave found) → PieceOpens gave layout i o → IsThere told layout
+    → source_opening told layout i ≡ o
+known_opens None layout i o agrees opens there = absurd (false≢true there.known)
+known_opens (Some b) layout i o agrees opens there = opens_there b layout i o (agrees b refl) there opens
+
+known_fills : {gave : ℕ → ℕ → Type 0} {found : Option ℕ} (told : Known) (layout : Layout) (at n : ℕ) (old new : Bytes)
+    → ((b : Bytes) → told ≡ Some b → Agrees b gave found) → n ≤ length new → Fills gave layout at n old new
+    → FillsKnown told layout at n old new
+known_fills None layout at n old new agrees room fills = (fills.rest, λ there. absurd (false≢true there.known))
+known_fills (Some b) layout at n old new agrees room fills =
+    (fills.rest, λ there. slice_there b old new layout at n (agrees b refl) there room fills)
 
 -- the result of a call, by the reader's first state
 pub answers_first : {D : Type 0} {told : D → Known} {given failed : D → ℕ} {gave : D → (at byte : ℕ) → Type 0}
-    {t : Known} {s : RangeState} (at : ℕ) {old new : RangeParts D} (r : Result ℕ StreamFault)
-    → told old.source ≡ t → old.chunks.layout ≡ s.layout
-    → (IsSound t s → IsSound t old.chunks) → length new.buf ≡ length old.buf
+    {t : Known} (s : RangeState) {found : Option ℕ} (at : ℕ) {old new : RangeParts D} (r : Result ℕ StreamFault)
+    → ((b : Bytes) → told new.source ≡ Some b → Agrees b (gave new.source) found)
+    → told old.source ≡ t → old.chunks.layout ≡ s.layout → length new.buf ≡ length old.buf
     → ReadsRange told given failed gave at old new r → Answers t s at old.buf new.buf r
-answers_first at {old} {new} (Ok n) stay same sound size reads =
-    let filled = fills_first at n old.buf new.buf stay same sound reads.filled in
-    let long : length (take n new.buf) ≡ n = length-take-le n new.buf (omega (arith, size, reads.number)) in (
+answers_first {gave = gave} {t} s {found} at {old} {new} (Ok n) agrees stay same size reads =
+    let known : (b : Bytes) → t ≡ Some b → Agrees b (gave new.source) found =
+    λ b is. agrees b (reads.stay ∙ stay ∙ is) in
+    let fills = rw same at reads.filled in (
       rw same at reads.number,
-      filled,
-      λ i (k, within, at_i) is. let (text, opens, byte) = filled.1 is k (omega (arith, long, within)) in
-          rw (← at_i, opens) refl,
+      known_fills t s.layout at n old.buf new.buf known (omega (arith, size, reads.number)) fills,
+      λ i (k, within, at_i) there. let (text, opens, byte) = fills.bytes k within in
+          rw (← at_i, known_opens t s.layout ((at + k) / chunk_size) (Some text) known opens there) refl,
     )
-answers_first at {old} {new} (Err fault) stay same sound size reads =
+answers_first {gave = gave} {t} s {found} at {old} {new} (Err fault) agrees stay same size reads =
+    let known : (b : Bytes) → t ≡ Some b → Agrees b (gave new.source) found =
+    λ b is. agrees b (reads.stay ∙ stay ∙ is) in
     let stop = reads.stop in
     let skip : ℕ = chunk_size * stop.chunk - at in
     let touches : Touches at (range_len old.chunks at (length old.buf)) stop.chunk =
     (skip, omega (arith, stop.some, stop.from, stop.to), omega (arith, stop.some, stop.from, stop.to)) in (
       stop.chunk,
       rw same at touches,
-      fills_first at skip old.buf new.buf stay same sound stop.filled,
+      known_fills t s.layout at skip old.buf new.buf known (omega (arith, stop.to, size)) (rw same at stop.filled),
       elim stop.lost [
         | inl read ↦ inl read
-        | inr (bad, none) ↦ inr (bad, λ is. rw same at ((rw stay at none) (sound is)))
+        | inr (bad, none) ↦ inr (bad, known_opens t s.layout stop.chunk None known (rw same at none))
       ],
     )
 

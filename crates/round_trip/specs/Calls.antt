@@ -1,7 +1,9 @@
 -- Calls on one reader of ranges, one after another.
-use Rattle.std.specs.Prelude.{ℕ, ◌≡◌, ◌+◌, ◌-◌, ◌*◌, ◌/◌, ◌<◌, length, IsSome, Result, Ok, Err}
+use Rattle.std.specs.Prelude.{ℕ, ◌≡◌, ◌+◌, ◌-◌, ◌*◌, ◌/◌, ◌<◌, ◌⊎◌, length, take, drop, IsSome, None, Result, Ok, Err}
 use Rattle.age_stream.specs.declared.fault.StreamFault.{StreamFault}
-use Rattle.age_stream.specs.Ranges.{Fills, IsLost, IsSound, RangeState, ReadsRange, range_len, source_opening}
+use Rattle.age_stream.specs.declared.fault.StreamFault.TheVariants.{BadChunk, Read}
+use Rattle.age_stream.specs.declared.layout.Layout.{Layout}
+use Rattle.age_stream.specs.Ranges.{HasPlain, IsThere, RangeState, ReadsRange, range_len, source_opening}
 use Rattle.age_stream.specs.Sizes.{chunk_size}
 use Rattle.age_file.specs.Words.{Bytes, Known}
 use Rattle.round_trip.specs.declared.ranges.RangeCall.{RangeCall}
@@ -10,17 +12,26 @@ use Rattle.round_trip.specs.declared.ranges.RangeCall.{RangeCall}
 abbrev pub Touches : (at n i : ℕ) → Type 0
 Touches at n i = (k : ℕ) × (k < n) × ((at + k) / chunk_size ≡ i)
 
+-- the buffer begins with n bytes of the known plaintext from `at` on, and the rest is unchanged
+abbrev pub FillsKnown : (told : Known) (layout : Layout) (at n : ℕ) (old new : Bytes) → Type 0
+FillsKnown told layout at n old new =
+    (drop n new ≡ drop n old) × (IsThere told layout → HasPlain told layout at (take n new))
+
 -- A call's result, by the contents and the reader's state before the first call: the slice of the
 -- plaintext if every touched chunk opens; otherwise the first that does not, or a failed read,
 -- after the slice before that chunk. The rest of the buffer is unchanged.
 abbrev pub Answers : (told : Known) (s : RangeState) (at : ℕ) (old new : Bytes)
     (r : Result ℕ StreamFault) → Type 0
 Answers told s at old new (Ok n) =
-    (n ≡ range_len s at (length old)) × Fills told s at n old new
-    × ((i : ℕ) → Touches at n i → IsSound told s → IsSome (source_opening told s.layout i))
+    (n ≡ range_len s at (length old)) × FillsKnown told s.layout at n old new
+    × ((i : ℕ) → Touches at n i → IsThere told s.layout
+    → IsSome (source_opening told s.layout i))
 Answers told s at old new (Err fault) =
     (i : ℕ) × Touches at (range_len s at (length old)) i
-    × Fills told s at (chunk_size * i - at) old new × IsLost told s i fault
+    × FillsKnown told s.layout at (chunk_size * i - at) old new
+    × ((fault ≡ Read)
+    ⊎ ((fault ≡ BadChunk i)
+    × (IsThere told s.layout → source_opening told s.layout i ≡ None)))
 
 -- A call of a list, before and after it, took the reader from one state to the next. `first` and
 -- `s` are its source and its chunks before the list.

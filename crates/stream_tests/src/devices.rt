@@ -121,6 +121,7 @@ impl<'a> CountingReadAt<'a> {
 
 impl<'a> ReadAt for CountingReadAt<'a> {
     ghost use Rattle.std.specs.Prelude.{None};
+    ghost use Rattle.std.proofs.Common.{rules};
 
     ghost bytes = { λ _. None };
 
@@ -131,6 +132,8 @@ impl<'a> ReadAt for CountingReadAt<'a> {
     ghost given = { λ s. ⟦<MemAt<'a> as ReadAt>⟧.given s.bytes };
 
     ghost failed = { λ s. s.failures };
+
+    ghost agrees = { Prim.search rules };
 
     fn size(&mut self) -> Result<u64, DeviceFault> {
         self.bytes.size()

@@ -11,11 +11,11 @@ returns-in-Ok-clause-any g c =
     ∙ c.in-Ok.ensures.same_reference in
     let one : c.as_slice.result.now ≡ c.into_dyn_box.result ∷ [] = search rules in
     verified.ranged c.in-Ok.reader.dev.now (answers_meant meant c.in_ok-boxed.ensures)
-    (rw (one, c.limits_of.ensures) at c.in-Ok.ensures.ranges.2)
+    (rw (one, c.limits_of.ensures) at c.in-Ok.ensures.ranges.1)
     (subst (λ d. WritesAny (g.D.ReadAt.gave d) c.in-Ok.reader.chunks c.args.job.now.at c.args.job.now.len
     (move_by g.W.Sink.taken c.args.out.now c.write_range-written.new.out) c.write_range-written.result)
     (sym c.into_inner-source.ensures.unchanged ∙ (search rules))
-    (c.write_range-written.ensures.any c.in-Ok.ensures.ranges.3))
+    c.write_range-written.ensures.any)
 
 pub returns-in_err-identities-clause-any : goal.returns-in_err-identities-clause-any
 returns-in_err-identities-clause-any g c =
@@ -37,4 +37,4 @@ returns-clause-writes g c =
 
 pub returns-in-Ok-clause-quiet : goal.returns-in-Ok-clause-quiet
 returns-in-Ok-clause-quiet g c =
-    search (verified.quiet_part, c.write_range-written.ensures.any c.in-Ok.ensures.ranges.3)
+    search (verified.quiet_part, c.write_range-written.ensures.any)

@@ -4,12 +4,12 @@ use Rattle.age_commands.proofs.VerifiedLemmas as verified
 use Rattle.age_commands.proofs.range.write_range.Goals as goal
 
 pub returns-in_err-n-clause-any : goal.returns-in_err-n-clause-any
-returns-in_err-n-clause-any g c = λ keeps.
+returns-in_err-n-clause-any g c =
     let inv = c.loop-left.invariant in
     let is : c.from_residual.result ≡ Err c.in_err-n.field-0.0 = search rules in
     rw is (verified.failed_on c.args.reader.now.chunks c.loop-left.reader.chunks c.args.at c.args.len c.loop-left.at
-    c.loop-left.left c.write_next.ensures.stays_given inv.same inv.end inv.begin inv.some (inv.verified keeps)
-    (c.in_err-n.ensures.any (inv.keeps keeps)))
+    c.loop-left.left c.write_next.ensures.stays_given inv.same inv.end inv.begin inv.some inv.verified
+    c.in_err-n.ensures.any)
 
 pub loop-left-preserved : goal.loop-left-preserved
 loop-left-preserved g c =
@@ -31,15 +31,14 @@ loop-left-preserved g c =
       same = c.in_ok-n.ensures.same ∙ inv.same;
       some = search (some_on, number, end, begin, inv.some);
       given = λ at byte was. c.write_next.ensures.stays_given at byte (inv.given at byte was);
-      keeps = λ keeps. c.write_next.ensures.keeps_verified (inv.keeps keeps);
-      verified = λ keeps. verified.joined c.args.at (c.loop-left.at - c.args.at) c.loop-left.at c.in_ok-n.n
+      verified = verified.joined c.args.at (c.loop-left.at - c.args.at) c.loop-left.at c.in_ok-n.n
           (c.loop-left.at + c.in_ok-n.n - c.args.at) c.write_next.ensures.stays_given inv.same (omega arith)
-          (omega arith) (inv.verified keeps) (c.in_ok-n.ensures.any (inv.keeps keeps));
+          (omega arith) inv.verified c.in_ok-n.ensures.any;
       writes = c.in_ok-n.ensures.writes ∙ inv.writes;
     }
 
 pub returns-then-n-eq0-clause-any : goal.returns-then-n-eq0-clause-any
-returns-then-n-eq0-clause-any g c = λ keeps.
+returns-then-n-eq0-clause-any g c =
     let inv = c.loop-left.invariant in
     let at = c.loop-left.at in
     let left = c.loop-left.left in
@@ -53,5 +52,5 @@ returns-then-n-eq0-clause-any g c = λ keeps.
     let more : 0 < left = omega (arith, c.loop-left-test.true) in
     verified.joined c.args.at (at - c.args.at) at n (min c.args.len (plain - c.args.at))
     c.write_next.ensures.stays_given inv.same (omega (arith, inv.begin))
-    (omega (arith, none, number, more, some, inv.end, inv.begin)) (inv.verified keeps)
-    (c.in_ok-n.ensures.any (inv.keeps keeps))
+    (omega (arith, none, number, more, some, inv.end, inv.begin)) inv.verified
+    c.in_ok-n.ensures.any

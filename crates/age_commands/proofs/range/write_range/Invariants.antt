@@ -1,4 +1,4 @@
-use Rattle.age_commands.proofs.Common.{◌≤◌, ◌<◌, ◌≡◌, ◌+◌, ◌-◌, ◌^◌, length, StaysGiven, KeepsVerified, range_len, chunk_size, WritesVerified, move_by}
+use Rattle.age_commands.proofs.Common.{◌≤◌, ◌<◌, ◌≡◌, ◌+◌, ◌-◌, ◌^◌, length, StaysGiven, range_len, chunk_size, WritesVerified, move_by}
 use Rattle.age_commands.proofs.range.write_range.Given as goal
 
 abbrev pub invariant-loop-left : goal.invariant-loop-left
@@ -13,10 +13,7 @@ invariant-loop-left g l =
       same : l.reader.chunks.layout ≡ s.layout;
       some : l.at - l.fn.at ≤ range_len s l.fn.at l.fn.len;
       given : StaysGiven (g.D.ReadAt.gave l.fn.reader.dev.now) (g.D.ReadAt.gave l.reader.dev.now);
-      keeps : KeepsVerified (g.D.ReadAt.gave l.fn.reader.dev.now) s
-          → KeepsVerified (g.D.ReadAt.gave l.reader.dev.now) l.reader.chunks;
-      verified : KeepsVerified (g.D.ReadAt.gave l.fn.reader.dev.now) s
-          → WritesVerified (g.D.ReadAt.gave l.reader.dev.now) s.layout l.fn.at (l.at - l.fn.at)
+      verified : WritesVerified (g.D.ReadAt.gave l.reader.dev.now) s.layout l.fn.at (l.at - l.fn.at)
           (move_by g.W.Sink.taken l.fn.out l.out);
       writes : g.W.Sink.failed l.out ≡ g.W.Sink.failed l.fn.out;
     }

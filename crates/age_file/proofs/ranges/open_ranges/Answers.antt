@@ -1,5 +1,5 @@
-use Rattle.age_file.proofs.Common.{◌∙◌, ap, List, map, StanzaParts, chunks_of, stream_fault}
-use Rattle.age_file.proofs.RangeLemmas.{file_begins, file_ranges, header_refuses, header_stays, locked_refuses, payload_refuses}
+use Rattle.age_file.proofs.Common.{◌∙◌, ap, refl, List, map, StanzaParts, stream_fault}
+use Rattle.age_file.proofs.RangeLemmas.{file_begins, file_most, header_refuses, header_stays, locked_refuses, payload_refuses}
 use Rattle.age_file.proofs.ranges.open_ranges.Goals as goal
 
 pub returns-in-Err-clause-refuses : goal.returns-in-Err-clause-refuses
@@ -9,25 +9,25 @@ returns-in-Err-clause-refuses g c =
 pub returns-in-Err-unlock_header-clause-refuses : goal.returns-in-Err-unlock_header-clause-refuses
 returns-in-Err-unlock_header-clause-refuses g c =
     rw (c.of.ensures.fault, c.of.ensures.unchanged)
-    (search (locked_refuses, c.in-Ok.ensures, c.in-Err-unlock_header.ensures))
+    (locked_refuses c.args.limits.now _ _ _ _ _ _ _ _ _ c.in-Ok.found.at c.in-Ok.found.header
+    c.in-Err-unlock_header.fault (g.met.D.ReadAt.agrees c.in-Ok.found.dev.now) c.in-Ok.ensures.stay
+    c.in-Ok.ensures.given c.in-Ok.ensures.first c.in-Err-unlock_header.ensures.key
+    c.in-Err-unlock_header.ensures.no_device refl refl c.in-Ok.ensures.uncounted)
 
 pub returns-in-Ok-open-clause-ranges : goal.returns-in-Ok-open-clause-ranges
 returns-in-Ok-open-clause-ranges g c =
     let answers = (λ (s : List StanzaParts). map (λ i. (goal.Identity-dyn g (i.vtable, i.value)).meaning i.value s)
     c.args.identities.now) in
-    let opens = c.in-Ok-open.ensures.opens in (
+    let opens = c.in-Ok-open.ensures.opens in
+    let begins = opens.0.2 in (
       opens.1.stay ∙ c.in-Ok.ensures.stay,
-      file_ranges c.args.limits.now answers (g.D.ReadAt.bytes c.args.dev.now) (g.D.ReadAt.given c.args.dev.now)
-          c.in-Ok.found.header (chunks_of c.in-Ok-open.reader) c.in-Ok.ensures.stay
-          c.in-Ok.ensures.given c.max_chunks.ensures.value c.in-Ok.ensures.header
-          c.in-Ok-unlock_header.ensures.key opens.0 opens.1,
       file_begins c.args.limits.now answers c.in-Ok.found.at c.in-Ok.found.header
-          c.in-Ok-unlock_header.key (header_stays opens.2 c.in-Ok.ensures.first)
-          c.in-Ok-unlock_header.ensures.key opens.3.0,
-      opens.3.1,
+          c.in-Ok-unlock_header.key c.max_chunks.ensures.value (header_stays opens.2 c.in-Ok.ensures.first)
+          c.in-Ok-unlock_header.ensures.key begins,
+      file_most (g.D.ReadAt.given c.args.dev.now) c.in-Ok-open.reader.chunks c.in-Ok.ensures.given begins opens.1,
       opens.0.0,
       opens.0.1,
-      opens.3.2 ∙ c.in-Ok.ensures.uncounted,
+      opens.3 ∙ c.in-Ok.ensures.uncounted,
     )
 
 pub returns-clause-refuses : goal.returns-clause-refuses
@@ -37,4 +37,11 @@ returns-clause-refuses g c =
     let fault = c.of-in-Err-open.ensures.fault ∙ c.from.ensures
     ∙ ap stream_fault c.into_parts-dev.ensures.fault in
     rw (unchanged, fault)
-    (search (payload_refuses, c.in-Ok.ensures, c.in-Ok-unlock_header.ensures, c.max_chunks.ensures, refuses))
+    (search (
+      payload_refuses,
+      g.met.D.ReadAt.agrees,
+      c.in-Ok.ensures,
+      c.in-Ok-unlock_header.ensures,
+      c.max_chunks.ensures,
+      refuses,
+    ))

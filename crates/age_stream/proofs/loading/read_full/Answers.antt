@@ -1,5 +1,5 @@
-use Rattle.age_stream.proofs.Common.{arith, length, ◌≡◌, ◌+◌, ◌≤◌, ◌∙◌, take, drop, subst, HasAt}
-use Rattle.age_stream.proofs.ReadAtLemmas.{has_on, read_on}
+use Rattle.age_stream.proofs.Common.{arith, length, ◌≡◌, ◌+◌, ◌≤◌, ◌∙◌}
+use Rattle.age_stream.proofs.ReadAtLemmas.{read_on}
 use Rattle.age_stream.proofs.loading.read_full.Goals as goal
 
 pub loop-got-preserved : goal.loop-got-preserved
@@ -7,18 +7,13 @@ loop-got-preserved g c =
     let old = c.loop-got.invariant in
     let got = c.loop-got.got in
     let n = c.in_ok-n.n in
-    let told = g.D.ReadAt.bytes c.args.dev.now in
     let same : length c.read_after.new.buf ≡ length c.loop-got.buf = c.read_after.auto.buf in
     let within : got + n ≤ c.args.end = c.in_ok-n.ensures.within in
     let room : got + n ≤ length c.read_after.new.buf = omega (arith, within, same, old.len, c.requires.room) in
-    let more = subst (λ t. HasAt t (c.args.at + got) (take n (drop got c.read_after.new.buf))) old.stay
-    c.in_ok-n.ensures.gives in
     record {
       stay = c.read_after.ensures.stay ∙ old.stay;
       len = same ∙ old.len;
       within = within;
-      so_far = has_on told c.args.at got n c.loop-got.buf c.read_after.new.buf room same c.read_after.ensures.prefix
-          old.so_far more;
       found = c.read_after.ensures.found ∙ old.found;
       kept = λ at byte was. c.read_after.ensures.stays_given at byte (old.kept at byte was);
       read = read_on (g.D.ReadAt.gave c.loop-got.dev) (g.D.ReadAt.gave c.read_after.new.dev) c.args.at got n
@@ -27,3 +22,9 @@ loop-got-preserved g c =
       given = omega (arith, c.in_ok-n.ensures.given, old.given);
       failed = c.in_ok-n.ensures.count ∙ old.failed;
     }
+
+pub loop-got-smaller : goal.loop-got-smaller
+loop-got-smaller g c =
+    let (size, found, within) = c.requires.within in
+    let some = rw (c.loop-got.invariant.found, found) at c.in_ok-n.ensures.some in
+    grind (arith, some, within, c.in_ok-n.ensures.within)

@@ -1,4 +1,4 @@
-use Rattle.age_stream.proofs.Common.{length, ◌-◌, ◌≡◌, ◌+◌, ◌≤◌, take, HasAt, StaysGiven, GaveAt}
+use Rattle.age_stream.proofs.Common.{length, ◌-◌, ◌≡◌, ◌+◌, ◌≤◌, take, StaysGiven, GaveAt}
 use Rattle.age_stream.proofs.loading.read_full.Given as goal
 
 abbrev pub invariant-loop-got : goal.invariant-loop-got
@@ -6,7 +6,6 @@ invariant-loop-got g l = record {
   stay : g.D.ReadAt.bytes l.dev ≡ g.D.ReadAt.bytes l.fn.dev;
   len : length l.buf ≡ length l.fn.buf;
   within : l.got ≤ l.end;
-  so_far : HasAt (g.D.ReadAt.bytes l.fn.dev) l.at (take l.got l.buf);
   found : g.D.ReadAt.found l.dev ≡ g.D.ReadAt.found l.fn.dev;
   kept : StaysGiven (g.D.ReadAt.gave l.fn.dev) (g.D.ReadAt.gave l.dev);
   read : GaveAt (g.D.ReadAt.gave l.dev) l.at (take l.got l.buf);

@@ -15,12 +15,12 @@ loop-call-preserved g c =
       same_reference = c.make.ensures.same_reference ∙ inv.same_reference;
       stay = reads.stay ∙ inv.stay;
       same = reads.same ∙ inv.same;
-      sound = λ is. rw inv.stay at (reads.sound (rw inv.stay (inv.sound is)));
       rest = rest_more old c.loop-call.calls i c.make.new.call inv.rest;
       calls = calls_more (Makes g.D.ReadAt.bytes g.D.ReadAt.given g.D.ReadAt.failed g.D.ReadAt.gave first s) (first, s)
           old c.loop-call.calls i c.call-item.result c.loop-call-test.true c.loop-call.auto.calls inv.rest inv.calls
           (record {
-            answers = answers_first _ _ inv.stay inv.same inv.sound c.make.ensures.len reads;
+            answers = answers_first s _ _ (g.met.D.ReadAt.agrees c.make.new.reader.dev.now) inv.stay inv.same
+                c.make.ensures.len reads;
             reads = reads;
           });
     }

@@ -1,6 +1,5 @@
 use Rattle.std.proofs.Common.{◌≡◌, take, drop}
 use Rattle.std.specs.List.{FoldsTo, zip}
-use Rattle.age_stream.specs.Ranges.{IsSound}
 use Rattle.round_trip.specs.Calls.{Makes}
 use Rattle.round_trip.proofs.ranges.make_calls.Given as goal
 
@@ -9,12 +8,10 @@ abbrev pub invariant-loop-call : goal.invariant-loop-call
 invariant-loop-call g l =
     let first = l.fn.reader.dev.now in
     let s = l.fn.reader.chunks in
-    let told = g.D.ReadAt.bytes first in
     record {
       same_reference : l.reader.dev.ghost_name ≡ l.fn.reader.dev.ghost_name;
-      stay : g.D.ReadAt.bytes l.reader.dev.now ≡ told;
+      stay : g.D.ReadAt.bytes l.reader.dev.now ≡ g.D.ReadAt.bytes first;
       same : l.reader.chunks.layout ≡ s.layout;
-      sound : IsSound told s → IsSound told l.reader.chunks;
       rest : drop l.call-index l.calls ≡ drop l.call-index l.fn.calls;
       calls : FoldsTo (Makes g.D.ReadAt.bytes g.D.ReadAt.given g.D.ReadAt.failed g.D.ReadAt.gave first s) (first, s)
           (zip (take l.call-index l.fn.calls) (take l.call-index l.calls)) (l.reader.dev.now, l.reader.chunks);

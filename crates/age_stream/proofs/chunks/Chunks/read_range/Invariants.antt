@@ -1,25 +1,21 @@
-use Rattle.age_stream.proofs.Common.{length, ◌-◌, ◌≡◌, ◌+◌, ◌*◌, ◌/◌, ◌%◌, ◌≤◌, ◌<◌, ◌⊎◌, take, drop, slice_index, ℕ, Some, StaysGiven, HasPlain, IsSound, IsVerifiedByte, KeepsVerified, OpenedAtLeast, first_to_open, sealed_span, chunk_size}
+use Rattle.age_stream.proofs.Common.{length, ◌-◌, ◌≡◌, ◌+◌, ◌*◌, ◌/◌, ◌%◌, ◌≤◌, ◌<◌, ◌⊎◌, drop, slice_index, ℕ, Some, StaysGiven, IsSound, IsVerifiedByte, OpenedAtLeast, first_to_open, sealed_span, chunk_size}
 use Rattle.age_stream.proofs.chunks.Chunks.read_range.Given as goal
 
 abbrev pub invariant-loop-done : goal.invariant-loop-done
 invariant-loop-done g l =
     let s = l.fn.self in
-    let told = g.D.ReadAt.bytes l.fn.dev in
     record {
-      stay : g.D.ReadAt.bytes l.dev ≡ told;
+      stay : g.D.ReadAt.bytes l.dev ≡ g.D.ReadAt.bytes l.fn.dev;
       kept : StaysGiven (g.D.ReadAt.gave l.fn.dev) (g.D.ReadAt.gave l.dev);
       layout : l.self.layout ≡ s.layout;
-      sound : IsSound told s → IsSound told l.self;
       len : length l.buf ≡ length l.fn.buf;
       within : l.done ≤ l.end;
       skip : l.skip < chunk_size;
       pos : l.done < l.end → l.at + l.done ≡ chunk_size * l.i + l.skip;
       below : l.at + l.done ≤ chunk_size * l.i + l.skip;
       rest : drop l.done l.buf ≡ drop l.done l.fn.buf;
-      prefix : IsSound told s → HasPlain told s.layout l.at (take l.done l.buf);
-      keeps : KeepsVerified (g.D.ReadAt.gave l.fn.dev) s → KeepsVerified (g.D.ReadAt.gave l.dev) l.self;
-      verified : KeepsVerified (g.D.ReadAt.gave l.fn.dev) s → (k : ℕ) → k < l.done
-          → IsVerifiedByte (g.D.ReadAt.gave l.dev) s.layout (l.at + k) (slice_index l.buf k);
+      sound : IsSound (g.D.ReadAt.gave l.dev) (g.D.ReadAt.found l.dev) l.self;
+      bytes : (k : ℕ) → k < l.done → IsVerifiedByte (g.D.ReadAt.gave l.dev) s.layout (l.at + k) (slice_index l.buf k);
       counts : OpenedAtLeast s l.self.opened (l.i - first_to_open s.index l.at);
       rises : s.opened ≤ l.self.opened;
       opened : l.self.opened ≤ s.opened + (l.i - first_to_open s.index l.at);
