@@ -1,5 +1,5 @@
-# Builds the program and the library. ./agep, ./install, ./package, ./release, .ci/run and
-# tests/planted/run source this file, with the repository's folder in `root`.
+# Builds the program and the library. ./agep, ./install, ./package, ./release and .ci/run source this
+# file, with the repository's folder in `root`.
 # shellcheck shell=sh disable=SC2154
 
 # Whether the processor has all of the level x86-64-v3.

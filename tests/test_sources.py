@@ -1,9 +1,6 @@
-"""Rules for the texts of the repository: lines of at most 100 columns, blocks of code and links in documents,
-words that users do not know, the toolchain, the sentence of each clause, the clause and the text of each
-planted bug, programs that the compiler must refuse."""
+"""Rules for the texts of the repository: blocks of code and links in documents, the sentence of each clause, the
+clause and the text of each planted bug, programs that the compiler must refuse."""
 
-import ast
-import collections
 import concurrent.futures
 import glob
 import importlib.machinery
@@ -20,67 +17,6 @@ from program import ROOT, TESTS, read, scratch
 
 def text_of(name):
     return read(name).decode("utf-8")
-
-
-def wide_lines(name, text, most=100):
-    """The numbers of the lines wider than `most` columns, except those that may be wider: imports of proofs and
-    definitions, byte strings, tables, blocks of code, and in scripts everything except comments."""
-    found, is_code = [], False
-    for number, line in enumerate(text.split("\n"), 1):
-        if name.endswith(".md"):
-            if re.match(" *```", line):
-                is_code = not is_code
-            may_be_wide = is_code or re.match(" *[|]", line)
-        elif name.endswith(".rt"):
-            may_be_wide = re.match(' *[*]?b".{60}', line)
-        elif name.endswith(".antt"):
-            may_be_wide = re.match("((pub|unfoldable) )*use ", line)
-        else:
-            may_be_wide = not re.match(" *#", line)
-        if not may_be_wide and len(line) > most:
-            found.append(number)
-    return found
-
-
-class Columns(unittest.TestCase):
-    def assert_narrow(self, names, most=100):
-        self.assertTrue(names)
-        wide = {os.path.relpath(name, ROOT): wide_lines(name, text_of(name), most) for name in names}
-        self.assertEqual({name: lines for name, lines in wide.items() if lines}, {})
-
-    def test_crates(self):
-        """Code, clauses, definitions and comments have at most 100 columns."""
-        for crate in sorted(glob.glob(ROOT + "/crates/*")):
-            with self.subTest(os.path.basename(crate)):
-                found = glob.glob(crate + "/src/**/*.rt", recursive=True)
-                self.assert_narrow(found + glob.glob(crate + "/specs/**/*.antt", recursive=True))
-
-    def test_proofs(self):
-        """Proofs have at most 120 columns."""
-        self.assert_narrow(glob.glob(ROOT + "/crates/*/proofs/**/*.antt", recursive=True), 120)
-
-    def test_documents(self):
-        """Documents have at most 100 columns."""
-        self.assert_narrow(glob.glob(ROOT + "/*.md") + glob.glob(ROOT + "/*/*.md"))
-
-    def test_scripts(self):
-        """Comments of scripts have at most 100 columns."""
-        names = [f"{ROOT}/{name}" for name in ("agep", "install", "package", "release", "share/build.sh")]
-        for kind in ("sh", "bash", "py"):
-            names += glob.glob(f"{ROOT}/tests/*.{kind}") + glob.glob(f"{ROOT}/bench/*.{kind}")
-        self.assert_narrow(names)
-
-    def test_itself(self):
-        """A line of 101 columns is found, except in a block of code, a table or an import of a proof."""
-        wide = "0" * 101
-        for name, text, found in (
-            ("wide.md", wide, [1]),
-            ("block.md", f"```\n{wide}\n```\n| {wide}", []),
-            ("code.rt", f'#[tactic({wide})]\nghost use {wide};\n"{wide}"\nb"{wide}"', [1, 2, 3]),
-            ("proof.antt", f"use {wide}\npub use {wide}\n{wide}", [3]),
-        ):
-            with self.subTest(name):
-                self.assertEqual(wide_lines(name, text), found)
 
 
 def quoted_clauses(start, text):
@@ -175,47 +111,6 @@ class Documents(unittest.TestCase):
         self.assertEqual([term for term in terms if term.lower() not in text], [])
 
 
-def prose(name):
-    """What users read of a file: of code only docstrings, doc comments or texts, and no code blocks or names."""
-    text = text_of(f"{ROOT}/{name}")
-    if name.endswith(".h"):
-        text = re.sub(r"\n \* ?", "\n", "\n".join(re.findall(r"/\*.*?\*/", text, re.DOTALL)))
-    elif name.endswith(".py"):
-        kinds = ast.Module, ast.ClassDef, ast.FunctionDef
-        text = "\n".join(ast.get_docstring(node) or "" for node in ast.walk(ast.parse(text)) if isinstance(node, kinds))
-    elif name.endswith(".rs"):
-        text = "\n".join(re.findall("^ *//[/!] ?(.*)$", text, re.MULTILINE))
-    elif name.endswith(".rt"):
-        text = re.sub(r"\\\n *|\\n", " ", " ".join(re.findall(r'"((?:[^"\\]|\\.)*)"', text, re.DOTALL)))
-    return " ".join(re.sub("(?ms)^ *```.*?^ *```$|`[^`\n]*`", "", text).split())
-
-
-class Dialect(unittest.TestCase):
-    """Words that only this project uses, or uses in its own way, and what to write instead on a page for users."""
-
-    WORDS = {
-        "front": "header and nonce", "gather(s|ed)?": "collect", "gave": "returned", "told": "known", "headings?": "header",
-        "openings|(an|the|its) opening (?!a|the)": "plaintext of a chunk", "the lost": "lost chunks", "what salvage misses": "lost chunks",
-        "in the place of": "in place of", "no age file": "not an age file", "each other|one another": "name both",
-        "(a|each) try": "attempt", "greatest": "largest", "at hand": "this machine's", "the gate": "the tests", "anew": "again",
-        "planted|edits": "bugs that tests must find", "also (after|if|when|where)": "even",
-        "(is|are|was) no (key|number|file|chunk|passphrase|recipient)": "is not a",
-        "what is (printed|written|read)": "the output", "as the last one|as another": "as the last chunk",
-        "behind": "after", "the same of": "the same for",
-    }
-    PAGES = ("README.md", "SECURITY.md", "docs/USE.md", "docs/C.md", "share/man/agep.1", "bindings/c/agefile.h", "bindings/*/README.md",
-             "bindings/python/agefile/*.py", "bindings/rust/src/*.rs", "crates/age_args/src/texts.rt", "crates/age_args/src/options.rt")
-
-    def test_words(self):
-        found = [os.path.relpath(name, ROOT) for page in self.PAGES for name in sorted(glob.glob(f"{ROOT}/{page}"))]
-        self.assertGreater(len(found), 25)
-        for name in found:
-            text = prose(name)
-            for word, better in self.WORDS.items():
-                with self.subTest(f"{name}: {word}, better: {better}"):
-                    self.assertEqual([text[max(0, at.start() - 30) : at.end() + 30] for at in re.finditer(rf"(?i)\b({word})\b", text)], [])
-
-
 def load_promises():
     """The script share/promises as a module."""
     loader = importlib.machinery.SourceFileLoader("promises", ROOT + "/share/promises")
@@ -278,14 +173,9 @@ class Promises(unittest.TestCase):
 
 
 def planted_bugs():
-    """For each planted bug its crate (None if it is one of the program), its name and its lines."""
+    """For each planted bug its crate, its name and its lines."""
     for name in sorted(glob.glob(ROOT + "/crates/*/must-fail/*.edit")):
         yield name.split("/")[-3], os.path.basename(name)[:-5], text_of(name).rstrip("\n").split("\n")
-    for name in sorted(glob.glob(TESTS + "/planted/*.edits")) + [TESTS + "/planted/plants"]:
-        crate = os.path.basename(name).removesuffix(".edits") if name.endswith(".edits") else None
-        for block in text_of(name).rstrip("\n").split("\n\n"):
-            head, *lines = block.split("\n")
-            yield crate, head.removeprefix("# "), lines
 
 
 def changes(lines):
@@ -308,13 +198,8 @@ def changes(lines):
     return found
 
 
-# The mistakes that an implementer of the format would make: the name of each edit, once for each
-# right text of its twin.
-TWINS = collections.Counter(re.findall(r"^(\w+): ", text_of(TESTS + "/planted/twins"), re.MULTILINE))
-
-
 class PlantedBugs(unittest.TestCase):
-    """The planted bugs that the prover must refuse, and those of the program, which a script must refuse."""
+    """The planted bugs that the prover must refuse."""
 
     @classmethod
     def setUpClass(cls):
@@ -338,62 +223,29 @@ class PlantedBugs(unittest.TestCase):
         return any(self.has_clause(lower, function, label) for lower in self.below.get(crate, []))
 
     def test_names(self):
-        """No two bugs for the prover have the same name, nor any two of the program."""
-        names = [(crate is None, name) for crate, name, _ in self.bugs]
+        """No two bugs have the same name."""
+        names = [name for _, name, _ in self.bugs]
         self.assertTrue(names)
         self.assertEqual({name for name in names if names.count(name) > 1}, set())
 
-    def test_twins(self):
-        """The gate has an edit for each mistake that an implementer would make; its twin has as many changes."""
-        edits = glob.glob(ROOT + "/crates/*/must-fail/*.edit")
-        in_gate = {os.path.basename(edit)[: -len(".edit")]: text_of(edit) for edit in edits}
-        self.assertGreater(len(TWINS), 36)
-        for name, texts in TWINS.items():
-            with self.subTest(name):
-                self.assertEqual(texts, in_gate[name].count("\nnew: "))
-
     def test_clauses(self):
-        """The first line of each bug for the prover names a clause of its crate, or of one below."""
+        """The first line of each bug names a clause of its crate, or of one below."""
         for crate, name, lines in self.bugs:
-            if crate:
-                with self.subTest(f"{crate}: {name}"):
-                    found = re.fullmatch(r"# clause: ([\w:]+)(?: \[(\w+)\])?", lines[0])
-                    self.assertTrue(found, lines[0])
-                    self.assertTrue(self.has_clause(crate, found[1], found[2] or ""), lines[0])
+            with self.subTest(f"{crate}: {name}"):
+                found = re.fullmatch(r"# clause: ([\w:]+)(?: \[(\w+)\])?", lines[0])
+                self.assertTrue(found, lines[0])
+                self.assertTrue(self.has_clause(crate, found[1], found[2] or ""), lines[0])
 
     def test_texts(self):
         """The text that each change replaces occurs once in its file, after the changes before it."""
         for crate, name, lines in self.bugs:
-            folder, texts = f"{ROOT}/crates/{crate}/" if crate else ROOT + "/", {}
-            with self.subTest(f"{crate or 'agep'}: {name}"):
+            folder, texts = f"{ROOT}/crates/{crate}/", {}
+            with self.subTest(f"{crate}: {name}"):
                 self.assertTrue(changes(lines))
                 for file, old, new in changes(lines):
                     text = texts.get(file) or text_of(folder + file)
                     self.assertEqual(text.count(old), 1, old)
                     texts[file] = text.replace(old, new)
-
-
-class Operators(unittest.TestCase):
-    def test_imports(self):
-        """Code and definitions import the operators of the library from it. `rt ci` refuses one that another file
-        passes on, which `rt check` takes."""
-        names = [name for kind in ("src/**/*.rt", "specs/**/*.antt")
-                 for name in glob.glob(f"{ROOT}/crates/*/{kind}", recursive=True)]
-        self.assertTrue(names)
-        found = {name: re.findall(r"(?m)^(?:pub |ghost )*use Rattle\.(?!std\.)\S*\{[^}]*◌[^}]*\}", text_of(name))
-                 for name in names}
-        self.assertEqual({name: uses for name, uses in found.items() if uses}, {})
-
-
-class Toolchain(unittest.TestCase):
-    def test_line(self):
-        """README.md names the installed toolchain. Another toolchain is reported as a skip, and is not a
-        failure."""
-        named = re.findall(r"^rattle-kit-.*$", text_of(ROOT + "/README.md"), re.MULTILINE)
-        self.assertTrue(named)
-        at_hand = subprocess.run(["rt", "version"], capture_output=True, text=True).stdout.strip()
-        if at_hand not in named:
-            self.skipTest(f"README.md does not name the toolchain {at_hand or 'that is missing here'}")
 
 
 def code_of(text):
