@@ -39,7 +39,7 @@ GOES_ON = {
 }
 # Errors with lines of their own.
 SPECIAL = {
-    ("open", "4", errno.EEXIST): (f"NewFileExists: {NEW}", f"{NEW}: if no agep is writing it, remove it"),
+    ("open", "4", errno.EEXIST): (f"NewFileExists: {NEW}", ""),
     **{("statx", "1", it): ("CannotCreate: made", f"creating made: {os.strerror(it)}") for it in (errno.ENOTDIR, errno.ENAMETOOLONG, errno.ELOOP)},
     **{(kind, number, errno.ENOMEM): ("OutOfMemory", "") for kind, number in (("read", "1"), ("read", "2"), ("statx", "1"))},
 }
@@ -158,7 +158,7 @@ class Calls(CallCase):
                 self.assertEqual(self.run_agep(*words, env=env).status, 1)
                 mode = os.stat(NEW).st_mode & 0o777
                 self.assertEqual(f"{mode:o}", "600" if call == "fchmod" else "640", "before it has the mode of OUT, only its owner may read it")
-                line, more = message("NewFileExists", NEW), f"{NEW}: if no agep is writing it, remove it"
+                line, more = message("NewFileExists", NEW), None
                 self.says(line, *words, more=more)
                 self.assert_file("made", YESTERDAY)
                 os.remove(NEW)

@@ -133,9 +133,7 @@ class ClosedStreams(ProgramCase):
                             if 2 in streams or line is None:
                                 said = ""
                             elif line == saved:
-                                none = "no chunk opens: the 16 bytes that follow the header may be damaged, or the header may be that of another file"
-                                texts = (saved[0], none, saved[1]) if option else saved
-                                said = "".join(erase + fault(text, None) for text in texts)
+                                said = "".join(erase + fault(text, None) for text in saved)
                             else:
                                 said = fault(line, more if option else None)
                             self.assertEqual(self.run_closed(words + option, streams, is_terminal), (status, out, said))

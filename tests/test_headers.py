@@ -1,7 +1,5 @@
 """Headers of many forms: the table of inspect, and sizes at the limits."""
 
-import resource
-
 from fixture import KEY, SALT, SEED, for_keys, with_other_mac
 from messages import message
 from program import ProgramCase, fault, read, write
@@ -99,35 +97,6 @@ class Tables(ProgramCase):
         self.assert_ended(ran, 0, "", None)
         self.assertIn(b"\nstanzas 699000\n", ran.out)
         self.says(message("OutOfMemory"), "inspect", "-H", "16777216", "great", memory=8 << 20)
-
-    def processor_time(self, *words, input):
-        """The processor time of a run, the least of three, and its standard error."""
-        times = []
-        for _ in range(3):
-            before = resource.getrusage(resource.RUSAGE_CHILDREN)
-            ran = self.run_agep(*words, input=input)
-            after = resource.getrusage(resource.RUSAGE_CHILDREN)
-            times.append(after.ru_utime + after.ru_stime - before.ru_utime - before.ru_stime)
-        return min(times), ran
-
-    def test_time(self):
-        """For a header of 1 MiB the second line of -v takes no longer than reading the header."""
-        half = 1 << 20 >> 4
-        for title, stanzas, types in (
-            ("two types", "-> a\n\n" * half + "-> b\n\n" * half, "a, b"),
-            ("many types", "".join(f"-> {i:x}\n\n" for i in range(half)), "0, 1, 2, 3, 4, .."),
-            ("long types", "".join(f"-> {'a' * 60000}{i % 5}\n\n" for i in range(17)), None),
-        ):
-            with self.subTest(title):
-                header = header_of(stanzas)
-                words = ("decrypt", "-k", "key", "-H", "16777216")
-                short, ran = self.processor_time(*words, input=header)
-                self.assert_ended(ran, 1, fault(message("NoMatch")))
-                long, ran = self.processor_time(*words, "-v", input=header)
-                self.assertLess(long, 2 * short + 0.1)
-                if types:
-                    more = f"standard input: its stanzas are of type {types}; another tool opens it"
-                    self.assert_ended(ran, 1, fault(message("NoMatch"), more))
 
 
 class Limits(ProgramCase):

@@ -59,11 +59,11 @@ class Allocations(ProgramCase):
                 self.assert_ended(ran, int(ends[0] != ""), *ends)
 
     def test_explained(self):
-        """With -v: out of memory, also in place of a line, a shorter second line, or the usual result."""
-        line, hint = message("NoMatch"), "pass.age: its stanzas are of type scrypt; -p opens it"
-        full = fault(line, hint).encode()
+        """With -v: out of memory, also in place of a line, or the usual result."""
+        line, more = message("NoMatch"), "pass.age: not opened by key file key"
+        full = fault(line, more).encode()
         refusal = message("OutOfMemory")
-        said = [fault(refusal), fault(line, refusal), fault(line, "reading pass.age"), fault(line, hint)]
+        said = [fault(refusal), fault(refusal, refusal), fault(refusal, "IN: pass.age"), fault(line, refusal), fault(line, more)]
         *refused, last = self.refusals("decrypt", "-v", "-k", "key", "pass.age")
         self.assertTrue(refused)
         for ran in refused:

@@ -43,7 +43,7 @@ def texts_of_code():
 def without_example(line):
     """The second line of an error without the name of the file, and with N for each number."""
     line = re.sub("^2> agep: ", "", line).replace("\\-", "-").replace("\n", " ").strip()
-    return re.sub(r"\d+", "N", re.sub("^([a-z ]+ )?[^ ]+: ", "", line))
+    return re.sub(r"\d+", "N", re.sub("^IN: .*|^([a-z ]+ )?[^ ]+: ", "", line))
 
 
 class Code(unittest.TestCase):
@@ -70,10 +70,9 @@ class Manual(unittest.TestCase):
         page = text_of(ROOT + "/share/man/agep.1").split("\n.SH DIAGNOSTICS\n")[1]
         page = page.split("\n.SH ")[0]
         entries = re.findall(r"^\.TP\n\.B (.*)\n((?:[^.].*\n)+)", page, re.MULTILINE)
-        self.assertGreater(len(entries), 6)
+        self.assertGreater(len(entries), 3)
         heads = [head.split(r"\fR, and other")[0] for head, _ in entries]
         self.first = [part for head in heads for part in head.split(r"\fR, \fB")]
-        self.first += re.findall(r'^There is no second line for\n\.BR "(.*)"', page, re.MULTILINE)
         self.second = [example for _, example in entries]
 
     def test_first_lines(self):
@@ -86,16 +85,6 @@ class Manual(unittest.TestCase):
         lines = [line for line in text_of(VERBOSE).split("\n") if line.startswith("2> ")]
         shown = {without_example(line) for line in lines}
         self.assertEqual([line for line in self.second if without_example(line) not in shown], [])
-
-
-    def test_numbers(self):
-        """The numbers in an example fit each other: a chunk has 65,536 bytes, and scrypt takes 2^N KiB."""
-        said = " ".join(self.second)
-        for number, start, *end in re.findall(r"chunk (\d+)[a-z, ]+ byte (\d+)(?: to (\d+))?", said):
-            self.assertEqual([start, *end], [str(65536 * int(number)), str(65536 * int(number) + 65535) if end[0] else ""])
-        found = re.findall(r"work factor is (\d+)\S* .*?takes (\d+) ([MG])iB", said.replace("\n", " "))
-        self.assertEqual([1 << int(work) for work, _, _ in found], [int(size) << {"M": 10, "G": 20}[unit] for _, size, unit in found])
-        self.assertEqual(len(found), 2)
 
 
 class Transcripts(unittest.TestCase):

@@ -83,20 +83,20 @@ class Names(ProgramCase):
         for words, line, role, why in rows:
             with self.subTest(words):
                 self.says(line, *words.split(), NAME, "-v", "hello", more=f"{role} {SHOWN}: {why}")
-        for text, line, why in (
-            (bytes(65537), message("PassphraseLength"), "more than 65536 bytes"), (b"", message("NoPassphrase"), "it is empty, or holds only one LF"),
+        for text, line, more in (
+            (bytes(65537), message("PassphraseLength"), f"passphrase file {SHOWN}: more than 65536 bytes"),
+            (b"", message("NoPassphrase"), f"passphrase file: {SHOWN}"),
         ):
             with self.subTest(line):
                 write(NAME, text)
-                self.says(line, "encrypt", "-p", NAME, "-v", "hello", more=f"passphrase file {SHOWN}: {why}")
+                self.says(line, "encrypt", "-p", NAME, "-v", "hello", more=more)
 
     def test_in(self):
         """All of them in the name of IN."""
-        end = "chunk 0, from byte 0 of the plaintext on, is the last: the file may be cut short, or have bytes after its end"
         rows = [
             (b"", "key", message("HeaderTruncated"), f"{SHOWN}: the file is empty"),
-            (fixture.changed(read("key.age"), -1), "key", message("BadChunk", 0), f"{SHOWN}: {end}"),
-            (read("key.age"), "other.key", message("WrongKey"), f"{SHOWN}: not opened by key file other.key (32 bytes)"),
+            (fixture.changed(read("key.age"), -1), "key", message("BadChunk", 0), f"IN: {SHOWN}"),
+            (read("key.age"), "other.key", message("WrongKey"), f"{SHOWN}: not opened by key file other.key"),
         ]
         for text, key, line, more in rows:
             with self.subTest(line):

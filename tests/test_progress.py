@@ -117,8 +117,7 @@ class Progress(ProgramCase):
         """It is erased before the message about a fault."""
         write("damaged", fixture.changed(read("many.age"), -1))
         status, out, said, took = self.at_terminal("decrypt", "-v", "-k", "key", "damaged")
-        more = "damaged: chunk 6, from byte 393216 of the plaintext on, is the last: the file may be cut short, or have bytes after its end"
-        last = fault(message("BadChunk", 6), more).replace("\n", "\r\n")
+        last = fault(message("BadChunk", 6), "IN: damaged").replace("\n", "\r\n")
         self.assertEqual((status, out), (1, MANY[:393216]))
         self.assert_drawn(said, FILE, took, last)
 

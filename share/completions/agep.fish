@@ -23,7 +23,7 @@ complete -c agep -n '__fish_seen_subcommand_from encrypt decrypt inspect range r
 complete -c agep -n '__fish_seen_subcommand_from encrypt decrypt range rewrap salvage' -s o -l output -r -F -d 'File to write instead of standard output'
 complete -c agep -n '__fish_seen_subcommand_from encrypt decrypt range rewrap salvage' -s n -l no-clobber -d 'Refuse an OUT that exists'
 complete -c agep -n '__fish_seen_subcommand_from encrypt decrypt range rewrap salvage' -l atomic -d 'Replace OUT only after success, or by what salvage saved'
-complete -c agep -n '__fish_seen_subcommand_from encrypt decrypt inspect range rewrap salvage' -s v -l verbose -d 'Explain an error on a second line (which file, why, what to do)'
+complete -c agep -n '__fish_seen_subcommand_from encrypt decrypt inspect range rewrap salvage' -s v -l verbose -d 'Explain an error on a second line (which file, why)'
 complete -c agep -n '__fish_seen_subcommand_from decrypt range rewrap salvage' -s m -l max-work -x -d 'Largest work factor to accept, 1 to 30'
 complete -c agep -n '__fish_seen_subcommand_from decrypt' -s d -l decrypt -d 'Does nothing'
 complete -c agep -n '__fish_seen_subcommand_from inspect' -s r -l raw -d 'Print the header itself instead of a table'

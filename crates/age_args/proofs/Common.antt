@@ -6,7 +6,7 @@ pub use Rattle.age_job.specs.declared.job.Job.{Job}
 pub use Rattle.age_args.specs.CommandLine.{agep}
 pub use Rattle.age_args.specs.JobOf.{AreWrong, AskForText, AsksForHelp, Becomes, HasNumber, IsPiped, IsShown, IsTaken, JobOf, Makes, Reads, header_limit, is_display, name_of, number_or, rest_of}
 pub use Rattle.age_args.specs.Words.{texts}
-pub use Rattle.age_args.specs.declared.fault.ArgsFault.TheVariants.{Memory, Refused}
+pub use Rattle.age_args.specs.declared.fault.WordsFault.TheVariants.{Memory, Refused}
 pub use Rattle.clap.proofs.WalkLemmas.{first_value-rows, one_text-rows, raw_values-rows}
 pub use Rattle.clap.specs.Faults.{action_fault, bundle_step_fault, check_fault, default_fault, entered_fault, flag_word_fault, given_default_fault, is_simple_and_free, level_fault, long_fault, option_fault, other_fault, positional_fault, react_fault, settle_fault, short_fault, step_fault, stray_fault, turn_fault, use_fault, values_fault, word_fault}
 pub use Rattle.clap.specs.Kinds.{Kinds, or_else, range_kinds, values_kinds}

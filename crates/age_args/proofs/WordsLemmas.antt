@@ -4,7 +4,7 @@ use Rattle.std.specs.Result.{IsErrAnd}
 use Rattle.clap.specs.Words.{is_simple, is_simple_and_free}
 use Rattle.clap.proofs.OnLiterals.{clap_on_literals}
 use Rattle.clap.specs.declared.builder.command.Command.{Command}
-use Rattle.age_args.specs.declared.fault.ArgsFault.{ArgsFault}
+use Rattle.age_args.specs.declared.fault.WordsFault.{WordsFault}
 use Rattle.age_args.proofs.SubcommandLemmas.{subcommand_is}
 use Rattle.age_args.proofs.TakenLemmas.{Taken, agep_is_free, agep_is_simple, taken}
 
@@ -51,7 +51,7 @@ help_is (program, option, is, inr short) =
     ap (fault_of agep) is
     ∙ (ap (λ (o : Text). fault_of agep (program ∷ codes "help" ∷ o ∷ [])) short ∙ short_fault program)
 
-pub help_read : {words : List Text} (result : Result Job ArgsFault) → AsksForHelp words
+pub help_read : {words : List Text} (result : Result Job WordsFault) → AsksForHelp words
     → Reads (codes "agep" ∷ codes "--help" ∷ []) result → Reads words result
 help_read (Ok job) asks h = let none = sym help_fault ∙ h.0 in cc
 help_read (Err Memory) asks h = tt
@@ -65,7 +65,7 @@ pub made : {words : List Text} {name : Text} {rows : List Row} {job : Job} → N
     → Reads words (Ok job)
 made {rows = rows} n is of = (n.faultless, (rows, n.is ∙ ap (λ (name : Text). Some (name, rows)) is, of))
 
-pub refusal : (words : List Text) (command : Command) (error : Error) (result : Result Job ArgsFault)
+pub refusal : (words : List Text) (command : Command) (error : Error) (result : Result Job WordsFault)
     → app_of command ≡ agep
     → IsErrAnd result (Becomes error)
     → (is_simple_and_free (app_of command) ≡ true → HasKind (fault_of (app_of command) words) error)

@@ -15,8 +15,8 @@ use Rattle.age_job.specs.Job.{NamesInput}
 use Rattle.age_job.specs.declared.job.Command.{Command}
 use Rattle.age_job.specs.declared.job.Command.TheVariants.{Encrypt, Decrypt, Inspect, Range, Rewrap, Salvage}
 use Rattle.age_job.specs.declared.job.Job.{Job}
-use Rattle.age_args.specs.declared.fault.ArgsFault.{ArgsFault}
-use Rattle.age_args.specs.declared.fault.ArgsFault.TheVariants.{Memory, Refused}
+use Rattle.age_args.specs.declared.fault.WordsFault.{WordsFault}
+use Rattle.age_args.specs.declared.fault.WordsFault.TheVariants.{Memory, Refused}
 use Rattle.age_args.specs.declared.options.TheConstants.{DEFAULT_MAX_HEADER, DEFAULT_MAX_WORK, DEFAULT_WORK}
 use Rattle.age_job.specs.declared.ranges.TheConstants.{DEFAULT_SEED, MIN_HEADER_SIZE, MIN_WORK_FACTOR, MAX_HEADER_SIZE, MAX_OFFSET, MAX_WORK_FACTOR}
 
@@ -77,7 +77,7 @@ AsksForHelp words = (program option : Text) × (words ≡ program ∷ codes "hel
 
 -- the result of parsing the words: their job; or memory was refused, or `clap` refused the words
 -- for one of its reasons
-abbrev pub Reads : (words : List Text) (result : Result Job ArgsFault) → Type 0
+abbrev pub Reads : (words : List Text) (result : Result Job WordsFault) → Type 0
 Reads words (Ok job) = Makes words job
 Reads words (Err Memory) = ⊤
 Reads words (Err (Refused error)) = IsAmong (kind_of error) (fault_of agep words)
@@ -112,7 +112,7 @@ abbrev pub AreWrong : (words : List Text) → Type 0
 AreWrong words = list_any (λ reason. not (is_display reason)) (fault_of agep words) ≡ true
 
 -- the fault for an error of `clap`
-abbrev pub Becomes : (error : Error) (fault : ArgsFault) → Type 0
+abbrev pub Becomes : (error : Error) (fault : WordsFault) → Type 0
 Becomes error Memory = kind_of error ≡ OutOfMemory
 Becomes error (Refused refused) = (refused ≡ error) × (kind_of error ≢ OutOfMemory)
 

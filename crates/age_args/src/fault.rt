@@ -9,30 +9,30 @@ use std::alloc::AllocError;
 
 /// Why the arguments are not a job.
 #[derive(Debug, Drop)]
-pub enum ArgsFault {
+pub enum WordsFault {
     /// `clap` refused the arguments, or has the help or the version to show.
     Refused(Error),
     /// An allocation was refused.
     Memory,
 }
 
-impl From<AllocError> for ArgsFault {
-    ghost use Rattle.age_args.specs.declared.fault.ArgsFault.TheVariants.{Memory};
+impl From<AllocError> for WordsFault {
+    ghost use Rattle.age_args.specs.declared.fault.WordsFault.TheVariants.{Memory};
 
     ghost from_gives = { λ _ fault. fault ≡ Memory };
 
-    fn from(_error: AllocError) -> ArgsFault {
-        ArgsFault::Memory
+    fn from(_error: AllocError) -> WordsFault {
+        WordsFault::Memory
     }
 }
 
-impl From<Error> for ArgsFault {
+impl From<Error> for WordsFault {
     ghost from_gives = { Becomes };
 
-    fn from(error: Error) -> ArgsFault {
+    fn from(error: Error) -> WordsFault {
         if error.kind() == ErrorKind::OutOfMemory {
-            return ArgsFault::Memory;
+            return WordsFault::Memory;
         }
-        ArgsFault::Refused(error)
+        WordsFault::Refused(error)
     }
 }

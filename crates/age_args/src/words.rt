@@ -9,7 +9,7 @@ ghost use Rattle.age_job.specs.Job.{IsInRange};
 ghost use Rattle.age_args.specs.JobOf.{AsksForHelp, IsTaken, JobOf, Reads, is_set, name_of};
 ghost use Rattle.age_args.specs.JobOf.{number_or, rest_of};
 
-use crate::fault::ArgsFault;
+use crate::fault::WordsFault;
 use crate::options::{
     AT, ATOMIC, DEFAULT_MAX_HEADER, DEFAULT_MAX_WORK, DEFAULT_WORK, FILE_KEY, INPUT, KEY, LEN,
     MAX_HEADER, MAX_WORK, NEW_KEY, NEW_PASS, NO_CLOBBER, OUTPUT, PASS, RAW, SEED, VERBOSE, WORK,
@@ -27,7 +27,7 @@ use std::alloc::{AllocError, Global};
 /// `Refused` with the text of `clap` if the arguments are not a job or ask for help or the version;
 /// `Memory` if an allocation was refused.
 #[tactic(auto, using(crate::proofs::WordsLemmas::help_read))]
-pub fn parse_args(alloc: Global, words: &[&str]) -> Result<Job, ArgsFault>
+pub fn read_words(alloc: Global, words: &[&str]) -> Result<Job, WordsFault>
     // Returns a job only if `clap` has no reason to refuse the words. The job's command is the one
     // that they name, and each field is the value, the values, the number or the flag of its
     // option, or the default. A refusal has one of `clap`'s reasons.
@@ -41,7 +41,7 @@ pub fn parse_args(alloc: Global, words: &[&str]) -> Result<Job, ArgsFault>
     parse(alloc, words)
 }
 
-fn parse(alloc: Global, words: &[&str]) -> Result<Job, ArgsFault>
+fn parse(alloc: Global, words: &[&str]) -> Result<Job, WordsFault>
     ensures reads { Reads (texts words.now) result }
     ensures ranges { IfOk result IsInRange }
 {

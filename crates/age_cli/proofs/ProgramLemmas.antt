@@ -1,8 +1,8 @@
 -- The result of a job, from the result of its task.
 use Rattle.age_cli.proofs.Common.{◌≡◌, ◌⊎◌, ℕ, List, arith, inl, inr, subst, sym, Option, None, Some, Result, Ok, Err, ⊤, Bytes, Known, Moved, Stays, move_by, move_of, Fault, Job, AreWrong, AskForText, Makes, Reads, Task, AnswersRefusal, FailsBeside, IsDevice, IsTaskOf, OfWork, Runs, RunsOn, Works}
 use Rattle.std.proofs.KnownBytes.{Keeps-refl}
-use Rattle.age_args.specs.declared.fault.ArgsFault.{ArgsFault}
-use Rattle.age_args.specs.declared.fault.ArgsFault.TheVariants.{Memory, Refused}
+use Rattle.age_args.specs.declared.fault.WordsFault.{WordsFault}
+use Rattle.age_args.specs.declared.fault.WordsFault.TheVariants.{Memory, Refused}
 use Rattle.age_args.proofs.RefusalLemmas.{shown, wrong}
 use Rattle.age_cli.specs.declared.failure.Failure.{Failure}
 use Rattle.age_cli.specs.declared.failure.Failure.TheVariants.{AgeFile, Job as OfJob}
@@ -62,25 +62,25 @@ alone {F} remaining contents job {from} {sink} {result} none silent (source, i, 
     (device_is (λ (file : F × F). move_by contents file.0 file.1) job.output sink target silent o) h)
 
 -- what the status after a refusal says of the words
-pub refused : (words : List Bytes) (unwritten : Type 0) (fault : ArgsFault) (status : ℕ) → Reads words (Err fault)
+pub refused : (words : List Bytes) (unwritten : Type 0) (fault : WordsFault) (status : ℕ) → Reads words (Err fault)
     → AnswersRefusal fault status unwritten → status ≡ 2 → unwritten × AreWrong words
 refused words unwritten Memory status h a two = absurd (omega arith)
 refused words unwritten (Refused error) status h (inl (low, is)) two = absurd (omega arith)
 refused words unwritten (Refused error) status h (inr (is, stays, hidden)) two = (stays, wrong words error h hidden)
 
-pub answered : (words : List Bytes) (unwritten : Type 0) (fault : ArgsFault) (status : ℕ) → Reads words (Err fault)
+pub answered : (words : List Bytes) (unwritten : Type 0) (fault : WordsFault) (status : ℕ) → Reads words (Err fault)
     → AnswersRefusal fault status unwritten → status ≡ 0 → AskForText words
 answered words unwritten Memory status h a none = absurd (omega arith)
 answered words unwritten (Refused error) status h (inl (low, is)) none = shown words error h is
 answered words unwritten (Refused error) status h (inr (two, stays, hidden)) none = absurd (omega arith)
 
-pub failed : (words : List Bytes) (unwritten : Type 0) (fault : ArgsFault) (status : ℕ) → Reads words (Err fault)
+pub failed : (words : List Bytes) (unwritten : Type 0) (fault : WordsFault) (status : ℕ) → Reads words (Err fault)
     → AnswersRefusal fault status unwritten → status ≡ 1 → AskForText words ⊎ unwritten
 failed words unwritten Memory status h a one = inr a.1
 failed words unwritten (Refused error) status h (inl (low, is)) one = inl (shown words error h is)
 failed words unwritten (Refused error) status h (inr (two, stays, hidden)) one = absurd (omega arith)
 
-pub unused : (words : List Bytes) (unread unwritten used : Type 0) (fault : ArgsFault) (status : ℕ)
+pub unused : (words : List Bytes) (unread unwritten used : Type 0) (fault : WordsFault) (status : ℕ)
     → Reads words (Err fault) → AnswersRefusal fault status unwritten → unread
     → (AskForText words × unread) ⊎ ((unread × unwritten) ⊎ used)
 unused words unread unwritten used Memory status h a kept = inr (inl (kept, a.1))
@@ -89,7 +89,7 @@ unused words unread unwritten used (Refused error) status h (inr (two, stays, hi
     inr (inl (kept, stays))
 
 -- the status of words that make no job
-pub wrong_status : (words : List Bytes) {unwritten : Type 0} (fault : ArgsFault) (status : ℕ) → Reads words (Err fault)
+pub wrong_status : (words : List Bytes) {unwritten : Type 0} (fault : WordsFault) (status : ℕ) → Reads words (Err fault)
     → AnswersRefusal fault status unwritten → AskForText words ⊎ ((status ≡ 2) ⊎ ((status ≡ 1) × unwritten))
 wrong_status words Memory status h a = inr (inr a)
 wrong_status words (Refused error) status h (inl (low, is)) = inl (shown words error h is)

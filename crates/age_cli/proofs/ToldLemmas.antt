@@ -1,8 +1,8 @@
 -- What was printed on standard error, from what each call printed.
 use Rattle.std.specs.Prelude.{IfSome, codes, false}
 use Rattle.age_cli.proofs.Common.{◌≡◌, ◌⊎◌, ℕ, List, arith, inl, inr, refl, None, Some, Result, Ok, Err, ⊤, Bytes, Known, AskForText, Reads, AnswersRefusal}
-use Rattle.age_args.specs.declared.fault.ArgsFault.{ArgsFault}
-use Rattle.age_args.specs.declared.fault.ArgsFault.TheVariants.{Memory, Refused}
+use Rattle.age_args.specs.declared.fault.WordsFault.{WordsFault}
+use Rattle.age_args.specs.declared.fault.WordsFault.TheVariants.{Memory, Refused}
 use Rattle.age_args.proofs.RefusalLemmas.{shown}
 use Rattle.age_header.specs.Device.{Counts, Writes}
 use Rattle.age_cli.specs.Told.{Prints, Says, Stream, error_line}
@@ -30,7 +30,7 @@ says_refusal known err r h count = (
 )
 
 -- what was printed after a refusal with status 1
-pub told_refusal : (words : List Bytes) (unwritten told : Type 0) (fault : ArgsFault) (status : ℕ)
+pub told_refusal : (words : List Bytes) (unwritten told : Type 0) (fault : WordsFault) (status : ℕ)
     → Reads words (Err fault) → AnswersRefusal fault status unwritten → (fault ≡ Memory → told) → status ≡ 1
     → AskForText words ⊎ told
 told_refusal words unwritten told Memory status h a t one = inr (t refl)

@@ -11,8 +11,8 @@ use Rattle.age_job.specs.Refusal.{MayEnd, MayRefuse}
 use Rattle.age_job.specs.declared.failure.Failure.{Failure as JobFailure}
 use Rattle.age_job.specs.Secret.{IsFileKeyOf, IsNewSecret, IsSecretOf}
 use Rattle.age_job.specs.declared.secret.Secret.{Secret}
-use Rattle.age_args.specs.declared.fault.ArgsFault.{ArgsFault}
-use Rattle.age_args.specs.declared.fault.ArgsFault.TheVariants.{Memory, Refused}
+use Rattle.age_args.specs.declared.fault.WordsFault.{WordsFault}
+use Rattle.age_args.specs.declared.fault.WordsFault.TheVariants.{Memory, Refused}
 use Rattle.age_args.specs.JobOf.{IsShown, header_limit}
 use Rattle.age_cli.specs.declared.failure.Failure.{Failure}
 use Rattle.age_cli.specs.declared.failure.Failure.TheVariants.{AgeFile, Job as OfJob}
@@ -100,7 +100,7 @@ word_limits words = record { max_header = header_limit words; max_chunks = 2 ^ 8
 
 -- The answer to a refusal: status 1 for refused memory; for a text that was asked for 0, or 1 if it
 -- could not be written; 2 for wrong words. Nothing is written, except this text.
-abbrev pub AnswersRefusal : (fault : ArgsFault) (status : ℕ) (unwritten : Type 0) → Type 0
+abbrev pub AnswersRefusal : (fault : WordsFault) (status : ℕ) (unwritten : Type 0) → Type 0
 AnswersRefusal Memory status unwritten = (status ≡ 1) × unwritten
 AnswersRefusal (Refused error) status unwritten =
     ((status ≤ 1) × IsShown error) ⊎ ((status ≡ 2) × unwritten × (IsShown error → ⊥))

@@ -25,8 +25,6 @@ pub(crate) struct LossLines<'a, 'b, E> {
     pub(crate) run: Option<LostRun>,
     /// The number of bytes of all lost chunks.
     pub(crate) lost: u64,
-    /// Whether a line says what may have caused a loss up to the end.
-    pub(crate) verbose: bool,
     /// Whether the line on progress may be shown. A line printed here replaces it.
     pub(crate) is_shown: bool,
 }
@@ -108,21 +106,6 @@ impl<'a, 'b, E: Sink> LossLines<'a, 'b, E> {
         }
     }
 
-    /// Prints what may have caused the loss of all these chunks, up to the last one.
-    fn explain(&mut self, run: LostRun) {
-        let first = run.first;
-        if first == 0 {
-            self.print(
-                &"no chunk opens: the 16 bytes that follow the header may be damaged, or the \
-                  header may be that of another file",
-            );
-        } else if first < run.last {
-            self.print(&format_args!(
-                "no chunk opens from chunk {first} on: bytes may be missing there, or added"
-            ));
-        }
-    }
-
     /// Prints why the end of the file may not be the end of what was encrypted.
     fn end_of(&mut self, saved: &Salvaged) {
         let number = saved.chunks.saturating_sub(1);
@@ -173,14 +156,7 @@ impl<'a, 'b, E: Sink> Losses for LossLines<'a, 'b, E> {
 
 impl<'a, 'b, E: Sink> Report for LossLines<'a, 'b, E> {
     fn damaged(&mut self, saved: &SalvagedFile) {
-        let run = self.run;
         self.end();
-        if let Some(run) = run
-            && self.verbose
-            && saved.payload.last == Saved::Zeros
-        {
-            self.explain(run);
-        }
         if !saved.has_right_mac {
             self.print(&"the header was changed: the chunks were tried with the key that fits");
         }

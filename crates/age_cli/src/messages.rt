@@ -3,8 +3,8 @@ ghost use Rattle.age_cli.specs.Told.{Says, Tells, failure_text, stream_by};
 ghost use Rattle.age_header.specs.Device.{Bytes, Took, move_by};
 
 use crate::failure::Failure;
-use age_file::{Fault, Sink, write_all};
-use age_job::{Job, ReadFiles};
+use age_file::{Sink, write_all};
+use age_job::Job;
 use std::alloc::Global;
 use std::fmt::Display;
 use std::io::Write;
@@ -26,38 +26,24 @@ pub(crate) fn say<D: Display, E: Sink>(alloc: Global, text: &D, err: &mut E) -> 
 }
 
 /// Prints a failure and, with `--verbose`, what more is known about it.
-pub(crate) fn tell<E: Sink>(
-    alloc: Global,
-    job: &Job,
-    failure: &Failure<'_>,
-    read: &ReadFiles<'_>,
-    err: &mut E,
-)
+pub(crate) fn tell<E: Sink>(alloc: Global, job: &Job, failure: &Failure<'_>, err: &mut E)
     ensures { Tells job.now.verbose (failure_text failure.now)
         (stream_by E.taken E.failed err.old err.new) }
 {
     if say(alloc, &format_args!("agep: {failure}\n"), err) && job.verbose {
-        explain(alloc, failure, read, err);
+        explain(alloc, failure, err);
     }
 }
 
 /// Prints what more is known about a failure.
-fn explain<E: Sink>(alloc: Global, failure: &Failure<'_>, read: &ReadFiles<'_>, err: &mut E)
+fn explain<E: Sink>(alloc: Global, failure: &Failure<'_>, err: &mut E)
     ensures { (text : Bytes) × Took (move_by E.taken err.old err.new) text }
 {
-    match failure {
-        Failure::AgeFile(Fault::WrongKey, Some(detail)) => {
-            let tried = read.tried();
-            say(alloc, &format_args!("agep: {detail}{tried}\n"), err);
-        }
-        Failure::AgeFile(_, Some(detail)) => {
-            say(alloc, &format_args!("agep: {detail}\n"), err);
-        }
-        Failure::AgeFile(_, None) => {}
-        Failure::Job(failure) => {
-            if let Some(detail) = &failure.detail {
-                say(alloc, &format_args!("agep: {detail}\n"), err);
-            }
-        }
+    let detail = match failure {
+        Failure::AgeFile(_, detail) => detail,
+        Failure::Job(failure) => &failure.detail,
+    };
+    if let Some(detail) = detail {
+        say(alloc, &format_args!("agep: {detail}\n"), err);
     }
 }

@@ -16,8 +16,8 @@ use crate::error_stream::Parts;
 use crate::failure::Failure;
 use crate::lines::{LossLines, NoLines, Saving};
 use crate::messages::{say, tell};
-use crate::work::{input_name, kept_prefix, perform_to};
-use age_args::{ArgsFault, parse_args};
+use crate::work::{input_name, perform_to};
+use age_args::{WordsFault, read_words};
 use age_commands::{Seed, Task, seed_of};
 use age_file::{Fault, Sink, write_all};
 use age_job::{
@@ -43,8 +43,8 @@ const REFUSED: u8 = 2;
 /// Reads `input` if the arguments name no file. When it checks whether two files are the same, it
 /// takes `input` and `out` to be `/proc/self/fd/0` and `/proc/self/fd/1`. Writes the output of the
 /// command, and the texts of help and version, to `out`. Writes to `err` one line for a fault, with
-/// `--verbose` a second one that explains it, the lines of `salvage` on lost chunks, and the text
-/// for a refused command line. If `err` is a terminal, `--verbose` also shows on `/dev/stderr` how
+/// `--verbose` a second one on the file, the lines of `salvage` on lost chunks, and the text for a
+/// refused command line. If `err` is a terminal, `--verbose` also shows on `/dev/stderr` how
 /// much was read, in a line that is erased at the end.
 pub fn run<
     F: Files + Clock + Env + AllocGlobal,
@@ -93,7 +93,7 @@ pub fn run<
         ⊎ ((job : Job) × Makes (texts words.now) job × (job.input ≢ None → input.new ≡ input.old)
         × (job.output ≢ None → out.new ≡ out.old))) }
 {
-    match parse_args(rt.alloc(), words) {
+    match read_words(rt.alloc(), words) {
         Ok(job) => run_job(rt, &job, input, out, err),
         Err(fault) => answer_refusal(rt.alloc(), &fault, out, err),
     }
@@ -149,7 +149,6 @@ pub fn run_job<
             input: input_name(job),
             run: None,
             lost: 0,
-            verbose: job.verbose,
             is_shown,
         };
         let Err(failure) = perform(rt, &mut work, input, out, &mut lines) else {
@@ -158,14 +157,14 @@ pub fn run_job<
         lines.end();
         let LossLines { alloc, err, .. } = lines;
         if !is_told(&failure) {
-            tell(alloc, job, &failure, &work.read, err);
+            tell(alloc, job, &failure, err);
         }
         return FAILED;
     }
     let Err(failure) = perform(rt, &mut work, input, out, &mut NoLines) else {
         return DONE;
     };
-    tell(rt.alloc(), job, &failure, &work.read, err);
+    tell(rt.alloc(), job, &failure, err);
     FAILED
 }
 
@@ -211,14 +210,14 @@ fn perform<'a, F: Files + Clock + AllocGlobal, R: Read, W: Write + IsTerminal, L
             let file = work.read.open_input(rt, job.command, name.as_str())?;
             let size = work.read.input_size(job.command);
             let input = Shown::over(rt, job, file, size, work.is_shown);
-            let mut input = Watched::new(rt.alloc(), input, kept_prefix(job));
+            let mut input = Watched::new(input);
             perform_on(rt, work, task, &mut input, out, lines)
         }
         None => {
             work.read.add_standard_input()?;
             let size = work.read.input_size(job.command);
             let shown = Shown::over(rt, job, Pipe(input), size, work.is_shown);
-            let mut watched = Watched::new(rt.alloc(), shown, kept_prefix(job));
+            let mut watched = Watched::new(shown);
             let done = perform_on(rt, work, task, &mut watched, out, lines);
             let input = watched.reader.reader.0;
             // No effect at run time. The proof reads here whether `input` was read.
@@ -333,17 +332,17 @@ fn refuse<D: Display, E: Sink>(alloc: Global, why: &D, err: &mut E) -> u8
 /// Prints why the arguments are not a job, or prints the help or the version.
 fn answer_refusal<W: Write, E: Sink>(
     alloc: Global,
-    fault: &ArgsFault,
+    fault: &WordsFault,
     out: &mut W,
     err: &mut E,
 ) -> u8
     ensures answers { AnswersRefusal fault.now result (out.new ≡ out.old) }
     ensures quiet { result ≡ 0 → err.new ≡ err.old }
-    ensures told { fault.now ≡ ArgsFault.Memory
+    ensures told { fault.now ≡ WordsFault.Memory
         → Tells false (codes "out of memory") (stream_by E.taken E.failed err.old err.new) }
 {
     match fault {
-        ArgsFault::Refused(error) => {
+        WordsFault::Refused(error) => {
             if error.use_stderr() {
                 return refuse(alloc, &Lines(error), err);
             }
@@ -352,6 +351,6 @@ fn answer_refusal<W: Write, E: Sink>(
                 Err(_) => fail(alloc, Fault::Write, err),
             }
         }
-        ArgsFault::Memory => fail(alloc, Fault::OutOfMemory, err),
+        WordsFault::Memory => fail(alloc, Fault::OutOfMemory, err),
     }
 }

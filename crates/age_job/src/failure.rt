@@ -5,8 +5,9 @@ ghost use Rattle.age_job.specs.declared.fault.Fault.TheVariants.{OutOfMemory};
 
 use crate::fault::Fault;
 use crate::file_names::{Bytes, Name, Quoted, Role};
-use crate::files::{Held, MAX_SMALL, NamedFile, ReadFile};
-use crate::secret::Ends;
+use crate::files::MAX_SMALL;
+use crate::job::Job;
+use crate::watched::Front;
 use std::alloc::{AllocError, AllocFailed};
 use std::fmt::Write;
 use std::{fmt, io};
@@ -23,18 +24,16 @@ pub struct Failure<'a> {
 pub enum Detail<'a> {
     /// An operation of the system on this file, and the reason why it failed.
     System(Operation, Name<'a>, io::Error),
-    /// A folder cannot be encrypted.
-    Folder(Name<'a>),
     /// The size of a small file in bytes.
     Size(Role, Name<'a>, usize),
-    /// The passphrase file is empty.
-    NoPassphrase(Role, Name<'a>),
-    /// How the passphrase begins or ends with characters that nobody types.
-    UntypedPassphrase(Role, Name<'a>, Ends),
     /// The file is not a device.
     NoDevice(Role, Name<'a>),
-    /// The file that is to replace OUT exists.
-    NewFile(Name<'a>),
+    /// The file that the fault is about.
+    File(Role, Name<'a>),
+    /// What the first bytes of IN show.
+    Front(Name<'a>, Front),
+    /// No secret of this job opens IN.
+    Unopened(Name<'a>, &'a Job),
 }
 
 /// An operation of the system on a file.
@@ -135,29 +134,16 @@ impl fmt::Display for Detail<'_> {
                 let mut text = BeforeCode { f, ended: false };
                 write!(text, "{reason}")
             }
-            Detail::Folder(name) => {
-                let name = Quoted(*name);
-                write!(
-                    f,
-                    "{name} is a folder; tar c {name} | agep encrypt .. encrypts it"
-                )
-            }
             Detail::Size(role, name, len) => write_size(*role, *name, *len, f),
-            Detail::NoPassphrase(role, name) => {
-                let (words, name) = (role.words(), Quoted(*name));
-                write!(f, "{words} {name}: it is empty, or holds only one LF")
-            }
-            Detail::UntypedPassphrase(role, name, ends) => {
-                let (words, name, ends) = (role.words(), Quoted(*name), ends.words());
-                write!(f, "{words} {name}: the passphrase {ends}")
-            }
             Detail::NoDevice(role, name) => {
                 let (words, name) = (role.words(), Quoted(*name));
                 write!(f, "{words} {name}: not a device, so its bytes may repeat")
             }
-            Detail::NewFile(name) => {
-                let name = Quoted(*name);
-                write!(f, "{name}: if no agep is writing it, remove it")
+            Detail::File(role, name) => write!(f, "{}: {}", role.words(), Quoted(*name)),
+            Detail::Front(name, front) => write!(f, "{}: {}", Quoted(*name), front.words()),
+            Detail::Unopened(name, job) => {
+                write!(f, "{}: not opened by", Quoted(*name))?;
+                write_tried(job, f)
             }
         }
     }
@@ -188,43 +174,20 @@ fn write_size<W: fmt::Write>(
     }
 }
 
-/// The files of the secrets that were tried on IN. Their text ends the line about IN.
-#[derive(Clone, Copy)]
-pub struct Tried<'r, 'a>(pub(crate) &'r [ReadFile<'a>]);
-
-impl fmt::Display for Tried<'_, '_> {
-    fn fmt<W: fmt::Write>(&self, f: &mut fmt::Formatter<W>) -> fmt::Result {
-        let mut is_first = true;
-        for file in self.0 {
-            if let Some(held) = file.held
-                && matches!(file.named.role, Role::Passphrase | Role::Key)
-            {
-                f.write_str(if is_first { " " } else { ", " })?;
-                write_tried(file.named, held, f)?;
-                is_first = false;
-            }
-        }
-        Ok(())
-    }
-}
-
-/// Writes the name of a file that was tried, and what it held.
-fn write_tried<W: fmt::Write>(
-    named: NamedFile<'_>,
-    held: Held,
-    f: &mut fmt::Formatter<W>,
-) -> fmt::Result {
-    let (words, name) = (named.role.words(), Quoted(Name(named.name)));
-    let len = Bytes(u128::from(held.len));
-    write!(f, "{words} {name} ({len}")?;
-    let ends = match held.ends {
-        Some(ends) => ends.words(),
-        None => "",
+/// Writes the names of the files whose secrets were tried.
+fn write_tried<W: fmt::Write>(job: &Job, f: &mut fmt::Formatter<W>) -> fmt::Result {
+    let (role, first, more) = match (&job.pass, &job.key) {
+        (Some(name), _) => (Role::Passphrase, name, job.more_passes.as_slice()),
+        (None, Some(name)) => (Role::Key, name, job.more_keys.as_slice()),
+        (None, None) => return Ok(()),
     };
-    if !ends.is_empty() {
-        write!(f, "; the passphrase {ends}")?;
+    let (words, name) = (role.words(), Quoted(Name(first.as_str())));
+    write!(f, " {words} {name}")?;
+    for name in more {
+        let name = Quoted(Name(name.as_str()));
+        write!(f, ", {words} {name}")?;
     }
-    f.write_str(")")
+    Ok(())
 }
 
 /// Writes a system's reason without the number of the error.

@@ -3,12 +3,11 @@
 ghost use Rattle.std.specs.Prelude.{◌≡◌, ◌⊎◌, codes, take, IfErr, IfOk, IfSome};
 ghost use Rattle.age_job.specs.Refusal.{IsFileFault, IsSameFault, MayRefuse};
 
-use crate::failure::{Failure, Operation, Tried};
+use crate::failure::{Failure, Operation};
 use crate::fault::Fault;
 use crate::file_names::{Name, Role};
 use crate::inode::{Inode, Kind, STANDARD_INPUT, STANDARD_OUTPUT};
 use crate::job::{Command, Job};
-use crate::secret::Ends;
 use std::alloc::{AllocError, Global};
 use std::io::{ErrorKind, Read, Seek, SeekFrom};
 use std::rt::Files;
@@ -30,17 +29,6 @@ pub(crate) struct ReadFile<'a> {
     pub(crate) named: NamedFile<'a>,
     /// The identity of the file, or why the system refused to say.
     inode: io::Result<Inode>,
-    /// What is known about the contents of a file with a secret.
-    pub(crate) held: Option<Held>,
-}
-
-/// What is known about the contents of a file with a secret.
-#[derive(Clone, Copy)]
-pub(crate) struct Held {
-    /// The length in bytes.
-    pub(crate) len: u64,
-    /// The ends of a passphrase.
-    pub(crate) ends: Option<Ends>,
 }
 
 /// The files that a job has opened for reading. The file to write is compared with them.
@@ -141,14 +129,7 @@ impl<'a> ReadFiles<'a> {
     fn add_input(&mut self, name: &'a str, inode: io::Result<Inode>) -> Result<(), AllocError> {
         let role = Role::Input;
         let named = NamedFile { role, name };
-        self.files.insert(
-            0,
-            ReadFile {
-                named,
-                inode,
-                held: None,
-            },
-        )?;
+        self.files.insert(0, ReadFile { named, inode })?;
         Ok(())
     }
 
@@ -176,19 +157,8 @@ impl<'a> ReadFiles<'a> {
             }
             self.standard_role = Some(role);
         }
-        self.files.push(ReadFile {
-            named,
-            inode,
-            held: None,
-        })?;
+        self.files.push(ReadFile { named, inode })?;
         Ok(file)
-    }
-
-    /// Notes what is known about the contents of the small file opened last.
-    pub(crate) fn note(&mut self, held: Held) {
-        if let Some(file) = self.files.last_mut() {
-            file.held = Some(held);
-        }
     }
 
     /// Returns the number of bytes that this command reads from IN, if known. IN was added.
@@ -199,11 +169,6 @@ impl<'a> ReadFiles<'a> {
             }
             _ => None,
         }
-    }
-
-    /// Returns the files of the secrets that were tried on IN.
-    pub fn tried(&self) -> Tried<'_, 'a> {
-        Tried(self.files.as_slice())
     }
 
     /// Whether reading this file consumes standard input. A character device such as `/dev/null`

@@ -5,7 +5,7 @@
 //! ```
 //! let target = Target::of(rt, &job);
 //! let mut read = ReadFiles::new(rt, &job);
-//! let mut input = Watched::new(alloc, read.open_input(rt, job.command, name)?, 0);
+//! let mut input = Watched::new(read.open_input(rt, job.command, name)?);
 //! let mut out = target.create(rt, &job, &read, out_name)?;
 //! ```
 //!
@@ -38,7 +38,7 @@ mod small_files;
 mod target;
 mod watched;
 
-pub use failure::{Detail, Failure, Operation, Tried};
+pub use failure::{Detail, Failure, Operation};
 pub use fault::Fault;
 pub use file_names::{Bytes, Lines, Name, Quoted, Role};
 pub use files::ReadFiles;
@@ -51,4 +51,4 @@ pub use ranges::{
 pub use secret::{SEED_LEN, Secret, exactly};
 pub use small_files::{read_encrypt_secrets, read_file_key, read_rewrap_secrets, read_secret};
 pub use target::Target;
-pub use watched::{Input, Pipe, Watched};
+pub use watched::{Front, Input, Pipe, Watched};

@@ -43,35 +43,6 @@ pub(crate) fn ends_in_line_end(bytes: &[u8]) -> bool
     bytes.ends_with(b"\r") || bytes.ends_with(b"\n")
 }
 
-/// What messages say of the ends of a passphrase.
-#[derive(Clone, Copy)]
-pub struct Ends {
-    /// Whether it begins with a byte-order mark.
-    pub(crate) is_marked: bool,
-    pub(crate) last: Option<u8>,
-}
-
-impl Ends {
-    pub(crate) fn of(passphrase: &[u8]) -> Ends {
-        Ends {
-            is_marked: begins_with_mark(passphrase),
-            last: passphrase.last().copied(),
-        }
-    }
-
-    /// How the passphrase begins or ends with characters that nobody types, or an empty text.
-    pub(crate) fn words(self) -> &'static str {
-        match (self.is_marked, self.last) {
-            (false, Some(b'\r')) => "ends in CR",
-            (false, Some(b'\n')) => "ends in LF",
-            (true, Some(b'\r')) => "begins with a byte-order mark and ends in CR",
-            (true, Some(b'\n')) => "begins with a byte-order mark and ends in LF",
-            (true, _) => "begins with a byte-order mark",
-            (false, _) => "",
-        }
-    }
-}
-
 /// Converts bytes to an array of N bytes. Returns `None` for any other length.
 pub fn exactly<const N: usize>(bytes: &[u8]) -> Option<[u8; N]>
     // The array has these bytes. So the bytes of a key file are a key exactly if there are 32.

@@ -12,13 +12,13 @@ ghost use Rattle.age_job.specs.Secret.{IsReadFrom, IsSecretOf};
 use crate::failure::{Detail, Failure};
 use crate::fault::Fault;
 use crate::file_names::{Name, Role};
-use crate::files::{Held, MAX_SMALL, NamedFile, ReadFiles, read_prefix, unidentified};
+use crate::files::{MAX_SMALL, NamedFile, ReadFiles, read_prefix, unidentified};
 use crate::inode::{Inode, Kind};
 use crate::job::{Command, Job};
 use crate::output::refuse_terminal;
 use crate::ranges::DEFAULT_SEED;
 use crate::secret::{
-    Ends, SEED_LEN, Secret, begins_with_mark, ends_in_line_end, exactly, without_line_end,
+    SEED_LEN, Secret, begins_with_mark, ends_in_line_end, exactly, without_line_end,
 };
 use std::fs::OpenFile;
 use std::io::{IsTerminal, Seek, SeekFrom};
@@ -235,11 +235,10 @@ fn read_new_passphrase<'a, F: Files + AllocGlobal>(
     let passphrase = read_passphrase(rt, read, named)?;
     let bytes = passphrase.as_slice();
     if bytes.is_empty() {
-        return Err(Failure::with(Fault::NoPassphrase, Detail::NoPassphrase(role, Name(name))));
+        return Err(Failure::with(Fault::NoPassphrase, Detail::File(role, Name(name))));
     }
     if begins_with_mark(bytes) || ends_in_line_end(bytes) {
-        let detail = Detail::UntypedPassphrase(role, Name(name), Ends::of(bytes));
-        return Err(Failure::with(Fault::UntypedPassphrase, detail));
+        return Err(Failure::with(Fault::UntypedPassphrase, Detail::File(role, Name(name))));
     }
     Ok(passphrase)
 }
@@ -260,12 +259,7 @@ fn read_passphrase<'a, F: Files + AllocGlobal>(
     if len > MAX_SMALL {
         return Err(Failure::with(Fault::PassphraseLength, Detail::Size(role, Name(name), len)));
     }
-    let passphrase = without_line_end(bytes);
-    read.note(Held {
-        len: len as u64,
-        ends: Some(Ends::of(passphrase.as_slice())),
-    });
-    Ok(passphrase)
+    Ok(without_line_end(bytes))
 }
 
 /// Reads the passphrases in these files, in order.
@@ -371,13 +365,8 @@ fn read_just<'a, F: Files + AllocGlobal, const N: usize>(
     let NamedFile { role, name } = named;
     let file = read.open_small(rt, named)?;
     let bytes = read_prefix(rt.alloc(), named, file, MAX_SMALL + 1)?;
-    let len = bytes.len();
-    read.note(Held {
-        len: len as u64,
-        ends: None,
-    });
     match exactly(bytes.as_slice()) {
-        Some(bytes) => Ok(bytes),
-        None => Err(Failure::with(length, Detail::Size(role, Name(name), len))),
+        Some(array) => Ok(array),
+        None => Err(Failure::with(length, Detail::Size(role, Name(name), bytes.len()))),
     }
 }

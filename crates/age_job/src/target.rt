@@ -3,7 +3,7 @@
 ghost use Rattle.std.specs.Prelude.{◌≡◌, ◌≢◌, IfErr, IsSome, false, true};
 ghost use Rattle.age_job.specs.Refusal.{IsFoundFault, IsNamed, MayEnd, MayRefuse};
 
-use crate::failure::{Detail, Failure, Operation};
+use crate::failure::{Failure, Operation};
 use crate::fault::Fault;
 use crate::file_names::Name;
 use crate::files::{ReadFiles, unidentified};
@@ -209,8 +209,7 @@ impl Replacement {
         let file = match new_file(mode).open(rt, new) {
             Ok(file) => file,
             Err(reason) if reason.kind() == ErrorKind::AlreadyExists => {
-                let new = Name(new);
-                return Err(Failure::with(Fault::NewFileExists(new), Detail::NewFile(new)));
+                return Err(Fault::NewFileExists(Name(new)).into());
             }
             Err(reason) => return Err(cannot_create(name, new, reason)),
         };

@@ -1,9 +1,9 @@
 //! The input of a command, with what messages about it need.
-ghost use Rattle.std.specs.Prelude.{◌≡◌, ◌+◌, ◌-◌, ◌^◌, [], None, min, MatchResult};
+ghost use Rattle.std.specs.Prelude.{◌≡◌, ◌+◌, ◌-◌, ◌^◌, None, min, MatchResult};
 ghost use Rattle.std.specs.Io.{ReadsAtMost};
 ghost use Rattle.std.specs.Io.KnownBytes.{ReadConsumes};
 
-use std::alloc::Global;
+use crate::secret::begins_with_mark;
 use std::io;
 use std::io::{ErrorKind, Read, Seek, SeekFrom};
 
@@ -19,20 +19,27 @@ pub trait Input: Read + Seek {
         ensures { result ≡ failed self.now };
 }
 
-/// A reader that counts its failed reads, and keeps the reason of the last one, the first bytes
-/// read, and the offset of its end.
+/// A reader that counts its failed reads, and keeps the reason of the last one.
 #[derive(Drop)]
 pub struct Watched<R> {
     pub reader: R,
     failures: u64,
     reason: Option<io::Error>,
-    prefix: Vec<u8>,
-    /// The maximum length of `prefix`.
-    most: usize,
-    /// The offset of the next byte.
-    at: u64,
-    /// The size of the file, if its end was found.
-    end: Option<u64>,
+    /// What the bytes of the first read show.
+    front: Option<Front>,
+}
+
+/// What the first bytes of a file show, if it is not an age file.
+#[derive(Clone, Copy, PartialEq, Eq)]
+pub enum Front {
+    Empty,
+    Armor,
+    /// It begins as the files of `openssl enc` do.
+    OpenSsl,
+    ByteOrderMark,
+    /// It begins as the files of gpg do.
+    Gpg,
+    Other,
 }
 
 /// A reader that cannot be read at offsets, such as standard input.
@@ -54,24 +61,18 @@ impl<R> Seek for Pipe<'_, R> {
 }
 
 impl<R> Watched<R> {
-    /// Watches this reader, which is at its first byte. Keeps at most `most` bytes.
-    pub fn new(alloc: Global, reader: R, most: usize) -> Watched<R>
+    /// Watches this reader, which is at its first byte.
+    pub fn new(reader: R) -> Watched<R>
         // Reading from the result is reading from this reader.
         ensures reader { result.reader ≡ reader }
-        // It keeps no more bytes than that.
-        ensures most { result.most ≡ most }
         // No read has failed, and nothing was read.
-        ensures start { (result.failures ≡ 0) × (result.reason ≡ None) × (result.prefix.items ≡ [])
-            × (result.at ≡ 0) × (result.end ≡ None) }
+        ensures start { (result.failures ≡ 0) × (result.reason ≡ None) × (result.front ≡ None) }
     {
         Watched {
             reader,
             failures: 0,
             reason: None,
-            prefix: Vec::new(alloc),
-            most,
-            at: 0,
-            end: None,
+            front: None,
         }
     }
 
@@ -82,44 +83,9 @@ impl<R> Watched<R> {
         self.reason
     }
 
-    /// Returns the first bytes read.
-    pub fn prefix(&self) -> &[u8]
-        ensures { result.now ≡ self.now.prefix.items }
-    {
-        self.prefix.as_slice()
-    }
-
-    /// Returns the offset of the next byte.
-    pub fn at(&self) -> u64
-        ensures { result ≡ self.now.at }
-    {
-        self.at
-    }
-
-    /// Returns the size of the file, if a read or a seek found its end.
-    pub fn end(&self) -> Option<u64>
-        ensures { result ≡ self.now.end }
-    {
-        self.end
-    }
-
-    /// Notes the bytes that a read returned, and whether they are the last. Keeps them if they
-    /// follow those kept so far, and keeps no more once memory is refused.
-    fn note(&mut self, bytes: &[u8], is_end: bool)
-        ensures reader { self.new.reader ≡ self.old.reader }
-        ensures count { self.new.failures ≡ self.old.failures }
-    {
-        if is_end {
-            self.end = Some(self.at);
-        }
-        let len = self.prefix.len();
-        if self.at == len as u64 {
-            let n = self.most.saturating_sub(len).min(bytes.len());
-            if self.prefix.extend_from_slice(&bytes[..n]).is_err() {
-                self.most = 0;
-            }
-        }
-        self.at = self.at.saturating_add(bytes.len() as u64);
+    /// Returns what the bytes of the first read show.
+    pub fn front(&self) -> Front {
+        self.front.unwrap_or(Front::Other)
     }
 }
 
@@ -138,8 +104,9 @@ impl<R: Read> Read for Watched<R> {
     {
         match self.reader.read(buf) {
             Ok(n) => {
-                let is_end = n == 0 && !buf.is_empty();
-                self.note(&buf[..n], is_end);
+                if self.front.is_none() {
+                    self.front = Some(Front::of(&buf[..n]));
+                }
                 Ok(n)
             }
             Err(reason) => {
@@ -165,17 +132,47 @@ impl<R: Seek> Seek for Watched<R> {
         ensures count { self.new.failures ≡ self.old.failures }
     {
         match self.reader.seek(pos) {
-            Ok(at) => {
-                if pos == SeekFrom::End(0) {
-                    self.end = Some(at);
-                }
-                self.at = at;
-                Ok(at)
-            }
+            Ok(at) => Ok(at),
             Err(reason) => {
                 self.reason = Some(reason);
                 Err(reason)
             }
         }
     }
+}
+
+impl Front {
+    fn of(bytes: &[u8]) -> Front {
+        if bytes.is_empty() {
+            Front::Empty
+        } else if bytes.starts_with(b"-----BEGIN AGE") {
+            Front::Armor
+        } else if bytes.starts_with(b"Salted__") {
+            Front::OpenSsl
+        } else if begins_with_mark(bytes) {
+            Front::ByteOrderMark
+        } else if is_of_gpg(bytes) {
+            Front::Gpg
+        } else {
+            Front::Other
+        }
+    }
+
+    pub(crate) fn words(self) -> &'static str {
+        match self {
+            Front::Empty => "the file is empty",
+            Front::Armor => "it begins with ASCII armor; age decrypts such a file",
+            Front::OpenSsl => "it begins as files of openssl enc do, which decrypts them",
+            Front::ByteOrderMark => "it begins with a byte-order mark",
+            Front::Gpg => "it begins as files of gpg do, which decrypts them",
+            Front::Other => "",
+        }
+    }
+}
+
+/// Whether a file begins as those of gpg do: with armor, or with a packet of OpenPGP that has an
+/// encrypted session key, by a public key or a passphrase.
+fn is_of_gpg(bytes: &[u8]) -> bool {
+    bytes.starts_with(b"-----BEGIN PGP")
+        || matches!(bytes.first(), Some(0x84..=0x86 | 0x8c..=0x8e | 0xc1 | 0xc3))
 }
