@@ -58,6 +58,6 @@ class Avx2(ProgramCase):
     def test_vectors(self):
         """The vectors of the cipher, and the tests of the crates above it."""
         done = subprocess.run(
-            ["rt", "test", "--cpu", "x86-64-v3"], cwd=self.copy + "/crates/stream_tests", stdin=subprocess.DEVNULL, capture_output=True
+            ["rt", "test", "--cpu", "x86-64-v3"], cwd=self.copy + "/crates/age_tests", stdin=subprocess.DEVNULL, capture_output=True
         )
         self.assertEqual(done.returncode, 0, done.stdout.decode() + done.stderr.decode())

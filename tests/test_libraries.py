@@ -27,7 +27,7 @@ class RefusedAllocations(unittest.TestCase):
 
     def test_scrypt(self):
         """age_kdf: scrypt succeeds or is out of memory."""
-        self.each_refusal("stream_tests", "kdf::scrypt_whole_or_out_of_memory", 1)
+        self.each_refusal("age_tests", "kdf::scrypt_whole_or_out_of_memory", 1)
 
     def test_steps_and_ranges(self):
         """age_file: steps and ranges succeed or are out of memory."""

@@ -10,13 +10,14 @@ mod rewrapping;
 mod salvaging;
 mod steps;
 
+use crate::devices::{FailingSink, FailingSource};
+use crate::vectors::{KEY, NONCE, SALT};
 use age_file::{Done, Fault, Fresh, Limits, decrypt, encrypt};
 use age_header::{MemSink, MemSource, Sink, Source};
 use age_recipient::{Identity, KeyIdentity, KeyRecipient, PassIdentity, PassRecipient, Recipient};
 use objects::ForeignRecipient;
 use std::alloc::{AllocError, Global};
 use std::process::Abort;
-use stream_tests::{FailingSink, FailingSource, KEY, NONCE, SALT};
 
 const FRESH: Fresh = Fresh {
     file_key: KEY,
@@ -184,20 +185,6 @@ fn encrypt_and_decrypt_work_byte_by_byte(rt: HostRuntime) {
     assert!(rt; sink.bytes == plain);
 }
 
-/// The numbers of chunks that `Limits` may hold, at the ends of their range.
-#[test]
-fn chunk_limit_is_checked_at_the_ends_of_its_range(rt: HostRuntime) {
-    for (max_chunks, is_allowed) in [
-        (0, false),
-        (1, true),
-        (309_485_009_821_345_068_724_781_056, true),
-        (309_485_009_821_345_068_724_781_057, false),
-    ] {
-        let limits = Limits::new(65_536, max_chunks);
-        assert_eq!(rt; limits.is_some(), is_allowed, "{max_chunks} chunks");
-    }
-}
-
 /// More chunks than allowed, in both directions.
 #[test]
 fn too_many_chunks_are_refused_in_both_directions(rt: HostRuntime) {
@@ -220,46 +207,6 @@ fn too_many_chunks_are_refused_in_both_directions(rt: HostRuntime) {
     );
     assert!(rt; answer == Err(Fault::TooManyChunks));
     assert_eq!(rt; front.len(), 65_536);
-}
-
-/// A damaged first chunk: nothing is written, and only one byte of the second chunk is read.
-#[test]
-fn damaged_first_chunk_writes_nothing(rt: HostRuntime) {
-    let alloc = rt.alloc();
-    let plain = vec![in alloc; 7u8; 131_073].expect(&rt, "memory");
-    let (_, file) = encrypted(alloc, plain.as_slice(), &passphrase_recipients(&rt, alloc));
-    assert_eq!(rt; file.len(), 131_287);
-    let mut file = file;
-    file.as_mut_slice()[166] ^= 1;
-    let identities = passphrase_identities(&rt, alloc);
-    let mut source = MemSource::new(file.as_slice());
-    let mut out = MemSink::new(Vec::new(alloc));
-    let answer = decrypt_to(alloc, &mut source, &mut out, &identities);
-    assert!(rt; answer == Err(Fault::BadChunk(0)));
-    assert!(rt; out.into_vec().is_empty());
-    assert!(rt; source.rest().len() >= 65_568);
-}
-
-/// Several keyed recipients, and identities with and without one of their keys.
-#[test]
-fn each_of_several_recipients_decrypts(rt: HostRuntime) {
-    let alloc = rt.alloc();
-    let done = done(0);
-    let mut two = key_recipients(&rt, alloc, 3);
-    add(
-        &rt,
-        &mut two,
-        boxed(&rt, alloc, KeyRecipient::new([4; 32], SALT)),
-    );
-    let (answer, file) = encrypted(alloc, b"", &two);
-    assert!(rt; answer == done);
-    assert_eq!(rt; file.len(), 274);
-    for (byte, expected) in [(3, done), (4, done), (5, Err(Fault::WrongKey))] {
-        let (answer, _) = decrypted(alloc, file.as_slice(), &key_identities(&rt, alloc, byte));
-        assert!(rt; answer == expected, "key of bytes {byte}");
-    }
-    let (answer, _) = decrypted(alloc, file.as_slice(), &Vec::new(alloc));
-    assert!(rt; answer == Err(Fault::NoMatch));
 }
 
 /// Stanzas of a caller's types are kept unchanged in both directions.

@@ -1,10 +1,21 @@
 #![tactic(auto)]
 
-//! Tests `age_file` and `round_trip` through their public names, in a crate of their own because a
-//! crate with tests is proved twice. `stream_tests` has the tests of the crates below; `age_cipher`
-//! and `age_kdf` have their own.
+//! Tests the libraries through their public names, in a crate of their own because a crate with
+//! tests is proved twice. They show what no clause says: that compiled code meets the vectors of
+//! the RFCs, that calls succeed, and what they do if memory, a read or a write is refused, or an
+//! object of the caller answers. The tests of the program show the rest.
 
+#[cfg(test)]
+mod cipher;
+#[cfg(test)]
+mod devices;
 #[cfg(test)]
 mod file;
 #[cfg(test)]
+mod interrupted;
+#[cfg(test)]
+mod kdf;
+#[cfg(test)]
 mod round_trips;
+#[cfg(test)]
+mod vectors;

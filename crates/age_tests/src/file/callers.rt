@@ -1,31 +1,22 @@
 //! Recipients and identities of a caller, and the results of calls with them.
 
 use super::objects::{
-    CountingIdentity, FixedIdentity, LabelledRecipient, LongRecipient, NoStanza,
-    OutOfMemoryIdentity, RefusingRecipient, ScryptBesideAnother, X25519Shape,
+    FixedIdentity, LabelledRecipient, LongRecipient, NoStanza, OutOfMemoryIdentity,
+    RefusingRecipient, ScryptBesideAnother,
 };
 use super::{
-    FRESH, Identities, Recipients, SALT, add, boxed, decrypted, done, encrypted, encrypted_within,
-    key_recipients, one, only, passphrase_identities, passphrase_recipients, try_also,
+    FRESH, Recipients, add, boxed, decrypted, done, encrypted, encrypted_within, key_recipients,
+    one, only, passphrase_identities, passphrase_recipients, try_also,
 };
+use crate::vectors::SALT;
 use age_file::{Fault, Limits};
 use age_recipient::{FileKey, KeyRecipient, LabelSet, Labels, StanzaFault, Unwrapped};
 use age_stream::Done;
 use std::alloc::Global;
-use std::cell::Cell;
 use std::process::Abort;
-use std::rc::Rc;
 
-pub(super) const VERSION: &[u8] = b"age-encryption.org/v1\n";
-
-pub(super) const PASSPHRASE_STANZA: &[u8] =
-    b"-> scrypt AAAAAAAAAAAAAAAAAAAAAA 10\nAAAAAAAAAAAAAAAAAAAAAAAAAAAAAAAAAAAAAAAAAAA\n";
-
-pub(super) const OTHER_STANZA: &[u8] = b"-> x\n\n";
-
-pub(super) const END: &[u8] = b"--- AAAAAAAAAAAAAAAAAAAAAAAAAAAAAAAAAAAAAAAAAAA\n";
-
-/// The result and the output of decrypting with a caller's identity, followed by the right one.
+/// The result and the output of decrypting with a caller's identity, followed by the right one, and
+/// by one that is out of memory and is not called.
 #[test]
 fn callers_identity_decides_before_the_next(rt: HostRuntime) {
     let alloc = rt.alloc();
@@ -49,6 +40,7 @@ fn callers_identity_decides_before_the_next(rt: HostRuntime) {
         let mut identities = only(&rt, alloc, boxed(&rt, alloc, FixedIdentity { answer }));
         let mut right = passphrase_identities(&rt, alloc);
         identities.append(&mut right).expect(&rt, "memory");
+        try_also(&rt, &mut identities, boxed(&rt, alloc, OutOfMemoryIdentity));
         let (met, plain) = decrypted(alloc, file.as_slice(), &identities);
         assert!(rt; met == expected, "{name}");
         let written = if expected.is_ok() {
@@ -62,6 +54,11 @@ fn callers_identity_decides_before_the_next(rt: HostRuntime) {
     let (met, plain) = decrypted(alloc, file.as_slice(), &starved);
     assert!(rt; met == Err(Fault::OutOfMemory));
     assert!(rt; plain.is_empty());
+    // A passphrase stanza beside another is refused before any identity is called.
+    let mixed =
+        b"age-encryption.org/v1\n-> scrypt AAAAAAAAAAAAAAAAAAAAAA 10\nAAAAAAAAAAAAAAAAAAAAAAAAAAAAAAAAAAAAAAAAAAA\n-> x\n\n--- AAAAAAAAAAAAAAAAAAAAAAAAAAAAAAAAAAAAAAAAAAA\n";
+    let (met, _) = decrypted(alloc, mixed, &starved);
+    assert!(rt; met == Err(Fault::MixedPassphrase));
 }
 
 /// A recipient whose stanza has one argument of this many letters.
@@ -195,46 +192,4 @@ fn recipients_with_equal_labels_go_together(rt: HostRuntime) {
         assert!(rt; answer == expected, "{name}");
         assert!(rt; out.is_empty() == expected.is_err(), "{name}");
     }
-}
-
-/// A file like those of the usual tool: the identity of the passphrase finds no stanza of its own.
-#[test]
-fn x25519_file_has_no_match_for_a_passphrase(rt: HostRuntime) {
-    let alloc = rt.alloc();
-    let recipients = one(&rt, alloc, boxed(&rt, alloc, X25519Shape));
-    let (answer, file) = encrypted(alloc, b"hello", &recipients);
-    assert!(rt; answer == done(5));
-    let shape =
-        b"age-encryption.org/v1\n-> X25519 AAAAAAAAAAAAAAAAAAAAAAAAAAAAAAAAAAAAAAAAAAA\nAAAAAAAAAAAAAAAAAAAAAAAAAAAAAAAAAAAAAAAAAAA\n-> abc-grease x\n\n--- ";
-    assert!(rt; file.as_slice().starts_with(shape));
-    let (answer, _) = decrypted(alloc, file.as_slice(), &passphrase_identities(&rt, alloc));
-    assert!(rt; answer == Err(Fault::NoMatch));
-}
-
-/// A passphrase stanza beside another is refused before any identity is called; without the other
-/// stanza each is called once.
-#[test]
-fn mixed_passphrase_asks_no_identity(rt: HostRuntime) {
-    let alloc = rt.alloc();
-    let asked = Rc::new(alloc, Cell::new(0u32)).expect(&rt, "no fault");
-    let mut identities: Identities = Vec::new(alloc);
-    for _ in 0..2 {
-        let counts = CountingIdentity {
-            asked: Rc::clone(&asked).expect(&rt, "no fault"),
-        };
-        try_also(&rt, &mut identities, boxed(&rt, alloc, counts));
-    }
-    let alone = [VERSION, PASSPHRASE_STANZA, END]
-        .concat(alloc)
-        .expect(&rt, "no fault");
-    let mixed = [VERSION, PASSPHRASE_STANZA, OTHER_STANZA, END]
-        .concat(alloc)
-        .expect(&rt, "no fault");
-    let (answer, out) = decrypted(alloc, mixed.as_slice(), &identities);
-    assert!(rt; answer == Err(Fault::MixedPassphrase));
-    assert!(rt; out.is_empty());
-    assert_eq!(rt; asked.get(), 0);
-    let (answer, _) = decrypted(alloc, alone.as_slice(), &identities);
-    assert!(rt; answer == Err(Fault::NoMatch));
-    assert_eq!(rt; asked.get(), 2);
 }

@@ -1,16 +1,13 @@
-//! The state of a device after a constructor has failed: with each of its calls failing in turn,
-//! and for refusals without a failed call.
+//! The state of a device after a constructor has failed, with each of its calls failing in turn.
 
 use super::begun::{begin_decryptor, begin_file, opened, unlocked};
-use super::callers::{END, OTHER_STANZA, PASSPHRASE_STANZA, VERSION};
 use super::failing::FILE;
 use super::{FRESH, Identities, key_identities, key_recipients};
-use age_file::{Encryptor, Fault, Limits, MemAt, ReadAt, StanzaFault};
-use age_header::{MemSource, Source};
+use crate::devices::{CountingReadAt, FailingSink, FailingSource};
+use age_file::{Encryptor, Fault, Limits, ReadAt};
+use age_header::Source;
 use std::alloc::Global;
 use std::cell::Cell;
-use std::process::Abort;
-use stream_tests::{CountingReadAt, FailingSink, FailingSource};
 
 /// The header and the nonce have 172 bytes. Each write failed in turn: the failed write is the
 /// last, and is counted once.
@@ -71,69 +68,10 @@ fn failed_read_of_the_front_is_the_last(rt: HostRuntime) {
             "read {failing}"
         );
         let reads = Cell::new(0);
-        let mut dev = CountingReadAt::new(FILE, &reads, failing);
+        let mut dev = CountingReadAt::new(FILE, usize::MAX, &reads, failing);
         let met = opened(alloc, &mut dev, identities.as_slice(), &Limits::default()).err();
         assert!(rt; met == Some(Fault::Read), "read {failing}");
         assert_eq!(rt; reads.get(), failing);
         assert_eq!(rt; dev.failures(), 1, "read {failing}");
     }
-}
-
-/// A file must be refused with this fault, in steps and for ranges, with this many of its bytes not
-/// read.
-fn refused<T: Abort>(
-    rt: &T,
-    alloc: Global,
-    file: &[u8],
-    identities: &Identities,
-    (fault, left): (Fault, usize),
-) {
-    let mut source = MemSource::new(file);
-    let met = read_fault(alloc, &mut source, identities);
-    assert!(rt; met == Some(fault), "{fault}");
-    assert_eq!(rt; source.rest().len(), left, "{fault}");
-    let mut dev = MemAt::new(file);
-    let met = opened(alloc, &mut dev, identities.as_slice(), &Limits::default()).err();
-    assert!(rt; met == Some(fault), "{fault}");
-    let unread = (file.len() as u64).saturating_sub(dev.given());
-    assert!(rt; unread >= left as u64, "{fault}");
-}
-
-/// A refusal after the header and before the nonce has read only the header, and leaves the
-/// payload, 32 bytes.
-#[test]
-fn refused_file_is_read_no_further(rt: HostRuntime) {
-    let alloc = rt.alloc();
-    let right = key_identities(&rt, alloc, 3);
-    let payload = &FILE[156..];
-    let mixed = [VERSION, PASSPHRASE_STANZA, OTHER_STANZA, END, payload]
-        .concat(alloc)
-        .expect(&rt, "no fault");
-    refused(
-        &rt,
-        alloc,
-        mixed.as_slice(),
-        &right,
-        (Fault::MixedPassphrase, 32),
-    );
-    refused(&rt, alloc, FILE, &Vec::new(alloc), (Fault::NoMatch, 32));
-    refused(
-        &rt,
-        alloc,
-        FILE,
-        &key_identities(&rt, alloc, 4),
-        (Fault::WrongKey, 32),
-    );
-    // the last character of the stanza's salt, and the first of the MAC
-    for (at, fault) in [
-        (62, Fault::Malformed(StanzaFault::Salt)),
-        (112, Fault::BadMac),
-    ] {
-        let mut changed = Vec::from_slice(alloc, FILE).expect(&rt, "memory");
-        if let Some(byte) = changed.as_mut_slice().get_mut(at) {
-            *byte ^= 1;
-        }
-        refused(&rt, alloc, changed.as_slice(), &right, (fault, 32));
-    }
-    refused(&rt, alloc, &FILE[..171], &right, (Fault::NonceTruncated, 0));
 }

@@ -2,38 +2,36 @@
 
 use super::begun::{begin_decryptor, begin_file, opened, unlocked};
 use super::{
-    FRESH, Identities, Recipients, SALT, decrypt_to, encrypt_to, encrypted, key_identities,
-    key_recipients, passphrase_identities, passphrase_recipients,
+    FRESH, Identities, Recipients, decrypt_to, encrypt_to, encrypted, key_identities,
+    key_recipients,
 };
-use age_file::{Encryptor, Fault, Limits, MemAt, ReadAt, StreamFault, WriteSink};
+use crate::devices::{FailingSink, FailingSource};
+use crate::vectors::SALT;
+use age_file::{Encryptor, Fault, Limits, MemAt, ReadAt, WriteSink};
 use age_header::{MemSink, MemSource, Sink};
 use age_recipient::{KeyIdentity, KeyRecipient};
 use std::alloc::Global;
-use std::io;
-use std::io::Write;
 use std::process::Abort;
-use stream_tests::{FailingSink, FailingSource, begin_ranges, begin_reader, begin_writer};
 
 /// A sink over a slice of each length gets as long a prefix of the file as fits.
 #[test]
 fn failing_sink_gets_a_beginning_of_the_file(rt: HostRuntime) {
     let alloc = rt.alloc();
-    let recipients = passphrase_recipients(&rt, alloc);
-    let (_, file) = encrypted(alloc, b"", &recipients);
-    assert_eq!(rt; file.len(), 182);
-    for len in 0..183 {
+    let recipients = key_recipients(&rt, alloc, 3);
+    for len in 0..FILE.len() + 1 {
         let mut room = vec![in alloc; 0u8; len].expect(&rt, "memory");
         let mut sink = WriteSink::new(room.as_mut_slice());
         let answer = encrypt_to(alloc, &mut MemSource::new(b""), &mut sink, &recipients);
-        assert!(rt; answer.is_ok() == (len == 182), "room for {len} bytes");
         assert!(rt;
-            answer.is_ok() || answer == Err(Fault::Write),
+            answer.err()
+                == if len < FILE.len() {
+                    Some(Fault::Write)
+                } else {
+                    None
+                },
             "room for {len} bytes"
         );
-        assert!(rt;
-            file.as_slice().starts_with(room.as_slice()),
-            "room for {len} bytes"
-        );
+        assert!(rt; FILE.starts_with(room.as_slice()), "room for {len} bytes");
     }
 }
 
@@ -48,7 +46,7 @@ fn reads_until(
 ) -> (u64, bool) {
     let mut source = FailingSource::new(file, 1_000, failing);
     let mut sink = FailingSink::new(alloc, 1, 0);
-    let identities = passphrase_identities(rt, alloc);
+    let identities = key_identities(rt, alloc, 3);
     let answer = decrypt_to(alloc, &mut source, &mut sink, &identities);
     let whole = answer.is_ok() && sink.bytes.as_slice() == plain;
     let failed = answer == Err(Fault::Read) && plain.starts_with(sink.bytes.as_slice());
@@ -61,9 +59,9 @@ fn reads_until(
 fn failing_read_leaves_a_beginning_of_the_plaintext(rt: HostRuntime) {
     let alloc = rt.alloc();
     let plain = vec![in alloc; 7u8; 65_537].expect(&rt, "memory");
-    let (_, file) = encrypted(alloc, plain.as_slice(), &passphrase_recipients(&rt, alloc));
+    let (_, file) = encrypted(alloc, plain.as_slice(), &key_recipients(&rt, alloc, 3));
     let (reads, whole) = reads_until(&rt, alloc, file.as_slice(), plain.as_slice(), 0);
-    assert!(rt; whole && reads > 150 + 65);
+    assert!(rt; whole && reads > 156 + 65);
     for failing in 1..reads {
         let (met, failed) = reads_until(&rt, alloc, file.as_slice(), plain.as_slice(), failing);
         assert!(rt; failed, "read {failing}");
@@ -91,65 +89,6 @@ fn failing_plaintext_leaves_a_beginning_of_the_file(rt: HostRuntime) {
         );
         assert_eq!(rt; source.reads, failing);
     }
-}
-
-/// A reader returns its failed read again, and does not call the source again.
-#[test]
-fn reader_returns_a_failed_read_again(rt: HostRuntime) {
-    let alloc = rt.alloc();
-    let plain = vec![in alloc; 7u8; 65_537].expect(&rt, "memory");
-    let (_, file) = encrypted(alloc, plain.as_slice(), &key_recipients(&rt, alloc, 3));
-    let failing = 156 + 1 + 10;
-    let mut source = FailingSource::new(file.as_slice(), 1_000, failing);
-    let decryptor = begin_decryptor(alloc, &mut source).expect(&rt, "no fault");
-    let mut reader = unlocked(decryptor, alloc, key_identities(&rt, alloc, 3).as_slice()).expect(
-        &rt, "no fault",
-    );
-    for _ in 0..3 {
-        assert!(rt; matches!(reader.next_chunk(), Err(StreamFault::Read)));
-    }
-    drop(reader);
-    assert_eq!(rt; source.reads, failing);
-    assert_eq!(rt; source.failures, 1);
-}
-
-/// Accepts no byte of any piece, and reports success.
-#[derive(Drop)]
-struct TakesNothing;
-
-impl Write for TakesNothing {
-    fn write(&mut self, _piece: &[u8]) -> io::Result<usize> {
-        Ok(0)
-    }
-
-    fn flush(&mut self) -> io::Result<()> {
-        Ok(())
-    }
-}
-
-/// A writer that accepts no byte of a piece, and devices whose count of failures cannot rise any
-/// more.
-#[test]
-fn devices_at_their_limits_return_their_fault(rt: HostRuntime) {
-    let alloc = rt.alloc();
-    let recipients = key_recipients(&rt, alloc, 3);
-    let mut nothing = WriteSink::new(TakesNothing);
-    let answer = encrypt_to(alloc, &mut MemSource::new(b""), &mut nothing, &recipients);
-    assert!(rt; answer == Err(Fault::Write));
-    let mut sink = FailingSink::new(alloc, 1, 1);
-    sink.failures = u64::MAX;
-    let answer = encrypt_to(alloc, &mut MemSource::new(b""), &mut sink, &recipients);
-    assert!(rt; answer == Err(Fault::Write) && sink.failures == u64::MAX);
-    let mut source = FailingSource::new(b"", 1, 1);
-    source.failures = u64::MAX;
-    let mut sink = FailingSink::new(alloc, 1, 1);
-    let answer = decrypt_to(
-        alloc,
-        &mut source,
-        &mut sink,
-        &key_identities(&rt, alloc, 3),
-    );
-    assert!(rt; answer == Err(Fault::Read) && source.failures == u64::MAX);
 }
 
 /// The file of the empty plaintext for the key of 32 bytes 3, made by tests/reference.py.
@@ -204,30 +143,6 @@ fn opens_or_starves(alloc: Global, identities: &Identities) -> bool {
     opened == Ok(0) || opened == Err(Fault::OutOfMemory) && dev.given() <= 156
 }
 
-/// Whether each constructor of a payload succeeds, or is out of memory with nothing written or
-/// read.
-fn payload_or_starves(alloc: Global) -> bool {
-    let (key, nonce, payload) = (&FRESH.file_key, &FRESH.nonce, &FILE[156..]);
-    let mut out = MemSink::new(Vec::new(alloc));
-    let written = match begin_writer(alloc, key, nonce, &mut out, 1) {
-        Ok(writer) => Ok(writer.abandon()),
-        Err(fault) => Err(fault),
-    };
-    let failures = out.failures();
-    let writes = match written {
-        Ok(()) => out.into_vec().as_slice() == nonce.as_slice(),
-        Err(StreamFault::Write) => failures == 1,
-        Err(fault) => fault == StreamFault::Memory && out.into_vec().is_empty(),
-    };
-    let mut source = MemSource::new(payload);
-    let read = begin_reader(alloc, key, &mut source, 1).err();
-    let reads = read.is_none() || read == Some(StreamFault::Memory) && source.rest().len() == 32;
-    let mut dev = MemAt::new(payload);
-    let opened = begin_ranges(alloc, key, &mut dev, 0, 1).err();
-    let opens = opened.is_none() || opened == Some(StreamFault::Memory) && dev.given() == 0;
-    writes && reads && opens
-}
-
 /// The calls in steps return Ok or out of memory, and nothing else; their set-up may also be out of
 /// memory. tests/test_libraries.py refuses each allocation in turn.
 #[test]
@@ -247,5 +162,4 @@ fn whole_or_out_of_memory(rt: HostRuntime) {
     assert!(rt; starts_or_starves(alloc, &recipients));
     assert!(rt; reads_or_starves(alloc, &identities));
     assert!(rt; opens_or_starves(alloc, &identities));
-    assert!(rt; payload_or_starves(alloc));
 }

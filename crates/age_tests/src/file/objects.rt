@@ -3,8 +3,6 @@
 use age_header::Stanza;
 use age_recipient::{FileKey, Identity, Labels, Recipient, Unwrapped, WrapFault};
 use std::alloc::{AllocError, Global};
-use std::cell::Cell;
-use std::rc::Rc;
 
 /// Returns a stanza of a type that no other identity knows.
 #[derive(Drop)]
@@ -43,36 +41,6 @@ impl Recipient for LongRecipient {
             return Err(WrapFault::Memory);
         };
         match vec![in alloc; stanza] {
-            Ok(stanzas) => Ok(stanzas),
-            Err(_) => Err(WrapFault::Memory),
-        }
-    }
-}
-
-/// Returns the stanza that the usual tool writes for an X25519 key, and then one of an unknown
-/// type.
-#[derive(Drop)]
-pub(super) struct X25519Shape;
-
-impl Recipient for X25519Shape {
-    ghost use Rattle.std.specs.Prelude.{Ok, [], ◌∷◌, codes, replicate};
-
-    ghost wraps = { λ _ _. Ok (record {
-      args = codes "X25519"
-          ∷ codes "AAAAAAAAAAAAAAAAAAAAAAAAAAAAAAAAAAAAAAAAAAA" ∷ [];
-      body = replicate 32 0;
-    }
-        ∷ record { args = codes "abc-grease" ∷ codes "x" ∷ []; body = [] } ∷ []) };
-
-    fn wrap(&self, alloc: Global, _key: &FileKey) -> Result<Vec<Stanza>, WrapFault> {
-        let point = "AAAAAAAAAAAAAAAAAAAAAAAAAAAAAAAAAAAAAAAAAAA";
-        let Ok(curve) = Stanza::new(alloc, &["X25519", point], &[0; 32]) else {
-            return Err(WrapFault::Memory);
-        };
-        let Ok(grease) = Stanza::new(alloc, &["abc-grease", "x"], &[]) else {
-            return Err(WrapFault::Memory);
-        };
-        match vec![in alloc; curve, grease] {
             Ok(stanzas) => Ok(stanzas),
             Err(_) => Err(WrapFault::Memory),
         }
@@ -127,23 +95,6 @@ impl Recipient for LabelledRecipient {
 
     fn labels(&self, _alloc: Global) -> Result<Labels, AllocError> {
         Ok(self.labels.clone()?)
-    }
-}
-
-/// Counts its calls, and returns `NotMine`.
-#[derive(Drop)]
-pub(super) struct CountingIdentity {
-    pub(super) asked: Rc<Cell<u32>>,
-}
-
-impl Identity for CountingIdentity {
-    ghost use Rattle.age_recipient.specs.declared.unwrapped.Unwrapped.TheVariants.{NotMine};
-
-    ghost meaning = { λ _ _. NotMine };
-
-    fn unwrap(&self, _alloc: Global, _stanzas: &[Stanza]) -> Result<Unwrapped, AllocError> {
-        self.asked.set(self.asked.get().saturating_add(1));
-        Ok(Unwrapped::NotMine)
     }
 }
 

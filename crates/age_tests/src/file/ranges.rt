@@ -1,98 +1,139 @@
-//! Ranges of a file's plaintext.
+//! Ranges over a source that counts its reads, is slow or fails, and over a file that is cut.
 
 use super::begun::opened;
-use super::{Identities, encrypted, key_identities, passphrase_identities, passphrase_recipients};
-use age_file::{Fault, Limits, MemAt, ReadAt, StreamFault};
+use super::{encrypted, key_identities, key_recipients};
+use crate::devices::CountingReadAt;
+use age_file::{Fault, FileAt, Limits, RangeReader, ReadAt, StreamFault};
 use std::alloc::Global;
+use std::cell::Cell;
+use std::fs;
+use std::fs::File;
 use std::process::Abort;
 
-/// The file of this many bytes, each 7, for the passphrase.
-fn file_of(rt: &impl Abort, alloc: Global, len: usize) -> Vec<u8> {
-    let plain = vec![in alloc; 7u8; len].expect(rt, "memory");
-    let recipients = passphrase_recipients(rt, alloc);
-    let (_, file) = encrypted(alloc, plain.as_slice(), &recipients);
+/// Ranges of 140,000 bytes, one after another: offset and length, the result, and the number of
+/// chunks opened so far.
+const ROWS: [((u64, usize), usize, u64); 8] = [
+    ((139_990, 10), 10, 1),
+    ((0, 10), 10, 2),
+    ((5, 10), 10, 2),
+    ((65_530, 12), 12, 3),
+    ((139_999, 5), 1, 4),
+    ((140_000, 5), 0, 4),
+    ((18_446_744_073_709_551_615, 5), 0, 4),
+    ((0, 0), 0, 4),
+];
+
+/// The file of 140,000 bytes for the key of bytes 3; byte i is i modulo 251.
+fn file_of(rt: &impl Abort, alloc: Global) -> Vec<u8> {
+    let mut plain = Vec::new(alloc);
+    for at in 0..140_000usize {
+        plain.push((at % 251) as u8).expect(rt, "memory");
+    }
+    let (_, file) = encrypted(alloc, plain.as_slice(), &key_recipients(rt, alloc, 3));
     file
 }
 
-/// Three chunks, of which the middle one is damaged.
+/// Reads this many bytes from offset `at` on into a buffer of bytes 255: what is returned, and how
+/// many bytes of the plaintext are at the buffer's front; the others are still 255.
+fn expect_range<T: Abort, D: ReadAt>(
+    rt: &T,
+    alloc: Global,
+    reader: &mut RangeReader<'_, D>,
+    (at, len): (u64, usize),
+    answer: Result<usize, StreamFault>,
+    filled: usize,
+) {
+    let mut buf = vec![in alloc; 255u8; len].expect(rt, "memory");
+    assert_eq!(rt;
+        reader.read_range(at, buf.as_mut_slice()),
+        answer,
+        "{len} bytes at {at}"
+    );
+    for i in 0..buf.len() {
+        let byte = if i < filled {
+            (at.wrapping_add(i as u64) % 251) as u8
+        } else {
+            255
+        };
+        assert_eq!(rt; buf[i], byte, "byte {i} of {len} at {at}");
+    }
+}
+
+/// Each opened chunk costs one read, if the source returns everything requested, and so does the
+/// nonce, after the 156 bytes of the header. A slow source changes nothing else.
 #[test]
-fn damaged_middle_chunk_leaves_the_others_readable(rt: HostRuntime) {
+fn each_opened_chunk_costs_one_read(rt: HostRuntime) {
     let alloc = rt.alloc();
-    let mut file = file_of(&rt, alloc, 140_000);
-    assert_eq!(rt; file.len(), 140_214);
-    file.as_mut_slice()[65_718] ^= 1;
-    let identities = passphrase_identities(&rt, alloc);
-    let mut dev = MemAt::new(file.as_slice());
+    let file = file_of(&rt, alloc);
+    let identities = key_identities(&rt, alloc, 3);
+    for most in [usize::MAX, 1] {
+        let reads = Cell::new(0);
+        let mut dev = CountingReadAt::new(file.as_slice(), most, &reads, 0);
+        let mut reader = opened(alloc, &mut dev, identities.as_slice(), &Limits::default()).expect(
+            &rt, "no fault",
+        );
+        assert_eq!(rt; reader.plain_len(), 140_000);
+        for (place, n, opened) in ROWS {
+            expect_range(&rt, alloc, &mut reader, place, Ok(n), n);
+            let (at, len) = place;
+            assert_eq!(rt; reader.opened(), opened, "{len} bytes at {at}");
+            assert!(rt;
+                most == 1 || reads.get() == 157 + opened,
+                "{len} bytes at {at}"
+            );
+        }
+        drop(reader);
+        assert_eq!(rt; dev.given(), 156 + 16 + 8_944 + 65_552 + 65_552 + 8_944);
+    }
+}
+
+/// Each read after the header fails in turn: a failed read leaves the bytes of the chunks before
+/// it, and repeating the call works.
+#[test]
+fn failed_read_leaves_the_chunks_before_it(rt: HostRuntime) {
+    let alloc = rt.alloc();
+    let file = file_of(&rt, alloc);
+    let identities = key_identities(&rt, alloc, 3);
+    for failing in 157..162 {
+        let reads = Cell::new(0);
+        let mut dev = CountingReadAt::new(file.as_slice(), usize::MAX, &reads, failing);
+        match opened(alloc, &mut dev, identities.as_slice(), &Limits::default()) {
+            Ok(mut reader) => {
+                let filled = match failing {
+                    159 => 0,
+                    160 => 65_536,
+                    _ => 131_072,
+                };
+                let (whole, failed) = ((0, 140_000), Err(StreamFault::Read));
+                expect_range(&rt, alloc, &mut reader, whole, failed, filled);
+                expect_range(&rt, alloc, &mut reader, whole, Ok(140_000), 140_000);
+            }
+            Err(fault) => assert!(rt; failing < 159 && fault == Fault::Read, "read {failing}"),
+        }
+        assert_eq!(rt; dev.failures(), 1, "read {failing}");
+    }
+}
+
+/// A file that was cut after it was opened: a range that needs a missing byte is a failed read. The
+/// kept chunk can still be read.
+#[test]
+fn truncated_file_is_a_failed_read(rt: HostRuntime) {
+    let alloc = rt.alloc();
+    let file = file_of(&rt, alloc);
+    fs::write(&rt, "cut.tmp", file.as_slice()).expect(&rt, "no fault");
+    let mut dev = FileAt::new(File::open(&rt, "cut.tmp").expect(&rt, "no fault"));
+    let identities = key_identities(&rt, alloc, 3);
     let mut reader = opened(alloc, &mut dev, identities.as_slice(), &Limits::default()).expect(
         &rt, "no fault",
     );
-    assert_eq!(rt; reader.plain_len(), 140_000);
-    for (at, len, answer, filled) in [
-        (0, 65_536, Ok(65_536), 65_536),
-        (65_530, 10, Err(StreamFault::BadChunk(1)), 6),
-        (131_072, 8_928, Ok(8_928), 8_928),
-    ] {
-        let mut buf = vec![in alloc; 255u8; len].expect(&rt, "memory");
-        assert_eq!(rt;
-            reader.read_range(at, buf.as_mut_slice()),
-            answer,
-            "{len} bytes at {at}"
-        );
-        for (i, byte) in buf.iter().enumerate() {
-            assert_eq!(rt;
-                *byte,
-                if i < filled { 7 } else { 255 },
-                "byte {i} of {len} at {at}"
-            );
-        }
+    let front = file.as_slice().get(..172 + 65_552 + 100);
+    fs::write(&rt, "cut.tmp", front.unwrap_or(b"")).expect(&rt, "no fault");
+    expect_range(&rt, alloc, &mut reader, (131_072, 8_928), Ok(8_928), 8_928);
+    expect_range(&rt, alloc, &mut reader, (0, 65_536), Ok(65_536), 65_536);
+    let failed = Err(StreamFault::Read);
+    for (place, filled) in [((0, 65_537), 65_536), ((65_536, 10), 0), ((131_072, 10), 0)] {
+        expect_range(&rt, alloc, &mut reader, place, failed, filled);
     }
-    drop(reader);
-    let opened = 8_944 + 65_552 + 65_552 + 8_944;
-    assert_eq!(rt; dev.given(), 150 + 16 + opened);
-}
-
-/// What opening returns for the front of a file, under these identities and limits.
-fn refused<T: Abort>(
-    rt: &T,
-    alloc: Global,
-    file: &[u8],
-    identities: &Identities,
-    limits: &Limits,
-    fault: Fault,
-) {
-    let mut dev = MemAt::new(file);
-    match opened(alloc, &mut dev, identities.as_slice(), limits) {
-        Ok(_) => assert!(rt; false, "opened in place of: {fault}"),
-        Err(met) => assert!(rt; met == fault, "{met} in place of: {fault}"),
-    }
-}
-
-/// Files that don't open, with the first fault that applies.
-#[test]
-fn open_ranges_returns_the_first_fault(rt: HostRuntime) {
-    let alloc = rt.alloc();
-    let file = file_of(&rt, alloc, 65_537);
-    assert_eq!(rt; file.len(), 65_735);
-    let identities = passphrase_identities(&rt, alloc);
-    let limits = Limits::default();
-    for (len, fault) in [
-        (149, Fault::HeaderTruncated),
-        (165, Fault::NonceTruncated),
-        (166, Fault::ChunkShort(0)),
-        (65_718, Fault::BadChunk(0)),
-        (65_719, Fault::ChunkShort(1)),
-        (65_734, Fault::EmptyFinal(1)),
-    ] {
-        let front = &file.as_slice()[..len];
-        refused(&rt, alloc, front, &identities, &limits, fault);
-    }
-    let other = key_identities(&rt, alloc, 3);
-    refused(&rt, alloc, file.as_slice(), &other, &limits, Fault::NoMatch);
-    let mut damaged = file;
-    damaged.as_mut_slice()[65_734] ^= 1;
-    let bytes = damaged.as_slice();
-    refused(&rt, alloc, bytes, &identities, &limits, Fault::BadChunk(1));
-    if let Some(one) = Limits::new(65_536, 1) {
-        refused(&rt, alloc, bytes, &identities, &one, Fault::TooManyChunks);
-    }
+    expect_range(&rt, alloc, &mut reader, (0, 10), Ok(10), 10);
+    fs::remove_file(&rt, "cut.tmp").expect(&rt, "no fault");
 }

@@ -98,20 +98,27 @@ impl Sink for FailingSink {
     }
 }
 
-/// Holds these bytes, counts its reads, and fails at the read with this number, counted from 1. Its
-/// contents are not known to proofs.
+/// Returns at most `most` of these bytes at a time, but at least one, counts its reads, and fails
+/// at the read with this number, counted from 1. Proofs do not know its contents.
 #[derive(Drop)]
 pub struct CountingReadAt<'a> {
     bytes: MemAt<'a>,
+    most: usize,
     reads: &'a Cell<u64>,
     failing: u64,
     failures: u64,
 }
 
 impl<'a> CountingReadAt<'a> {
-    pub fn new(bytes: &'a [u8], reads: &'a Cell<u64>, failing: u64) -> CountingReadAt<'a> {
+    pub fn new(
+        bytes: &'a [u8],
+        most: usize,
+        reads: &'a Cell<u64>,
+        failing: u64,
+    ) -> CountingReadAt<'a> {
         CountingReadAt {
             bytes: MemAt::new(bytes),
+            most,
             reads,
             failing,
             failures: 0,
@@ -145,7 +152,8 @@ impl<'a> ReadAt for CountingReadAt<'a> {
             self.failures = self.failures.saturating_add(1);
             return Err(DeviceFault);
         }
-        self.bytes.read_at(at, buf)
+        let n = buf.len().min(self.most.max(1));
+        self.bytes.read_at(at, &mut buf[..n])
     }
 
     fn given(&self) -> u64 {
