@@ -169,7 +169,7 @@ def took(work, count=COUNT):
 def write(file, row):
     for _ in range(COUNT):
         file.write(row)
-    file.close()
+    getattr(file, "commit", file.close)()
 
 def read(file):
     assert sum(1 for _ in file) == COUNT

@@ -67,7 +67,7 @@ RUN_BY = {
     "docs/PACKAGES.md": (*2 * ("console test_packages.Packages.test_the_tarball",), "sh test_releases.Release.test_release"),
     "docs/PROMISES.md": ("console test_sources.Documents.test_commands",),
     "CONTRIBUTING.md": ("sh test_sources.Documents.test_commands",),
-    "bindings/python/README.md": (*2 * ("python test_library.Document.test_python",), "python test_fsspec.Writes.test_the_page", "python test_fsspec.Mounts.test_a_mount"),
+    "bindings/python/README.md": (*2 * ("python test_library.Document.test_python",), "python test_fsspec.Writes.test_the_page"),
     "bindings/rust/README.md": (*2 * ("rust,no_run test_packages.Packages.test_the_crate",), "sh test_packages.Packages.test_the_crate"),
 }
 

@@ -3,7 +3,6 @@
 from __future__ import annotations
 
 import enum
-import sys
 from typing import Any
 
 
@@ -59,60 +58,25 @@ _DETAILS = {
 }
 
 
-# The second line of `agep -v` for faults that need no look into the file.
-_HINTS = {
-    Code.BAD_LINE: "the file is damaged, or was changed by a text tool: line {place} is not valid",
-    Code.HEADER_TOO_LARGE: "the header is longer than 65536 bytes",
-    Code.MALFORMED: "the file is damaged, or another program made it: "
-    "a stanza for a Passphrase or a Key is not valid",
-    Code.BAD_MAC: "a key fits, but the header was changed after it was written",
-    Code.NONCE_TRUNCATED: "the file ends within the 16 bytes that follow its header",
-}
-
-
-def count_of(length: int) -> str:
-    return "1 byte" if length == 1 else f"{length} bytes"
-
-
-def chunk_hint(code: int, place: int, left: int | None) -> str | None:
-    """The hint for a chunk. `left` is the length of the file from its start on, if it is the last
-    chunk."""
-    first = place * 65536
-    if code not in (Code.BAD_CHUNK, Code.CHUNK_SHORT):
-        return None
-    if left is None:
-        return f"chunk {place} holds the plaintext from byte {first} to {first + 65535}"
-    if left < 16:
-        where = f"chunk {place}, which starts at byte {first} of the plaintext"
-        return f"the file ends {count_of(left)} into {where}"
-    what = "the file may be cut short, or have bytes after its end"
-    return f"chunk {place}, from byte {first} of the plaintext on, is the last: {what}"
-
-
 class AgeError(Exception):
     """A file or a call was refused.
 
     `code` is the code of the library, or 0 if another library made this error from a text, as Dask
     does. `place` is the line of a header, counted from 1, or the chunk, counted from 0. `detail` is
     the part of a malformed stanza, 1 to 5. `place` and `detail` are 0 if the error has none.
-    `filename` is the path of the file, or the name of its object, or None. `hint` is what `agep -v`
-    would add, or None; from Python 3.11 on it is also a note.
+    `filename` is the path of the file, or the name of its object, or None.
 
     This is neither a ValueError nor an OSError: handlers of these expect bad JSON or an absent
     file, and modules such as `tarfile` and `zipfile` take an OSError for a file of another format.
     """
 
     def __init__(
-        self, code: int | str, place: int = 0, detail: int = 0, filename: Any = None,
-        hint: str | None = None,
+        self, code: int | str, place: int = 0, detail: int = 0, filename: Any = None
     ) -> None:
         self.code = Code.OK if isinstance(code, str) else Code(code)
         text = self.code._text.format(place=place, part=_DETAILS.get(detail, "other"))
         super().__init__(code if isinstance(code, str) else text)
         self.place, self.detail, self.filename = place, detail, filename
-        self.hint = hint or _HINTS.get(self.code, "").format(place=place) or None
-        if sys.version_info >= (3, 11) and self.hint:
-            self.add_note(self.hint)
 
     def __str__(self) -> str:
         text = str(self.args[0])
@@ -122,14 +86,13 @@ class AgeError(Exception):
         return f"{type(self).__name__}({str(self)!r})"
 
     def __reduce__(self) -> tuple[Any, ...]:
-        words = int(self.code) or self.args[0], self.place, self.detail, self.filename, self.hint
-        return type(self), words
+        return type(self), (int(self.code) or self.args[0], self.place, self.detail, self.filename)
 
     @staticmethod
-    def of(code: int, place: int = 0, detail: int = 0, hint: str | None = None) -> AgeError:
+    def of(code: int, place: int = 0, detail: int = 0) -> AgeError:
         """Makes the exception of a code. That of refused memory is also a MemoryError."""
         kind = AgeMemoryError if code == Code.OUT_OF_MEMORY else AgeError
-        return kind(code, place, detail, None, hint)
+        return kind(code, place, detail)
 
 
 class AgeMemoryError(AgeError, MemoryError):

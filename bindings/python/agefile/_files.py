@@ -27,15 +27,6 @@ def open(file: Any, mode: _WriteBytes, *, recipients: Recipients, atomic: bool =
 @overload
 def open(file: Any, mode: _WriteText, *, recipients: Recipients, encoding: str | None = None,
          errors: str | None = None, newline: str | None = None, atomic: bool = False) -> TextWriter: ...
-# These calls are refused, and their result cannot be used.
-@overload
-def open(file: Any, mode: _ReadBytes | _ReadText = "rb", *, recipients: Recipients) -> None: ...
-@overload
-def open(file: Any, mode: _WriteBytes | _WriteText, *, identities: Identities) -> None: ...
-@overload
-def open(file: Any, mode: _ReadBytes = "rb", *, identities: Identities, encoding: str) -> None: ...
-@overload
-def open(file: Any, mode: _WriteBytes, *, recipients: Recipients, encoding: str) -> None: ...
 # The mode is known only at run time.
 @overload
 def open(file: Any, mode: str, *, identities: Identities, encoding: str | None = None,
@@ -59,13 +50,8 @@ def open(
     buffer over one, is read with its `seek` and `read`, so only one thread at a time may use it.
 
     Modes `wb` and `xb` (return a Writer), `w` and `x` (text) write a new file for `recipients`. It
-    is complete only after `commit`, `close` or the end of its `with` block, without an exception;
-    until then every reader refuses it. The safe ways:
-    - in a script: `with agefile.open(path, "wb", recipients=secret) as file:` around all writes;
-    - in a daemon: `log.commit()` at the end, even in `except KeyboardInterrupt:`, where `close`
-      leaves the log incomplete;
-    - in asyncio: the same `with`, and `await asyncio.to_thread(file.commit)` as its last line;
-    - in Dask: `to_csv(.., storage_options={"recipients": secret, "atomic": True})`.
+    is complete after `commit` or the clean end of its `with` block, and never otherwise; until then
+    every reader refuses it. `close` elsewhere raises a ValueError.
 
     A crash costs a file that was not complete, of which `salvage` saves all but the last 128 KiB.
     An existing file keeps its contents until the first byte is written or, with `atomic`, until the
@@ -76,7 +62,8 @@ def open(
     """
     kind = mode.replace("b", "").replace("t", "")
     if kind not in ("r", "w", "x") or len(mode) > 2 or {"b", "t"} <= set(mode):
-        raise ValueError(f"invalid mode: {mode!r}: an age file is read, or written anew")
+        why = ": nothing is appended, as Dask does for single_file" if "a" in mode else ""
+        raise ValueError(f"invalid mode: {mode!r}: an age file is read, or written anew{why}")
     words: dict[str, Any] = {"encoding": encoding, "errors": errors, "newline": newline}
     is_given = any(word is not None for word in words.values())
     if "b" in mode and is_given:
@@ -99,5 +86,5 @@ def open(
         # A TextIOWrapper writes the byte-order mark only to a seekable file.
         below.write("".encode(words["encoding"]))
     text = (io.TextIOWrapper if kind == "r" else TextWriter)(below, **words)
-    text.mode = mode  # type: ignore[misc]
+    text.mode = mode
     return text

@@ -9,7 +9,7 @@ import os
 import pathlib
 from typing import Any, Callable
 
-from ._errors import AgeError, Code, chunk_hint
+from ._errors import AgeError, Code
 
 TEXT_CHUNK = 65536
 SEALED_CHUNK = 65552
@@ -138,9 +138,7 @@ def for_chunks(name: str, struct: ctypes.Structure) -> Callable[..., int]:
     def call_step(*arguments: int) -> int:
         code = step(*arguments, out)
         if code:
-            left = arguments[1] if name == "open_next" and arguments[2] else None
-            hint = chunk_hint(code, report.place, left)
-            raise AgeError.of(code, report.place, report.detail, hint)
+            raise AgeError.of(code, report.place, report.detail)
         return report.len  # type: ignore[no-any-return]
 
     return call_step
@@ -180,13 +178,12 @@ def fresh_bytes(length: int) -> bytes:
     return made
 
 
-def made(name: str, *arguments: Any, hint: Callable[[int, int], str | None] | None = None) -> bytes:
-    """The output of a function, in new bytes of the length that it needs. `hint` makes the hint of
-    an error from its code and place."""
+def made(name: str, *arguments: Any) -> bytes:
+    """The output of a function, in new bytes of the length that it needs."""
     code, report = call(name, *arguments, None, 0)
     out = fresh_bytes(report.len if code == Code.TOO_SMALL else 0)
     if out:
         code, report = call(name, *arguments, out, len(out))
     if code:
-        raise AgeError.of(code, report.place, report.detail, hint and hint(code, report.place))
+        raise AgeError.of(code, report.place, report.detail)
     return out

@@ -5,16 +5,29 @@ from __future__ import annotations
 import contextlib
 import errno
 import fcntl
+import functools
 import io
-import itertools
 import operator
 import os
 import stat
 import tempfile
 from collections.abc import Iterator
-from typing import Any, BinaryIO
+from typing import TYPE_CHECKING, Any, BinaryIO
 
 from ._errors import AgeError
+
+_ACL = "system.posix_acl_access"
+
+if TYPE_CHECKING:
+
+    class BinaryBase(io.BufferedIOBase, BinaryIO):  # type: ignore[misc]
+        """As `io.BufferedReader` for type checkers."""
+
+        name: Any
+        mode: str
+
+else:
+    BinaryBase = io.BufferedIOBase
 
 
 def is_path(file: Any) -> bool:
@@ -86,18 +99,16 @@ def _refuse_source(sink: Any, source: Any) -> None:
         raise ValueError(f"{name_of(sink)!r} is the source, and cannot be the sink too")
 
 
-def _refuse_opener(sink: Any, source: Any) -> None:
-    """Refuses, before it is called, what would empty the source."""
-    if opener_of(sink) is sink:
-        raise TypeError("a function could empty the source: pass a path, or the file that it opens")
-    of, is_local = _descriptor(source), getattr(getattr(sink, "fs", None), "local_file", False)
-    if of is not None and is_local and os.path.exists(sink.path):
-        if os.path.samestat(os.stat(sink.path), os.fstat(of)):
-            raise ValueError(f"{sink.path!r} is the source, and cannot be the sink too")
+def _refuse_path(path: Any, source: Any) -> None:
+    """Does the same for a file that is not opened yet."""
+    of = _descriptor(getattr(source, "encrypted", source))
+    if of is not None and os.path.exists(path) and os.path.samestat(os.stat(path), os.fstat(of)):
+        raise ValueError(f"{path!r} is the source, and cannot be the sink too")
 
 
 class Output(io.FileIO):
-    """The file of a path, which keeps its contents until the first byte is written."""
+    """The file of a path, which keeps its contents until the first byte is written. A regular file
+    is locked meanwhile: two writers would destroy each other's chunks."""
 
     def __init__(self, path: Any, mode: str, permissions: int) -> None:
         def without_truncation(path: Any, flags: int) -> int:
@@ -105,6 +116,17 @@ class Output(io.FileIO):
 
         super().__init__(os.fspath(path), mode, opener=without_truncation)
         self._is_kept = stat.S_ISREG(os.fstat(self.fileno()).st_mode)
+        self._locked_by = 0
+        if self._is_kept:
+            try:
+                fcntl.flock(self.fileno(), fcntl.LOCK_EX | fcntl.LOCK_NB)
+                self._locked_by = os.getpid()
+            except BlockingIOError as error:
+                self.close()
+                raise BlockingIOError(error.errno, "another writer has this file open", path) from None
+            except OSError:
+                # This file system has no locks.
+                pass
 
     def empty(self) -> None:
         if self._is_kept:
@@ -115,11 +137,17 @@ class Output(io.FileIO):
         self.empty()
         return super().write(data)
 
+    def close(self) -> None:
+        if not self.closed and self._locked_by == os.getpid():
+            # A forked child would keep the lock by its descriptor, and must not end it.
+            with contextlib.suppress(OSError):
+                fcntl.flock(self.fileno(), fcntl.LOCK_UN)
+        super().close()
+
 
 class Replacement(io.FileIO):
-    """A new file beside the file of a path. `replace_old` moves it to the path; `close` removes it
-    if that was not called. It is locked while it is open: one that is not locked was left by a
-    process that was killed, and is removed by the next file for the same path."""
+    """A new file beside the file of a path, with its owner and permissions. `replace_old` moves it
+    to the path; `close` removes it if that was not called."""
 
     def __init__(self, path: Any, mode: str, permissions: int) -> None:
         self._target = os.path.realpath(os.fsdecode(path))
@@ -130,34 +158,38 @@ class Replacement(io.FileIO):
         if found is not None and not stat.S_ISREG(found.st_mode):
             raise ValueError(f"only a regular file is replaced, which {path!r} is not")
         self._folder = os.path.dirname(self._target)
+        self._beside = os.path.join(self._folder, beside(self._target))
         try:
-            self._open_beside(permissions)
+            super().__init__(self._beside, "xb", opener=functools.partial(os.open, mode=permissions))
         except OSError as error:
             error.filename = path
             raise
         self._is_beside = True
         if found is not None:
-            with contextlib.suppress(OSError):
-                os.fchown(self.fileno(), found.st_uid, found.st_gid)
-            os.fchmod(self.fileno(), stat.S_IMODE(found.st_mode))
+            self._take_permissions(found)
 
-    def _open_beside(self, permissions: int) -> None:
-        def locked(path: str, flags: int) -> int:
-            descriptor = os.open(path, flags, mode=permissions)
+    def _take_permissions(self, found: os.stat_result) -> None:
+        """Takes over owner, group, mode and ACL, or less where the system does not let them be kept:
+        nobody may read the new file who could not read the old one."""
+        new, mode = self.fileno(), found.st_mode & 0o777
+        try:
+            os.fchown(new, found.st_uid, found.st_gid)
+        except OSError:
+            try:
+                os.fchown(new, -1, found.st_gid)
+            except OSError:
+                mode &= 0o707
+        acl = None
+        try:
+            acl = os.getxattr(self._target, _ACL)
+            os.setxattr(new, _ACL, acl)
+        except OSError as error:
+            if acl is not None or error.errno not in (errno.ENODATA, errno.ENOTSUP):
+                mode &= 0o707
             with contextlib.suppress(OSError):
-                # Waits only for a process that is about to remove it.
-                fcntl.flock(descriptor, fcntl.LOCK_EX)
-            if not _has_path(descriptor, path):
-                os.close(descriptor)
-                raise FileExistsError
-            return descriptor
-
-        for number in itertools.count():
-            self._beside = os.path.join(self._folder, beside(self._target, number))
-            _remove_unlocked(self._beside)
-            with contextlib.suppress(FileExistsError):
-                super().__init__(self._beside, "xb", opener=locked)
-                return
+                # One that the folder gave would come to life with the bits of the group, its mask.
+                os.removexattr(new, _ACL)
+        os.fchmod(new, mode)
 
     def replace_old(self) -> None:
         """Syncs the file, moves it to the path, and syncs the directory."""
@@ -181,27 +213,9 @@ class Replacement(io.FileIO):
             os.unlink(self._beside)
 
 
-def beside(path: str, number: Any) -> str:
-    """The name of a new file until it takes the place of the file of this path."""
-    return f".agefile-{os.path.basename(path)[:50]}-{number}"
-
-
-def _has_path(descriptor: int, path: str) -> bool:
-    """Whether an open file still has this path."""
-    with contextlib.suppress(FileNotFoundError):
-        return os.path.samestat(os.stat(path, follow_symlinks=False), os.fstat(descriptor))
-    return False
-
-
-def _remove_unlocked(path: str) -> None:
-    """Removes a file that no process has locked."""
-    with contextlib.suppress(OSError):
-        # Over NFS only a file that may be written can be locked.
-        flags = os.O_RDWR | os.O_NOFOLLOW | os.O_NONBLOCK | os.O_CLOEXEC
-        with io.FileIO(os.open(path, flags)) as file:
-            fcntl.flock(file.fileno(), fcntl.LOCK_EX | fcntl.LOCK_NB)
-            if _has_path(file.fileno(), path):
-                os.unlink(path)
+def beside(path: str) -> str:
+    """A name for a new file until it takes the place of the file of this path."""
+    return f".agefile-{os.path.basename(path)[:50]}-{os.urandom(8).hex()}"
 
 
 def created(
@@ -244,15 +258,21 @@ def check_atomic(file: Any, atomic: bool) -> None:
 
 @contextlib.contextmanager
 def writing(
-    file: Any, source: BinaryIO, permissions: int = 0o666, atomic: bool = False
+    file: Any, source: BinaryIO, permissions: int = 0o666, atomic: bool = False, in_place: bool = True
 ) -> Iterator[Any]:
-    """Does the same for a file to write, which must not be the source unless it is replaced."""
+    """Does the same for a file to write, which must not be the source, unless it is replaced by what
+    is complete."""
     if is_open(file, "write"):
         _refuse_source(file, source)
         yield file
         return
-    if not is_path(file) and not isinstance(file, int):
-        _refuse_opener(file, source)
+    if atomic and not in_place:
+        _refuse_path(file, source)
+    elif not is_path(file) and not isinstance(file, int):
+        if opener_of(file) is file:
+            raise TypeError("a function could empty the source: pass a path, or the file that it opens")
+        if getattr(getattr(file, "fs", None), "local_file", False):
+            _refuse_path(file.path, source)
     with created(file, "wb", atomic, closefd=False, permissions=permissions) as sink:
         _refuse_source(sink, source)
         yield sink

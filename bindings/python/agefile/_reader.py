@@ -4,16 +4,17 @@ from __future__ import annotations
 
 import contextlib
 import ctypes
+import functools
 import io
 import os
 import stat
 import threading
 from collections.abc import Iterator
-from typing import Any, BinaryIO, TypeVar
+from typing import TYPE_CHECKING, Any, BinaryIO, TypeVar
 
 from . import _library as lib
-from ._errors import AgeChangedError, AgeError, Code, chunk_hint
-from ._paths import is_open, name_of, named, opened, raw_of, with_name
+from ._errors import AgeChangedError, AgeError, Code
+from ._paths import BinaryBase, is_open, name_of, named, opened, raw_of, with_name
 from ._payload import Chunk, Front
 from ._secrets import Identities
 from ._sources import flat, read_into
@@ -92,7 +93,7 @@ class _Chunks:
         length = self._read(before)
         code, report = lib.call("ranges_last", ctypes.byref(self.ranges), self._chunk.base, length)
         if code:
-            raise AgeError.of(code, report.place, 0, chunk_hint(code, report.place, length))
+            raise AgeError.of(code, report.place)
         self.length: int = report.len
         self._number, self._len = before, self.length - before * lib.TEXT_CHUNK
 
@@ -187,7 +188,7 @@ class _Plaintext(io.RawIOBase):
         self.chunks.source.close()
 
 
-class Reader(io.BufferedIOBase):
+class Reader(BinaryBase):
     """The plaintext of an age file, as a seekable binary file.
 
     Opens only the chunks that are read, so damage in other chunks is not noticed. A result shorter
@@ -197,12 +198,14 @@ class Reader(io.BufferedIOBase):
     once there are none. `raw` has its own position.
 
     A Reader opened from a path or an opener can be pickled, for example for worker processes. The
-    pickle contains the key of the payload: whoever has the pickle can read the file. Opening it
-    again needs no scrypt.
+    pickle contains the key of the payload: whoever has the pickle can read the file. It opens the
+    file again, without scrypt, at its first call, which raises what is wrong with the file.
     """
 
     mode = "rb"
     raw: _Plaintext
+    # Opens the file of a Reader from a pickle, at its first call.
+    _later: Any = None
 
     def __init__(self, chunks: _Chunks) -> None:
         self._chunks, self.name, self.raw = chunks, chunks.name, _Plaintext(chunks, 1)
@@ -211,6 +214,21 @@ class Reader(io.BufferedIOBase):
         self._errors = chunks.errors
         # Within a call no other thread may move the position.
         self._lock = threading.RLock()
+
+    if not TYPE_CHECKING:
+
+        def __getattr__(self, name: str) -> Any:
+            if name not in ("_chunks", "raw", "_below", "_buffer", "_errors", "_lock"):
+                raise AttributeError(name)
+            lock, open_again = self._later
+            with lock:
+                if name not in vars(self):
+                    if self.closed:
+                        raise ValueError("I/O operation on closed file")
+                    made = open_again()
+                    # What is closed with the other Reader is in use here.
+                    vars(self).update(vars(made), _made=made)
+            return vars(self)[name]
 
     def __repr__(self) -> str:
         return f"<agefile.Reader name={self.name!r} mode={self.mode!r}>"
@@ -311,9 +329,14 @@ class Reader(io.BufferedIOBase):
         return self._buffer.seekable()
 
     def close(self) -> None:
-        super().close()
-        self.raw.close()
-        self._buffer.close()
+        if "_lock" not in vars(self):
+            # It was not opened yet.
+            return super().close()
+        with self._lock:
+            super().close()
+            # First the one whose own lock `readline` holds.
+            self._buffer.close()
+            self.raw.close()
 
 
 def open_reader(file: Any, identities: Identities) -> Reader:
@@ -335,7 +358,7 @@ def open_reader(file: Any, identities: Identities) -> Reader:
     return reader
 
 
-def _reopen(opener: Any, ranges: bytes, position: int) -> Reader:
+def reopened(opener: Any, ranges: bytes, position: int) -> Reader:
     """Opens a plaintext again with its payload's key. Verifies the last chunk again."""
     below, found = opened(opener), lib.Ranges.from_buffer_copy(ranges)
     with named(name_of(opener)), contextlib.ExitStack() as stack:
@@ -349,4 +372,12 @@ def _reopen(opener: Any, ranges: bytes, position: int) -> Reader:
         reader = Reader(_Chunks(source, found, name_of(opener)))
         reader.seek(position)
         stack.pop_all()
+    return reader
+
+
+def _reopen(opener: Any, ranges: bytes, position: int) -> Reader:
+    """A Reader from a pickle, which cannot fail: `multiprocessing.Pool` would hang."""
+    reader = Reader.__new__(Reader)
+    reader.name = name_of(opener)
+    reader._later = threading.RLock(), functools.partial(reopened, opener, ranges, position)
     return reader

@@ -108,8 +108,8 @@ def salvage(
     If a read fails and the source can seek, the chunk is lost, and salvaging continues at the next
     one. Otherwise the error is raised; what was saved before it has been written.
 
-    `source`, `sink`, `atomic` and `progress` are those of `copy`. Uses constant memory, except for
-    the list of losses.
+    `source`, `sink`, `atomic` and `progress` are those of `copy`, but the sink is never the source:
+    a later try may save more. Uses constant memory, except for the list of losses.
     """
     check_atomic(sink, atomic)
     with reading(source) as file:
@@ -117,7 +117,7 @@ def salvage(
         below: Any = skipping if progress is None else Counted(skipping, progress, file)
         ahead, payload = open_source(below, identities)
         skipping.first = skipping.at - len(ahead)
-        with writing(sink, file, 0o600, atomic) as out:
+        with writing(sink, file, 0o600, atomic, in_place=False) as out:
             return _save(payload, cast(BinaryIO, Behind(ahead, below)), skipping.unread, out)
 
 

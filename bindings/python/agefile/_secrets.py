@@ -12,14 +12,13 @@ import threading
 from collections.abc import Iterable, Sequence
 from typing import Any, Callable, NamedTuple, Protocol, TypeVar, Union, cast, runtime_checkable
 
-_Call = TypeVar("_Call", bound=Callable[..., Any])
-_MARK = b"\xef\xbb\xbf"
-_MARKS = _MARK, b"\xff\xfe", b"\xfe\xff"
-
 from . import _library as lib
-from ._errors import AgeError, Code, count_of
+from ._errors import AgeError, Code
 from ._paths import reading
 from ._sources import read_into
+
+_Call = TypeVar("_Call", bound=Callable[..., Any])
+_MARKS = b"\xef\xbb\xbf", b"\xff\xfe", b"\xfe\xff"
 
 
 class Stanza(NamedTuple):
@@ -84,10 +83,6 @@ class _Secret:
     def __repr__(self) -> str:
         return f"{type(self).__name__}(..)"
 
-    def _wrong(self) -> str:
-        """How a hint names this secret, which did not open a file."""
-        return type(self).__name__
-
     def wrap(self, file_key: bytes) -> list[Stanza]:
         """Returns the stanza that holds this file key."""
         file_key = _file_key(file_key)
@@ -105,8 +100,7 @@ class _Secret:
         """The code 0 and the file key, or the code of a secret that does not fit."""
         code, report, file_key = self._unlock(stanzas.text)
         if code not in (Code.OK, Code.NO_MATCH, Code.WRONG_KEY):
-            hint = _work_hint(report.detail, stanzas) if code == Code.MALFORMED else None
-            raise AgeError.of(code, report.place, report.detail, hint)
+            raise AgeError.of(code, report.place, report.detail)
         return code, file_key
 
     def _text(self, file_key: bytes) -> bytes:
@@ -174,12 +168,6 @@ class Passphrase(_Secret):
         made = cls(bytes(room[:length]).removesuffix(b"\n"), work=work, max_work=max_work)
         made._untyped = made._secret.startswith(_MARKS) or made._secret.endswith((b"\r", b"\n"))
         return made
-
-    def _wrong(self) -> str:
-        found = ["begins with a byte-order mark"] if self._secret.startswith(_MARKS) else []
-        ends = (b"\r", "ends in CR"), (b"\n", "ends in LF")
-        found += [text for end, text in ends if self._secret.endswith(end)]
-        return super()._wrong() + (f" (the passphrase {' and '.join(found)})" if found else "")
 
     @_interruptible
     def _text(self, file_key: bytes) -> bytes:
@@ -290,7 +278,7 @@ def read_header(front: bytes) -> Header:
     summary = lib.Summary()
     code, report = lib.call("inspect", front, len(front), ctypes.byref(summary))
     if code:
-        raise AgeError.of(code, report.place, report.detail, _front_hint(code, front))
+        raise AgeError.of(code, report.place, report.detail)
     count, length = summary.stanzas, summary.header_len
     sizes, room = (lib.StanzaSummary * count)(), ctypes.create_string_buffer(length)
     lib.check("stanzas", front, len(front), sizes, count, room, length)
@@ -305,54 +293,13 @@ def read_header(front: bytes) -> Header:
     return Header(found, bytes(summary.mac), length)
 
 
-def _front_hint(code: int, front: bytes) -> str | None:
-    """The hint for bytes that are not a header."""
-    if code == Code.HEADER_TRUNCATED:
-        where = f"the file ends after {count_of(len(front))}, within its header"
-        return where if front else "the file is empty"
-    if code != Code.NOT_AGE:
-        return None
-    if front.startswith(b"-----BEGIN AGE"):
-        return "it begins with ASCII armor; age decrypts such a file"
-    if front.startswith(_MARK):
-        return "it begins with a byte-order mark"
-    if front.startswith(b"age-encryption.org/v1\r\n"):
-        return "its line ends are CR LF: it was changed by a text tool"
-    return "the first line of an age file is age-encryption.org/v1"
-
-
-def _stanzas_hint(stanzas: Sequence[Stanza]) -> str:
-    """The hint for a file for others: the types of its stanzas, and what opens it."""
-    types = list(dict.fromkeys(stanza.args[0] for stanza in stanzas))
-    tools = {"scrypt": "a Passphrase", "example.org/key": "a Key"}
-    tool = next((tools[kind] for kind in tools if kind in types), "another tool or identity")
-    shown = ", ".join(types[:5] + [".."] * (len(types) > 5))
-    return f"its stanzas are of type {shown}; {tool} opens it"
-
-
-def _work_hint(detail: int, stanzas: Sequence[Stanza]) -> str | None:
-    """The hint for a stanza whose work factor is too high."""
-    if detail != 4:
-        return None
-    digits = stanzas[0].args[2]
-    if len(digits) > 2:
-        return f"its work factor has {len(digits)} digits; at most 30 is accepted"
-    work = int(digits)
-    if work > 30:
-        return f"its work factor is {work}; at most 30 is accepted"
-    unit = min(work // 10, 2)
-    memory = f"{1 << work - 10 * unit} {('KiB', 'MiB', 'GiB')[unit]}"
-    return f"its work factor is {work}; max_work={work} accepts it and takes {memory} of memory"
-
-
 def unlock(header: Header, identities: Identities) -> bytes:
     """The file key that the first matching identity finds. For a caller's own identity the MAC is
     not verified yet: opening the payload does that."""
     stanzas, missed = cast(_Stanzas, header.stanzas), Code.NO_MATCH
     if len(stanzas) > 1 and any(stanza.args[0] == "scrypt" for stanza in stanzas):
         raise AgeError(Code.MIXED_PASSPHRASE)
-    secrets = as_list(identities, "unwrap")
-    for identity in secrets:
+    for identity in as_list(identities, "unwrap"):
         if isinstance(identity, _Secret):
             code, file_key = identity._find(stanzas)
             if code == Code.OK:
@@ -360,7 +307,4 @@ def unlock(header: Header, identities: Identities) -> bytes:
             missed = max(missed, Code(code))
         elif (found := identity.unwrap(stanzas)) is not None:
             return _file_key(found)
-    if missed == Code.NO_MATCH:
-        raise AgeError.of(missed, hint=_stanzas_hint(stanzas))
-    kinds = [it._wrong() if isinstance(it, _Secret) else type(it).__name__ for it in secrets]
-    raise AgeError.of(missed, hint=f"not opened by {', '.join(kinds)}")
+    raise AgeError.of(missed)

@@ -4,10 +4,9 @@ from __future__ import annotations
 
 import io
 import os
-from typing import TYPE_CHECKING, Any, BinaryIO, cast
+from typing import TYPE_CHECKING, Any, BinaryIO, cast, overload
 
 from . import _library as lib
-from ._errors import chunk_hint
 from ._paths import check_atomic, reading, writing
 from ._payload import OPENING, SEALING, Behind, Front, begin, open_payload, open_source, run, thread_count
 from ._secrets import Header, Identities, Recipients, header_of, read_header, stanzas_text, unlock
@@ -39,14 +38,9 @@ def decrypt(data: ReadableBuffer, *, identities: Identities, threads: int = 1) -
     threads = thread_count(threads)
     with flat(data, "the bytes of a file, or its path to agefile.open") as view:
         front = bytes(view[: lib.FRONT])
-        header = read_header(front)
-        file_key = unlock(header, identities)
+        file_key = unlock(read_header(front), identities)
         if threads == 1 and type(data) is bytes:
-            def hint(code: int, place: int) -> str | None:
-                left = len(view) - header.length - lib.NONCE - place * lib.SEALED_CHUNK
-                return chunk_hint(code, place, left if left <= lib.SEALED_CHUNK else None)
-
-            return lib.made("decrypt", data, len(data), file_key, hint=hint)
+            return lib.made("decrypt", data, len(data), file_key)
         first, payload = open_payload(front, file_key)
         sink = io.BytesIO()
         with view[first:] as rest:
@@ -97,6 +91,12 @@ def rewrap_copy(
                 write_all(out, room[:length])
 
 
+@overload
+def copy(source: Any, sink: Any, *, recipients: Recipients, threads: int = 1,
+         atomic: bool = False, progress: Progress | None = None) -> int: ...
+@overload
+def copy(source: Any, sink: Any, *, identities: Identities, threads: int = 1,
+         atomic: bool = False, progress: Progress | None = None) -> int: ...
 def copy(
     source: Any, sink: Any, *,
     recipients: Recipients | None = None, identities: Identities | None = None,

@@ -1,50 +1,39 @@
-"""A new age file, which is written chunk by chunk and complete only after it was closed."""
+"""A new age file, which is written chunk by chunk and complete only after it was committed."""
 
 from __future__ import annotations
 
-import atexit
-import contextlib
-import functools
 import io
 import os
 import sys
 import threading
-import types
 import warnings
 import weakref
-from typing import Any, Callable
+from typing import Any
 
 from . import _library as lib
-from ._paths import created, is_open, is_path, name_of, opener_of
+from ._paths import BinaryBase, created, is_open, is_path, name_of, opener_of
 from ._payload import Chunk, begin
 from ._secrets import Recipients
 from ._sources import flat, write_all
 
 
 class _Sealer(io.RawIOBase):
-    """The age file under a Writer, which collects and seals chunks. It is whole only after
-    `truncate`, which the Writer's `close` calls."""
+    """The age file under a Writer, which collects and seals chunks. Closed, its text has ended;
+    `finish` then completes the file, or leaves it without its last chunk."""
 
     def __init__(self, file: Any, mode: str, recipients: Recipients, atomic: bool) -> None:
         self.name, self.mode, self._owned = name_of(file), mode, not is_open(file, "write")
-        self._lock, self._process = threading.RLock(), os.getpid()
-        self._chunk, self._filled, self._total, self.failed = Chunk(), 0, 0, False
+        self._lock, self._process, self.is_finished = threading.RLock(), os.getpid(), False
+        self._chunk, self._filled, self._total, self._failed = Chunk(), 0, 0, False
         self._front, payload = begin(recipients)
         self._seal_next = lib.for_chunks("seal_next", payload)
         is_later = self._owned and not (is_path(file) or isinstance(file, int))
         sink: Any = None if is_later else created(file, mode, atomic) if self._owned else file
         self._opener, self._sink = opener_of(file) if is_later else None, sink
-        # The exception that is being handled, and its traceback, which is another if it is raised
-        # again from elsewhere.
-        self.handled: tuple[Any, Any] = sys.exc_info()[1:]
-        self._place, self._is_told = caller(), False
-
-    def __repr__(self) -> str:
-        return f"<agefile.Writer name={self.name!r} mode={self.mode!r}>"
 
     def _put(self, data: Any) -> None:
         """Writes to the sink. After a failure or an interrupt nothing more is written."""
-        self.failed = True
+        self._failed = True
         if self._opener is not None:
             self._sink, self._opener = self._opener(), None
         write_all(self._sink, b"".join((self._front, data)) if self._front else data)
@@ -53,11 +42,11 @@ class _Sealer(io.RawIOBase):
         if self._owned and hasattr(sink, "flush"):
             # The finalizer of a forked child would write what is left in a buffer.
             sink.flush()
-        self.failed = False
+        self._failed = False
 
     def _seal(self, is_last: bool) -> None:
         """Seals the text and writes it. An interrupt meanwhile counts as a failure."""
-        self.failed = True
+        self._failed = True
         length = self._seal_next(self._chunk.base, self._filled + lib.TAG, is_last)
         self._total, self._filled = self._total + self._filled, 0
         self._put(self._chunk.view[:length])
@@ -69,7 +58,7 @@ class _Sealer(io.RawIOBase):
                 self._take(rest)
             except BaseException:
                 # An interrupt too: after it a text file would drop the text not yet passed on.
-                self.failed = True
+                self._failed = True
                 raise
             return len(rest)
 
@@ -84,16 +73,21 @@ class _Sealer(io.RawIOBase):
             self._filled += count
             at += count
 
+    def spoil(self) -> None:
+        """Refuses all further writes and the commit, because text was lost."""
+        with self._lock:
+            self._failed |= not self.closed
+
     def is_parent(self) -> bool:
         return self._process == os.getpid()
 
-    def _check_ours(self) -> None:
-        if not self.writable() or not self.is_parent():
-            _refuse()
+    def check_ours(self) -> None:
+        if not self.is_parent():
+            raise OSError("only the process that opened this file writes it")
 
     def _check_usable(self) -> None:
-        self._check_ours()
-        if self.failed:
+        self.check_ours()
+        if self._failed:
             raise OSError("an earlier write failed, so this file stays without its end")
 
     def tell(self) -> int:
@@ -105,130 +99,80 @@ class _Sealer(io.RawIOBase):
             raise ValueError("I/O operation on closed file")
         return True
 
-    def expect_commit(self) -> None:
-        """Makes `close` complete the file, whatever exception is being handled."""
-        self._check_ours()
-        self.handled = sys.exc_info()[1:]
-
-    def new_exception(self) -> BaseException | None:
-        """The exception that is being handled, unless it was when the file was opened."""
-        found = sys.exc_info()[1:]
-        return None if found == self.handled else found[0]
-
-    def flush(self) -> None:
+    def send(self) -> None:
+        """Writes the header, if no chunk has done that, and flushes the sink."""
         with self._lock:
-            if not self.writable() or not self.is_parent():
-                return
-            if self._front and not self.failed and self.new_exception() is None:
+            if self._front and not self._failed:
                 self._put(b"")
             sink: Any = self._sink
             if hasattr(sink, "flush") and not getattr(sink, "closed", False):
                 sink.flush()
 
-    def truncate(self, size: int | None = None, /) -> int:
-        """Seals the last chunk, which completes the file, and closes it."""
+    def truncate(self, _: Any = None, /) -> int:
+        """Ends the text: this is what a BufferedWriter calls under its own lock, after it has passed
+        on all its bytes, so that the write of another thread is in the file or is refused."""
         with self._lock:
-            if self.closed:
-                # By another thread, which had the lock of the buffer before.
-                return self._total
-            try:
-                self._check_usable()
-                self._seal(True)
-                if hasattr(self._sink, "replace_old"):
-                    self._sink.replace_old()
-            finally:
-                self.abort()
+            self.writable()
+            self._check_usable()
+            self.close()
         return self._total
 
-    def abort(self) -> None:
+    def finish(self, is_whole: bool) -> None:
+        """Seals the last chunk, if the file is whole, and closes the sink. A forked child leaves the
+        sink alone: it is that of its parent, of whom a thread may hold the lock."""
+        self.close()
+        if not self.is_parent():
+            return
         with self._lock:
-            if self.closed:
+            if self.is_finished:
+                if is_whole:
+                    raise ValueError("I/O operation on closed file")
                 return
-            # A flush after this must not write the header.
-            self.failed, self.handled = True, (None, None)
             try:
-                super().close()
+                if is_whole:
+                    self._check_usable()
+                    self._seal(True)
+                    if hasattr(self._sink, "replace_old"):
+                        self._sink.replace_old()
             finally:
-                # In a forked child a buffered file would write the contents of its parent's buffer.
-                is_safe = self.is_parent() or isinstance(self._sink, io.RawIOBase)
-                if self._owned and self._sink is not None and is_safe:
+                self.is_finished = self._failed = True
+                if self._owned and self._sink is not None:
                     self._sink.close()
 
-    def warn(self, why: str) -> None:
-        """Warns once, at the line that opened the file."""
-        if self.is_parent() and not self._is_told:
-            self._is_told = True
-            is_old = self._front or hasattr(self._sink, "replace_old")
-            text = f"{self!r} {'was not written' if is_old else 'is not whole'}: {why}"
-            warn(text, self._place)
 
-    def lose(self, why: str) -> None:
-        """Aborts, and warns, unless the file is closed."""
-        if not self.closed:
-            try:
-                self.abort()
-            finally:
-                self.warn(why)
-
-    def close(self) -> None:
-        # A finalizer cannot tell whether all data were written: if an exception had freed this
-        # object, it is no longer being handled.
-        if hasattr(self, "_place"):
-            self.lose("it was not closed")
-
-    def _dealloc_warn(self, _: Any) -> None:
-        """Called by the finalizer of the Writer's buffer before it flushes."""
-        self.close()
-
-
-class _NotingClose:
-    """A `close` that notes the exception that is being handled where it is named.
-
-    `asyncio.to_thread(file.close)` and `pool.submit(file.close)` name it in the thread that failed,
-    and call it in one that handles no exception, where it would complete half a file. Named while
-    no exception is handled, it is a method like any other."""
-
-    def __init__(self, close: Callable[..., None]) -> None:
-        self._close = close
-
-    def __get__(self, file: Any, _: Any = None) -> Callable[..., None]:
-        if file is None:
-            return self._close
-        error = getattr(file, "buffer", file).raw.new_exception()
-        if error is None:
-            return types.MethodType(self._close, file)
-        return functools.partial(self._close, file, error)
-
-
-class Writer(io.BufferedIOBase):
+class Writer(BinaryBase):
     """The plaintext of a new age file, as a binary file to write.
 
-    Each full chunk is sealed and written, the last chunk when the file is closed. The header is
-    written before the first chunk, or by `flush`. Until then an existing file keeps its contents.
+    **The file is complete after `commit` or the clean end of its `with` block, and never
+    otherwise.** Until then every reader refuses it, or it keeps its old contents: the header is
+    written before the first full chunk, or by `flush`.
 
-    If a file was not closed, if a write to it failed or its `with` body raised, it has no last
-    chunk, so every reader refuses it. The same holds if `close` is called while an exception is
-    handled, as by `contextlib.closing`, a `TextIOWrapper` over this object, or `fsspec.open`: see
-    `close` and `commit`. If no exception reports the loss, a RuntimeWarning does. A forked child
-    cannot write: it would seal other bytes under the nonces of its parent.
+    `close` in a `with` block ends writing, and the block decides; so wrappers that close the file
+    below, such as a TextIOWrapper, belong inside. Elsewhere `close` gives the file up, and says so.
+    A forked child cannot write: it would seal other bytes under the nonces of its parent.
     """
 
-    raw: _Sealer
+    # Whether `close` only ends writing, and what follows decides: the end of a `with` block.
+    _is_decided_later = False
+    # The TextWriter above, if there is one: what it has not passed on belongs to the file.
+    _text: Any = staticmethod(lambda: None)
+    # Set by agefile.fsspec: its users call only `close`, so it commits, unless an exception is
+    # being handled in this thread.
+    _commits_at_close = False
 
     def __init__(self, file: Any, mode: str, recipients: Recipients, atomic: bool) -> None:
-        self.raw = _Sealer(file, mode, recipients, atomic)
-        self.name, self.mode = self.raw.name, self.raw.mode
+        self._sealer = _Sealer(file, mode, recipients, atomic)
+        self.name, self.mode, self._thread = self._sealer.name, mode, threading.get_ident()
         # This has a BufferedWriter and is none, because numpy asks such for a descriptor.
-        self._buffer = io.BufferedWriter(self.raw, lib.TEXT_CHUNK)
+        self._buffer = io.BufferedWriter(self._sealer, lib.TEXT_CHUNK)
         self._write = self._buffer.write
-        _writers.add(self)
 
     def __repr__(self) -> str:
-        return repr(self.raw)
+        return f"<agefile.Writer name={self.name!r} mode={self.mode!r}>"
 
     @property
     def closed(self) -> bool:
-        return self.raw.closed
+        return self._sealer.closed
 
     def write(self, data: Any, /) -> int:
         # Nothing may be added here: programs write few bytes at a time.
@@ -242,58 +186,91 @@ class Writer(io.BufferedIOBase):
 
     def flush(self) -> None:
         """Writes the header, and flushes the sealed chunks. The bytes of a chunk that is not full
-        stay in the buffer. Writes nothing while an exception is handled that makes `close` an
-        `abort`, so an existing file keeps its contents."""
-        if self.raw.writable() and self.raw.is_parent() and self.raw.new_exception() is None:
+        stay in the buffer."""
+        # fsspec flushes what an exception has broken, too: the old file would be lost.
+        is_broken = self._commits_at_close and self._gives_up()
+        if self._sealer.writable() and self._sealer.is_parent() and not is_broken:
             self._buffer.flush()
-        self.raw.flush()
+            self._sealer.send()
 
-    @_NotingClose  # type: ignore[override]
-    def close(self, _error: BaseException | None = None) -> None:
-        """Seals the last chunk, which completes the file. Raises after a failed write. If an
-        exception is handled, where `close` is called or where it is named, that was not being
-        handled when the file was opened, this is `abort` with a RuntimeWarning: the exception may
-        have kept data from being written."""
-        error = _error or self.raw.new_exception()
-        if error is not None:
-            why = f"it was closed while {type(error).__name__} was handled"
-            return self.raw.lose(f"{why} (if its data are complete, call commit instead)")
+    def _end(self) -> None:
+        """Ends writing, unless `close` or another thread has."""
         try:
-            if not self.closed and self.raw.is_parent():
-                # Under the lock of the buffer, so that no other thread's write is lost.
-                self._buffer.truncate()
-        finally:
-            self.raw.abort()
+            if (text := self._text()) is not None:
+                text.flush()
+            self._buffer.truncate()
+        except BaseException as error:
+            if not (self.closed and isinstance(error, ValueError)):
+                self._sealer.spoil()
+                self._sealer.close()
+                raise
 
     def commit(self) -> None:
-        """Does what `close` does, whatever exception is being handled: for a file that is complete
-        in an `except` block, or as the last call in a `with` block, in another thread."""
-        self.raw.expect_commit()
-        self.close()
+        """Seals the last chunk, which completes the file, and closes it."""
+        self._sealer.check_ours()
+        try:
+            self._end()
+        except BaseException:
+            self.abort()
+            raise
+        self._sealer.finish(True)
 
     def abort(self) -> None:
         """Closes the file without its last chunk, so that every reader refuses it."""
-        self.raw.abort()
+        self._sealer.finish(False)
+
+    def _gives_up(self) -> bool:
+        """Whether `close` would give the file up."""
+        is_complete = self._commits_at_close and sys.exc_info()[0] is None
+        return not (self._is_decided_later or is_complete)
+
+    def close(self) -> None:
+        """Ends writing in a `with` block, whose end decides. Elsewhere this is `abort` and raises a
+        ValueError, or, while another exception is being handled, warns."""
+        if self.closed or not self._sealer.is_parent():
+            self._sealer.close()
+        elif not self._gives_up():
+            self._end() if self._is_decided_later else self.commit()
+        else:
+            self.abort()
+            is_handling = sys.exc_info()[0] is not None
+            if is_handling or threading.get_ident() != self._thread:
+                # In a pool nobody may ask for the error.
+                self._warn()
+            if not is_handling:
+                raise ValueError(self._loss())
+
+    def _loss(self) -> str:
+        return f"{self!r} is not whole: only commit or the clean end of a with block completes it"
+
+    def _warn(self) -> None:
+        warnings.warn(self._loss(), RuntimeWarning, 3, self)
+
+    def __enter__(self) -> Writer:
+        self._sealer.writable()
+        self._is_decided_later = True
+        return self
 
     def __exit__(self, kind: type[BaseException] | None, *rest: Any) -> None:
+        if self._sealer.is_finished:
+            return
         if kind is None:
-            # The body has succeeded, whatever exception is handled around it.
-            self.raw.handled = sys.exc_info()[1:]
-            self.close()
-        elif issubclass(kind, (Exception, KeyboardInterrupt)):
-            self.abort()
-        else:
+            return self.commit()
+        self.abort()
+        if self._sealer.is_parent() and not issubclass(kind, (Exception, KeyboardInterrupt)):
             # Nothing else would report SystemExit, GeneratorExit and cancelled tasks.
-            self.raw.lose(kind.__name__)
-
-    def _dealloc_warn(self, _: Any) -> None:
-        """Called if a TextIOWrapper or BufferedWriter over this object was not closed, before its
-        finalizer calls `close`."""
-        self.raw.close()
+            self._warn()
 
     def __del__(self) -> None:
-        if hasattr(self, "raw"):
-            self.raw.close()
+        is_ours = hasattr(self, "_buffer") and self._sealer.is_parent()
+        if is_ours and not self._sealer.is_finished:
+            self.abort()
+            raise ValueError(self._loss())
+
+    def _dealloc_warn(self, _: Any) -> None:
+        """What the finalizers of wrappers call before `close`, whose error they drop: so the file is
+        left to its own finalizer, whose error is printed."""
+        self._is_decided_later = True
 
 
 _write_text = io.TextIOWrapper.write
@@ -302,7 +279,16 @@ _write_text = io.TextIOWrapper.write
 class TextWriter(io.TextIOWrapper):
     """A text file over a Writer, complete under the same conditions."""
 
-    buffer: Writer  # type: ignore[assignment]
+    buffer: Writer
+
+    def __init__(self, buffer: Writer, **words: Any) -> None:
+        super().__init__(buffer, **words)
+        buffer._text = weakref.ref(self)
+
+    def detach(self) -> Writer:
+        below: Any = super().detach()
+        below._text = lambda: None
+        return below  # type: ignore[no-any-return]
 
     def write(self, text: str, /) -> int:
         # Programs write few characters at a time, and `super()` takes as long as the rest.
@@ -312,83 +298,33 @@ class TextWriter(io.TextIOWrapper):
             raise
         except BaseException:
             # A TextIOWrapper drops text of earlier calls with that of this one.
-            self.buffer.raw.failed = True
+            self.buffer._sealer.spoil()
             raise
 
     def flush(self) -> None:
-        # A TextIOWrapper drops text that it could not write, and its close succeeds.
         try:
             super().flush()
         except BaseException:
-            self.buffer.abort()
+            self.buffer._sealer.spoil()
             raise
-
-    @_NotingClose  # type: ignore[override]
-    def close(self, _error: BaseException | None = None) -> None:
-        """Does what `Writer.close` does."""
-        if _error is not None:
-            Writer.close(self.buffer, _error)
-        super().close()
 
     def commit(self) -> None:
         """Does what `Writer.commit` does."""
-        self.buffer.raw.expect_commit()
-        self.close()
+        self.buffer.commit()
 
-    def __exit__(self, kind: type[BaseException] | None, *rest: Any) -> None:
-        if kind is None:
-            self.buffer.raw.handled = sys.exc_info()[1:]
-            return self.close()
-        self.buffer.__exit__(kind, *rest)
+    def close(self) -> None:
+        """Does what `Writer.close` does."""
+        self.buffer.close()
 
     def __del__(self) -> None:
-        with contextlib.suppress(AttributeError, ValueError):
+        # It is None after `detach`.
+        if self.buffer is not None:
             self.buffer.__del__()
 
+    def __enter__(self) -> TextWriter:
+        self.buffer.__enter__()
+        return self
 
-def warn(text: str, place: tuple[str, int]) -> None:
-    """Warns, whatever filters of warnings are set: it is the only report of a loss."""
-    warnings.showwarning(RuntimeWarning(text), RuntimeWarning, *place)
-
-
-def caller() -> tuple[str, int]:
-    """The file and the line that called this package, or fsspec, which called it."""
-    frame: Any = sys._getframe(1)
-    while frame.f_back and str(frame.f_globals.get("__name__")).startswith(("agefile.", "fsspec.")):
-        frame = frame.f_back
-    return frame.f_code.co_filename, frame.f_lineno
-
-
-_writers: weakref.WeakSet[Writer] = weakref.WeakSet()
-
-
-def _refuse(*_: Any) -> Any:
-    raise OSError("only the process that opened this file writes it")
-
-
-def _refuse_in_child() -> None:
-    for writer in list(_writers):
-        # The buffer would take a few bytes, and lose them.
-        writer._write = _refuse
-
-
-os.register_at_fork(after_in_child=_refuse_in_child)
-
-
-class _AtEnd:
-    """Reports what finalizers may not report any more, such as the writers of daemon threads."""
-
-    def __del__(self) -> None:
-        for writer in list(_writers):
-            if not writer.closed:
-                # A lock may be held by a thread that never runs again, so nothing is aborted.
-                writer.raw.warn("it was not closed before the program ended")
-
-
-@atexit.register
-def _report_at_end() -> None:
-    # Modules are freed after all functions of `atexit`, which may still close files.
-    if _writers:
-        last = types.ModuleType(__name__ + "_end")
-        last.__dict__["end"] = _AtEnd()
-        sys.modules[last.__name__] = last
+    def __exit__(self, kind: type[BaseException] | None, *rest: Any) -> None:
+        if self.buffer is not None:
+            self.buffer.__exit__(kind, *rest)

@@ -6,42 +6,37 @@
     with fsspec.open("age::s3://bucket/a.age", age={"identities": secret}) as file:
         data = file.read()
 
-Names are those of the file system below. Each worker reads and opens only the chunks of its own
-blocks. Damage in one block fails only the task of that block; the error has the file and the number
-of the chunk. Damage in the header or in the last chunk fails every task. Do not replace a file
-between the making of a table and its computation: Dask then reads as many bytes as the old file
-had, of plain files too.
+Names are those of the file system below. Each worker opens only the chunks of its own blocks, so
+damage in one block fails only its task, and damage in the header or in the last chunk every task.
+Do not replace a file between the making of a table and its computation: Dask then reads as many
+bytes as the old file had, of plain files too.
 
-The file system keeps the key of each file's payload as long as the file is unchanged, so scrypt
-runs once for each file. The pickle of the file system for a worker contains these keys: whoever has
-the pickle can read these files.
+The keys of the last payloads are kept, so scrypt runs once for each file. The pickle of the file
+system for a worker contains them: whoever has the pickle can read these files.
 """
 
 from __future__ import annotations
 
+import collections
 import contextlib
-import errno
 import functools
-import io
 import os
 import shutil
 import sys
+from collections.abc import Iterator
 from typing import Any
 
 import fsspec  # type: ignore[import]
-from fsspec.implementations import cached  # type: ignore[import]
 from fsspec.implementations.local import LocalFileSystem  # type: ignore[import]
-from fsspec.mapping import FSMap  # type: ignore[import]
 from fsspec.spec import AbstractFileSystem  # type: ignore[import]
 from fsspec.utils import tokenize  # type: ignore[import]
 
-from ._errors import AgeError
+from ._errors import AgeError, Code
 from ._files import open as open_file
 from ._paths import beside, created, is_path
-from ._reader import Reader, _reopen, open_reader
-from ._secrets import Identities, Recipients, as_list
+from ._reader import Reader, open_reader, reopened
+from ._secrets import Identities, Key, Recipients, as_list
 from ._sources import write_all
-from ._writer import caller, warn
 
 # Words of fsspec for each file system, and for each open file.
 _OF_SYSTEMS = "asynchronous batch_size listings_expiry_time loop max_paths skip_instance_cache"
@@ -56,6 +51,21 @@ def _refuse_unknown(options: dict[str, Any], known: str) -> None:
 
 # How a file that does not exist is reported.
 _ABSENT = FileNotFoundError, NotADirectoryError, IsADirectoryError
+# For how many files keys are kept, which the pickle of a file system has with it.
+_MOST_KEYS = 512
+
+
+@contextlib.contextmanager
+def _reading(path: str) -> Iterator[None]:
+    """Makes the error of a failed read an AgeError. Users such as zarr take an OSError for an absent
+    file, and so for zeros, which they then write."""
+    try:
+        yield
+    except OSError as error:
+        if isinstance(error, _ABSENT):
+            raise
+        raise AgeError(Code.READ, filename=path) from error
+
 
 def _below(name: str) -> Any:
     def method(self: AgeFileSystem, path: Any, *arguments: Any, **options: Any) -> Any:
@@ -92,8 +102,10 @@ class AgeFileSystem(AbstractFileSystem):  # type: ignore[misc]
         groups = self._identities or [], self._recipients or []
         names = [[getattr(it, "_token", os.urandom(16).hex()) for it in group] for group in groups]
         self._token = tokenize(self.fs._fs_token, fo, atomic, names)
-        # For each file opened: its state, and its payload's key with the offsets of its chunks.
-        self._keys: dict[str, tuple[str, bytes]] = {}
+        # For each file opened: its state, and its payload's key with the offsets of its chunks. With
+        # a Key no time would be saved.
+        self._keys: collections.OrderedDict[str, tuple[str, bytes]] = collections.OrderedDict()
+        self._keeps = any(type(each) is not Key for each in self._identities or [])
         # The path of a chain is in its target.
         self._strip_protocol = self._name_below
 
@@ -131,33 +143,38 @@ class AgeFileSystem(AbstractFileSystem):  # type: ignore[misc]
         names = {"encoding", "errors", "newline", "recipients"} & set(options)
         words: Any = {"recipients": self._recipients, **{name: options[name] for name in names}}
         is_atomic = options.get("atomic", self._atomic)
-        if is_atomic and isinstance(self.fs, LocalFileSystem):
+        if isinstance(self.fs, LocalFileSystem):
             if self.fs.auto_mkdir:
                 self.fs.makedirs(self.fs._parent(path), exist_ok=True)
-            return open_file(path, mode, atomic=True, **words)
-        if "x" in mode and self.fs.exists(path):
+            file = open_file(path, mode, atomic=is_atomic, **words)
+        elif "x" in mode and self.fs.exists(path):
             raise FileExistsError(path)
-        return open_file(_Opener(self.fs, path, "atomic" if is_atomic else "wb"), mode, **words)
+        else:
+            file = open_file(_Opener(self.fs, path, "atomic" if is_atomic else "wb"), mode, **words)
+        getattr(file, "buffer", file)._commits_at_close = True
+        return file
 
     def _reader(self, path: str) -> Reader:
-        opener, state = _Opener(self.fs, path, "rb"), str(self.fs.ukey(path))
-        reader = self._reopened(opener, state)
-        if reader is None:
-            if self._identities is None:
-                raise TypeError("to read a file takes identities")
-            reader = open_reader(opener, self._identities)
-            self._keys[path] = state, reader.again()[1]
+        with _reading(path):
+            opener, state = _Opener(self.fs, path, "rb"), str(self.fs.ukey(path))
+            before, key = self._keys.get(path, ("", b""))
+            reader = None
+            with contextlib.suppress(AgeError):
+                # An unchanged file is opened again with the key kept of it.
+                reader = reopened(opener, key, 0) if before == state else None
+            if reader is None:
+                if self._identities is None:
+                    raise TypeError("to read a file takes identities")
+                reader = open_reader(opener, self._identities)
+                if self._keeps:
+                    self._keys[path] = state, reader.again()[1]
+                if len(self._keys) > _MOST_KEYS:
+                    self._keys.popitem(last=False)
         # fsspec's own files have this attribute.
         setattr(reader, "size", reader.length)
+        source: Any = reader._chunks.source
+        source.read_at = _reading(path)(source.read_at)
         return reader
-
-    def _reopened(self, opener: _Opener, state: str) -> Reader | None:
-        """An unchanged file, opened again with the key kept of it."""
-        before, key = self._keys.get(opener.path, ("", b""))
-        try:
-            return _reopen(opener, key, 0) if before == state else None
-        except AgeError:
-            return None
 
     def info(self, path: str, **_: Any) -> dict[str, Any]:
         """Returns what the file system below returns, with the size of the plaintext."""
@@ -201,11 +218,11 @@ class AgeFileSystem(AbstractFileSystem):  # type: ignore[misc]
         found = super().cat(path, recursive, how, **options)
         if not isinstance(found, dict):
             return found
-        errors = {name: value for name, value in found.items() if isinstance(value, Exception)}
-        for error in errors.values():
-            if not isinstance(error, _ABSENT):
-                raise error
-        return {name: found[name] for name in found if on_error != "omit" or name not in errors}
+        for each in found.values():
+            if isinstance(each, Exception) and not isinstance(each, _ABSENT):
+                raise each
+        is_left_out: Any = Exception if on_error == "omit" else ()
+        return {name: each for name, each in found.items() if not isinstance(each, is_left_out)}
 
     def cat_ranges(
         self, paths: Any, starts: Any, ends: Any, max_gap: Any = None, on_error: str = "raise", **options: Any
@@ -228,11 +245,9 @@ class AgeFileSystem(AbstractFileSystem):  # type: ignore[misc]
 
     def put_file(self, lpath: str, rpath: str, *arguments: Any, **options: Any) -> None:
         self._refuse_same(rpath, lpath)
-        error = sys.exc_info()[1]
-        if error is not None and _is_commit_of_cache():
-            # fsspec's caches write to a temporary file, and put it here even after an exception.
-            why = f"{type(error).__name__} was handled when a cache of fsspec closed it"
-            return warn(f"{rpath!r} was not written: {why} (open it without the cache)", caller())
+        if sys.exc_info()[0] is not None:
+            # fsspec's caches put half a file here after an exception.
+            raise RuntimeError(f"{rpath!r} was not written: an exception is being handled")
         super().put_file(lpath, rpath, *arguments, **options)
 
     def _refuse_same(self, path: str, local: Any) -> None:
@@ -275,21 +290,15 @@ class _Opener:
         return self._fs.open(self.path, self._mode, **words)
 
 
-class _Beside(io.RawIOBase):
+class _Beside:
     """A new file beside another. `replace_old` moves it to the other's name; closed before that, it
     is removed."""
 
     def __init__(self, fs: AbstractFileSystem, path: str) -> None:
-        self._fs, self._path, self._process = fs, path, os.getpid()
-        self._name = path[: path.rfind("/") + 1] + beside(path, os.urandom(8).hex())
+        self._fs, self._path = fs, path
+        self._name = path[: path.rfind("/") + 1] + beside(path)
         self._file = fs.open(self._name, "wb")
-
-    def writable(self) -> bool:
-        return True
-
-    def write(self, data: Any, /) -> int:
-        write_all(self._file, data)
-        return len(data)
+        self.write, self.flush = self._file.write, self._file.flush
 
     def replace_old(self) -> None:
         self._file.close()
@@ -297,50 +306,12 @@ class _Beside(io.RawIOBase):
         self._name = ""
 
     def close(self) -> None:
-        is_ours = not self.closed and self._process == os.getpid()
-        super().close()
-        if is_ours and self._name:
-            try:
-                self._file.close()
-            finally:
+        try:
+            self._file.close()
+        finally:
+            if self._name:
                 with contextlib.suppress(FileNotFoundError):
                     self._fs.rm_file(self._name)
 
 
-def _is_commit_of_cache() -> bool:
-    frame: Any = sys._getframe(2)
-    while frame is not None and frame.f_globals.get("__name__") != cached.__name__:
-        frame = frame.f_back
-    return frame is not None and frame.f_code.co_name == "commit"
-
-
-def mount(system: AgeFileSystem, folder: str, where: str) -> None:
-    """Mounts the plaintexts of a folder, to be read only, until `where` is unmounted. Needs fusepy."""
-    import fuse  # type: ignore[import]
-    from fsspec.fuse import FUSEr  # type: ignore[import]
-
-    class Operations(FUSEr):  # type: ignore[misc]
-        def __call__(self, name: str, *arguments: Any) -> Any:
-            try:
-                return super().__call__(name, *arguments)
-            except AgeError as error:
-                raise OSError(errno.EIO, str(error)) from error
-
-    fuse.FUSE(Operations(system, folder), where, foreground=True, nothreads=True, ro=True)
-
-
-_getitems = FSMap.getitems
-
-
-def _getitems_or_error(self: Any, keys: Any, on_error: str = "raise") -> dict[Any, Any]:
-    """Raises an AgeError from below another file system, such as `zip::age://a.zip.age`, whose
-    `cat` leaves it out: zarr takes what is left out for zeros."""
-    found = _getitems(self, keys, "return" if on_error == "omit" else on_error)
-    for error in found.values():
-        if isinstance(error, AgeError):
-            raise error
-    return {key: value for key, value in found.items() if on_error != "omit" or not isinstance(value, Exception)}
-
-
-FSMap.getitems = _getitems_or_error
 fsspec.register_implementation("age", AgeFileSystem, clobber=True)

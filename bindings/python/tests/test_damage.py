@@ -280,7 +280,7 @@ class Below(InFolder):
                 more.write(bytes(100000))
             self.assertEqual(file.read(), plain)
             pickled = pickle.dumps(file)
-        self.assertIn("has grown", str(error_of(lambda: pickle.loads(pickled), agefile.AgeChangedError)))
+        self.assertIn("has grown", str(error_of(pickle.loads(pickled).read, agefile.AgeChangedError)))
         self.assertEqual(self.refused("a.age"), Code.BAD_CHUNK)
 
     def test_short_preadv(self):

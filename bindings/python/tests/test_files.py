@@ -6,6 +6,7 @@ import functools
 import gc
 import gzip
 import io
+import multiprocessing
 import os
 import pathlib
 import pickle
@@ -23,7 +24,7 @@ from unittest import mock
 
 import agefile
 from agefile import AgeError, Code, Key, Passphrase, _library
-from support import KEY, InFolder, damaged, error_of, in_threads, message, text
+from support import KEY, InFolder, damaged, error_of, in_threads, in_time, message, text
 
 
 class PathThatWrites:
@@ -113,13 +114,6 @@ class Reading(InFolder):
             error = error_of(file.read, agefile.AgeChangedError)
         self.assertEqual(str(error), f"the file was cut while it was open: {message('ChunkShort', 3)}: 'a.age'")
 
-    def test_cut_before(self):
-        file = self.got(self.made(text(200000)))
-        length = agefile.inspect(file).length
-        for cut, code in ((length, Code.NONCE_TRUNCATED), (length + 16, Code.CHUNK_SHORT), (length + 16 + 65552, Code.BAD_CHUNK)):
-            self.assertEqual(self.refused(self.put(file[:cut], "cut.age")), code)
-            self.assertEqual(error_of(lambda: agefile.open("cut.age", identities=KEY)).code, code)
-
     def test_words_that_are_refused(self):
         name = self.made(b"text")
         for mode in ("", "a", "rw", "r+", "rbt", "bb", "rr"):
@@ -141,7 +135,7 @@ class Reading(InFolder):
         plain = text(300000)
         secret = Passphrase("x", work=2)
         self.written(plain, "p.age", recipients=secret)
-        for opener in ("p.age", functools.partial(open, "p.age", "rb")):
+        for opener in (functools.partial(open, "p.age", "rb"), "p.age"):
             with agefile.open(opener, identities=secret) as file:
                 file.seek(70000)
                 pickled = pickle.dumps(file)
@@ -150,8 +144,37 @@ class Reading(InFolder):
                 self.assertEqual(again.read(), plain[70000:])
         with open("p.age", "rb") as below, agefile.open(below, identities=secret) as file:
             self.assertRaises(TypeError, pickle.dumps, file)
+        again = pickle.loads(pickled)
+        self.assertFalse(hasattr(again, "other"))
+        self.assertEqual((again.name, in_threads(lambda: again.read(1)) and again.tell(), pickle.loads(pickle.dumps(again)).tell()), ("p.age", 70004, 70004))
         self.made(plain, "p.age")
-        self.assertRaises(AgeError, pickle.loads, pickled)
+        again = pickle.loads(pickled)
+        for _ in range(2):
+            self.assertRaises(AgeError, again.read)
+        again.close()
+        self.assertRaisesRegex(ValueError, "closed file", again.read)
+
+    def test_pools(self):
+        """A worker opens the file, and its error is that of the call: a Pool would wait for ever for a task that it cannot unpickle."""
+        with multiprocessing.get_context("fork").Pool(1) as pool, agefile.open(self.made(text(200000)), identities=KEY) as file:
+            self.assertEqual(in_time(lambda: pool.apply(file.read)), text(200000))
+            os.rename("a.age", "old.age")
+            self.assertIsInstance(in_time(lambda: pool.apply(file.read)), FileNotFoundError)
+            self.put(self.got("old.age")[:-1])
+            self.assertIsInstance(in_time(lambda: pool.apply(file.read)), agefile.AgeChangedError)
+
+    def test_a_thread_that_closes(self):
+        """A read beside it finds the file closed, and not another file at its descriptor."""
+        self.made(text(300000))
+        for read in (lambda file: file.read(1000), lambda file: file.readline()):
+            for _ in range(50):
+                file = agefile.open("a.age", identities=KEY)
+                thread = threading.Thread(target=lambda: found.append(error_of(lambda: [read(file) or file.seek(0) for _ in range(10**6)], Exception)))
+                found = []
+                thread.start()
+                file.close()
+                thread.join()
+                self.assertIs(type(found[0]), ValueError, found)
 
     def test_each_chunk_is_read_once(self):
         """Short reads and lines are served from a buffer of one chunk."""
@@ -304,28 +327,6 @@ class Reading(InFolder):
             thread.join()
             self.assertEqual(file.tell(), 200000)
 
-    def test_fork(self):
-        """A child and its parent both use an open file, and neither moves the other's position."""
-        plain = text(3000000)
-        with agefile.open(self.made(plain), identities=KEY) as file:
-            self.assertEqual(file.read(70000), plain[:70000])
-            child = os.fork()
-            if child == 0:
-                os._exit(b"".join(iter(lambda: file.read(100000), b"")) != plain[70000:])
-            self.assertEqual(b"".join(iter(lambda: file.read(65536), b"")), plain[70000:])
-            self.assertEqual(os.waitpid(child, 0)[1], 0)
-
-    def test_readers_of_one_file_object(self):
-        """Each of several readers over one file object continues at its own position."""
-        plain = text(500000)
-        for buffering in (0, -1):
-            with open(self.made(plain), "rb", buffering) as below:
-                with agefile.open(below, identities=KEY) as first, agefile.open(below, identities=KEY) as second:
-                    for at in range(0, len(plain), 70000):
-                        self.assertEqual(first.read(70000), plain[at : at + 70000])
-                        self.assertEqual(second.read(70000), plain[at : at + 70000])
-                self.assertFalse(below.closed)
-
     def test_descriptors_that_forked_readers_share(self):
         """A file object of the system is read at offsets, so its position does not matter."""
         plain = text(2000000)
@@ -419,7 +420,7 @@ class Reading(InFolder):
             (False, "a.age", lambda given: agefile.open(given, identities=KEY).close()),
             (True, "a.age", lambda given: agefile.open(given, identities=other)),
             (True, "key", lambda given: agefile.open(given, identities=KEY)),
-            (False, "new", lambda given: agefile.open(given, "wb", recipients=KEY).close()),
+            (False, "new", lambda given: agefile.open(given, "wb", recipients=KEY).commit()),
             (True, "new", lambda given: agefile.open(given, "wb", recipients=[])),
             (True, "a.age", lambda given: agefile.copy(given, "plain", identities=KEY)),
             (True, "a.age", lambda given: agefile.copy(given, "plain", identities=other)),
@@ -482,7 +483,8 @@ class Reading(InFolder):
 
 
 TYPED = """
-import agefile, io
+import agefile, contextlib, gzip, io, pickle, tarfile, zipfile
+from typing import BinaryIO
 key = agefile.Key(bytes(32))
 reader: agefile.Reader = agefile.open("a.age", identities=key)
 same: agefile.Reader = agefile.open("a.age", "rb", identities=key)
@@ -495,11 +497,14 @@ no_text: io.TextIOWrapper = agefile.open("a.age", identities=key)  # assignment
 agefile.open("a.age", "rb", identities=key, atomic=True)  # call-overload
 agefile.open("a.age", "wb", identities=key, recipients=key)  # call-overload
 agefile.open("a.age", "w")  # call-overload
-agefile.open("a.age", "wb", identities=key).write(b"text")  # attr-defined
-agefile.open("a.age", recipients=key).read()  # attr-defined
-agefile.open("a.age", "rb", identities=key, encoding="ascii").read()  # attr-defined
-agefile.open("a.age", "wb", recipients=key, encoding="ascii").write(b"text")  # attr-defined
+agefile.open("a.age", recipients=key)  # call-overload
 agefile.open("a.age", "w", recipients=key).commit()
+files: list[BinaryIO] = [reader, writer]
+tarfile.open(fileobj=writer, mode="w|"), tarfile.open(fileobj=reader), zipfile.ZipFile(writer, "w"), zipfile.ZipFile(reader)
+io.TextIOWrapper(writer), gzip.open(reader), contextlib.closing(writer), contextlib.closing(reader), pickle.Pickler(writer)
+agefile.copy("a", "b", recipients=key), agefile.copy("a", "b", identities=key, threads=2, atomic=True)
+agefile.copy("a", "b")  # call-overload
+agefile.copy("a", "b", recipients=key, identities=key)  # call-overload
 agefile.encrypt("text", recipients=key)  # arg-type
 agefile.encrypt(memoryview(bytearray(8)), recipients=key)
 identity: agefile.Identity = agefile.Passphrase("text")

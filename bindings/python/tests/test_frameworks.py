@@ -84,10 +84,6 @@ class Place:
         group.create_dataset("x", data=numbers(seed), chunks=20000, compressor=None).attrs.update(seed=seed, _ARRAY_DIMENSIONS=["n"])
         zarr.consolidate_metadata(group.store)
 
-    def make_zip_of_arrays(self, seed):
-        self.make_arrays(seed)
-        self.put({"a": Path(shutil.make_archive("a", "zip", self.path("z"))).read_bytes()})
-
     def store(self, above="", name="z"):
         """The files as a mapping, or what the file system above makes of them."""
         return fsspec.get_mapper(above + self.url(name), **(self.chain if above else self.words))
@@ -159,7 +155,6 @@ ROWS = dict((
     ("zarr open", (Place.make_arrays, lambda at: zarr.open(at.store(), mode="r")["x"], value_of)),
     ("zarr open_consolidated", (Place.make_arrays, None, lambda at: zarr.open_consolidated(at.store(), mode="r")["x"])),
     ("zarr of simplecache::", (Place.make_arrays, lambda at: zarr.open(at.store("simplecache::"), mode="r")["x"], value_of)),
-    ("zarr of zip::", (Place.make_zip_of_arrays, lambda at: zarr.open(at.store("zip::", "a"), mode="r")["x"], value_of)),
     ("zarr of reference://", (Place.make_references, lambda at: zarr.open(fsspec.get_mapper("reference://", **at.references()), mode="r")["x"], value_of)),
     ("dask.array+zarr from_zarr", (Place.make_arrays, lambda at: dask.array.from_zarr(at.url("z"), "x", **at.options), value_of)),
     ("xarray+zarr open_zarr", (Place.make_arrays, lambda at: xarray.open_zarr(at.url("z"), **at.options)["x"], value_of)),

@@ -1,17 +1,14 @@
 """The file system for fsspec: files and keys, files that are not age files, chains, writing."""
 
+import asyncio
 import contextlib
-import errno
 import gc
-import importlib.util
+import importlib
 import io
 import os
 import pickle
 import shutil
 import stat
-import subprocess
-import sys
-import time
 import unittest
 from unittest import mock
 
@@ -25,13 +22,16 @@ try:
 except ImportError as error:
     raise unittest.SkipTest(str(error)) from error
 
-try:
-    import pandas
-except ImportError:
-    pandas = None
+from agefile import AgeError, Code, Key, Passphrase, Stanza, _reader
+from support import KEY, TEXT, InFolder, broken, damaged, error_of, message, program, text
 
-from agefile import AgeError, Code, Key, Passphrase, Stanza
-from support import KEY, TEXT, InFolder, broken, damaged, error_of, in_time, message, program, text
+
+def imported(name):
+    with contextlib.suppress(ImportError):
+        return importlib.import_module(name)
+
+
+dask, pandas, zarr = map(imported, ("dask.dataframe", "pandas", "zarr"))
 
 
 class Counted:
@@ -141,16 +141,38 @@ class Reads(InSystem):
             bad = self.path(self.put(harm, "bad.age"))
             for how in ("raise", "omit", "return"):
                 self.assertRaises(AgeError, self.system.cat, [path, bad], on_error=how)
-        for error in (PermissionError, agefile.AgeChangedError):
-            with mock.patch.object(type(self.system), "cat_file", side_effect=error):
-                for how in ("omit", "return"):
-                    self.assertRaises(error, self.system.cat, [path, path], on_error=how)
+        for error in (PermissionError(13, "failed"), TimeoutError(), OSError(5, "failed"), ConnectionResetError(), BlockingIOError()):
+            for kind, call in ((type(self.system.fs), "open"), (type(self.system.fs), "ukey"), (_reader, "read_into")):
+                with mock.patch.object(kind, call, side_effect=error):
+                    for read in (lambda: self.system.cat(path), lambda: self.system.cat([path, path], on_error="omit"), lambda: self.system.cat_ranges([path], [0], [1], on_error="return")):
+                        found = error_of(read)
+                        self.assertEqual((found.code, found.filename, found.__cause__), (Code.READ, path, error))
         self.assertEqual(self.system.cat([path, *absent], on_error="omit"), {path: b"text"})
         found = self.system.cat([path, *absent], on_error="return")
         self.assertEqual((sorted(found), found[path]), (sorted([path, *absent]), b"text"))
         self.assertEqual([type(found[name]) for name in absent], [FileNotFoundError, NotADirectoryError, IsADirectoryError])
         self.assertRaises(FileNotFoundError, self.system.cat, [path, absent[0]])
         self.assertEqual(self.system.cat(path, on_error="omit"), b"text")
+
+    @unittest.skipIf(zarr is None, "zarr is missing")
+    def test_failed_reads_under_zarr(self):
+        """It overwrites no chunk that it could not read, and takes none for zeros."""
+        new = lambda: zarr.storage.FSStore("age://" + self.path("z"), mode="r+", identities=KEY, recipients=KEY)
+        zarr.open(new(), mode="w", shape=300000, chunks=150000, dtype="u1", compressor=None)[:] = 1
+        read_into, old = _reader.read_into, self.got("z/1")
+        for error in (OSError(5, "failed"), TimeoutError(), PermissionError(13, "failed")):
+            def fails(file, room):
+                if file.name.endswith("z/1") and file.tell() > 70000:
+                    raise error
+                return read_into(file, room)
+
+            for work in (
+                lambda: zarr.open(new(), mode="r+").__setitem__(slice(150000, 150010), 2), lambda: zarr.open(new(), mode="r")[:], lambda: new()["1"],
+                lambda: zarr.open(zarr.LRUStoreCache(new(), 10**8), mode="r")[:], lambda: zarr.copy_store(new(), {}),
+            ):
+                with mock.patch.object(_reader, "read_into", fails):
+                    self.assertEqual(error_of(work).code, Code.READ)
+                self.assertEqual(self.got("z/1"), old)
 
     def harms(self, file):
         yield "damaged", damaged(file, 0)
@@ -173,25 +195,19 @@ class Reads(InSystem):
                     self.assertEqual(file.read() == bytes(11 << 20), True)
 
     def test_writing_through_caches(self):
-        """After an exception nothing is written, and no plaintext stays behind."""
+        """After an exception nothing is written."""
         path, words = self.path("w.age"), {"age": {"identities": KEY, "recipients": KEY}}
         os.mkdir("tmp")
         with mock.patch("tempfile.tempdir", self.path("tmp")):
             for kind in ("simplecache", "filecache"):
                 self.made(b"old", "w.age")
-                with self.assertWarnsRegex(RuntimeWarning, "'.*w.age' was not written: KeyError .*without the cache") as caught:
-                    broken(fsspec.open(f"{kind}::age://{path}", "wb", **words), b"half")
-                self.assertEqual((self.read("w.age"), os.path.basename(caught.filename)), (b"old", "support.py"))
+                with self.assertRaisesRegex(RuntimeError, "w.age' was not written"), fsspec.open(f"{kind}::age://{path}", "wb", **words) as file:
+                    file.write(b"half")
+                    raise KeyError
+                self.assertEqual(self.read("w.age"), b"old")
                 with fsspec.open(f"{kind}::age://{path}", "wb", **words) as file:
                     file.write(b"new")
                 self.assertEqual(self.read("w.age"), b"new")
-            self.assertEqual([name for _, _, names in os.walk("tmp") for name in names if "cache" not in name], [])
-        self.put(b"plain", "plain")
-        try:
-            raise KeyError
-        except KeyError:
-            self.system.put(self.path("plain"), path, recipients=KEY)
-        self.assertEqual(self.read("w.age"), b"plain")
 
     def test_getting(self):
         """A local file keeps its contents and its mode until the new ones are complete."""
@@ -259,6 +275,20 @@ class Keys(InSystem):
             for plain in (text(200000)[::-1], text(1000), text(300000)):
                 self.new("a.age", plain)
                 self.assertEqual(self.asked_for(lambda: self.system.cat_file(path)), (plain, 1))
+
+    def test_how_many_are_kept(self):
+        """Few enough for the pickle that goes to each task; none for a Key, which is as fast without."""
+        self.new("a.age", b"text", [KEY, self.identity])
+        for identity, count in ((KEY, 0), (self.identity, 3)):
+            system = fsspec.filesystem("age", identities=identity)
+            with mock.patch("agefile.fsspec._MOST_KEYS", 3):
+                for number in range(9):
+                    os.link("a.age", f"{number}.age")
+                    self.assertEqual(system.cat_file(self.path(f"{number}.age")), b"text")
+            self.assertEqual([*system._keys], [self.path(f"{number}.age") for number in range(9 - count, 9)])
+            self.assertEqual([*pickle.loads(pickle.dumps(system))._keys], [*system._keys])
+            for number in range(9):
+                os.remove(f"{number}.age")
 
     def test_invalidate_cache(self):
         path, other = self.new("a.age", b"text"), self.new("b.age", b"text")
@@ -358,67 +388,6 @@ class Chains(InSystem):
         with mock.patch.object(files, "_open", open_file):
             self.assertEqual(self.system.cat_file(path), b"text")
 
-    def test_a_memory_file_system(self):
-        memory = fsspec.filesystem("memory")
-        self.addCleanup(memory.rm, "/agefile", recursive=True)
-        system = fsspec.filesystem("age", fs=memory, identities=self.identity, recipients=self.identity)
-        with system.open("/agefile/a.age", "wb") as file:
-            file.write(b"text")
-        self.assertEqual(system.cat_file("memory://agefile/a.age"), b"text")
-        self.assertEqual(agefile.decrypt(memory.cat_file("/agefile/a.age"), identities=self.identity), b"text")
-
-
-MOUNT = """
-import sys
-try:
-    import fuse
-except ImportError:
-    import fusepy
-    sys.modules["fuse"] = fusepy
-import agefile
-secret = agefile.Key(bytes(range(32)))
-"""
-
-
-def can_mount():
-    is_there = any(importlib.util.find_spec(name) for name in ("fuse", "fusepy"))
-    return is_there and os.path.exists("/dev/fuse") and os.geteuid() == 0
-
-
-@unittest.skipUnless(can_mount(), "fusepy, /dev/fuse or the right to mount is missing")
-class Mounts(InSystem):
-    def test_a_mount(self):
-        """By the lines of README.md, any program can read the plaintexts, and fails where a chunk is damaged."""
-        plain = text(300000)
-        os.mkdir("files"), os.mkdir("mount")
-        self.new("files/whole", plain, KEY), self.put(damaged(self.got("files/whole"), 2), "files/bad")
-        self.put(self.got("files/whole")[:-1], "files/cut")
-        words = [sys.executable, "-c", MOUNT + program(4, **{"mnt/data": "mount", "data": "files"})]
-        mount = subprocess.Popen(words, stderr=subprocess.DEVNULL)
-        self.addCleanup(mount.wait), self.addCleanup(mount.kill)
-        self.addCleanup(subprocess.run, ["umount", "-l", self.path("mount")], capture_output=True)
-        for _ in range(600):
-            if os.path.ismount("mount"):
-                break
-            time.sleep(0.05)
-        self.assertEqual(sorted(os.listdir("mount")), ["bad", "cut", "whole"])
-        self.assertEqual(os.path.getsize("mount/whole"), len(plain))
-        self.assertEqual(subprocess.run(["cat", "mount/whole"], capture_output=True).stdout == plain, True)
-        done = subprocess.run(["cat", "mount/bad"], capture_output=True)
-        self.assertEqual((done.returncode, plain.startswith(done.stdout)), (1, True))
-        for name, place, call in (
-            ("bad", errno.EIO, lambda: self.got("mount/bad")), ("cut", errno.EIO, lambda: os.stat("mount/cut")),
-            ("whole", errno.EROFS, lambda: os.unlink("mount/whole")), ("new", errno.EROFS, lambda: open("mount/new", "wb")),
-            ("absent", errno.ENOENT, lambda: os.stat("mount/absent")),
-        ):
-            self.assertEqual(error_of(call, OSError).errno, place, name)
-        self.assertEqual(sorted(os.listdir("files")), ["bad", "cut", "whole"])
-        with open("mount/bad", "rb") as file:
-            file.seek(4 * TEXT)
-            self.assertEqual(file.read(100), plain[4 * TEXT :][:100])
-        subprocess.run(["umount", "mount"], check=True)
-        self.assertEqual(in_time(mount.wait), 0)
-
 
 class Writes(InSystem):
     def setUp(self):
@@ -445,18 +414,6 @@ class Writes(InSystem):
         with fsspec.open(f"age::file://{path}", "w", age={"recipients": KEY}) as file:
             file.write("other")
         self.assertEqual(agefile.decrypt(self.got(path), identities=KEY), b"other")
-
-    def test_a_body_that_raises(self):
-        """The old file stays until the first byte is written; what is written then is not a
-        complete file."""
-        path = self.path("a.age")
-        for mode, data, is_kept in (("wb", b"text", True), ("w", "text", True), ("wb", text(100000), False), ("w", "x" * 100000, False)):
-            self.new("a.age", b"old")
-            before = self.got("a.age")
-            broken(self.system.open(path, mode), data)
-            self.assertEqual(self.got("a.age") == before, is_kept)
-            if not is_kept:
-                self.assertRaises(AgeError, self.system.cat_file, path)
 
     def test_what_would_be_lost(self):
         """Compressed files, whose end `close` would lose, and transactions are refused."""
@@ -496,30 +453,6 @@ class Writes(InSystem):
         self.system.mkdir(self.path("empty"))
         self.system.rmdir(self.path("empty"))
         self.assertFalse(os.path.exists("empty"))
-
-    def test_what_is_passed_on(self):
-        """The file system below gets the arguments, too, and its result is returned."""
-        for name in "mkdir makedirs rmdir rm rm_file created modified exists isfile isdir du ukey cp_file mv".split():
-            paths = ("/old", "/new")[: 1 + (name in ("cp_file", "mv"))]
-            with self.subTest(name), mock.patch.object(type(self.system.fs), name) as below:
-                more = (7,) * (len(paths) == 1)
-                found = getattr(self.system, name)(*(f"age://{path}" for path in paths), *more, acl="private")
-                self.assertIs(found, below.return_value if more else None)
-                below.assert_called_once_with(*paths, *more, acl="private")
-        system, parent = self.system, fsspec.AbstractFileSystem
-        for kind, name, call, asked in (
-            (type(system.fs), "ls", lambda: system.ls("age:///old", refresh=True), mock.call("/old", detail=True, refresh=True)),
-            (type(system), "open", lambda: system.touch("age:///old", recipients=KEY), mock.call("age:///old", "wb", recipients=KEY)),
-            (parent, "get_file", lambda: system.get_file("age:///old", sys.stdout, callback=1), mock.call("age:///old", sys.stdout, callback=1)),
-            (parent, "cat_ranges", lambda: system.cat_ranges(["/old"], [0], [1], None, "return", max=1), mock.call(["/old"], [0], [1], None, "raise", max=1)),
-            (parent, "put_file", lambda: system.put_file("old", "age:///new", callback=1), mock.call("old", "age:///new", callback=1)),
-        ):
-            with self.subTest(name), mock.patch.object(kind, name) as below:
-                call()
-                self.assertEqual(below.mock_calls[0], asked)
-        with mock.patch.object(system.fs, "open", wraps=system.fs.open) as below:
-            system.cat_file(self.new("a.age", b"text"))
-        below.assert_called_once_with(self.path("a.age"), "rb", cache_type="none")
 
     def systems(self):
         """File systems with a path: over local files, over these behind another class, and over
@@ -575,8 +508,7 @@ class Writes(InSystem):
                     system.pipe_file(path, b"old")
                     for mode, data in (("wb", text(200000)), ("w", "x" * 200000)):
                         broken(used.open(path, mode, **words), data)
-                        with self.assertWarnsRegex(RuntimeWarning, "was not written"):
-                            broken(contextlib.closing(used.open(path, mode, **words)), data)
+                        broken(contextlib.closing(used.open(path, mode, **words)), data)
                     self.assertEqual(system.cat_file(path), b"old")
                     with used.open(path, "wb", **words) as file:
                         file.write(text(200000))
@@ -618,20 +550,56 @@ class Writes(InSystem):
         """An OpenFile does not tell its file about an exception."""
         path, words = self.path("a.age"), {"identities": self.identity, "recipients": self.identity}
         for mode, data in (("wb", text(200000)), ("w", "x" * 200000)):
-            with self.assertWarnsRegex(RuntimeWarning, "KeyError was handled"):
-                broken(fsspec.open("age://" + path, mode, **words), data)
+            broken(fsspec.open("age://" + path, mode, **words), data)
             self.assertRaises(AgeError, self.system.cat_file, path)
             old = self.got(self.new("a.age", b"old"))
-            with self.assertWarnsRegex(RuntimeWarning, "was not written: .*KeyError"):
-                broken(fsspec.open("age://" + path, mode, **words), data[:60000])
+            broken(fsspec.open("age://" + path, mode, **words), data[:60000])
             self.assertEqual(self.got("a.age"), old)
-            with self.assertWarnsRegex(RuntimeWarning, "it was not closed"):
+            with mock.patch("sys.unraisablehook") as told:
                 fsspec.open("age://" + path, mode, **words).open().write(data)
                 gc.collect()
+            self.assertRegex(str(told.call_args[0][0].exc_value), "a.age.* is not whole")
             self.assertRaises(AgeError, self.system.cat_file, path)
             with fsspec.open("age://" + path, mode, **words) as file:
                 file.write(data)
             self.assertEqual(self.system.info(path)["size"], 200000)
+
+    def test_ends(self):
+        """Users of fsspec call only `close`, which completes the file unless an exception is being handled in this thread and
+        task. So a task of its own completes half a file, which is the only way."""
+        class Handled(Exception):
+            pass
+
+        async def half(file, end):
+            async def cleanup():
+                file.close()
+
+            try:
+                file.write(text(100000))
+                raise Handled
+            finally:
+                await end(cleanup())
+
+        new = lambda: self.system.open(self.path("a.age"), "wb", recipients=KEY)
+        for end, found in ((lambda closing: closing, 0), (asyncio.create_task, 100000)):
+            with contextlib.nullcontext() if found else self.assertWarns(RuntimeWarning):
+                self.assertRaises(Handled, asyncio.run, half(new(), end))
+            self.assertEqual(len(self.read("a.age")) if found else self.refused("a.age"), found or Code.BAD_CHUNK)
+        with new() as file:
+            file.write(b"text")
+            self.assertRaises(BlockingIOError, new)
+            file.close()
+        self.assertEqual(self.read("a.age"), b"text")
+        broken(new(), text(100000))
+        self.refused("a.age")
+
+    @unittest.skipIf(dask is None, "dask is missing")
+    def test_single_file(self):
+        """Dask closes such a file after each partition, and appends: the error says so."""
+        table, words = dask.from_pandas(pandas.DataFrame({"a": range(6000)}), npartitions=6), {"recipients": KEY}
+        self.assertRaisesRegex(ValueError, "'ab'.*single_file", table.to_csv, "age://" + self.path("a.csv.age"), single_file=True, storage_options=words)
+        table.to_csv("age://" + self.path("*.csv.age"), storage_options=words)
+        self.assertEqual(len(self.system.glob(self.path("*.csv.age"))), 7)
 
     def test_unknown_words(self):
         path = self.new("a.age", b"old")
@@ -674,7 +642,7 @@ class Writes(InSystem):
             for atomic in (False, True):
                 for call, more in ((table.to_csv, {}), (table.to_pickle, {}), (table.to_csv, {"compression": "gzip"})):
                     old = self.got(self.new("a.age", b"old"))
-                    with self.subTest(f"{rows} {atomic} {call.__name__}"), self.assertWarns(RuntimeWarning), self.assertRaisesRegex(RuntimeError, "bad"):
+                    with self.subTest(f"{rows} {atomic} {call.__name__}"), self.assertRaisesRegex(RuntimeError, "bad"):
                         call("age://" + path, storage_options={**words, "atomic": atomic}, **more)
                     if atomic:
                         self.assertEqual((self.got("a.age"), os.listdir()), (old, ["a.age"]))
@@ -692,18 +660,6 @@ class Writes(InSystem):
         self.addCleanup(fsspec.config.conf.pop, "age")
         exec(program(3, data=self.folder), {"fsspec": fsspec, "secret": KEY, "table": table})
         self.assertTrue(pandas.read_csv("age://" + self.path("table.csv.age"), index_col=0).equals(table))
-
-    def test_a_pickled_system(self):
-        """A worker writes for the same recipients, and replaces as its sender would."""
-        path = self.new("a.age", b"old")
-        for atomic in (False, True):
-            system = fsspec.filesystem("age", identities=KEY, recipients=KEY, atomic=atomic)
-            again = pickle.loads(pickle.dumps(system))
-            broken(again.open(path, "wb"), text(200000))
-            self.assertEqual(again.cat_file(path) if atomic else self.refused("a.age"), b"new" if atomic else Code.BAD_CHUNK)
-            with again.open(path, "wb") as file:
-                file.write(b"new")
-            self.assertEqual(system.cat_file(path), b"new")
 
     def test_recipients_that_fail(self):
         path = self.new("a.age", b"old")

@@ -1,133 +1,121 @@
-"""Files that nobody closed, or that were closed because of an exception: the disk has the old file
-or one that every reader refuses, and the user is told. If finalizers and the end of the program
-matter, a test runs scripts with each Python on PATH."""
+"""Files that nobody committed: the disk has the old file or one that every reader refuses, and the user is told.
+If finalizers and the end of the program matter, a test runs scripts with each Python on PATH."""
 
-import asyncio
+import concurrent.futures
 import contextlib
-import gc
 import gzip
 import io
+import itertools
 import os
 import shutil
 import subprocess
 import sys
-import warnings
+import threading
 from unittest import mock
 
 import agefile
 from agefile import AgeError
 from agefile._writer import _Sealer
-from support import KEY, InFolder, in_child, in_time, text
+from support import KEY, InFolder, in_child, text
 
 HEAD = """
-import atexit
-atexit.register(lambda: BEFORE and file.close())
-BEFORE = False
-import gc, io, json, os, sys, threading, time
-import agefile
-class Cycle: pass
-DATA = {data}
-def new(mode="w"): return agefile.open("s.age", mode, recipients=agefile.Key(bytes(range(32))))
-"""
-
-# Scripts that lose their data. With Python's open, gzip and lzma they write everything, or the half
-# before an exception as a complete file. In cycles most of them silently lose the last 8 KiB, and
-# in a daemon thread everything.
-LOST = {
-    "one line": "json.dump(DATA, new())",
-    "one line of bytes": "new('wb').write(json.dumps(DATA).encode())",
-    "a variable of the module": "file = new(); json.dump(DATA, file)",
-    "sys.exit": "file = new(); json.dump(DATA, file); sys.exit()",
-    "an exception in the line": "try: json.dump([DATA, object()], new())\nexcept TypeError: pass",
-    "an exception in a function": "def work():\n    file = new(); json.dump(DATA, file); 1 / 0\ntry: work()\nexcept ZeroDivisionError: pass",
-    "a generator": "def work():\n    file = new(); json.dump(DATA, file); yield\nit = work(); next(it); del it",
-    "a thread": "def work():\n    file = new(); json.dump(DATA, file)\nit = threading.Thread(target=work); it.start(); it.join()",
-    "a daemon thread": "def work():\n    file = new(); json.dump(DATA, file); ready.set(); time.sleep(60)\n"
-    "ready = threading.Event(); threading.Thread(target=work, daemon=True).start(); ready.wait()",
-    "a cycle": "it = Cycle(); it.it = it; it.file = new(); json.dump(DATA, it.file); del it; gc.collect()",
-    "a cycle at the end": "it = Cycle(); it.it = it; it.file = new(); json.dump(DATA, it.file); del it",
-    "a wrapper": "json.dump(DATA, io.TextIOWrapper(new('wb')))",
-    "a wrapper and an exception": "try: json.dump([DATA, object()], io.TextIOWrapper(new('wb')))\nexcept TypeError: pass",
-    "a buffer": "io.BufferedWriter(new('wb')).write(json.dumps(DATA).encode())",
-    "a forked child": "file = new(); json.dump(DATA, file)\nif os.fork() == 0: sys.exit()\nos.wait()",
-}
-
-ENDS_HEAD = """
-import asyncio, atexit, concurrent.futures, contextlib, functools, io, logging.handlers, os, signal, sys, tarfile, threading, weakref
+import asyncio, atexit, concurrent.futures, contextlib, gc, gzip, io, json, operator, os, signal, sys, tarfile, threading, unittest, weakref
 import agefile
 signal.signal(signal.SIGINT, signal.default_int_handler)
 class Owner: pass
-def new(mode="wb", name="s.age"): return agefile.open(name, mode, recipients=agefile.Key(bytes(range(32))))
+class Closer:
+    def __init__(self): self.file = new()
+    def __del__(self): self.file.close()
+def new(mode="wb"): return agefile.open("s.age", mode, recipients=agefile.Key(bytes(range(32))))
 def part(file): file.write(bytes(100000) if "b" in file.mode else "x" * 100000)
-class Handler(logging.handlers.TimedRotatingFileHandler):
-    _open = lambda self: new("w", self.baseFilename)
-    namer = lambda self, name: os.path.abspath("s.age")
-class Committing(Handler):
-    def doRollover(self): self.stream.commit(); super().doRollover()
-class Aio:  # as in aiofiles
-    def __init__(self, file): self.file = file
-    async def __aenter__(self): return self.file
-    async def __aexit__(self, *_): await asyncio.get_running_loop().run_in_executor(None, functools.partial(self.file.close))
 async def half(file, end):
+    async def cleanup(): file.close()
     try: part(file); raise ConnectionError
-    finally: await end(file)
-def roll(handler):
-    log = logging.Logger("log"); log.addHandler(handler)
-    log.info("x" * 99999); log.info("x" * 99999)
-    handler.rolloverAt = 0
-    try: 1 / 0
-    except ZeroDivisionError: log.exception("in the next file")
+    finally: await end(file, cleanup)
+async def grouped(_, cleanup):
+    async with asyncio.TaskGroup() as group: group.create_task(cleanup())
+async def stacked(file):
+    async with contextlib.AsyncExitStack() as stack: stack.push_async_callback(asyncio.to_thread, file.close); part(file); raise ConnectionError
+async def awaited():
+    with new() as file: part(file); part(file); await asyncio.to_thread(file.commit)
+async def cancelled():
+    with new() as file: part(file); await asyncio.sleep(9)
+async def cancels():
+    task = asyncio.create_task(cancelled()); await asyncio.sleep(0); task.cancel(); await asyncio.wait([task])
+def pooled(file, call):
+    with concurrent.futures.ThreadPoolExecutor(1) as pool:
+        try: part(file); raise ConnectionError
+        finally: pool.submit(call, file).exception()
 def rows():
     with new() as file: part(file); yield
+def sink():
+    with new() as file:
+        while True: (yield); part(file)
 def interrupted(file, end):
     try: part(file); signal.raise_signal(signal.SIGINT)
     except KeyboardInterrupt: part(file); end(file)
-def in_pool(file, end):
-    with concurrent.futures.ThreadPoolExecutor() as pool:
-        try: part(file); raise ConnectionError
-        finally: pool.submit(end(file)).result()
-async def awaited():
-    with new() as file: part(file); part(file); await asyncio.to_thread(file.commit)
-async def with_aio(error):
-    async with Aio(new()) as file:
-        part(file)
-        if error: raise error
-        part(file)
+def on_term(end): signal.signal(signal.SIGTERM, lambda *_: (end(), sys.exit(0)))
 def tar(file, error=None):
     with tarfile.open(fileobj=file, mode="w|") as archive:
         member = tarfile.TarInfo("a"); member.size = 200000; archive.addfile(member, io.BytesIO(bytes(200000)))
         if error: raise error
 """
+TWICE = "part(file); part(file)"
 # For each end of a program: what is on the disk, and whether a warning, an exception or the status
-# tells the user. A whole file has all 200,000 bytes, and half of one is taken for a whole one.
+# tells the user. A whole file has all 200,000 bytes.
 ENDS = {
-    "with": ("with new() as file: part(file); part(file)", "whole", False),
+    "with": (f"with new() as file: {TWICE}", "whole", False),
+    "with, of text": (f"with new('w') as file: {TWICE}", "whole", False),
     "with, an exception": ("with new() as file: part(file); 1 / 0", "refused", True),
     "with, Ctrl-C": ("with new() as file: part(file); signal.raise_signal(signal.SIGINT)", "refused", True),
-    "Ctrl-C, close": ("interrupted(new(), lambda file: file.close())", "refused", True),
+    "with, sys.exit": (f"with new() as file: {TWICE}; sys.exit()", "refused", True),
+    "with, a write after close": ("with new() as file: part(file); file.close(); part(file)", "refused", True),
+    "with, close twice": (f"with new('w') as file: {TWICE}; file.close(); file.close()", "whole", False),
+    "with, close, an exception": ("with new() as file: part(file); file.close(); 1 / 0", "refused", True),
+    "with, close, never left": ("it = contextlib.ExitStack(); file = it.enter_context(new()); part(file); file.close()", "refused", True),
+    "ExitStack": (f"with contextlib.ExitStack() as it: file = it.enter_context(new()); it.callback(file.close); {TWICE}", "whole", False),
+    "ExitStack, a callback alone": (f"with contextlib.ExitStack() as it: file = new(); it.callback(file.close); {TWICE}", "refused", True),
+    "commit": (f"file = new(); {TWICE}; file.commit()", "whole", False),
     "Ctrl-C, commit": ("interrupted(new(), lambda file: file.commit())", "whole", False),
     "Ctrl-C, commit of text": ("interrupted(new('w'), lambda file: file.commit())", "whole", False),
-    "a log rolled over in a handler": ("roll(Handler('new.age'))", "refused", True),
-    "a log that commits": ("roll(Committing('new.age'))", "whole", False),
-    "a log, an exception": ("log = logging.Logger('log'); log.addHandler(Handler('s.age')); log.info('x' * 200000); 1 / 0", "whole", True),
-    "to_thread(close)": ("asyncio.run(half(new(), lambda file: asyncio.to_thread(file.close)))", "refused", True),
-    "to_thread(close), text": ("asyncio.run(half(new('w'), lambda file: asyncio.to_thread(file.close)))", "refused", True),
-    "to_thread, a lambda": ("asyncio.run(half(new(), lambda file: asyncio.to_thread(lambda: file.close())))", "half", True),
+    "Ctrl-C, close": ("interrupted(new(), lambda file: file.close())", "refused", True),
+    "close": (f"file = new(); {TWICE}; file.close()", "refused", True),
+    "close of text": (f"file = new('w'); {TWICE}; file.close()", "refused", True),
+    **{f"asyncio, {end}": (f"asyncio.run(half(new(), lambda file, cleanup: {end}))", "refused", True) for end in (
+        "cleanup()", "asyncio.shield(cleanup())", "asyncio.create_task(cleanup())", "asyncio.gather(cleanup())", "asyncio.wait_for(cleanup(), 5)",
+        "asyncio.to_thread(file.close)", "asyncio.to_thread(lambda: file.close())", *["grouped(file, cleanup)"] * (sys.version_info >= (3, 11)))},
+    "AsyncExitStack": ("asyncio.run(stacked(new()))", "refused", True),
     "to_thread(commit)": ("asyncio.run(awaited())", "whole", False),
-    "aiofiles": ("asyncio.run(with_aio(None))", "whole", False),
-    "aiofiles, an exception": ("asyncio.run(with_aio(ConnectionError()))", "refused", True),
-    "an executor": ("with contextlib.suppress(ConnectionError): in_pool(new(), lambda file: file.close)", "refused", True),
-    "an executor, text": ("with contextlib.suppress(ConnectionError): in_pool(new('w'), lambda file: file.close)", "refused", True),
-    "atexit": ("file = new(); atexit.register(file.close); part(file); part(file)", "whole", False),
-    "atexit, an exception": ("file = new(); atexit.register(file.close); part(file); 1 / 0", "half", True),
-    "weakref.finalize": ("it, file = Owner(), new(); weakref.finalize(it, file.close); part(file); part(file); del it", "whole", False),
-    "weakref.finalize, an exception": ("it, file = Owner(), new(); weakref.finalize(it, file.close); part(file); 1 / 0", "half", True),
+    "a cancelled task": ("asyncio.run(cancels())", "refused", True),
+    "a pool": ("pooled(new(), operator.methodcaller('close'))", "refused", True),
+    "a pool that nobody asks": ("file = new(); part(file); concurrent.futures.ThreadPoolExecutor(1).submit(file.close)", "refused", True),
+    "SIGTERM, close": ("file = new(); on_term(file.close); part(file); signal.raise_signal(signal.SIGTERM)", "refused", True),
+    "SIGTERM in with": ("on_term(int)\nwith new() as file: part(file); signal.raise_signal(signal.SIGTERM)", "refused", True),
+    "addCleanup": ("class Test(unittest.TestCase):\n    def test(self): file = new(); self.addCleanup(file.close); part(file)\nunittest.main()", "refused", True),
+    "__del__": ("it = Closer(); part(it.file); del it", "refused", True),
+    "atexit, an exception": ("file = new(); atexit.register(file.close); part(file); 1 / 0", "refused", True),
+    "weakref.finalize, an exception": ("it, file = Owner(), new(); weakref.finalize(it, file.close); part(file); 1 / 0", "refused", True),
     "a dropped generator": ("it = rows(); next(it); del it", "refused", True),
+    "a generator that is closed": ("it = sink(); next(it); next(it); next(it); it.close()", "refused", True),
     "tarfile": ("tar(new())", "refused", True),
     "tarfile, with": ("with new() as file: tar(file)", "whole", False),
     "tarfile, with, an exception": ("with new() as file: tar(file, KeyError())", "refused", True),
-    "os._exit": ("file = new(); part(file); part(file); os._exit(0)", "refused", False),
-    "kill -9": ("file = new(); part(file); part(file); os.kill(os.getpid(), 9)", "refused", True),
+    "a wrapper in with": ("with new() as file:\n    with io.TextIOWrapper(file) as lines: lines.write('x' * 200000)", "whole", False),
+    "two wrappers in with": ("with new() as file, io.TextIOWrapper(io.BufferedWriter(file)) as lines: lines.write('x' * 200000)", "whole", False),
+    "two wrappers in with, an exception": ("with new() as file, io.TextIOWrapper(io.BufferedWriter(file)) as lines: lines.write('x' * 200000); 1 / 0", "refused", True),
+    "a wrapper alone": ("with io.TextIOWrapper(new()) as lines: lines.write('x' * 200000)", "refused", True),
+    "closing in with": (f"with new() as file, contextlib.closing(file): {TWICE}", "whole", False),
+    "closing alone": (f"with contextlib.closing(new()) as file: {TWICE}", "refused", True),
+    "one line": ("json.dump('x' * 200000, new('w'))", "refused", True),
+    "a dropped wrapper": ("io.TextIOWrapper(new()).write('x' * 200000)", "refused", True),
+    "a dropped buffer": ("io.BufferedWriter(new()).write(bytes(200000))", "refused", True),
+    "a variable of the module": (f"file = new(); {TWICE}", "refused", True),
+    "sys.exit": (f"file = new(); {TWICE}; sys.exit()", "refused", True),
+    "a cycle": ("it = Owner(); it.it, it.file = it, new(); part(it.file); part(it.file); del it; gc.collect()", "refused", True),
+    "a forked child": (f"file = new(); {TWICE}\nif os.fork() == 0: sys.exit()\nos.wait(); file.commit()", "whole", False),
+    "a forked child in with": ("with new() as file:\n    part(file)\n    if os.fork() == 0: file.close(); sys.exit()\n    os.wait(); part(file)", "whole", False),
+    "os._exit": (f"file = new(); {TWICE}; os._exit(0)", "refused", False),
+    "kill -9": (f"file = new(); {TWICE}; os.kill(os.getpid(), 9)", "refused", True),
 }
 
 
@@ -142,250 +130,97 @@ def pythons():
 
 
 class Scripts(InFolder):
-    def run_with(self, python, code, filters=""):
-        folder = os.path.dirname(os.path.dirname(agefile.__file__))
-        env = {**os.environ, "PYTHONPATH": folder, "PYTHONWARNINGS": filters}
-        return subprocess.run([python, "-c", code], env=env, capture_output=True, text=True, timeout=60)
-
-    def test_what_is_lost_is_said(self):
-        """Once, and without an option. Small files keep the old contents, larger ones are
-        refused."""
-        for python in pythons():
-            for name, code in LOST.items():
-                for count in (100, 50000):
-                    old = self.got(self.made(b"old", "s.age"))
-                    with self.subTest(f"{name}, {count}, {python}"):
-                        done = self.run_with(python, HEAD.format(data=f"list(range({count}))") + code)
-                        self.assertEqual((done.returncode, done.stderr.count("RuntimeWarning: <agefile.Writer name='s.age'")), (0, 1), done.stderr)
-                        what = "was not written" if count == 100 else "is not whole"
-                        self.assertIn(what, done.stderr)
-                        if count == 100:
-                            self.assertEqual(self.got("s.age"), old)
-                        else:
-                            self.refused("s.age")
-
-    def test_each_loss_is_said(self):
-        for python in pythons():
-            for filters in ("", "ignore", "error"):
-                done = self.run_with(python, HEAD.format(data=1) + "for _ in range(3): json.dump(DATA, new())", filters)
-                self.assertEqual(done.stderr.count("RuntimeWarning"), 3, done.stderr)
-                self.assertEqual(done.stderr.count("<string>:9:"), 3, done.stderr)
-
-    def test_what_is_closed_is_not_mentioned(self):
-        for python in pythons():
-            for code in (
-                "with new() as file: json.dump(DATA, file)",
-                "file = new(); json.dump(DATA, file); file.close()",
-                "file = new(); atexit.register(file.close); json.dump(DATA, file)",
-                "BEFORE, file = True, new(); json.dump(DATA, file)",
-                "with io.TextIOWrapper(new('wb')) as file: json.dump(DATA, file)",
-                "json.dump(DATA, file := new()) or file.close()",
-            ):
-                done = self.run_with(python, HEAD.format(data="list(range(50000))") + code)
-                self.assertEqual((done.returncode, done.stderr), (0, ""), f"{code}, {python}")
-                with agefile.open("s.age", identities=KEY) as file:
-                    self.assertEqual(file.length, len(str(list(range(50000)))))
-        with warnings.catch_warnings():
-            warnings.simplefilter("error")
-            agefile.open("s.age", "wb", recipients=KEY).abort()
-            gc.collect()
-
     def test_the_ends_of_a_program(self):
+        env = {**os.environ, "PYTHONPATH": os.path.dirname(os.path.dirname(agefile.__file__))}
         for python in pythons():
             for name, (code, expected, is_told) in ENDS.items():
                 with self.subTest(f"{name}, {python}"):
-                    done = self.run_with(python, ENDS_HEAD + code)
+                    self.put(b"old", "s.age")
+                    done = subprocess.run([python, "-c", HEAD + code], env=env, capture_output=True, text=True, timeout=60)
                     try:
                         found = "whole" if len(self.read("s.age")) >= 200000 else "half"
                     except AgeError:
                         found = "refused"
-                    said = done.returncode != 0 or "RuntimeWarning" in done.stderr
+                    said = done.returncode != 0 or "is not whole" in done.stderr
                     self.assertEqual((found, said), (expected, is_told), done.stderr)
 
 
-class Wrapped(InFolder):
-    """Objects that call `close` without knowing about exceptions."""
+class Unclosed(InFolder):
+    def test_an_old_file_is_kept(self):
+        """If it was not flushed, and less than a chunk was written. The user is told, whatever the filters of warnings."""
+        for mode, data in (("wb", b"text"), ("w", "text")):
+            for end in (lambda file: self.assertRaisesRegex(ValueError, "only commit or the clean end of a with block", file.close), lambda file: getattr(file, "buffer", file).abort(), lambda file: None):
+                self.put(b"old", "o.age")
+                with mock.patch("sys.unraisablehook") as told:
+                    file = agefile.open("o.age", mode, recipients=KEY)
+                    file.write(data)
+                    is_told = end(file) is None
+                    del file
+                self.assertEqual((self.got("o.age"), told.called), (b"old", is_told and not end.__code__.co_names))
 
-    KINDS = {
-        "contextlib.closing": lambda: contextlib.closing(agefile.open("w.age", "wb", recipients=KEY)),
-        "closing of text": lambda: contextlib.closing(agefile.open("w.age", "w", recipients=KEY)),
-        "TextIOWrapper": lambda: io.TextIOWrapper(agefile.open("w.age", "wb", recipients=KEY)),
-        "BufferedWriter": lambda: io.BufferedWriter(agefile.open("w.age", "wb", recipients=KEY)),
-        "a generator": lambda: Wrapped.generator(),
-        "a callback": lambda: Wrapped.stack(),
-        "gzip": lambda: Wrapped.in_gzip(),
-    }
+    def test_close_in_with(self):
+        """It ends writing, and the block decides. A commit after it is one."""
+        for mode, data in (("wb", text(100000)), ("w", "x" * 100000)):
+            for error in (None, KeyError()):
+                with contextlib.suppress(KeyError), agefile.open("w.age", mode, recipients=KEY, atomic=True) as file:
+                    file.write(data)
+                    file.close()
+                    self.assertTrue(file.closed)
+                    for call in (lambda: file.write(data), file.flush, file.__enter__):
+                        self.assertRaisesRegex(ValueError, "closed file", call)
+                    self.assertEqual(len(os.listdir()), 1 + os.path.exists("w.age"))
+                    if error:
+                        raise error
+                    file.commit() if mode == "w" else None
+                self.assertEqual(self.read("w.age", mode.replace("w", "r")), data)
+            self.assertEqual(os.listdir(), ["w.age"])
 
-    @staticmethod
-    @contextlib.contextmanager
-    def generator():
-        file = agefile.open("w.age", "wb", recipients=KEY)
-        try:
-            yield file
-        finally:
-            file.close()
-
-    @staticmethod
-    @contextlib.contextmanager
-    def stack():
-        with contextlib.ExitStack() as stack:
-            file = agefile.open("w.age", "w", recipients=KEY)
-            stack.callback(file.close)
-            yield file
-
-    @staticmethod
-    @contextlib.contextmanager
-    def in_gzip():
-        with contextlib.closing(agefile.open("w.age", "wb", recipients=KEY)) as below, gzip.open(below, "wb") as file:
-            yield file
-
-    def put_into(self, file, data=text(200000)):
-        is_text = isinstance(file, io.TextIOBase)
-        file.write("x" * len(data) if is_text else data)
-
-    def check_whole(self, is_whole=True):
-        if is_whole:
-            found = agefile.decrypt(self.got("w.age"), identities=KEY)
-            self.assertEqual(len(gzip.decompress(found) if found[:2] == b"\x1f\x8b" else found), 200000)
-        else:
-            self.refused("w.age")
-
-    def test_an_exception(self):
-        for name, make in self.KINDS.items():
-            for kind in (RuntimeError, KeyboardInterrupt, SystemExit):
-                with self.subTest(f"{name} {kind}"), self.assertWarnsRegex(RuntimeWarning, f"'w.age'.* (is not whole|was not written): .*{kind.__name__}"):
-                    with self.assertRaises(kind), make() as file:
-                        self.put_into(file)
-                        raise kind
-                self.check_whole(False)
-
-    def test_no_exception(self):
-        """Files are complete that were opened and closed while the same exception was being
-        handled, or none, or another one that had been handled in between."""
-        def plainly(make):
-            with make() as file:
-                self.put_into(file)
-
-        def in_handler(make):
-            try:
-                raise KeyError
-            except KeyError:
-                plainly(make)
-
-        def in_two_handlers(make):
-            try:
-                in_handler(lambda: 1 / 0)
-            except ZeroDivisionError:
-                in_handler(make)
-
-        def with_a_handler_inside(make):
-            with make() as file:
-                with contextlib.suppress(KeyError):
-                    raise KeyError
-                self.put_into(file)
-
-        def opened_in_handler(make):
-            with contextlib.ExitStack() as stack:
+    def test_a_write_beside_the_end(self):
+        """Once a write has returned, its data are in the file; a write after the end is refused."""
+        def count(file, length, started):
+            for number in range(10**7):
+                started.set()
                 try:
-                    raise KeyError
-                except KeyError:
-                    file = stack.enter_context(make())
-                self.put_into(file)
+                    file.write(bytes(length))
+                except ValueError:
+                    return number
 
-        with warnings.catch_warnings():
-            warnings.simplefilter("error")
-            kinds = {**self.KINDS, "itself": lambda: agefile.open("w.age", "wb", recipients=KEY), "text": lambda: agefile.open("w.age", "w", recipients=KEY)}
-            for name, make in kinds.items():
-                for work in (plainly, in_handler, in_two_handlers, with_a_handler_inside, opened_in_handler):
-                    with self.subTest(f"{name} {work.__name__}"):
-                        work(make)
-                        self.check_whole()
+        for length, end in itertools.product((1, 3000), (agefile.Writer.commit, agefile.Writer.close)):
+            with concurrent.futures.ThreadPoolExecutor(1) as pool, agefile.open("t.age", "wb", recipients=KEY) as file:
+                found = pool.submit(count, file, length, started := threading.Event())
+                started.wait()
+                end(file)
+            self.assertEqual(len(self.read("t.age")), found.result() * length)
 
-    def test_another_exception_in_a_handler(self):
-        for name, make in self.KINDS.items():
-            with self.subTest(name), self.assertWarnsRegex(RuntimeWarning, "ZeroDivisionError was handled"):
-                try:
-                    raise KeyError
-                except KeyError:
-                    with contextlib.suppress(ZeroDivisionError), make() as file:
-                        self.put_into(file)
-                        1 / 0
-            self.check_whole(False)
-
-    def test_the_same_exception_raised_again(self):
-        """Even the exception that was being handled when the file was opened, except by a bare
-        `raise` in its handler, which cannot be told from the end of the handler."""
-        def again(error):
-            raise error
-
-        for name, make in self.KINDS.items():
-            with self.subTest(name), self.assertWarnsRegex(RuntimeWarning, "KeyError was handled"), self.assertRaises(KeyError):
-                try:
-                    raise KeyError
-                except KeyError as error:
-                    with make() as file:
-                        self.put_into(file)
-                        again(error)
-            self.check_whole(False)
-        with self.assertRaises(KeyError):
-            try:
-                raise KeyError
-            except KeyError:
-                with agefile.open("w.age", "wb", recipients=KEY) as file:
-                    self.put_into(file)
-                    raise
-        self.check_whole(False)
-
-    def test_nested(self):
-        """Each of two files, whichever is closed explicitly."""
-        for first, second in ((contextlib.closing, lambda file: file), (lambda file: file, contextlib.closing)):
-            with warnings.catch_warnings(record=True), contextlib.suppress(KeyError):
-                with first(agefile.open("w.age", "wb", recipients=KEY)) as a, second(agefile.open("v.age", "wb", recipients=KEY)) as b:
-                    self.put_into(a), self.put_into(b)
-                    raise KeyError
-            self.refused("w.age"), self.refused("v.age")
-        with first(agefile.open("w.age", "wb", recipients=KEY)) as a, contextlib.suppress(KeyError):
-            with agefile.open("v.age", "wb", recipients=KEY) as b:
-                self.put_into(a), self.put_into(b)
-                raise KeyError
-        self.refused("v.age"), self.check_whole()
-
-    def test_generators(self):
-        """A `with` block that succeeds inside an exception handler of the caller completes the
-        file."""
-        def work(mode):
-            with agefile.open("w.age", mode, recipients=KEY) as file:
-                yield
-                self.put_into(file)
-
-        with warnings.catch_warnings():
-            warnings.simplefilter("error")
-            for mode in ("wb", "w"):
-                it = work(mode)
-                next(it)
-                try:
-                    raise KeyError
-                except KeyError:
-                    next(it, None)
-                self.check_whole()
+    def test_close_in_a_handler(self):
+        """The exception that is being handled is the one that is raised, and a warning names the file."""
+        for kind in (RuntimeError, KeyboardInterrupt, SystemExit):
+            for make in (lambda: contextlib.closing(agefile.open("w.age", "wb", recipients=KEY)), lambda: io.TextIOWrapper(agefile.open("w.age", "wb", recipients=KEY))):
+                with self.assertWarnsRegex(RuntimeWarning, "w.age.* is not whole"), self.assertRaises(kind), make() as file:
+                    file.write("x" * 200000 if isinstance(file, io.TextIOBase) else bytes(200000))
+                    raise kind
+                self.refused("w.age")
 
     def test_commit(self):
-        """It completes the file within a handler, and once only; `close` says that it is there."""
+        """It completes the file once, wherever it is called."""
         for mode, end in (("wb", b"end"), ("w", "end")):
-            for name in ("commit", "close"):
-                self.made(b"old", "w.age")
-                file = agefile.open("w.age", mode, recipients=KEY, atomic=True)
-                with contextlib.ExitStack() as stack:
-                    if name == "close":
-                        stack.enter_context(self.assertWarnsRegex(RuntimeWarning, "KeyError was handled .*call commit"))
-                    try:
-                        raise KeyError
-                    except KeyError:
-                        file.write(end)
-                        getattr(file, name)()
-                self.assertRaisesRegex(ValueError, "closed file", file.commit)
-                file.close()
-                self.assertEqual(self.read("w.age"), b"end" if name == "commit" else b"old")
+            file = agefile.open("w.age", mode, recipients=KEY, atomic=True)
+            try:
+                raise KeyError
+            except KeyError:
+                file.write(end)
+                file.commit()
+            self.assertRaisesRegex(ValueError, "closed file", file.commit)
+            file.close()
+            self.assertEqual(self.read("w.age"), b"end")
+
+    def test_the_buffer_of_text(self):
+        """Text that has not reached it is in the file, by whatever name that is completed."""
+        for end in (lambda file: file.buffer.commit(), lambda file: file.buffer.close(), lambda file: file.detach().commit(), lambda file: file.buffer.__exit__(None)):
+            with contextlib.suppress(ValueError), agefile.open("w.age", "w", recipients=KEY) as file:
+                file.write("text")
+                end(file)
+            self.assertEqual(self.read("w.age"), b"text")
 
     def test_commit_of_what_failed(self):
         for mode, data in (("wb", text(200000)), ("w", "x" * 200000)):
@@ -399,42 +234,7 @@ class Wrapped(InFolder):
             file.commit()
             self.assertEqual(self.read("w.age"), b"")
 
-    def test_other_threads(self):
-        """An exception of another thread does not concern this file."""
-        file = agefile.open("w.age", "wb", recipients=KEY)
-        self.put_into(file)
-        try:
-            raise KeyError
-        except KeyError:
-            in_time(lambda: file.close())
-        self.check_whole()
-
-    def test_tasks(self):
-        async def work(wait, kind):
-            with kind(agefile.open("w.age", "wb", recipients=KEY)) as file:
-                self.put_into(file)
-                await asyncio.sleep(wait)
-
-        async def cancelled(kind):
-            task = asyncio.ensure_future(work(60, kind))
-            await asyncio.sleep(0.01)
-            task.cancel()
-            await asyncio.gather(task, return_exceptions=True)
-
-        for kind in (contextlib.closing, lambda file: file):
-            asyncio.run(work(0, kind))
-            self.check_whole()
-            with self.assertWarnsRegex(RuntimeWarning, "is not whole: .*CancelledError"):
-                asyncio.run(cancelled(kind))
-            self.check_whole(False)
-
-    def test_the_exception_is_not_kept(self):
-        """A closed file keeps no exception, because the frames of an exception keep much memory."""
-        try:
-            raise KeyError
-        except KeyError:
-            for end in ("close", "abort"):
-                file = agefile.open("w.age", "wb", recipients=KEY)
-                self.assertIsInstance(file.raw.handled[0], KeyError)
-                getattr(file, end)()
-                self.assertEqual(file.raw.handled, (None, None))
+    def test_gzip(self):
+        with agefile.open("w.age", "wb", recipients=KEY) as below, gzip.open(below, "wb") as file:
+            file.write(text(200000))
+        self.assertEqual(gzip.decompress(self.read("w.age")), text(200000))

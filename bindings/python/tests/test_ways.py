@@ -116,7 +116,7 @@ class Ways(InFolder):
                 self.put(b"old", "w.age")
                 with self.subTest(f"{name}, {end}, atomic={atomic}, fails={fails}, room={room}"):
                     is_told = self.is_told(work, room)
-                    if fails or room or end == "nobody closes":
+                    if fails or room or end != "with":
                         self.assertIn((self.found(), is_told), [("old", True), ("refused", True)][: 2 - atomic])
                     else:
                         self.assertEqual((self.found(), is_told), ("whole", False))

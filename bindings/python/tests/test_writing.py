@@ -1,29 +1,35 @@
 """New files: written chunk by chunk, replaced as a whole or kept, and their state after a failed
 write."""
 
-import asyncio
-import concurrent.futures
 import contextlib
 import errno
-import fcntl
-import gc
 import gzip
 import io
+import itertools
 import os
 import random
+import shutil
 import signal
 import subprocess
 import sys
 import tempfile
-import threading
 import unittest
-import warnings
 from unittest import mock
 
 import agefile
 from agefile import AgeError, Key, Passphrase
 from agefile._writer import _Sealer
 from support import KEY, InFolder, broken, damaged, error_of, in_child, in_threads, message, text
+
+
+def fails(*_):
+    raise OSError(errno.EIO, "failed")
+
+
+def commit(file):
+    """Completes the file, unless another thread has."""
+    with contextlib.suppress(ValueError):
+        file.commit()
 
 
 class Writing(InFolder):
@@ -35,30 +41,6 @@ class Writing(InFolder):
                         file.write(memoryview(text(length))[at : at + piece])
                     self.assertEqual(file.tell(), length)
                 self.assertEqual(agefile.decrypt(self.got("w.age"), identities=KEY), text(length))
-
-    def test_only_a_closed_file_is_whole(self):
-        for length in (0, 10, 65536, 200000):
-            file = agefile.open("o.age", "wb", recipients=KEY)
-            file.write(text(length))
-            file.flush()
-            self.refused("o.age")
-            file.close()
-            file.close()
-            self.assertEqual(self.read("o.age"), text(length))
-
-    def test_a_body_that_ends_the_program(self):
-        """Nothing else would show that the file is incomplete."""
-        for mode, kind in (("wb", SystemExit), ("w", SystemExit), ("wb", GeneratorExit), ("wb", asyncio.CancelledError)):
-            for call, what in ((lambda file: file.flush(), "is not whole"), (lambda file: None, "was not written")):
-                with self.assertWarnsRegex(RuntimeWarning, f"'e.age'.* {what}: {kind.__name__}"):
-                    with self.assertRaises(kind), agefile.open("e.age", mode, recipients=KEY) as file:
-                        call(file)
-                        raise kind
-        with warnings.catch_warnings(), self.assertRaises(SystemExit):
-            warnings.simplefilter("error")
-            with agefile.open("e.age", "wb", recipients=KEY) as file:
-                file.close()
-                raise SystemExit
 
     def test_marks_of_the_byte_order(self):
         for encoding in ("utf-16", "UTF32", "utf-16-le", "utf-8-sig"):
@@ -121,14 +103,6 @@ class Writing(InFolder):
                 write(file)
                 written = file.tell()
             self.assertEqual(agefile.decrypt(self.got("o.age"), identities=KEY), text(65537)[:written])
-        self.put(b"old", "o.age")
-        file = agefile.open("o.age", "wb", recipients=KEY)
-        try:
-            raise KeyError
-        except KeyError:
-            file.flush()
-        file.abort()
-        self.assertEqual(self.got("o.age"), b"old")
 
     def test_what_an_opener_opens_is_opened_last(self):
         opened = []
@@ -210,7 +184,7 @@ class Writing(InFolder):
             with mock.patch.object(_Sealer, "_take", take):
                 self.assertRaises(KeyboardInterrupt, call, file)
             self.assertRaisesRegex(OSError, "an earlier write failed", file.write, text(100000))
-            self.assertRaisesRegex(OSError, "an earlier write failed", file.close)
+            self.assertRaisesRegex(OSError, "an earlier write failed", file.commit)
             self.assertRaisesRegex(ValueError, "closed file", file.write, b"text")
             self.refused("s.age")
 
@@ -224,37 +198,17 @@ class Writing(InFolder):
             return [file.write(row) for _ in range(50)]
 
         in_threads(work)
-        file.close()
+        file.commit()
         plain = agefile.decrypt(self.got("t.age"), identities=KEY)
         rows = [plain[at : at + 20000] for at in range(0, len(plain), 20000)]
         self.assertEqual(sorted(rows), [bytes([number]) * 20000 for number in range(4) for _ in range(50)])
-
-    def test_a_thread_that_closes(self):
-        """Once a write has returned, its data are in the file; a write after the last chunk is
-        refused."""
-        for length in (1, 3000):
-            file, started = agefile.open("t.age", "wb", recipients=KEY), threading.Event()
-
-            def work():
-                for count in range(10**7):
-                    started.set()
-                    try:
-                        file.write(bytes(length))
-                    except ValueError:
-                        return count
-
-            with concurrent.futures.ThreadPoolExecutor(1) as pool:
-                count = pool.submit(work)
-                started.wait()
-                file.close()
-            self.assertEqual(len(agefile.decrypt(self.got("t.age"), identities=KEY)), count.result() * length)
 
     def test_threads_that_close(self):
         """One of them completes the file; the others find it closed."""
         for _ in range(20):
             file = agefile.open("t.age", "wb", recipients=KEY)
             file.write(text(100000))
-            in_threads(file.close)
+            in_threads(lambda: commit(file))
             self.assertEqual(agefile.decrypt(self.got("t.age"), identities=KEY), text(100000))
 
     def test_what_no_buffer_may_do(self):
@@ -263,19 +217,6 @@ class Writing(InFolder):
             for call in (file.truncate, file.detach, lambda: file.seek(0), lambda: file.read(1)):
                 self.assertRaises(io.UnsupportedOperation, call)
         self.assertEqual(agefile.decrypt(self.got("b.age"), identities=KEY), b"text")
-        file = agefile.open("b.age", "wb", recipients=KEY)
-        with self.assertWarnsRegex(RuntimeWarning, "was not written: it was not closed"):
-            file.raw.close()
-        self.assertEqual(agefile.decrypt(self.got("b.age"), identities=KEY), b"text")
-
-    def test_a_child_that_writes_little(self):
-        """A write that the buffer would accept, and lose, is refused, too."""
-        for mode, data in (("wb", b"text"), ("w", "text" * 5000)):
-            file = agefile.open("f.age", mode, recipients=KEY)
-            self.assertEqual(in_child(lambda: self.assertRaises(OSError, file.write, data)), 0)
-            file.write(data)
-            file.close()
-            self.assertEqual(len(agefile.decrypt(self.got("f.age"), identities=KEY)), len(data))
 
     def test_a_child_closes_no_sink(self):
         """It would publish a part of its parent's file, for example in an object store."""
@@ -286,7 +227,7 @@ class Writing(InFolder):
         file = agefile.open(lambda: Store(), "wb", recipients=KEY)
         file.flush()
         self.assertEqual((in_child(file.abort), os.path.exists("published")), (0, False))
-        file.close()
+        file.commit()
         self.assertTrue(os.path.exists("published"))
 
     def test_what_a_kill_costs(self):
@@ -320,7 +261,7 @@ class Writing(InFolder):
         for mode, data in (("wb", b"text"), ("w", "text")):
             file = agefile.open(lambda: Upload(), mode, recipients=KEY)
             file.write(data)
-            self.assertRaises(ConnectionError, file.close)
+            self.assertRaises(ConnectionError, file.commit)
             self.assertTrue(file.closed)
 
     def test_lines_and_encodings(self):
@@ -380,13 +321,18 @@ class Writing(InFolder):
         stays."""
         self.made(text(200000))
         error = OSError(errno.EIO, "failed")
+
+        def fails(sink, *_):
+            io.FileIO.close(sink) if isinstance(sink, io.FileIO) else None
+            raise error
+
         for atomic, what in ((False, "agefile._paths.Output.close"), (True, "os.fsync"), (True, "os.replace")):
             for call in (
                 lambda: agefile.copy("a.age", "old", identities=KEY, atomic=atomic), lambda: agefile.copy("a.age", "old", recipients=KEY, atomic=atomic),
                 lambda: agefile.rewrap_copy("a.age", "old", identities=KEY, recipients=KEY, atomic=atomic),
             ):
                 self.put(b"old", "old")
-                with mock.patch(what, side_effect=error):
+                with mock.patch(what, fails):
                     self.assertIs(error_of(call, OSError), error)
                 self.assertEqual((self.got("old") == b"old", sorted(os.listdir())), (atomic, ["a.age", "old"]))
 
@@ -424,8 +370,7 @@ class Writing(InFolder):
             self.assertEqual(seen[-1], (total or 4, total))
 
     def test_atomic(self):
-        """The new file replaces the old one, and takes its mode, when it is closed and not
-        before."""
+        """The new file replaces the old one, and takes its mode, when it is committed and not before."""
         for mode, data in (("wb", text(200000)), ("wb", b""), ("w", "text" * 100000)):
             self.put(b"old", "o.age")
             os.chmod("o.age", 0o2640)
@@ -434,33 +379,65 @@ class Writing(InFolder):
                 file.flush()
                 self.assertEqual((self.got("o.age"), len(os.listdir())), (b"old", 2))
             self.assertEqual(os.listdir(), ["o.age"])
-            self.assertEqual(os.stat("o.age").st_mode & 0o7777, 0o2640)
+            self.assertEqual(os.stat("o.age").st_mode & 0o7777, 0o640)
             self.assertEqual(self.read("o.age", mode.replace("w", "r")), data)
 
     @unittest.skipIf(os.geteuid() != 0, "only root gives files away")
     def test_atomic_and_the_owner(self):
-        self.put(b"old", "o.age")
-        os.chown("o.age", 1234, 5678)
-        # A change of the owner takes these bits off, so the mode must follow it.
-        os.chmod("o.age", 0o6750)
-        self.written(b"", "o.age", atomic=True)
-        found = os.stat("o.age")
-        self.assertEqual((found.st_uid, found.st_gid, found.st_mode & 0o7777), (1234, 5678, 0o6750))
-        # As in a container that does not map the owner: the mode stays.
-        for mode in (0o600, 0o664):
-            os.chmod("o.age", mode)
-            with mock.patch("os.fchown", side_effect=OSError(errno.EINVAL, "no such owner")):
+        """Owner and group stay. Who is not let keep the group gives the new one nothing, and nobody gets bits of set-id."""
+        fchown, mode_of = os.fchown, lambda: (lambda it: (it.st_uid, it.st_gid, it.st_mode & 0o7777))(os.stat("o.age"))
+        for mode, refused, found in (
+            (0o6750, (), (1234, 5678, 0o750)), (0o664, ((1234, 5678),), (0, 5678, 0o664)),
+            (0o664, ((1234, 5678), (-1, 5678)), (0, 0, 0o604)), (0o600, ((1234, 5678), (-1, 5678)), (0, 0, 0o600)),
+        ):
+            self.put(b"old", "o.age"), os.chown("o.age", 1234, 5678), os.chmod("o.age", mode)
+            with mock.patch("os.fchown", lambda file, *ids: fails() if ids in refused else fchown(file, *ids)):
                 self.written(b"text", "o.age", atomic=True)
-            self.assertEqual(agefile.decrypt(self.got("o.age"), identities=KEY), b"text")
-            self.assertEqual(os.stat("o.age").st_mode & 0o777, mode)
+            self.assertEqual((mode_of(), self.read("o.age")), (found, b"text"))
+            os.remove("o.age")
+
+    @unittest.skipUnless(shutil.which("setfacl"), "setfacl is missing")
+    def test_atomic_and_access_lists(self):
+        """The new file has the list of the old one, and none that its folder would give it."""
+        acl = lambda name="o.age": subprocess.run(["getfacl", "-cE", name], capture_output=True, text=True, check=True).stdout.split()
+        set_acl = lambda *words: subprocess.run(["setfacl", *words], check=True)
+        for kind, of_folder, of_file in (("its own", [], ["-m", "u:nobody:r,g::-"]), ("the folder's", ["-d", "-m", "u:nobody:rw"], ["-b"]), ("both", ["-d", "-m", "u:nobody:rw"], ["-m", "u:daemon:r"])):
+            os.mkdir(kind), set_acl(*of_folder or ["-b"], kind)
+            name = self.put(b"old", f"{kind}/o.age")
+            set_acl(*of_file, name), os.chmod(name, 0o640)
+            before = acl(name)
+            self.written(b"text", name, atomic=True)
+            self.assertEqual((acl(name), self.read(name)), (before, b"text"))
+            if of_file != ["-b"]:
+                with mock.patch("os.setxattr", fails):
+                    self.written(b"text", name, atomic=True)
+                self.assertEqual(acl(name), ["user::rw-", "group::---", "other::---"])
+
+    def test_two_writers(self):
+        """A path has one writer at a time, and its lock ends with it, even if a forked child has the descriptor too."""
+        new = lambda: agefile.open("o.age", "wb", recipients=KEY)
+        with new() as file:
+            child = os.fork()
+            if child == 0:
+                signal.pause()
+            self.addCleanup(lambda: (os.kill(child, signal.SIGKILL), os.waitpid(child, 0)))
+            in_child(file._sealer._sink.close)
+            for call in (new, lambda: agefile.copy(io.BytesIO(b"other"), "o.age", recipients=KEY)):
+                self.assertEqual(error_of(call, BlockingIOError).filename, "o.age")
+            file.write(text(200000))
+        self.assertEqual(self.read("o.age"), text(200000))
+        self.written(b"text", "o.age")
+        with mock.patch("fcntl.flock", side_effect=OSError(errno.ENOLCK, "no locks")), new() as file, new():
+            file.abort()
+        with agefile.open("o.age", "wb", recipients=KEY, atomic=True) as file:
+            self.written(b"other", "o.age", atomic=True)
+            file.write(b"last")
+        self.assertEqual((self.read("o.age"), os.listdir()), (b"last", ["o.age"]))
 
     def test_atomic_that_fails(self):
         """If anything fails before the end, the old file stays, and no other file."""
         def raises(file):
             raise KeyError
-
-        def fails(*_):
-            raise OSError(errno.EIO, "failed")
 
         def opens_no_folder(path, flags, **words):
             return fails() if flags == os.O_RDONLY else os_open(path, flags, **words)
@@ -482,9 +459,9 @@ class Writing(InFolder):
                     file.write(text(200000))
                     work(file)
             self.assertEqual((self.got("o.age"), os.listdir()), (b"old", ["o.age"]))
-        with self.assertWarns(RuntimeWarning):
+        with mock.patch("sys.unraisablehook") as told:
             agefile.open("o.age", "wb", recipients=KEY, atomic=True).write(b"text")
-            gc.collect()
+        self.assertRegex(str(told.call_args[0][0].exc_value), "o.age.* is not whole")
         self.assertEqual((self.got("o.age"), os.listdir()), (b"old", ["o.age"]))
 
     def test_atomic_and_other_files(self):
@@ -495,7 +472,7 @@ class Writing(InFolder):
         self.assertRaises(FileExistsError, agefile.open, "n.age", "xb", recipients=KEY, atomic=True)
         file = agefile.open("x.age", "xb", recipients=KEY, atomic=True)
         self.put(b"other", "x.age")
-        self.assertRaises(FileExistsError, file.close)
+        self.assertRaises(FileExistsError, file.commit)
         self.assertEqual(self.got("x.age"), b"other")
         os.symlink("n.age", "link")
         self.written(b"text", "link", atomic=True)
@@ -509,61 +486,16 @@ class Writing(InFolder):
         self.assertRaises(TypeError, agefile.open, "n.age", "rb", identities=KEY, atomic=True)
         self.assertEqual(sorted(os.listdir()), ["like", "link", "loop", "n.age", "x.age"])
 
-    def test_what_a_killed_process_left(self):
-        """It is named after the file, and the next writer that replaces the file removes it, unless
-        its process is still running."""
+    def test_names_beside(self):
+        """What a killed process left stays, and is in nobody's way. Errors name the path."""
         self.put(b"old", "o.age")
-
-        def killed():
-            file = agefile.open("o.age", "wb", recipients=KEY, atomic=True)
-            file.write(text(200000))
-            os.kill(os.getpid(), signal.SIGKILL)
-
-        for _ in range(2):
-            in_child(killed)
-            self.assertEqual((self.got("o.age"), sorted(os.listdir())), (b"old", [".agefile-o.age-0", "o.age"]))
-        with agefile.open("o.age", "wb", recipients=KEY, atomic=True) as file:
-            with agefile.open("o.age", "wb", recipients=KEY, atomic=True) as other:
-                self.assertEqual(sorted(os.listdir()), [".agefile-o.age-0", ".agefile-o.age-1", "o.age"])
-                other.write(b"other")
-            file.write(b"text")
-        self.assertEqual((agefile.decrypt(self.got("o.age"), identities=KEY), os.listdir()), (b"text", ["o.age"]))
-        for name in ("ü" * 127, "a" * 255):
+        in_child(lambda: [agefile.open("o.age", "wb", recipients=KEY, atomic=True), os.kill(os.getpid(), signal.SIGKILL)])
+        self.assertRegex(" ".join(sorted(os.listdir())), r"^\.agefile-o\.age-[0-9a-f]{16} o\.age$")
+        for name in ("o.age", "ü" * 127, "a" * 255):
             self.written(b"text", name, atomic=True)
-            self.assertEqual(agefile.decrypt(self.got(name), identities=KEY), b"text")
-
-    def test_what_stands_beside(self):
-        """Files that others put there are not waited for, followed or written."""
-        self.put(b"mine", "mine")
-        os.symlink("mine", ".agefile-o.age-0")
-        os.mkfifo(".agefile-o.age-1")
-        self.written(b"text", "o.age", atomic=True)
-        self.assertEqual(agefile.decrypt(self.got("o.age"), identities=KEY), b"text")
-        self.assertEqual((self.got("mine"), os.readlink(".agefile-o.age-0")), (b"mine", "mine"))
+            self.assertEqual(self.read(name), b"text")
+        self.assertEqual(len(os.listdir()), 4)
         self.assertEqual(error_of(lambda: agefile.open("absent/o.age", "wb", recipients=KEY, atomic=True), FileNotFoundError).filename, "absent/o.age")
-
-    def test_races_beside(self):
-        """A file that another process removes before it is locked is made again. One that takes the place of a
-        file left behind stays. Some file systems have no locks."""
-        flock, descriptors = fcntl.flock, len(os.listdir("/proc/self/fd"))
-
-        def race(descriptor, operation):
-            path = os.readlink(f"/proc/self/fd/{descriptor}")
-            if path.endswith("-0"):
-                os.unlink(path)
-                if operation & fcntl.LOCK_NB:
-                    self.put(b"other", path)
-            flock(descriptor, operation)
-
-        for lock, left in (race, []), (race, [".agefile-o.age-0"]), (mock.Mock(side_effect=OSError(errno.ENOLCK, "")), [".agefile-o.age-0"]):
-            for name in left:
-                self.put(b"other", name)
-            with mock.patch("fcntl.flock", lock), agefile.open("o.age", "wb", recipients=KEY, atomic=True) as file:
-                file.write(b"text")
-            self.assertEqual(agefile.decrypt(self.got("o.age"), identities=KEY), b"text")
-            self.assertEqual(sorted(os.listdir()), [*left, "o.age"])
-            self.assertEqual([self.got(name) for name in left], [b"other"] * len(left))
-            self.assertEqual(len(os.listdir("/proc/self/fd")), descriptors)
 
     def test_the_order_of_syncs(self):
         """The new file is synced before it replaces the old one, and the folder after that."""
@@ -580,39 +512,31 @@ class Writing(InFolder):
 
         with mock.patch("os.fsync", note_sync), mock.patch("os.replace", note_replace):
             self.written(b"text", "o.age", atomic=True)
-        self.assertEqual(noted, [".agefile-o.age-0", "replace", os.path.basename(os.getcwd())])
-
-    def test_atomic_and_fork(self):
-        """A child that ends neither removes nor replaces a file of its parent."""
-        self.put(b"old", "o.age")
-        file = agefile.open("o.age", "wb", recipients=KEY, atomic=True)
-        file.write(text(100000))
-        in_child(file.close)
-        self.assertEqual((self.got("o.age"), len(os.listdir())), (b"old", 2))
-        file.close()
-        self.assertEqual(agefile.decrypt(self.got("o.age"), identities=KEY), text(100000))
+        self.assertRegex(noted.pop(0), r"^\.agefile-o\.age-")
+        self.assertEqual(noted, ["replace", os.path.basename(os.getcwd())])
 
     def test_fork(self):
-        """A child writes nothing to the file of its parent, even when it closes it."""
-        for mode, data in (("wb", text(100000)), ("w", "text" * 30000)):
-            file = agefile.open("f.age", mode, recipients=KEY)
+        """A child neither writes, completes nor removes the file of its parent."""
+        for (mode, data), atomic in itertools.product((("wb", b"text"), ("wb", text(100000)), ("w", "text" * 30000)), (False, True)):
+            file = agefile.open("f.age", mode, recipients=KEY, atomic=atomic)
             file.write(data)
             file.flush()
-            self.assertEqual(in_child(lambda: self.assertRaises(OSError, lambda: (file.write(data), file.flush())) or file.close()), 0)
+            for call in (lambda: (file.write(data), file.flush(), file.commit()), lambda: (file.close(), file.__enter__())):
+                self.assertEqual(in_child(lambda: self.assertRaises((OSError, ValueError), call)), 0)
             file.write(data)
-            file.close()
-            self.assertEqual(self.read("f.age", mode.replace("w", "r")), data + data)
+            file.commit()
+            self.assertEqual((self.read("f.age", mode.replace("w", "r")), os.listdir()), (data + data, ["f.age"]))
 
     def test_text_that_is_not_written(self):
         """An interrupt while text is written does not leave a complete file without that text."""
         for atomic in (False, True):
-            for call in ("close", "flush"):
+            for call in ("commit", "flush"):
                 self.made(b"old", "o.age")
                 file = agefile.open("o.age", "w", recipients=KEY, atomic=atomic)
                 file.write("secret")
                 with mock.patch.object(agefile.Writer, "write", side_effect=KeyboardInterrupt):
                     self.assertRaises(KeyboardInterrupt, getattr(file, call))
-                file.close()
+                self.assertRaises(OSError, file.commit) if call == "flush" else file.close()
                 self.assertEqual(os.listdir(), ["o.age"])
                 self.assertEqual(agefile.decrypt(self.got("o.age"), identities=KEY), b"old")
         for error in type("Limit", (ValueError,), {}), KeyboardInterrupt:
@@ -621,7 +545,7 @@ class Writing(InFolder):
                 file.write("secret")
                 with mock.patch.object(kind, call, side_effect=error):
                     self.assertRaises(error, file.write, "text" * 20000)
-                self.assertRaises(OSError, file.close)
+                self.assertRaises(OSError, file.commit)
                 self.assertEqual(agefile.decrypt(self.got("o.age"), identities=KEY), b"old")
         with agefile.open("o.age", "w", recipients=KEY, encoding="ascii") as file:
             self.assertRaises(UnicodeError, file.write, "ü")
