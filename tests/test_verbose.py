@@ -6,7 +6,6 @@ import shlex
 import signal
 
 from fixture import PLAIN, changed, with_other_mac
-from messages import message
 from program import BY_PASSPHRASE, OPENING, ProgramCase, read, write
 
 # The commands that read the header of IN, which must follow.
