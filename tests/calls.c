@@ -6,7 +6,8 @@
 // "met". The file that TRACE names gets a line for each call: its kind, the file, and the result. A
 // read of the character device /dev/urandom returns the bytes of the file that URANDOM names. If
 // INODE is set, the number of each file is its size times this. If BAD is set, to two offsets, no
-// byte of a file IN.age can be read from the first to before the second.
+// byte of a file IN.age can be read from the first to before the second. If STEP is set, the clock
+// starts at 0, and each call that reads it finds it this many milliseconds later.
 #define _GNU_SOURCE
 #include <dlfcn.h>
 #include <errno.h>
@@ -18,6 +19,7 @@
 #include <sys/stat.h>
 #include <sys/syscall.h>
 #include <sys/sysmacros.h>
+#include <time.h>
 #include <unistd.h>
 
 static void *real(const char *name)
@@ -226,4 +228,17 @@ int lchown(const char *name, uid_t owner, gid_t group)
     int result = allowed("lchown", &calls, 0) < 0 ? -1 : next(name, owner, group);
     trace_name("lchown", name, result);
     return result;
+}
+
+int clock_gettime(clockid_t clock, struct timespec *now)
+{
+    static long calls;
+    int (*next)(clockid_t, struct timespec *) =
+        (int (*)(clockid_t, struct timespec *))real("clock_gettime");
+    const char *step = getenv("STEP");
+    if (step == NULL)
+        return next(clock, now);
+    long time = calls++ * atol(step);
+    *now = (struct timespec){time / 1000, time % 1000 * 1000000};
+    return 0;
 }

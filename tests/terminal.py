@@ -10,7 +10,7 @@ import time
 class Terminal:
     def __init__(self, *words, environment=os.environ):
         self.said = b""
-        self.ends = time.monotonic() + 60
+        self.ends = time.monotonic() + 600
         self.process, self.controller = pty.fork()
         if self.process == 0:
             try:

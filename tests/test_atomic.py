@@ -46,11 +46,11 @@ SPECIAL = {
 
 
 def wait_for(is_met):
-    for _ in range(6000):
+    for _ in range(60000):
         if is_met():
             return
         time.sleep(0.01)
-    raise AssertionError("it did not come in a minute")
+    raise AssertionError("it did not come in ten minutes")
 
 
 class Calls(CallCase):

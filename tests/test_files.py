@@ -153,7 +153,7 @@ class Out(Files):
             self.addCleanup(reader.kill)
             with self.subTest(options):
                 self.assert_ended(self.run_line(f"{options} -o pipe key.age"))
-                self.assert_bytes(reader.communicate(timeout=20)[0], HELLO)
+                self.assert_bytes(reader.communicate(timeout=600)[0], HELLO)
                 self.assert_ended(self.run_line(f"{options} -o /dev/stdout key.age"), out=HELLO)
 
 

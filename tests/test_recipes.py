@@ -54,7 +54,7 @@ def block(kind):
 def run(line, **environment):
     """What the line prints, on standard output and standard error."""
     return subprocess.run(
-        ["/bin/sh", "-c", line], env=environment, stdin=subprocess.DEVNULL, stdout=subprocess.PIPE, stderr=subprocess.STDOUT, timeout=60
+        ["/bin/sh", "-c", line], env=environment, stdin=subprocess.DEVNULL, stdout=subprocess.PIPE, stderr=subprocess.STDOUT, timeout=600
     ).stdout
 
 
@@ -153,7 +153,7 @@ class Cron(unittest.TestCase):
 
     def start_half(self):
         """Starts a run, which has sent a part of the archive to agep."""
-        self.replace_tar("head -c 1000000 /dev/zero", "echo >half", "exec sleep 60")
+        self.replace_tar("head -c 1000000 /dev/zero", "echo >half", "exec sleep 6000")
         job = subprocess.Popen(["/bin/sh", "-c", self.job], env=self.environment(), stdin=subprocess.DEVNULL, stderr=subprocess.DEVNULL, start_new_session=True)
         while not os.path.exists("half"):
             time.sleep(0.01)
@@ -286,7 +286,7 @@ class Typed(ProgramCase):
             while b"no echo" not in agent.said:
                 self.assertTrue(agent.reads(), agent.said)
             agent.type_secret(self.OLD)
-            self.assertEqual((agent.status(), service.communicate(timeout=60)[0]), (0, fixture.HELLO))
+            self.assertEqual((agent.status(), service.communicate(timeout=600)[0]), (0, fixture.HELLO))
             self.assert_secret(agent.said)
 
     def test_mistyped(self):
@@ -317,7 +317,7 @@ class Moved(ProgramCase):
         write("passphrase", fixture.PASSPHRASE)
 
     def bash(self, line):
-        done = subprocess.run(["bash", "-c", line], env=self.environment, stdin=subprocess.DEVNULL, capture_output=True, timeout=60)
+        done = subprocess.run(["bash", "-c", line], env=self.environment, stdin=subprocess.DEVNULL, capture_output=True, timeout=600)
         self.assertEqual(done.returncode, 0, done.stderr)
         return done.stdout
 
