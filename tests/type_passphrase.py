@@ -6,6 +6,7 @@ usage: tests/type_passphrase.py PASSPHRASE_FILE COMMAND..
 Ends with the status of the command; if that is not 0, prints its output on standard error.
 """
 
+import re
 import sys
 
 sys.dont_write_bytecode = True
@@ -17,10 +18,8 @@ def main():
     with open(sys.argv[1], "rb") as file:
         line = file.read().removesuffix(b"\n")
     terminal = Terminal(*sys.argv[2:])
-    answered = 0
     while terminal.reads():
-        if terminal.said.count(b": ") > answered:
-            answered += 1
+        if re.search(rb"passphrase[^\r\n]*: $", terminal.said):
             terminal.type_secret(line)
     status = terminal.status()
     if status != 0:
