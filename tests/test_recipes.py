@@ -1,8 +1,10 @@
 """The recipes of docs/USE.md that a transcript cannot run: the crontab and the service of systemd, with the
 program as ./install installs it, in an environment like theirs; passphrases typed at a terminal, also by the
-lines of README.md and the manual page; files of other programs. The commands of CONTRIBUTING.md for one crate."""
+lines of README.md and the manual page; databases; files of other programs. The commands of CONTRIBUTING.md for
+one crate."""
 
 import base64
+import contextlib
 import fcntl
 import glob
 import os
@@ -34,10 +36,10 @@ def text_of(page):
     return read(f"{ROOT}/{page}").decode()
 
 
-def lines_below(heading):
-    """The lines of the block of sh below this heading of docs/USE.md."""
+def lines_below(heading, kind="sh"):
+    """The lines of the blocks of this kind below this heading of docs/USE.md."""
     section = text_of("docs/USE.md").partition(f"\n### {heading}\n")[2].partition("\n### ")[0]
-    return section.partition("```sh\n")[2].partition("```")[0].splitlines()
+    return "".join(re.findall(f"^```{kind}\n(.*?)^```$", section, re.MULTILINE | re.DOTALL)).splitlines()
 
 
 def block(kind):
@@ -62,7 +64,8 @@ def run(line, **environment):
 # runs the blocks `console` of README.md and docs/USE.md.
 RUN_BY = {
     "README.md": ("sh test_packages.Packages.test_the_wheel", "sh Typed.test_lines", "python test_library.Document.test_python"),
-    "docs/USE.md": ("sh Blocks.test_secrets", "sh Typed.test_lines", "crontab Cron.test_backup", "ini Systemd.test_service", "sh Moved.test_age"),
+    "docs/USE.md": ("sh Blocks.test_secrets", "sh Typed.test_lines", "crontab Cron.test_backup", "ini Systemd.test_service",
+                    "sh Database.test_whole_or_nothing", "sh Database.test_saved", "sh Database.test_one_table", "conf Database.test_log", "sh Moved.test_age"),
     "docs/C.md": ("sh test_library.Document.test_program", "c test_library.Document.test_program", "c test_library.Document.test_loop"),
     "docs/PACKAGES.md": (*2 * ("console test_packages.Packages.test_the_tarball",), "sh test_releases.Release.test_release"),
     "docs/PROMISES.md": ("console test_sources.Documents.test_commands",),
@@ -305,6 +308,170 @@ class Typed(ProgramCase):
                 self.assertEqual(terminal.status(), 1)
                 self.assertTrue(terminal.said.endswith(b"\r\nnot the same\r\n"), terminal.said)
                 self.assertEqual((sorted(os.listdir(".")), read("a.age")), before)
+
+
+# Where Debian puts the programs of the server.
+SERVER = [os.path.dirname(name) for name in sorted(glob.glob("/usr/lib/postgresql/*/bin/initdb"))]
+# Rows that end in a long text, because a part of one is a row too.
+TABLES = """
+create table pay (id int primary key, name text);
+insert into pay select i, 'é' || repeat(md5(i::text), 10) from generate_series(1, 20000) i;
+create table small (id int, t text);
+insert into small values (1, 'one'), (2, E'two\\ttabs\\n');
+"""
+
+
+def spoiled(file):
+    """The bytes of a file with a damaged chunk, and of one that is cut."""
+    at = len(file) * 2 // 3
+    return {"damaged": file[:at] + bytes([file[at] ^ 1]) + file[at + 1 :], "cut": file[:at]}
+
+
+def into_copy(line):
+    """A line that restores the database `shop`, for `copy`."""
+    return re.sub(" shop$", " copy", line)
+
+
+@unittest.skipUnless(SERVER, "postgresql is missing")
+class Database(unittest.TestCase):
+    """The lines for PostgreSQL. Its server refuses to run as root, so another user runs them all."""
+
+    @classmethod
+    def setUpClass(cls):
+        cls.folder = scratch()
+        user = {"user": "nobody", "group": "nogroup", "extra_groups": []} if os.geteuid() == 0 else {}
+        os.mkdir(f"{cls.folder}/bin")
+        shutil.copy(AGEP, f"{cls.folder}/bin")
+        write(f"{cls.folder}/key", os.urandom(32))
+        for name in ("", "bin", "key") if user else ():
+            shutil.chown(f"{cls.folder}/{name}", "nobody")
+        environment = {"PATH": f"{cls.folder}/bin:{SERVER[-1]}:/usr/bin:/bin", "LC_ALL": "C.UTF-8", "PGHOST": cls.folder, "PGUSER": "postgres"}
+        cls.how = {"cwd": cls.folder, "env": environment, "stdin": subprocess.DEVNULL, "text": True, **user}
+        words = ["initdb", "-D", "data", "-U", "postgres", "-A", "trust", "--no-sync"]
+        subprocess.run(words, check=True, stdout=subprocess.DEVNULL, **cls.how)
+
+    def setUp(self):
+        lines = lines_below("Back up a database")
+        ready, self.dump, self.restore, *self.plain, self.tar, self.names, self.blocks, self.table = lines
+        self.assertEqual(ready, "set -o pipefail")
+
+    def bash(self, line):
+        return subprocess.run(["bash", "-o", "pipefail", "-c", line], capture_output=True, timeout=120, **self.how)
+
+    def does(self, line):
+        """What a line prints, which must succeed."""
+        done = self.bash(line)
+        self.assertEqual(done.returncode, 0, f"{line}\n{done.stderr}")
+        return done.stdout
+
+    @contextlib.contextmanager
+    def server(self, data, *more):
+        """Runs the server on this folder: its log until it is ready, or has ended."""
+        settings = ("-k", self.folder, "-c", "listen_addresses=", "-c", "fsync=off", "-c", "hot_standby=off", *more)
+        words = ["timeout", "-s", "QUIT", "300", "postgres", "-D", data, *settings]
+        with subprocess.Popen(words, stderr=subprocess.PIPE, **self.how) as process:
+            log = ""
+            for line in process.stderr:
+                log += line
+                if "ready to accept connections" in line:
+                    break
+            try:
+                yield log
+            finally:
+                process.send_signal(signal.SIGINT)
+                process.communicate()
+
+    @contextlib.contextmanager
+    def shop(self):
+        """Runs the server with the database `shop`, and an empty one, `copy`."""
+        with self.server("data"):
+            self.does("for name in shop copy; do dropdb --if-exists $name && createdb $name || exit; done")
+            self.does(f"psql -q -v ON_ERROR_STOP=1 shop <<'end'\n{TABLES}end")
+            yield
+
+    def rows(self, database, table):
+        """The lines of a table, none if it does not exist."""
+        return self.bash(f"psql -Atc 'table {table}' {database}").stdout.splitlines()
+
+    def assert_restored(self, is_whole):
+        for table in ("pay", "small"):
+            self.assertEqual(self.rows("copy", table), self.rows("shop", table) if is_whole else [])
+
+    def test_whole_or_nothing(self):
+        """A whole dump is restored, and nothing of one that is damaged or cut."""
+        for make, restore in (self.dump, self.restore), self.plain[:2]:
+            name = f"{self.folder}/{make.split()[-1]}"
+            with self.shop():
+                self.does(make)
+                file = read(name)
+                for title, text in {**spoiled(file), "whole": file}.items():
+                    with self.subTest(f"{title} {make.split()[-1]}"):
+                        write(name, text)
+                        self.assertEqual(self.bash(into_copy(restore)).returncode == 0, title == "whole")
+                        self.assert_restored(title == "whole")
+
+    def test_saved(self):
+        """Of a damaged plain dump, all rows are restored but those of the lost chunk."""
+        make, _, save, restore = self.plain
+        with self.shop():
+            self.does(make)
+            write(f"{self.folder}/shop.sql.age", spoiled(read(f"{self.folder}/shop.sql.age"))["damaged"])
+            self.assertEqual(self.bash(save).returncode, 1)
+            self.does(into_copy(restore))
+            old, new = self.rows("shop", "pay"), self.rows("copy", "pay")
+            self.assertLessEqual(set(new), set(old))
+            self.assertIn(len(old) - len(new), [65536 // len(old[-1].encode()) + more for more in range(-1, 3)])
+            self.assertEqual(self.rows("copy", "small"), self.rows("shop", "small"))
+
+    def test_one_table(self):
+        """One table of a dump is restored by a range, and nothing of it if it is damaged."""
+        with self.shop():
+            self.does(self.tar)
+            names = dict(re.findall(r"^COPY public\.(\w+) .*/(\d+\.dat)';$", self.does(self.names), re.MULTILINE))
+            blocks = re.findall(r"^block (\d+): (.*)$", self.does(self.blocks), re.MULTILINE)
+            numbers = {name: (first, int(after) - int(first)) for (first, name), (after, _) in zip(blocks, blocks[1:])}
+            lines = {}
+            for table in ("small", "pay"):
+                counts = map(str, numbers[names[table]])
+                line = re.sub(r"\d+(?= \* 512)", lambda _: next(counts), self.table)
+                lines[table] = into_copy(line.replace("COPY small", f"COPY {table}"))
+            self.does("pg_dump --schema-only shop | psql -q copy")
+            for line in lines.values():
+                self.does(line)
+            self.assert_restored(True)
+            self.does("psql -q -c 'truncate pay' copy")
+            for title, text in spoiled(read(f"{self.folder}/shop.tar.age")).items():
+                with self.subTest(title):
+                    write(f"{self.folder}/shop.tar.age", text)
+                    self.assertNotEqual(self.bash(lines["pay"]).returncode, 0)
+                    self.assertEqual(self.rows("copy", "pay"), [])
+
+    def test_log(self):
+        """PostgreSQL archives its log, and starts from a whole archive, but not from a damaged one. An archived
+        segment is accepted again, and never overwritten."""
+        conf = "\n".join(lines_below("Archive the log of a database", "conf"))
+        conf = conf.replace("/etc/wal.key", f"{self.folder}/key").replace("/srv/", f"{self.folder}/")
+        self.does(f"mkdir wal && cp -a data live && cat >>live/postgresql.conf <<'end'\n{conf}\nend")
+        self.does("cp -a live old && touch old/recovery.signal")
+        with self.server("live"):
+            for number in "123":
+                self.does(f"psql -c 'create table z{number} as select {number}' -c 'select pg_switch_wal()'")
+        segment = sorted(glob.glob(f"{self.folder}/wal/*.age"))[1]
+        self.does(f"agep decrypt -k key -o same {segment} && cp same other && echo >>other")
+        file = read(segment)
+        archive = re.search("^archive_command = '(.*)'$", conf, re.MULTILINE)[1]
+        for name, status in ("same", 0), ("other", 1):
+            line = archive.replace("%f", os.path.basename(segment)[:-4]).replace("%p", name)
+            self.assertEqual(self.bash(line).returncode, status)
+            self.assertTrue(read(segment) == file)
+        for text, is_whole in (file, True), (spoiled(file)["damaged"], False):
+            write(segment, text)
+            self.does("rm -rf restored && cp -a old restored")
+            with self.server("restored", "-c", "archive_mode=off") as log:
+                self.assertEqual(" is damaged\n" in log, not is_whole)
+                self.assertEqual("archive recovery complete" in log, is_whole)
+                tables = [self.rows("postgres", f"z{number}") for number in "123"]
+                self.assertEqual(tables, [["1"], ["2"], ["3"]] if is_whole else [[]] * 3)
 
 
 class Moved(ProgramCase):
