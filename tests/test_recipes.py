@@ -22,6 +22,8 @@ from program import AGEP, ROOT, ProgramCase, made_once, read, scratch, write
 from terminal import Terminal
 
 PASSPHRASE = b"correct horse\n"
+# Of sudo, what the lines depend on: it closes all but the standard streams.
+SUDO = b"#!/usr/bin/python3\nimport os, sys\nos.closerange(3, 1024)\nos.execvp(sys.argv[1], sys.argv[1:])\n"
 
 
 @made_once
@@ -201,6 +203,8 @@ class Typed(ProgramCase):
             shutil.rmtree(name, ignore_errors=True)
             os.mkdir(name)
         os.symlink(AGEP, "bin/agep")
+        write("bin/sudo", SUDO)
+        os.chmod("bin/sudo", 0o755)
         write("folder/a", fixture.HELLO)
         write("new", self.NEW)
         for name in ("a.age", "notes.age", "numbers.age"):
@@ -267,7 +271,7 @@ class Typed(ProgramCase):
         define, define_new, *lines = lines_below("Type a passphrase")
         pages = text_of("README.md") + text_of("share/man/agep.1").replace("\\-", "-")
         others = re.findall(r"^\(IFS= read (?:.*&&\n)?.*\)$", pages, re.MULTILINE)
-        self.assertEqual((len(lines), len(others)), (5, 2))
+        self.assertEqual((len(lines), len(others)), (6, 2))
         for line in lines + others:
             for run_lines in (self.at_prompt, self.in_script):
                 if line.startswith("systemd") and not shutil.which("systemd-ask-password"):
