@@ -10,16 +10,25 @@ use super::{
 };
 use crate::vectors::SALT;
 use age_file::{Fault, Limits};
-use age_recipient::{FileKey, KeyRecipient, LabelSet, Labels, StanzaFault, Unwrapped};
+use age_recipient::{FileKey, Identity, KeyRecipient, LabelSet, Labels, StanzaFault, Unwrapped};
 use age_stream::Done;
 use std::alloc::Global;
+use std::cell::Cell;
 use std::process::Abort;
+use std::rc::Rc;
+
+/// An identity that is out of memory, and counts its calls here.
+fn starved(rt: &impl Abort, alloc: Global, asked: &Rc<Cell<u32>>) -> Box<dyn Identity> {
+    let asked = Rc::clone(asked).expect(rt, "memory");
+    boxed(rt, alloc, OutOfMemoryIdentity { asked })
+}
 
 /// The result and the output of decrypting with a caller's identity, followed by the right one, and
-/// by one that is out of memory and is not called.
+/// by one that is not called because one before it decides.
 #[test]
 fn callers_identity_decides_before_the_next(rt: HostRuntime) {
     let alloc = rt.alloc();
+    let asked = Rc::new(alloc, Cell::new(0u32)).expect(&rt, "memory");
     let (_, file) = encrypted(alloc, b"abc", &passphrase_recipients(&rt, alloc));
     let seven = StanzaFault::Other(7);
     for (name, answer, expected) in [
@@ -40,7 +49,7 @@ fn callers_identity_decides_before_the_next(rt: HostRuntime) {
         let mut identities = only(&rt, alloc, boxed(&rt, alloc, FixedIdentity { answer }));
         let mut right = passphrase_identities(&rt, alloc);
         identities.append(&mut right).expect(&rt, "memory");
-        try_also(&rt, &mut identities, boxed(&rt, alloc, OutOfMemoryIdentity));
+        try_also(&rt, &mut identities, starved(&rt, alloc, &asked));
         let (met, plain) = decrypted(alloc, file.as_slice(), &identities);
         assert!(rt; met == expected, "{name}");
         let written = if expected.is_ok() {
@@ -49,16 +58,21 @@ fn callers_identity_decides_before_the_next(rt: HostRuntime) {
             b""
         };
         assert!(rt; plain.as_slice() == written, "{name}");
+        assert!(rt; asked.get() == 0, "{name}");
     }
-    let starved = only(&rt, alloc, boxed(&rt, alloc, OutOfMemoryIdentity));
-    let (met, plain) = decrypted(alloc, file.as_slice(), &starved);
+    let one_starved = only(&rt, alloc, starved(&rt, alloc, &asked));
+    let (met, plain) = decrypted(alloc, file.as_slice(), &one_starved);
     assert!(rt; met == Err(Fault::OutOfMemory));
+    assert!(rt; plain.is_empty());
+    let (met, plain) = decrypted(alloc, file.as_slice(), &Vec::new(alloc));
+    assert!(rt; met == Err(Fault::NoMatch));
     assert!(rt; plain.is_empty());
     // A passphrase stanza beside another is refused before any identity is called.
     let mixed =
         b"age-encryption.org/v1\n-> scrypt AAAAAAAAAAAAAAAAAAAAAA 10\nAAAAAAAAAAAAAAAAAAAAAAAAAAAAAAAAAAAAAAAAAAA\n-> x\n\n--- AAAAAAAAAAAAAAAAAAAAAAAAAAAAAAAAAAAAAAAAAAA\n";
-    let (met, _) = decrypted(alloc, mixed, &starved);
+    let (met, _) = decrypted(alloc, mixed, &one_starved);
     assert!(rt; met == Err(Fault::MixedPassphrase));
+    assert_eq!(rt; asked.get(), 1);
 }
 
 /// A recipient whose stanza has one argument of this many letters.

@@ -3,6 +3,8 @@
 use age_header::Stanza;
 use age_recipient::{FileKey, Identity, Labels, Recipient, Unwrapped, WrapFault};
 use std::alloc::{AllocError, Global};
+use std::cell::Cell;
+use std::rc::Rc;
 
 /// Returns a stanza of a type that no other identity knows.
 #[derive(Drop)]
@@ -112,9 +114,11 @@ impl Identity for FixedIdentity {
     }
 }
 
-/// Always runs out of memory.
+/// Counts its calls, and always runs out of memory.
 #[derive(Drop)]
-pub(super) struct OutOfMemoryIdentity;
+pub(super) struct OutOfMemoryIdentity {
+    pub(super) asked: Rc<Cell<u32>>,
+}
 
 impl Identity for OutOfMemoryIdentity {
     ghost use Rattle.age_recipient.specs.declared.unwrapped.Unwrapped.TheVariants.{NotMine};
@@ -122,6 +126,7 @@ impl Identity for OutOfMemoryIdentity {
     ghost meaning = { λ _ _. NotMine };
 
     fn unwrap(&self, alloc: Global, _stanzas: &[Stanza]) -> Result<Unwrapped, AllocError> {
+        self.asked.set(self.asked.get().saturating_add(1));
         let _: Vec<u8> = Vec::with_capacity(alloc, usize::MAX)?;
         Ok(Unwrapped::NotMine)
     }

@@ -3,7 +3,7 @@
 use super::begun::opened;
 use super::{encrypted, key_identities, key_recipients};
 use crate::devices::CountingReadAt;
-use age_file::{Fault, FileAt, Limits, RangeReader, ReadAt, StreamFault};
+use age_file::{Fault, FileAt, Limits, MemAt, RangeReader, ReadAt, StreamFault};
 use std::alloc::Global;
 use std::cell::Cell;
 use std::fs;
@@ -88,11 +88,11 @@ fn each_opened_chunk_costs_one_read(rt: HostRuntime) {
 }
 
 /// Each read after the header fails in turn: a failed read leaves the bytes of the chunks before
-/// it, and repeating the call works.
+/// it, and repeating the call works. A damaged chunk leaves them too.
 #[test]
 fn failed_read_leaves_the_chunks_before_it(rt: HostRuntime) {
     let alloc = rt.alloc();
-    let file = file_of(&rt, alloc);
+    let mut file = file_of(&rt, alloc);
     let identities = key_identities(&rt, alloc, 3);
     for failing in 157..162 {
         let reads = Cell::new(0);
@@ -112,6 +112,15 @@ fn failed_read_leaves_the_chunks_before_it(rt: HostRuntime) {
         }
         assert_eq!(rt; dev.failures(), 1, "read {failing}");
     }
+    if let Some(byte) = file.as_mut_slice().get_mut(172 + 65_552) {
+        *byte ^= 1;
+    }
+    let mut dev = MemAt::new(file.as_slice());
+    let mut reader = opened(alloc, &mut dev, identities.as_slice(), &Limits::default()).expect(
+        &rt, "no fault",
+    );
+    let damaged = Err(StreamFault::BadChunk(1));
+    expect_range(&rt, alloc, &mut reader, (65_530, 10), damaged, 6);
 }
 
 /// A file that was cut after it was opened: a range that needs a missing byte is a failed read. The
