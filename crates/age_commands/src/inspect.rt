@@ -92,7 +92,7 @@ fn check_of(
 {
     match file_key {
         None => Ok(Check::None),
-        Some(key) if mac_of(alloc, key, header.stanzas())? == *header.mac() => Ok(Check::Good),
+        Some(key) if header.has_mac(&mac_of(alloc, key, header.stanzas())?) => Ok(Check::Good),
         Some(_) => Ok(Check::Bad),
     }
 }

@@ -5,6 +5,7 @@ pub mod DeviceLemmas
 pub mod HeaderLemmas
 pub mod LengthLemmas
 pub mod LinesLemmas
+mod MacLemmas
 mod MostLemmas
 pub mod ReaderLemmas
 mod StanzaLemmas

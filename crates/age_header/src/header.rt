@@ -6,6 +6,7 @@ use crate::base64_no_pad;
 use crate::size::{MAC_LINE_SIZE, MAC_TEXT_SIZE, VERSION_SIZE, stanza_len};
 use crate::stanza::Stanza;
 use std::marker::Model;
+use std::simd::u8x32;
 
 /// A header (C2SP `age.md`, "Header"): its stanzas, one or more, and its MAC of 32 bytes.
 #[derive(Drop)]
@@ -26,6 +27,7 @@ impl Model for Header {
 }
 
 impl Header {
+    ghost use Rattle.std.specs.Str.{bytes_eq};
     ghost use Rattle.age_header.specs.Base64.{IsBase64};
     ghost use Rattle.age_header.specs.Header.{Head};
     ghost use Rattle.age_header.specs.Text.{IsHeaderValue};
@@ -64,6 +66,15 @@ impl Header {
         ensures { result.now ≡ self.now.mac }
     {
         &self.mac
+    }
+
+    /// Whether these 32 bytes are the MAC. All are compared, as the lanes of a vector, without an
+    /// early exit. Nothing is claimed of time.
+    pub fn has_mac(&self, mac: &[u8; 32]) -> bool
+        ensures { result ≡ bytes_eq self.now.mac mac.now }
+    {
+        let differences = u8x32::from_array(self.mac) ^ u8x32::from_array(*mac);
+        differences.reduce_or() == 0
     }
 
     /// Returns the base64 of the MAC, the 43 characters of the end line.
