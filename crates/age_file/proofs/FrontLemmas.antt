@@ -1,5 +1,5 @@
 -- How much is read of a file of which no key is found.
-use Rattle.age_file.proofs.Common.{◌≡◌, ◌⊎◌, ◌+◌, [], arith, inl, inr, refl, Result, Err, Ok, Appends-nil, Appends, ⊤, IfErr, Bytes, Flow, GaveAtMost, Known, Moved, Seen, Took, flow, flow_by, move_of, HeaderParts, FileKey, StreamFault, EndsAt, StartsReader, Bounds, Fault, OutOfMemory, Read, TooManyChunks, Write, Copies, CopiesAhead, GaveAhead, buffer_size, IsLate, Inspects, ReadsFront, TookWhileRewrapping, stream_fault, begins_found, finding, ℕ}
+use Rattle.age_file.proofs.Common.{◌≡◌, ◌⊎◌, ◌+◌, [], arith, inl, inr, refl, Result, Err, Ok, Appends-nil, Appends, ⊤, IfErr, Bytes, Flow, GaveAtMost, Known, Moved, Seen, Took, flow, flow_by, move_of, HeaderParts, FileKey, StreamFault, EndsAt, StartsReader, Bounds, Fault, Read, TooManyChunks, Write, Copies, CopiesAhead, GaveAhead, buffer_size, IsLate, Inspects, ReadsFront, TookWhileRewrapping, stream_fault, begins_found, finding, ℕ}
 use Rattle.age_stream.specs.declared.fault.StreamFault.TheVariants as stream
 use Rattle.age_file.specs.declared.fault.Fault.TheVariants.{NonceTruncated}
 use Rattle.age_file.proofs.CopiesLemmas.{ahead_then}
@@ -71,13 +71,6 @@ started_front limits to_come gave failed h k max stream.NonceTruncated is (inr m
 started_front limits to_come gave failed h k max stream.Memory is (inr misses) =
     let is : stream.Memory ≡ stream.NonceTruncated = misses.0.0 in absurd (cc)
 started_front limits to_come gave failed h k max f is (inr misses) = inl tt
-
--- the fault of saving a payload after a header
-pub saving_front : {A : Type 0} (f : StreamFault)
-    → IsLate (stream_fault f) ⊎ ((stream_fault f ≡ NonceTruncated) ⊎ ((stream_fault f ≡ OutOfMemory) ⊎ A))
-saving_front stream.NonceTruncated = inr (inl refl)
-saving_front stream.Memory = inr (inr (inl refl))
-saving_front f = inl tt
 
 -- the fault at which opening a payload ended
 pub ended_late : {max before : ℕ} {source : Flow} {sink : Moved} (f : StreamFault)

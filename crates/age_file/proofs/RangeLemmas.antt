@@ -1,17 +1,17 @@
 -- What opening a file for ranges does, from what its parts do.
-use Rattle.age_file.proofs.Common.{◌≡◌, ◌⊎◌, ℕ, [], ◌++◌, ◌+◌, ◌-◌, ◌≤◌, length, drop, sym, ◌∙◌, ap, refl, subst, arith, inl, inr, Option, Some, None, Result, Ok, Err, IfErr, if◌then◌else◌, result_map_both, append-nil, Agrees, BeginsRanges, Bytes, CountsFaultIf, Known, Seen, flow, flow_by, move_of, HeaderFault, HeaderParts, of_known, begins_found, Refuses, HeaderVerdict, FileKey, UnlockFault, StreamFault, StaysGiven, OpensRanges, range_outcome, Fault, OutOfMemory, Read, Bounds, Inspects, ReadsFront, IsNoDeviceFault, is_read, AtState, BeginsFile, GaveFirst, GaveHeader, IsOpenFault, MissesHeader, MissesRanges, RefusesRanges, ranges_under, Answering, finding, header_fault, stream_fault, unlock_fault, header_key, option_map, ◌^◌, min, take, ◌<◌, ◌*◌, take_all, take-append-drop, slice_index, Moved, GaveAt}
+use Rattle.age_file.proofs.Common.{◌≡◌, ◌⊎◌, ℕ, [], ◌++◌, ◌+◌, ◌-◌, ◌≤◌, length, drop, sym, ◌∙◌, ap, refl, subst, arith, inl, inr, Option, Some, None, Result, Ok, Err, IfErr, if◌then◌else◌, result_map_both, append-nil, Agrees, BeginsRanges, Bytes, CountsFaultIf, Known, Seen, flow, flow_by, HeaderFault, HeaderParts, of_known, begins_found, Refuses, HeaderVerdict, FileKey, UnlockFault, StreamFault, StaysGiven, OpensRanges, range_outcome, Fault, OutOfMemory, Read, Bounds, Inspects, ReadsFront, IsLate, IsNoDeviceFault, is_read, AtState, BeginsFile, GaveFirst, GaveHeader, IsOpenFault, MissesHeader, MissesRanges, ranges_under, Answering, finding, header_fault, stream_fault, unlock_fault, header_key, option_map, ◌^◌, min, take, ◌<◌, ◌*◌, take_all, take-append-drop, slice_index, Moved, GaveAt}
 use Rattle.age_header.specs.declared.fault.HeaderFault.TheVariants as header
 use Rattle.age_recipient.specs.declared.choice.UnlockFault.TheVariants as unlock
+use Rattle.age_file.specs.declared.fault.Fault.TheVariants.{NonceTruncated}
 use Rattle.age_stream.specs.declared.fault.StreamFault.TheVariants as fault
-use Rattle.age_stream.specs.Counts as counts
 use Rattle.age_stream.specs.Ranges as stream
+use Rattle.age_stream.specs.Writer.{IsRefusedMemory}
 use Rattle.age_header.proofs.VerdictUniqueLemmas.{found_again}
 use Rattle.age_stream.proofs.JudgesLastLemmas.{refused_there}
 use Rattle.age_stream.proofs.ReadAtLemmas.{has_at}
 use Rattle.age_file.proofs.FileLemmas.{key_faults}
 use Rattle.age_file.proofs.AtStateLemmas.{first_none}
-use Rattle.age_file.proofs.FrontLemmas.{saving_front}
-use Rattle.age_file.proofs.DecryptLemmas.{err_err, found_key, headed, reads_file}
+use Rattle.age_file.proofs.DecryptLemmas.{err_err, found_key, headed}
 
 -- a header that was read from the first byte on
 pub header_gave : {D : Type 0} (to_come : AtState D → Known) (gave : D → ℕ → ℕ → Type 0) {limits : Bounds}
@@ -138,9 +138,20 @@ locked_named answers h fault (inr key) =
     subst (λ (r : Result FileKey Fault). IfErr r IsOpenFault) (sym key)
     (key_faults IsOpenFault unlock_open tt tt answers h)
 
-pub payload_named : (e : StreamFault) → stream.IsOpenFault e → IsOpenFault (stream_fault e)
-payload_named fault.Write h = absurd h
+pub payload_named : {D : Type 0} {old new : D} (e : StreamFault)
+    → IsRefusedMemory old new e ⊎ stream.IsOpenFault e → IsOpenFault (stream_fault e)
+payload_named fault.Write (inl (e, same)) = absurd (cc)
+payload_named fault.Write (inr h) = absurd h
 payload_named e h = tt
+
+-- how much was read, if it was not the payload
+pub payload_front : {D : Type 0} (given : D → ℕ) {old new : D} {most : ℕ} (e : StreamFault) → given old ≤ most
+    → IsRefusedMemory old new e ⊎ stream.IsOpenFault e
+    → IsLate (stream_fault e) ⊎ ((stream_fault e ≡ NonceTruncated) ⊎ (given new ≤ most))
+payload_front given fault.NonceTruncated le h = inr (inl refl)
+payload_front given fault.Memory le (inl (e, same)) = inr (inr (rw same le))
+payload_front given fault.Memory le (inr h) = absurd h
+payload_front given e le h = inl tt
 
 -- ---- why a file was not opened
 
@@ -154,65 +165,16 @@ header_stays stays first = record {
   verdict = first.verdict;
 }
 
-pub header_refuses : (limits : Bounds) (answers : Answering) (told : Known) {told2 : Known} (given : ℕ) {given2 : ℕ}
-    (failed : ℕ) {failed2 : ℕ} {fault : Fault} → MissesHeader limits told fault → IsOpenFault fault
-    → (fault ≡ Read) ⊎ (given2 ≤ given + limits.max_header)
-    → told2 ≡ told → CountsFaultIf is_read failed failed2 fault
-    → RefusesRanges limits answers (move_of told told2) given given2 failed failed2 fault
-header_refuses limits answers told given {given2} failed {fault} m early front stay count = record {
-  misses = missed_ranges limits answers told fault m;
-  named = early;
-  front = elim front [ inl e ↦ inl (rw e tt) | inr most ↦ inr (inr (inr most)) ];
-  stay = stay;
-  counted = count;
-}
-
 -- a header that was found fits into its limit
-header_fits : {limits : Bounds} {gave : ℕ → ℕ → Type 0} {at : ℕ} {h : HeaderParts} → GaveHeader limits gave at h
+pub header_fits : {limits : Bounds} {gave : ℕ → ℕ → Type 0} {at : ℕ} {h : HeaderParts} → GaveHeader limits gave at h
     → at ≤ limits.max_header
 header_fits {limits} {h = h} first =
     let found = begins_found first.text limits.max_header (finding first.text h) first.verdict in
     omega (arith, first.len, found.fits)
 
-none_counted : (fault : Fault) (old new : ℕ) → IsNoDeviceFault fault → new ≡ old → CountsFaultIf is_read old new fault
+pub none_counted : (fault : Fault) (old new : ℕ) → IsNoDeviceFault fault → new ≡ old → CountsFaultIf is_read old new fault
 none_counted fault old new none same =
     subst (λ b. new ≡ (if b then min (old + 1) (2 ^ 64 - 1) else old)) (sym none.0) same
-
-pub locked_refuses : (limits : Bounds) (answers : Answering) (told mid told2 : Known)
-    (given given1 given2 failed failed2 at : ℕ) {gave : ℕ → ℕ → Type 0} {found : Option ℕ} (h : HeaderParts)
-    (fault : Fault) → ((b : Bytes) → mid ≡ Some b → Agrees b gave found) → mid ≡ told → given1 ≤ given + at
-    → GaveHeader limits gave at h
-    → (◌≡◌ {A = Result FileKey Fault} (Err fault) (Err OutOfMemory)) ⊎ (Err fault ≡ header_key answers h)
-    → IsNoDeviceFault fault → told2 ≡ mid → given2 ≡ given1 → failed2 ≡ failed
-    → RefusesRanges limits answers (move_of told told2) given given2 failed failed2 fault
-locked_refuses limits answers told mid told2 given given1 given2 failed failed2 at h fault agrees same le first key none
-    stay kept count = record {
-      misses = locked_ranges answers told fault (λ b is. agrees b (same ∙ is)) first key;
-      named = locked_named answers h fault key;
-      front = inr (inr (inr (let fits = header_fits first in omega (arith, le, kept, fits))));
-      stay = stay ∙ same;
-      counted = none_counted fault failed failed2 none count;
-    }
-
-pub payload_refuses : (limits : Bounds) (answers : Answering) (told mid told2 : Known)
-    (given given2 failed failed1 failed2 at max : ℕ) (h : HeaderParts) (k : FileKey) (fault : StreamFault)
-    {early gave : ℕ → ℕ → Type 0} {size : Option ℕ} → ((b : Bytes) → told2 ≡ Some b → Agrees b gave size)
-    → mid ≡ told → failed1 ≡ failed → max ≡ limits.max_chunks → GaveHeader limits early at h
-    → StaysGiven early gave
-    → (◌≡◌ {A = Result FileKey Fault} (Ok k) (Err OutOfMemory)) ⊎ (Ok k ≡ header_key answers h)
-    → OpensRanges k max at gave size (Err fault) → stream.IsOpenFault fault → told2 ≡ mid
-    → CountsFaultIf counts.is_read failed1 failed2 fault
-    → RefusesRanges limits answers (move_of told told2) given given2 failed failed2 (stream_fault fault)
-payload_refuses limits answers told mid told2 given given2 failed failed1 failed2 at max h k fault {early} {gave} {size}
-    agrees same before most first stays key opens named stay count = record {
-      misses = payload_missed answers told k fault (λ b is. agrees b (stay ∙ same ∙ is)) (header_stays stays first) key
-          (subst (λ m. OpensRanges k m at gave size (Err fault)) most opens);
-      named = payload_named fault named;
-      front = saving_front fault;
-      stay = stay ∙ same;
-      counted = subst (λ n. CountsFaultIf is_read n failed2 (stream_fault fault)) before
-          (reads_file failed1 fault count);
-    }
 
 -- ---- a file that was opened
 

@@ -90,14 +90,13 @@ pub record BeginsFile (limits : Bounds) (answers : Answering) (gave : (at byte :
 
 -- Opening a file for ranges failed with the first fault of the known bytes, a failed read or out of
 -- memory. The contents are unchanged, and a failed read was counted. On a fault of the header or
--- its key, at most as many bytes were read as a header may have.
+-- its key, and out of memory, at most as many bytes were read as a header may have.
 pub record RefusesRanges (limits : Bounds) (answers : Answering) (source : Moved)
     (given given2 failed failed2 : ℕ) (fault : Fault) : Type 0 where
   pub misses : MissesRanges limits answers source.before fault
   pub named : IsOpenFault fault
   pub front : IsLate fault
-      ⊎ ((fault ≡ NonceTruncated)
-      ⊎ ((fault ≡ OutOfMemory) ⊎ (given2 ≤ given + limits.max_header)))
+      ⊎ ((fault ≡ NonceTruncated) ⊎ (given2 ≤ given + limits.max_header))
   pub stay : source.after ≡ source.before
   pub counted : CountsFaultIf is_read failed failed2 fault
 

@@ -101,8 +101,8 @@ pub fn open_ranges<'a, D: ReadAt>(
         (λ refused. (device_of refused).ghost_name ≡ dev.entry.ghost_name) }
     // The fault is the first that applies: those of `decrypt` up to a truncated nonce, too many
     // chunks, the last chunk's. A failed read, which is counted, or out of memory may come before.
-    // On a fault of the header or its key, at most as many bytes were read as a header may have.
-    // Even of a file, it is never a recipient's refusal or a failed write.
+    // On a fault of the header or its key, and out of memory, at most as many bytes were read as a
+    // header may have. Even of a file, it is never a recipient's refusal or a failed write.
     ensures refuses { IfErr result (λ refused. StartsFileRanges D.bytes D.given D.failed D.gave
         D.found limits.now (answers_by identities.now (λ i s. meaning i s)) dev.old
         (device_of refused).now (Err (fault_of refused))) }

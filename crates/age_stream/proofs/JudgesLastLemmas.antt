@@ -145,4 +145,5 @@ probed (Some n) at unread le = omega arith
 -- a fault of a piece is one of opening
 pub piece_named : (max i : ℕ) (fault : StreamFault) → IsAtPiece max i fault → IsOpenFault fault
 piece_named max i Write h = absurd h
+piece_named max i Memory h = absurd h
 piece_named max i fault h = tt

@@ -7,6 +7,7 @@ use Rattle.age_stream.specs.Counts.{is_read}
 use Rattle.age_stream.specs.Payload.{payload_key}
 use Rattle.age_stream.specs.Offsets.{GaveAt, StaysGiven}
 use Rattle.age_stream.specs.Reading.{outcome, piece_opening}
+use Rattle.age_stream.specs.Writer.{IsRefusedMemory}
 use Rattle.age_stream.specs.Slice.{opening, plain_len, chunk_len, IsSlice, range_outcome}
 
 -- the known bytes from an offset on
@@ -219,9 +220,10 @@ OpensRanges file_key max at gave size (Err fault) =
     ⊎ ((key : Key) × (first sealed : ℕ)
     × BeginsAt file_key max at gave size key first sealed (Err fault))))
 
--- a fault that opening a payload may return
+-- a fault that opening a payload may return once its buffer is allocated
 abbrev pub IsOpenFault : StreamFault → Type 0
 IsOpenFault Write = ⊥
+IsOpenFault Memory = ⊥
 IsOpenFault _ = ⊤
 
 -- a payload was opened: the source's contents are unchanged, and at most the nonce and the last
@@ -234,6 +236,7 @@ pub record Probes (source : Moved) (size : Option ℕ) (at given given2 : ℕ) :
 
 -- The result of opening a payload for ranges, and its effect on the source. `told` are the source's
 -- contents, `given` and `failed` its counts, `gave` the bytes read from it, and `found` its size.
+-- If memory was refused, nothing was read.
 abbrev pub StartsRanges : {D : Type 0} (told : D → Known) (given failed : D → ℕ)
     (gave : D → (at byte : ℕ) → Type 0) (found : D → Option ℕ) (file_key : FileKey)
     (max at : ℕ) (old new : D) (r : Result RangeState StreamFault) → Type 0
@@ -242,4 +245,5 @@ StartsRanges told given failed gave found file_key max at old new r =
     × Probes (move_by told old new) (found new) at (given old) (given new)
     × StaysGiven (gave old) (gave new)
     × MatchResult r (λ _. failed new ≡ failed old)
-    (λ fault. IsOpenFault fault × CountsFaultIf is_read (failed old) (failed new) fault)
+    (λ fault. (IsRefusedMemory old new fault ⊎ IsOpenFault fault)
+    × CountsFaultIf is_read (failed old) (failed new) fault)

@@ -1,5 +1,5 @@
 //! The chunks of a payload, of which one is kept. The source is passed to each call.
-ghost use Rattle.std.specs.Prelude.{◌≡◌, ◌+◌, ◌-◌, ◌/◌, ◌<◌, ◌≤◌, ◌++◌, length, take, drop, min};
+ghost use Rattle.std.specs.Prelude.{◌≡◌, ◌⊎◌, ◌+◌, ◌-◌, ◌/◌, ◌<◌, ◌≤◌, ◌++◌, length, take, drop, min};
 ghost use Rattle.std.specs.Prelude.{Some, None, IfOk, OnOk, OnErr, IfErr, if◌then◌else◌};
 ghost use Rattle.age_header.specs.Device.{CountsIf, move_by};
 ghost use Rattle.age_stream.specs.Counts.{is_read};
@@ -8,6 +8,7 @@ ghost use Rattle.age_stream.specs.Ranges.{IsLost, IsOpenFault, IsSound};
 ghost use Rattle.age_stream.specs.Ranges.{OpenedAtLeast, OpensRanges, Probes, ReadsRange, is_kept};
 ghost use Rattle.age_stream.specs.Ranges.{kept_text};
 ghost use Rattle.age_stream.specs.Slice.{chunk_len};
+ghost use Rattle.age_stream.specs.Writer.{IsRefusedMemory};
 ghost use Rattle.age_stream.specs.Sizes.{tag_size, chunk_buf_size};
 
 use crate::buffer::ChunkBuf;
@@ -106,7 +107,8 @@ impl Chunks {
             result }
         ensures stays_given { StaysGiven (D.gave dev.old) (D.gave dev.new) }
         ensures sound { IfOk result (IsSound (D.gave dev.new) (D.found dev.new)) }
-        ensures named { IfErr result IsOpenFault }
+        ensures named { IfErr result
+            (λ fault. IsRefusedMemory dev.old dev.new fault ⊎ IsOpenFault fault) }
         ensures count { CountsIf is_read (D.failed dev.old) (D.failed dev.new) result }
     {
         let Ok(buf) = ChunkBuf::new(alloc) else {

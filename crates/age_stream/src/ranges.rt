@@ -57,9 +57,9 @@ impl<'a, D: ReadAt> RangeReader<'a, D> {
             D.found key.now max_chunks payload_at dev.old reader.dev.now (Ok reader.chunks)) }
         ensures handed_back { IfErr result
             (λ refused. refused.device.ghost_name ≡ dev.entry.ghost_name) }
-        // The fault is the first that applies to what was read: out of memory, a truncated nonce,
-        // too many pieces, the last piece's fault; or a failed read, which is counted. It is never
-        // a failed write.
+        // The fault is the first that applies to what was read: a truncated nonce, too many pieces,
+        // the last piece's fault; or a failed read, which is counted; or out of memory, before
+        // anything was read. It is never a failed write.
         ensures refuses { IfErr result (λ refused. StartsRanges D.bytes D.given D.failed D.gave
             D.found key.now max_chunks payload_at dev.old refused.device.now (Err refused.fault)) }
     {

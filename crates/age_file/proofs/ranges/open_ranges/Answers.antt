@@ -1,23 +1,38 @@
-use Rattle.age_file.proofs.Common.{◌∙◌, ap, refl, List, map, StanzaParts, stream_fault}
-use Rattle.age_file.proofs.RangeLemmas.{file_begins, file_most, header_refuses, header_stays, locked_refuses, payload_refuses}
+use Rattle.age_file.proofs.Common.{◌∙◌, ap, arith, inl, inr, answers_by, stream_fault}
+use Rattle.age_file.proofs.DecryptLemmas.{reads_file}
+use Rattle.age_file.proofs.RangeLemmas.{file_begins, file_most, header_fits, header_stays, locked_named, locked_ranges, missed_ranges, none_counted, payload_front, payload_missed, payload_named}
 use Rattle.age_file.proofs.ranges.open_ranges.Goals as goal
 
 pub returns-in-Err-clause-refuses : goal.returns-in-Err-clause-refuses
 returns-in-Err-clause-refuses g c =
-    search (header_refuses, c.in-Err.ensures)
+    let answers = answers_by c.args.identities.now (λ i. (goal.Identity-dyn g (i.vtable, i.value)).meaning i.value) in
+    let of = c.in-Err.ensures in
+    record {
+      misses = missed_ranges c.args.limits.now answers _ _ of.misses;
+      named = of.named;
+      front = elim of.front [ inl read ↦ inl (rw read tt) | inr most ↦ inr (inr most) ];
+      stay = of.left;
+      counted = of.counted;
+    }
 
 pub returns-in-Err-unlock_header-clause-refuses : goal.returns-in-Err-unlock_header-clause-refuses
 returns-in-Err-unlock_header-clause-refuses g c =
-    rw (c.of.ensures.fault, c.of.ensures.unchanged)
-    (locked_refuses c.args.limits.now _ _ _ _ _ _ _ _ _ c.in-Ok.found.at c.in-Ok.found.header
-    c.in-Err-unlock_header.fault (g.met.D.ReadAt.agrees c.in-Ok.found.dev.now) c.in-Ok.ensures.stay
-    c.in-Ok.ensures.given c.in-Ok.ensures.first c.in-Err-unlock_header.ensures.key
-    c.in-Err-unlock_header.ensures.no_device refl refl c.in-Ok.ensures.uncounted)
+    let answers = answers_by c.args.identities.now (λ i. (goal.Identity-dyn g (i.vtable, i.value)).meaning i.value) in
+    let of = c.in-Ok.ensures in
+    let e = c.in-Err-unlock_header.fault in
+    let locked = c.in-Err-unlock_header.ensures in
+    rw (c.of.ensures.fault, c.of.ensures.unchanged) (record {
+      misses = locked_ranges answers _ e (λ b is. g.met.D.ReadAt.agrees c.in-Ok.found.dev.now b (of.stay ∙ is)) of.first
+          locked.key;
+      named = locked_named answers c.in-Ok.found.header e locked.key;
+      front = inr (inr (omega (arith, of.given, header_fits of.first)));
+      stay = of.stay;
+      counted = none_counted e _ _ locked.no_device of.uncounted;
+    })
 
 pub returns-in-Ok-open-clause-ranges : goal.returns-in-Ok-open-clause-ranges
 returns-in-Ok-open-clause-ranges g c =
-    let answers = (λ (s : List StanzaParts). map (λ i. (goal.Identity-dyn g (i.vtable, i.value)).meaning i.value s)
-    c.args.identities.now) in
+    let answers = answers_by c.args.identities.now (λ i. (goal.Identity-dyn g (i.vtable, i.value)).meaning i.value) in
     let opens = c.in-Ok-open.ensures.opens in
     let begins = opens.0.2 in (
       opens.1.stay ∙ c.in-Ok.ensures.stay,
@@ -32,16 +47,21 @@ returns-in-Ok-open-clause-ranges g c =
 
 pub returns-clause-refuses : goal.returns-clause-refuses
 returns-clause-refuses g c =
+    let answers = answers_by c.args.identities.now (λ i. (goal.Identity-dyn g (i.vtable, i.value)).meaning i.value) in
+    let of = c.in-Ok.ensures in
     let refuses = c.in-Err-open.ensures.refuses in
     let unchanged = c.of-in-Err-open.ensures.unchanged ∙ c.into_parts-dev.ensures.unchanged in
     let fault = c.of-in-Err-open.ensures.fault ∙ c.from.ensures
     ∙ ap stream_fault c.into_parts-dev.ensures.fault in
-    rw (unchanged, fault)
-    (search (
-      payload_refuses,
-      g.met.D.ReadAt.agrees,
-      c.in-Ok.ensures,
-      c.in-Ok-unlock_header.ensures,
-      c.max_chunks.ensures,
-      refuses,
-    ))
+    rw (unchanged, fault) (record {
+      misses = payload_missed answers _ _ c.in-Err-open.refused.fault
+          (λ b is. g.met.D.ReadAt.agrees c.in-Err-open.refused.device.now b (refuses.1.stay ∙ of.stay ∙ is))
+          (header_stays refuses.2 of.first) c.in-Ok-unlock_header.ensures.key
+          (rw c.max_chunks.ensures.value at refuses.0);
+      named = payload_named c.in-Err-open.refused.fault refuses.3.0;
+      front = payload_front g.D.ReadAt.given c.in-Err-open.refused.fault
+          (omega (arith, of.given, header_fits of.first)) refuses.3.0;
+      stay = refuses.1.stay ∙ of.stay;
+      counted = rw of.uncounted at (reads_file (g.D.ReadAt.failed c.in-Ok.found.dev.now) c.in-Err-open.refused.fault
+          refuses.3.1);
+    })
