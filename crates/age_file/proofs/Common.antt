@@ -22,7 +22,7 @@ pub use Rattle.age_file.specs.Rewrap.{BeginsRewrapped, IsRewrapped, RefusesRewra
 pub use Rattle.age_file.specs.Salvage.{SalvagesFile, SalvagesText, SavesAfter, SavesFile, SavesNone, SavesUnder, is_whole_file, salvaged_file}
 pub use Rattle.age_file.specs.Verdict.{Answering, IsVerdict, answers_by, finding, found_key, header_fault, header_key, if_right, parts_of, reading_after, reading_under, stream_fault, unlock_fault, with_file_fault}
 pub use Rattle.age_file.specs.declared.fault.Fault.{Fault}
-pub use Rattle.age_file.specs.declared.fault.Fault.TheVariants.{BadMac, MixedPassphrase, OutOfMemory, Read, Refused, TooManyChunks, Write}
+pub use Rattle.age_file.specs.declared.fault.Fault.TheVariants.{BadMac, MixedPassphrase, OutOfMemory, Read, Refused, TooManyChunks, Write, NonceTruncated}
 pub use Rattle.age_file.specs.declared.limits.Fresh.{Fresh}
 pub use Rattle.age_file.specs.declared.salvaging.SalvagedFile.{SalvagedFile}
 pub use Rattle.age_header.proofs.DeviceLemmas.{done_more, done_part, done_start, gave_more, gave_none, gave_some, gave_then, of_any, of_ended, of_known, of_map, of_more, of_then, writes_last}
@@ -51,17 +51,17 @@ pub use Rattle.age_stream.proofs.OpeningLemmas.{starts_reader}
 pub use Rattle.age_stream.proofs.SalvageLemmas.{reports_none}
 pub use Rattle.age_stream.proofs.SalvageReading.{payload_exactly, payload_plaintext, payload_whole}
 pub use Rattle.age_stream.proofs.SealingLemmas.{filled_finishes, filled_seals}
-pub use Rattle.age_stream.proofs.WholeSlices.{whole_len, whole_opens, whole_slice}
+pub use Rattle.age_stream.proofs.WholeSlices.{whole_len, whole_opens, whole_slice, whole_chunk}
 pub use Rattle.age_stream.specs.Offsets.{Agrees, EmptyAtEnd, GaveAt, HasOffsets, StaysGiven}
 pub use Rattle.age_stream.specs.Opening.{EndsAt, OpenerState, Starts, WritesAll, WritesReading}
 pub use Rattle.age_stream.specs.Payload.{payload, payload_key, pieces, sealed_chunks}
-pub use Rattle.age_stream.specs.Ranges.{BeginsRanges, HasPlain, OpensRanges, RangeState}
+pub use Rattle.age_stream.specs.Ranges.{BeginsRanges, HasPlain, OpensRanges, RangeState, source_opening}
 pub use Rattle.age_stream.specs.Reader.{StartsReader}
 pub use Rattle.age_stream.specs.Reading.{Reading, payload_reading, stop, whole}
 pub use Rattle.age_stream.specs.Salvage.{EndsSaving, IsOfPieces, KnownLosses, LossesMoved, Part, Reports, Salvages, Saves, SavesParts, SavesPayload, is_whole, losses, losses_by, losses_of, payload_parts, salvaged_text}
 pub use Rattle.age_stream.specs.Sealing.{Fills, FinishesBy, SealerState, SealsAll, Stopped, at_start}
 pub use Rattle.age_stream.specs.Sizes.{chunk_size, sealed_chunk_size}
-pub use Rattle.age_stream.specs.Slice.{IsSlice, plain_len, range_outcome}
+pub use Rattle.age_stream.specs.Slice.{IsSlice, plain_len, range_outcome, opening}
 pub use Rattle.age_stream.specs.declared.done.Done.{Done}
 pub use Rattle.age_stream.specs.declared.fault.StreamFault.{StreamFault}
 pub use Rattle.age_stream.specs.declared.salvaged.Salvaged.{Salvaged}

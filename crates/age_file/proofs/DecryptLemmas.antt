@@ -1,9 +1,8 @@
 -- What decrypting returns, from what its parts return.
-use Rattle.age_file.proofs.Common.{◌≡◌, ◌⊎◌, ◌+◌, ◌*◌, ◌/◌, ◌≤◌, ℕ, ◌++◌, length, drop, sym, ap, refl, arith, append_assoc, length-append, inl, inr, Result, Ok, Err, IfErr, IfNone, option_map, Appends-nil, drop_at, take_at, le-ltb, lt-ltb, HeaderFault, Bytes, CountsFaultIf, Gave, GaveAtMost, Known, Seen, flow, seen_by, move_of, HeaderParts, Refuses, HeaderVerdict, gave_more, gave_then, of_any, of_map, of_more, of_then, found_again, some_verdict, FileKey, Done, StreamFault, EndsAt, OpenerState, Starts, StartsReader, WritesAll, WritesReading, pieces, Reading, payload_reading, stop, chunk_size, sealed_chunk_size, Fault, OutOfMemory, Bounds, Decrypts, DecryptsText, TookUpTo, TookThrough, is_read, Inspects, Answering, IsVerdict, finding, header_fault, reading_after, reading_under, stream_fault, header_key}
+use Rattle.age_file.proofs.Common.{◌≡◌, ◌⊎◌, ◌+◌, ◌*◌, ◌/◌, ◌≤◌, ℕ, ◌++◌, length, drop, sym, ap, refl, arith, append_assoc, length-append, inl, inr, Result, Ok, Err, IfErr, IfNone, option_map, Appends-nil, drop_at, take_at, le-ltb, lt-ltb, HeaderFault, Bytes, CountsFaultIf, Gave, GaveAtMost, Known, Seen, flow, seen_by, move_of, HeaderParts, Refuses, HeaderVerdict, gave_more, gave_then, of_any, of_map, of_more, of_then, found_again, some_verdict, FileKey, Done, StreamFault, EndsAt, OpenerState, Starts, StartsReader, WritesAll, WritesReading, pieces, Reading, payload_reading, stop, chunk_size, sealed_chunk_size, Fault, OutOfMemory, Bounds, Decrypts, DecryptsText, TookUpTo, TookThrough, is_read, Inspects, Answering, IsVerdict, finding, header_fault, reading_after, reading_under, stream_fault, header_key, Read, Write}
 use Rattle.age_header.specs.declared.fault.HeaderFault.TheVariants as header
 use Rattle.age_stream.specs.declared.fault.StreamFault.TheVariants as stream
 use Rattle.age_stream.specs.Counts as counts
-use Rattle.age_file.specs.declared.fault.Fault.TheVariants.{Read, Write}
 
 -- a key that was returned is the one that was found
 pub found_key : {found : Result FileKey Fault} {k : FileKey}

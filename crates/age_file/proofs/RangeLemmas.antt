@@ -1,12 +1,10 @@
 -- What opening a file for ranges does, from what its parts do.
-use Rattle.age_file.proofs.Common.{◌≡◌, ◌⊎◌, ℕ, [], ◌++◌, ◌+◌, ◌-◌, ◌≤◌, length, drop, sym, ◌∙◌, ap, refl, subst, arith, inl, inr, Option, Some, None, Result, Ok, Err, IfErr, if◌then◌else◌, result_map_both, append-nil, Agrees, BeginsRanges, Bytes, CountsFaultIf, Known, Seen, flow, flow_by, HeaderFault, HeaderParts, of_known, begins_found, Refuses, HeaderVerdict, FileKey, UnlockFault, StreamFault, StaysGiven, OpensRanges, range_outcome, Fault, OutOfMemory, Read, Bounds, Inspects, ReadsFront, IsLate, IsNoDeviceFault, is_read, AtState, BeginsFile, GaveFirst, GaveHeader, IsOpenFault, MissesHeader, MissesRanges, ranges_under, Answering, finding, header_fault, stream_fault, unlock_fault, header_key, option_map, ◌^◌, min, take, ◌<◌, ◌*◌, take_all, take-append-drop, slice_index, Moved, GaveAt}
+use Rattle.age_file.proofs.Common.{◌≡◌, ◌⊎◌, ℕ, [], ◌++◌, ◌+◌, ◌-◌, ◌≤◌, length, drop, sym, ◌∙◌, ap, refl, subst, arith, inl, inr, Option, Some, None, Result, Ok, Err, IfErr, if◌then◌else◌, result_map_both, append-nil, Agrees, BeginsRanges, Bytes, CountsFaultIf, Known, Seen, flow, flow_by, HeaderFault, HeaderParts, of_known, begins_found, Refuses, HeaderVerdict, FileKey, UnlockFault, StreamFault, StaysGiven, OpensRanges, range_outcome, Fault, OutOfMemory, Read, Bounds, Inspects, ReadsFront, IsLate, IsNoDeviceFault, is_read, AtState, BeginsFile, GaveFirst, GaveHeader, IsOpenFault, MissesHeader, MissesRanges, ranges_under, Answering, finding, header_fault, stream_fault, unlock_fault, header_key, option_map, ◌^◌, min, take, ◌<◌, ◌*◌, take_all, take-append-drop, slice_index, Moved, GaveAt, NonceTruncated, found_again}
 use Rattle.age_header.specs.declared.fault.HeaderFault.TheVariants as header
 use Rattle.age_recipient.specs.declared.choice.UnlockFault.TheVariants as unlock
-use Rattle.age_file.specs.declared.fault.Fault.TheVariants.{NonceTruncated}
 use Rattle.age_stream.specs.declared.fault.StreamFault.TheVariants as fault
 use Rattle.age_stream.specs.Ranges as stream
 use Rattle.age_stream.specs.Writer.{IsRefusedMemory}
-use Rattle.age_header.proofs.VerdictUniqueLemmas.{found_again}
 use Rattle.age_stream.proofs.JudgesLastLemmas.{refused_there}
 use Rattle.age_stream.proofs.ReadAtLemmas.{has_at}
 use Rattle.age_file.proofs.FileLemmas.{key_faults}
@@ -172,19 +170,7 @@ header_fits {limits} {h = h} first =
     let found = begins_found first.text limits.max_header (finding first.text h) first.verdict in
     omega (arith, first.len, found.fits)
 
-pub none_counted : (fault : Fault) (old new : ℕ) → IsNoDeviceFault fault → new ≡ old → CountsFaultIf is_read old new fault
-none_counted fault old new none same =
-    subst (λ b. new ≡ (if b then min (old + 1) (2 ^ 64 - 1) else old)) (sym none.0) same
-
 -- ---- a file that was opened
-
-pub file_begins : (limits : Bounds) (answers : Answering) {gave : ℕ → ℕ → Type 0} {size : Option ℕ}
-    {chunks : stream.RangeState} {max : ℕ} (at : ℕ) (h : HeaderParts) (k : FileKey) → max ≡ limits.max_chunks
-    → GaveHeader limits gave at h
-    → (◌≡◌ {A = Result FileKey Fault} (Ok k) (Err OutOfMemory)) ⊎ (Ok k ≡ header_key answers h)
-    → BeginsRanges k max at gave size chunks → BeginsFile limits answers gave size chunks
-file_begins limits answers at h k most first key b =
-    record { header = h; at = at; first = first; key = k; chosen = found_key key; begins = rw most at b }
 
 -- how much was read
 pub file_most : {k : FileKey} {max at given1 given2 : ℕ} (given : ℕ) {gave : ℕ → ℕ → Type 0} {size : Option ℕ}

@@ -1,14 +1,8 @@
 -- Ranges of a file whose verdict has no fault.
-use Rattle.age_file.proofs.Common.{◌≡◌, ◌⊎◌, ℕ, length, take, drop, sym, ◌∙◌, ap, subst, inl, inr, Option, Some, Result, Ok, Err, result_map_both, drop-drop, Bytes, HeaderFault, Found, FileKey, HasPlain, RangeState, payload_reading, whole, IsSlice, plain_len, whole_len, whole_opens, whole_slice, Fault, OutOfMemory, Read, Bounds, Agrees, BeginsFile, finding, IsRangeFault, MissesRanges, ranges_under, Answering, IsVerdict, header_fault, reading_after, parts_of, reading_under, stream_fault, header_key}
+use Rattle.age_file.proofs.Common.{◌≡◌, ◌⊎◌, ℕ, length, take, drop, sym, ◌∙◌, ap, subst, inl, inr, Option, Some, Result, Ok, Err, result_map_both, drop-drop, Bytes, HeaderFault, Found, FileKey, HasPlain, RangeState, payload_reading, whole, IsSlice, plain_len, whole_len, whole_opens, whole_slice, Fault, OutOfMemory, Read, Bounds, Agrees, BeginsFile, finding, IsRangeFault, MissesRanges, ranges_under, Answering, IsVerdict, header_fault, reading_after, parts_of, reading_under, stream_fault, header_key, ◌*◌, ◌<◌, payload_key, source_opening, chunk_size, opening, whole_chunk}
 use Rattle.age_header.proofs.VerdictUniqueLemmas as headers
-use Rattle.std.proofs.Common.{◌*◌, ◌<◌}
 use Rattle.age_stream.specs.declared.layout.Layout.{Layout}
-use Rattle.age_stream.specs.Payload.{payload_key}
-use Rattle.age_stream.specs.Ranges.{source_opening}
-use Rattle.age_stream.specs.Sizes.{chunk_size}
-use Rattle.age_stream.specs.Slice.{opening}
 use Rattle.age_stream.proofs.JudgesLastLemmas.{opened_there}
-use Rattle.age_stream.proofs.WholeSlices.{whole_chunk}
 use Rattle.age_file.proofs.RangeLemmas.{header_known}
 use Rattle.age_file.proofs.FileLemmas.{never_stops, with_file_fault_whole}
 

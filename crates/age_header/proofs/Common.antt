@@ -11,19 +11,20 @@ pub use Rattle.std.proofs.Common.{Bor, Err, Global, IfOk, List, None, Ok, Option
 pub use Rattle.std.proofs.KnownBytes.{Appends-nil, Appends-trans, Consumes-nil, Consumes-trans, starts_with_rest}
 pub use Rattle.std.proofs.Math.Seq.{take-add, take-append-add, take-append_seam}
 pub use Rattle.std.proofs.lemmas.Bool.{cases_Bool, cases_eq, cases_lt, cases_order, eq-eqb, eqb-true, false≢true, iff_false}
-pub use Rattle.std.proofs.lemmas.Bool.Decides.{Decides-eqb}
+pub use Rattle.std.proofs.lemmas.Bool.Decides.{Decides-eqb, nat_tests}
 pub use Rattle.std.proofs.lemmas.Grind.{common_steps}
 pub use Rattle.std.proofs.lemmas.List.{append_cancel_left, append_cancel_right, at_drop_more, drop_all, drop_at, flat_map_more, get_or-drop, get_or-map, length-map, map_push, nil_from_length, same_from_push, take-append-le, take-take, take_all, take_at, take_min, take_more}
 pub use Rattle.std.proofs.lemmas.List.Concat.{flat_map-append}
 pub use Rattle.std.proofs.lemmas.List.Folds.{concat-append, flat_map-map}
+pub use Rattle.std.proofs.lemmas.Nat.{and_le_l, and_le_r}
 pub use Rattle.std.proofs.lemmas.Result.{IfOk-weaker, err_from_is_err_and}
 pub use Rattle.std.proofs.lemmas.Slice.Eq.{bytes_eq-Decides, strip_prefix_is}
 pub use Rattle.std.proofs.lemmas.Str.{IsUtf8-from_ascii}
 pub use Rattle.std.specs.Io.{ReadsAtMost}
 pub use Rattle.std.specs.Io.KnownBytes.{Appends, Consumes, IsAtEnd}
 pub use Rattle.std.specs.List.{AllByRecursion, concat, position_or_len}
-pub use Rattle.std.specs.Prelude.{IfSome, ⊤}
-pub use Rattle.std.specs.Str.{IsAscii, IsUtf8}
+pub use Rattle.std.specs.Prelude.{IfSome, ⊤, ◌&&◌}
+pub use Rattle.std.specs.Str.{IsAscii, IsUtf8, bytes_eq}
 pub use Rattle.std.specs.String.{string_bytes}
 pub use Rattle.age_header.specs.Arguments.{NoVisible}
 pub use Rattle.age_header.specs.Base64.{IsOne, IsThree, IsTwo, StandsFor}

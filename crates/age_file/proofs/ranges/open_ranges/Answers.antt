@@ -1,6 +1,6 @@
 use Rattle.age_file.proofs.Common.{◌∙◌, ap, arith, inl, inr, answers_by, stream_fault}
-use Rattle.age_file.proofs.DecryptLemmas.{reads_file}
-use Rattle.age_file.proofs.RangeLemmas.{file_begins, file_most, header_fits, header_stays, locked_named, locked_ranges, missed_ranges, none_counted, payload_front, payload_missed, payload_named}
+use Rattle.age_file.proofs.DecryptLemmas.{found_key, reads_file}
+use Rattle.age_file.proofs.RangeLemmas.{file_most, header_fits, header_stays, locked_named, locked_ranges, missed_ranges, payload_front, payload_missed, payload_named}
 use Rattle.age_file.proofs.ranges.open_ranges.Goals as goal
 
 pub returns-in-Err-clause-refuses : goal.returns-in-Err-clause-refuses
@@ -27,22 +27,27 @@ returns-in-Err-unlock_header-clause-refuses g c =
       named = locked_named answers c.in-Ok.found.header e locked.key;
       front = inr (inr (omega (arith, of.given, header_fits of.first)));
       stay = of.stay;
-      counted = none_counted e _ _ locked.no_device of.uncounted;
+      counted = rw locked.no_device.0 of.uncounted;
     })
 
 pub returns-in-Ok-open-clause-ranges : goal.returns-in-Ok-open-clause-ranges
 returns-in-Ok-open-clause-ranges g c =
-    let answers = answers_by c.args.identities.now (λ i. (goal.Identity-dyn g (i.vtable, i.value)).meaning i.value) in
+    let of = c.in-Ok.ensures in
     let opens = c.in-Ok-open.ensures.opens in
-    let begins = opens.0.2 in (
-      opens.1.stay ∙ c.in-Ok.ensures.stay,
-      file_begins c.args.limits.now answers c.in-Ok.found.at c.in-Ok.found.header
-          c.in-Ok-unlock_header.key c.max_chunks.ensures.value (header_stays opens.2 c.in-Ok.ensures.first)
-          c.in-Ok-unlock_header.ensures.key begins,
-      file_most (g.D.ReadAt.given c.args.dev.now) c.in-Ok-open.reader.chunks c.in-Ok.ensures.given begins opens.1,
+    let begins = rw c.max_chunks.ensures.value at opens.0.2 in (
+      opens.1.stay ∙ of.stay,
+      record {
+        header = c.in-Ok.found.header;
+        at = c.in-Ok.found.at;
+        first = header_stays opens.2 of.first;
+        key = c.in-Ok-unlock_header.key;
+        chosen = found_key c.in-Ok-unlock_header.ensures.key;
+        begins = begins;
+      },
+      file_most (g.D.ReadAt.given c.args.dev.now) c.in-Ok-open.reader.chunks of.given begins opens.1,
       opens.0.0,
       opens.0.1,
-      opens.3 ∙ c.in-Ok.ensures.uncounted,
+      opens.3 ∙ of.uncounted,
     )
 
 pub returns-clause-refuses : goal.returns-clause-refuses

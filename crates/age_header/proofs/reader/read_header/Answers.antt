@@ -1,6 +1,5 @@
-use Rattle.age_header.proofs.Common.{◌≡◌, ◌∙◌, length, sym, arith, rules, Err, common_steps, Bytes, iff_false}
+use Rattle.age_header.proofs.Common.{◌≡◌, ◌∙◌, length, sym, arith, rules, Err, common_steps, Bytes, iff_false, seen_by}
 use Rattle.age_header.proofs.DeviceLemmas.{gave_some, of_any, some_then}
-use Rattle.age_header.specs.Device.{seen_by}
 use Rattle.age_header.proofs.MostLemmas.{line_within, reached_most}
 use Rattle.age_header.proofs.ReaderLemmas.{outside}
 use Rattle.age_header.proofs.VerdictLaterLinesLemmas.{path_truncated, path_too_large, path_header, path_bad, path_more, path_lines, path_start}

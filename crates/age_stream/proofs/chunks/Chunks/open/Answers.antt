@@ -1,6 +1,9 @@
-use Rattle.age_stream.proofs.Common.{arith}
+use Rattle.age_stream.proofs.Common.{arith, inl, refl}
 use Rattle.age_stream.proofs.JudgesLastLemmas.{probed}
 use Rattle.age_stream.proofs.chunks.Chunks.open.Goals as goal
+
+pub returns-in_default-clause-named : goal.returns-in_default-clause-named
+returns-in_default-clause-named g c = inl (refl, refl)
 
 pub returns-in_err-start-clause-probes : goal.returns-in_err-start-clause-probes
 returns-in_err-start-clause-probes g c = record {
