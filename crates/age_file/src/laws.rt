@@ -27,6 +27,7 @@ ghost use Rattle.age_file.specs.Verdict.{Answering, IsVerdict, finding};
 
 use age_recipient::{Labels, Matched};
 use age_stream::ReadAt;
+pub use age_stream::laws::given_is_known;
 
 /// The verdict is this plaintext without fault exactly on the age files of this plaintext for the
 /// file key that the identities choose. All bytes have exactly one verdict.

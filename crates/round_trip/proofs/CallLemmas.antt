@@ -1,18 +1,5 @@
 -- Calls on one reader of ranges, one after another.
-use Rattle.std.proofs.Common.{◌≡◌, ◌∙◌, ℕ, List, [], ◌∷◌, ◌++◌, ◌+◌, ◌-◌, ◌*◌, ◌/◌, ◌<◌, ◌≤◌, length, take, drop, get_or, set, ap, sym, arith, refl, inl, inr, Option, Some, None, Result, Ok, Err}
-use Rattle.std.specs.List.{FoldsTo, zip}
-use Rattle.std.proofs.lemmas.Bool.{false≢true}
-use Rattle.std.proofs.lemmas.Fn.{FoldsTo-push}
-use Rattle.std.proofs.lemmas.List.{drop-drop, drop-set-lt, drop_more, length-take-le, take_more, take_more_set}
-use Rattle.age_stream.specs.declared.fault.StreamFault.{StreamFault}
-use Rattle.age_stream.specs.declared.layout.Layout.{Layout}
-use Rattle.age_stream.proofs.LoadLemmas.{opens_there}
-use Rattle.age_stream.proofs.RangeLemmas.{slice_there}
-use Rattle.age_stream.specs.Offsets.{Agrees}
-use Rattle.age_stream.specs.Ranges.{Fills, IsThere, PieceOpens, RangeParts, RangeState, ReadsRange, range_len, source_opening}
-use Rattle.age_stream.specs.Sizes.{chunk_size}
-use Rattle.age_file.specs.Words.{Bytes, Known}
-use Rattle.round_trip.specs.Calls.{Answers, FillsKnown, Touches}
+use Rattle.round_trip.proofs.Common.{◌≡◌, ◌∙◌, ℕ, List, [], ◌∷◌, ◌++◌, ◌+◌, ◌-◌, ◌*◌, ◌/◌, ◌<◌, ◌≤◌, length, take, drop, get_or, set, ap, sym, arith, refl, inl, inr, Option, Some, None, Result, Ok, Err, FoldsTo, zip, false≢true, FoldsTo-push, drop-drop, drop-set-lt, drop_more, length-take-le, take_more, take_more_set, StreamFault, Layout, opens_there, slice_there, Agrees, Fills, IsThere, PieceOpens, RangeParts, RangeState, ReadsRange, range_len, source_opening, chunk_size, Bytes, Known, Answers, FillsKnown, Touches}
 
 -- what a piece that was read opens to is known
 known_opens : {gave : ℕ → ℕ → Type 0} {found : Option ℕ} (told : Known) (layout : Layout) (i : ℕ) (o : Known)
@@ -62,9 +49,8 @@ answers_first {gave = gave} {t} s {found} at {old} {new} (Err fault) agrees stay
 zip_push : {X Y : Type 0} (xs : List X) (ys : List Y) (x : X) (y : Y) → length ys ≡ length xs
     → zip (xs ++ x ∷ []) (ys ++ y ∷ []) ≡ zip xs ys ++ (x, y) ∷ []
 zip_push [] [] x y same = refl
-zip_push [] (b ∷ ys) x y same = absurd (omega (arith, same))
-zip_push (a ∷ xs) [] x y same = absurd (omega (arith, same))
 zip_push (a ∷ xs) (b ∷ ys) x y same = ap (λ ps. (a, b) ∷ ps) (zip_push xs ys x y (omega (arith, same)))
+zip_push xs ys x y same = absurd (omega (arith, same))
 
 -- one call more
 pub calls_more : {P X : Type 0} (R : P → X × X → P → Type 0) (p : P) {q u : P} (xs ys : List X) (i : ℕ) (d : X) {y : X}

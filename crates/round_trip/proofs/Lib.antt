@@ -1,3 +1,4 @@
 mod CallLemmas
+mod Common
 mod OwnHeaders
 mod TripLemmas

@@ -1,20 +1,5 @@
 -- A header of one stanza of this project's kinds is never refused.
-use Rattle.std.proofs.Common.{◌≡◌, ℕ, ◌≤◌, List, [], ◌∷◌, length, sym, ap, subst, arith, ◌∙◌, Some, None, Result, Ok}
-use Rattle.std.proofs.lemmas.Bool.{false≢true}
-use Rattle.age_file.specs.Words.{Bytes}
-use Rattle.age_header.specs.Header.{Head, StanzaParts}
-use Rattle.age_header.specs.Mac.{header_mac}
-use Rattle.age_header.specs.declared.file_key.FileKey.{FileKey}
-use Rattle.age_recipient.specs.declared.labels.Labels.{Labels}
-use Rattle.age_recipient.specs.Key.{IsFileKey}
-use Rattle.age_recipient.specs.KeyedStanza.{keyed_stanza}
-use Rattle.age_recipient.specs.PassphraseStanza.{pass_stanza}
-use Rattle.age_file.specs.declared.fault.Fault.{Fault}
-use Rattle.age_file.specs.declared.fault.Fault.TheVariants.{HeaderTooLarge, MixedPassphrase, NoRecipients, Refused, IncompatibleRecipients}
-use Rattle.age_file.specs.AgeFile.{Bounds, IsBounds, is_mixed}
-use Rattle.age_file.specs.NewFile.{Gathered, IsRefusal}
-use Rattle.age_file.proofs.OwnLabels.{one_index}
-use Rattle.age_recipient.proofs.HeaderSizeLemmas.{key_header, pass_header}
+use Rattle.round_trip.proofs.Common.{Head, Labels, StanzaParts, ◌≡◌, ℕ, ◌≤◌, List, [], ◌∷◌, length, sym, ap, subst, arith, ◌∙◌, Some, None, Result, Ok, false≢true, Bytes, header_mac, FileKey, IsFileKey, keyed_stanza, pass_stanza, Fault, HeaderTooLarge, MixedPassphrase, NoRecipients, Refused, IncompatibleRecipients, Bounds, IsBounds, is_mixed, Gathered, IsRefusal, one_index, key_header, pass_header}
 
 -- what one recipient returns, if it returns its stanza
 abbrev Given : (stanza : StanzaParts) (meant : Labels) (gathered : Result (List StanzaParts) Fault) → Type 0

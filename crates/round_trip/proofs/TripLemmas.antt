@@ -1,22 +1,5 @@
 -- One recipient's file, and what one identity reads of it.
-use Rattle.std.proofs.Common.{◌≡◌, ◌∙◌, ℕ, List, [], ◌∷◌, ◌++◌, map, sym, ap, subst, arith, refl, inl, inr, Some, None, Result, Ok, Err}
-use Rattle.std.specs.Prelude.{IfErr}
-use Rattle.std.proofs.lemmas.List.{append-nil}
-use Rattle.std.proofs.lemmas.Option.{none-some}
-use Rattle.age_header.specs.Device.{CountsFaultIf, Flow, move_of}
-use Rattle.age_header.proofs.DeviceLemmas.{of_known}
-use Rattle.age_file.specs.declared.fault.Fault.{Fault}
-use Rattle.age_file.specs.declared.fault.Fault.TheVariants.{TooManyChunks, Read, Write, OutOfMemory}
-use Rattle.age_file.specs.declared.limits.Fresh.{Fresh}
-use Rattle.age_file.specs.AgeFile.{AgeFile, Bounds}
-use Rattle.age_file.specs.Decrypt.{Decrypts, DecryptsText}
-use Rattle.age_file.specs.Device.{is_read}
-use Rattle.age_file.specs.NewFile.{EncryptsGiven, EncryptsText, Gathered, Gathering, RefusesFirst, IsRefusal}
-use Rattle.age_file.specs.Verdict.{Answering, IsVerdict}
-use Rattle.age_file.specs.Words.{Bytes, Done, Known, Labels, Reading, StanzaParts, Unwrapped, whole}
-use Rattle.round_trip.specs.Losses.{IsLoss, IsMemoryFault, IsUnwritten, none}
-use Rattle.round_trip.specs.declared.pairs.TripError.{TripError}
-use Rattle.round_trip.specs.declared.pairs.TripError.TheVariants.{Encrypting}
+use Rattle.round_trip.proofs.Common.{Bytes, Done, Known, Labels, Reading, StanzaParts, Unwrapped, whole, ◌≡◌, ◌∙◌, ℕ, List, [], ◌∷◌, ◌++◌, map, sym, ap, subst, arith, refl, inl, inr, Some, None, Result, Ok, Err, IfErr, append-nil, none-some, CountsFaultIf, Flow, move_of, of_known, Fault, TooManyChunks, Read, Write, OutOfMemory, Fresh, AgeFile, Bounds, Decrypts, DecryptsText, is_read, EncryptsGiven, EncryptsText, Gathered, Gathering, RefusesFirst, IsRefusal, Answering, IsVerdict, IsLoss, IsMemoryFault, IsUnwritten, none, TripError, Encrypting}
 
 -- what one recipient gives is what all give
 pub gathered_one : (wrapped : Result (List StanzaParts) ℕ) (meant : List Labels) (stanzas : List StanzaParts)

@@ -1,5 +1,6 @@
 //! The identity of a pair decrypts what was encrypted for the pair's recipient to the same
-//! plaintext. Also here: a list of calls on one reader of ranges (`make_calls`).
+//! plaintext. Also here: a part of a file's plaintext (`part_of`), and a list of calls on one reader
+//! of ranges (`make_calls`).
 //!
 //! ```
 //! let text = key_there_and_back(alloc, key, salt, plain, &fresh, &limits)?; // equals `plain`
@@ -19,4 +20,4 @@ mod ranges;
 
 pub use file::{decrypted, encrypted};
 pub use pairs::{TripError, key_there_and_back, pass_there_and_back, there_and_back};
-pub use ranges::{RangeCall, make_calls};
+pub use ranges::{RangeCall, make_calls, part_of};

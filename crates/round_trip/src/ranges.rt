@@ -1,11 +1,46 @@
-//! Calls on one reader of ranges, one after another.
+//! A part of a file, and calls on one reader of ranges, one after another.
 
-ghost use Rattle.std.specs.Prelude.{◌≡◌, length};
+ghost use Rattle.std.specs.Prelude.{◌≡◌, ◌-◌, ◌++◌, length, min, take, drop, IfOk};
 ghost use Rattle.std.specs.List.{FoldsTo, zip};
 ghost use Rattle.age_stream.specs.Ranges.{ReadsRange};
+ghost use Rattle.age_file.specs.Verdict.{IsVerdict, answers_by};
+ghost use Rattle.age_file.specs.Words.{Bytes, whole};
 ghost use Rattle.round_trip.specs.Calls.{Makes};
 
-use age_file::{RangeReader, ReadAt, StreamFault};
+use age_file::{
+    Fault, Identity, Limits, MemAt, RangeReader, ReadAt, StreamFault, laws, open_ranges,
+};
+use std::alloc::Global;
+
+/// Fills the start of `buf` with the plaintext of a file in memory from offset `at` on, and returns
+/// the number of bytes, as `RangeReader::read_range` does.
+///
+/// # Errors
+/// Those of `open_ranges` and of `read_range`.
+pub fn part_of(
+    alloc: Global,
+    identities: &[Box<dyn Identity>],
+    file: &[u8],
+    limits: &Limits,
+    at: u64,
+    buf: &mut [u8],
+) -> Result<usize, Fault>
+    // If the file's verdict for these identities is a plaintext without a fault, the buffer begins
+    // with that part of it, up to its end, and the rest of the buffer is unchanged.
+    ensures part { IfOk result (λ n. (plain : Bytes)
+        → IsVerdict limits.now (answers_by identities.now (λ i s. meaning i s)) file.now
+        (whole plain) → (n ≡ min (length buf.old) (length plain - at))
+        × (buf.new ≡ take n (drop at plain) ++ drop n buf.old)) }
+{
+    laws::file_is_sliced::<MemAt>();
+    laws::given_is_known::<MemAt>();
+    let mut dev = MemAt::new(file);
+    let mut reader = match open_ranges(alloc, &mut dev, identities, limits) {
+        Ok(reader) => reader,
+        Err(refused) => return Err(Fault::from(refused)),
+    };
+    Ok(reader.read_range(at, buf)?)
+}
 
 /// A call of `read_range`.
 #[derive(Drop)]

@@ -4,6 +4,7 @@ use super::begun::opened;
 use super::{encrypted, key_identities, key_recipients};
 use crate::devices::CountingReadAt;
 use age_file::{Fault, FileAt, Limits, MemAt, RangeReader, ReadAt, StreamFault};
+use round_trip::part_of;
 use std::alloc::Global;
 use std::cell::Cell;
 use std::fs;
@@ -56,6 +57,34 @@ fn expect_range<T: Abort, D: ReadAt>(
             255
         };
         assert_eq!(rt; buf[i], byte, "byte {i} of {len} at {at}");
+    }
+}
+
+/// A part over the end of a chunk, and one over the end of the plaintext.
+#[test]
+fn part_of_a_file_is_at_its_offset(rt: HostRuntime) {
+    let alloc = rt.alloc();
+    let file = file_of(&rt, alloc);
+    let identities = key_identities(&rt, alloc, 3);
+    for (at, n) in [(65_530u64, 12usize), (139_999, 1)] {
+        let mut buf = [255u8; 12];
+        let answer = part_of(
+            alloc,
+            identities.as_slice(),
+            file.as_slice(),
+            &Limits::default(),
+            at,
+            &mut buf,
+        );
+        assert!(rt; answer == Ok(n), "12 bytes at {at}");
+        for i in 0..12usize {
+            let byte = if i < n {
+                (at.wrapping_add(i as u64) % 251) as u8
+            } else {
+                255
+            };
+            assert_eq!(rt; buf[i], byte, "byte {i} of 12 at {at}");
+        }
     }
 }
 

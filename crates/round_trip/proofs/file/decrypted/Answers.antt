@@ -1,4 +1,4 @@
-use Rattle.std.proofs.Common.{◌≡◌, [], ◌∷◌, Some, Err, ap, rules}
+use Rattle.round_trip.proofs.Common.{◌≡◌, [], ◌∷◌, Some, Err, ap, rules}
 use Rattle.round_trip.proofs.TripLemmas.{text_of_whole, lost_of_one}
 use Rattle.round_trip.proofs.file.decrypted.Goals as goal
 

@@ -1,4 +1,4 @@
-use Rattle.std.proofs.Common.{◌≡◌, [], ◌∷◌, Some, Err, ap, rules}
+use Rattle.round_trip.proofs.Common.{◌≡◌, [], ◌∷◌, Some, Err, ap, rules}
 use Rattle.round_trip.proofs.TripLemmas.{file_of_one, unwritten_of_one}
 use Rattle.round_trip.proofs.file.encrypted.Goals as goal
 

@@ -1,4 +1,4 @@
-use Rattle.std.proofs.Common.{rules}
+use Rattle.round_trip.proofs.Common.{rules}
 use Rattle.round_trip.proofs.OwnHeaders.{key_unrefused}
 use Rattle.round_trip.proofs.TripLemmas.{without_refusal}
 use Rattle.round_trip.proofs.pairs.key_there_and_back.Goals as goal

@@ -1,4 +1,4 @@
-use Rattle.std.proofs.Common.{rules, arith, ◌≤◌}
+use Rattle.round_trip.proofs.Common.{rules, arith, ◌≤◌}
 use Rattle.round_trip.proofs.OwnHeaders.{pass_unrefused}
 use Rattle.round_trip.proofs.TripLemmas.{without_refusal}
 use Rattle.round_trip.proofs.pairs.pass_there_and_back.Goals as goal

@@ -1,5 +1,4 @@
-use Rattle.std.proofs.Common.{◌∙◌}
-use Rattle.round_trip.specs.Calls.{Makes}
+use Rattle.round_trip.proofs.Common.{◌∙◌, Makes}
 use Rattle.round_trip.proofs.CallLemmas.{answers_first, calls_more, rest_more}
 use Rattle.round_trip.proofs.ranges.make_calls.Goals as goal
 

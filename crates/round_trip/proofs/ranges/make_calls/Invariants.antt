@@ -1,6 +1,4 @@
-use Rattle.std.proofs.Common.{◌≡◌, take, drop}
-use Rattle.std.specs.List.{FoldsTo, zip}
-use Rattle.round_trip.specs.Calls.{Makes}
+use Rattle.round_trip.proofs.Common.{◌≡◌, take, drop, FoldsTo, zip, Makes}
 use Rattle.round_trip.proofs.ranges.make_calls.Given as goal
 
 -- the calls so far
