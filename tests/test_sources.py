@@ -141,7 +141,7 @@ class Promises(unittest.TestCase):
             crate = folder.split("/")[-3]
             sources = "".join(text_of(name) for name in glob.glob(f"{ROOT}/crates/{crate}/src/**/*.rt", recursive=True))
             with self.subTest(crate):
-                self.assertEqual(len(list(PROMISES.clauses(crate))), len(re.findall("^ *ensures", sources, re.MULTILINE)))
+                self.assertEqual(len(list(PROMISES.clauses(crate))), len(re.findall(r"^ *(?:ensures|ghost \w+: \{ \()", sources, re.MULTILINE)))
 
     def test_reading(self):
         """The counts of definitions in docs/PROOFS.md are those that the script prints."""

@@ -207,3 +207,19 @@ fn recipients_with_equal_labels_go_together(rt: HostRuntime) {
         assert!(rt; out.is_empty() == expected.is_err(), "{name}");
     }
 }
+
+/// The texts that only a caller's recipients and identities lead to.
+#[test]
+fn faults_of_callers_have_their_texts(rt: HostRuntime) {
+    let alloc = rt.alloc();
+    let rows = [
+        (Fault::NoRecipients, "no recipients"),
+        (Fault::Refused(1, 7), "recipient 1 refused: 7"),
+    ];
+    for (fault, text) in rows {
+        let shown = format!(in alloc; "{fault}").expect(&rt, "memory");
+        assert_eq!(rt; shown.as_str(), text);
+    }
+    let shown = format!(in alloc; "{}", StanzaFault::Other(7)).expect(&rt, "memory");
+    assert_eq!(rt; shown.as_str(), "code 7");
+}
