@@ -220,7 +220,7 @@ fn perform<'a, F: Files + Clock + AllocGlobal, R: Read, W: Write + IsTerminal, L
             let mut watched = Watched::new(shown);
             let done = perform_on(rt, work, task, &mut watched, out, lines);
             let input = watched.reader.reader.0;
-            // No effect at run time. The proof reads here whether `input` was read.
+            // For the proof alone (docs/PROOFS.md, "How to read a clause"): whether it was read.
             let _ = &*input;
             done
         }

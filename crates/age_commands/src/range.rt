@@ -43,7 +43,7 @@ pub(crate) fn range_of<D: ReadAt, W: Sink>(
         Ok(mut reader) => {
             let written = write_range(&mut reader, job.at, job.len, piece.as_mut_slice(), out);
             let source = reader.into_inner();
-            // The proof sees here what was read from the source.
+            // For the proof alone (docs/PROOFS.md, "How to read a clause"): what was read.
             let _ = &*source;
             written
         }

@@ -57,7 +57,7 @@ fn header_at<'a, D: ReadAt, K: Origin>(
     let mut source: AtSource<'a, D, K> = AtSource::new(dev);
     match inspect(alloc, &mut source, limits) {
         Ok(header) => {
-            // The proof learns here that the length of a header fits a u64.
+            // For the proof alone (docs/PROOFS.md, "How to read a clause"): it fits a u64.
             let _ = limits.max_header();
             let (dev, at) = source.into_parts();
             Ok(HeaderAt { header, dev, at })

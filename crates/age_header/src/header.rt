@@ -44,7 +44,7 @@ impl Header {
         if stanzas.is_empty() {
             return None;
         }
-        // each stanza's invariant becomes known here: that of an item of a list is not
+        // For the proof alone (docs/PROOFS.md, "How to read a clause"): the invariant of each.
         for stanza in &stanzas {
             let _ = stanza.args();
             let _ = stanza.body();

@@ -81,7 +81,7 @@ fn has_sixteen_bytes(key: FileKey)
 fn are_bounds(limits: &Limits)
     ensures { IsBounds limits.now }
 {
-    // The call makes the invariant known.
+    // For the proof alone (docs/PROOFS.md, "How to read a clause"): the invariant.
     let _ = limits.max_chunks();
 }
 

@@ -1,5 +1,4 @@
-use Rattle.age_commands.proofs.Common.{◌≡◌, drop, rules, inr, refl, Err}
-use Rattle.age_file.specs.Verdict.{stream_fault}
+use Rattle.age_commands.proofs.Common.{◌≡◌, drop, rules, inr, refl, Err, stream_fault}
 use Rattle.age_commands.proofs.RangeLemmas.{written, written_part}
 use Rattle.age_commands.proofs.VerifiedLemmas as verified
 use Rattle.age_commands.proofs.range.write_next.Goals as goal
