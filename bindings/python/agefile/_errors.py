@@ -65,9 +65,6 @@ class AgeError(Exception):
     does. `place` is the line of a header, counted from 1, or the chunk, counted from 0. `detail` is
     the part of a malformed stanza, 1 to 5. `place` and `detail` are 0 if the error has none.
     `filename` is the path of the file, or the name of its object, or None.
-
-    This is neither a ValueError nor an OSError: handlers of these expect bad JSON or an absent
-    file, and modules such as `tarfile` and `zipfile` take an OSError for a file of another format.
     """
 
     def __init__(
@@ -100,11 +97,7 @@ class AgeMemoryError(AgeError, MemoryError):
 
 
 class AgeChangedError(AgeError):
-    """The length of the file has changed since it was opened.
-
-    The file was cut, so that a chunk could not be read whole; or it was opened again from a pickle
-    and has been cut or has grown.
-    """
+    """The file was cut while it was open, or, opened again from a pickle, was cut or has grown."""
 
     def __init__(self, code: int | str = Code.CHUNK_SHORT, *rest: Any) -> None:
         super().__init__(code, *rest)

@@ -53,10 +53,8 @@ def open(
     is complete after `commit` or the clean end of its `with` block, and never otherwise; until then
     every reader refuses it. `close` elsewhere raises a ValueError.
 
-    A crash costs a file that was not complete, of which `salvage` saves all but the last 128 KiB.
     An existing file keeps its contents until the first byte is written or, with `atomic`, until the
-    new file, which is written beside it, is complete and takes its place. The header is made before
-    the file is opened.
+    new file, which is written beside it, is complete and takes its place.
 
     Text is UTF-8 unless `encoding` names another encoding.
     """

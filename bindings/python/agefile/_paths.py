@@ -17,15 +17,15 @@ from typing import TYPE_CHECKING, Any, BinaryIO
 from ._errors import AgeError
 
 _ACL = "system.posix_acl_access"
+# The end of the name of a new file until it takes the place of an old one. That of agep is the
+# same, so each respects the other's lock.
+NEW = ".agep-new"
 
 if TYPE_CHECKING:
-
     class BinaryBase(io.BufferedIOBase, BinaryIO):  # type: ignore[misc]
         """As `io.BufferedReader` for type checkers."""
-
         name: Any
         mode: str
-
 else:
     BinaryBase = io.BufferedIOBase
 
@@ -76,13 +76,14 @@ def opener_of(file: Any) -> Any:
     return opener
 
 
-def _descriptor(file: Any) -> int | None:
-    """The descriptor of an open file, or None. Does not call `fileno` of a SpooledTemporaryFile,
-    which would write the file to the disk."""
+def _stat_of(file: Any) -> os.stat_result | None:
+    """What the system says of a path or of an open file, or None. Does not call `fileno` of a
+    SpooledTemporaryFile, which would write the file to the disk."""
     with contextlib.suppress(AttributeError, NotImplementedError, TypeError, ValueError, OSError):
+        if is_path(file):
+            return os.stat(file)
         if not hasattr(file, "rollover"):
-            os.fstat(found := operator.index(file.fileno()))
-            return found
+            return os.fstat(operator.index(file.fileno()))
     return None
 
 
@@ -90,132 +91,160 @@ def _refuse_source(sink: Any, source: Any) -> None:
     """Refuses a file that is the source, or from which a Reader reads its plaintext: it would be
     emptied, or grow while it is read. A socket or terminal may be both."""
     source = getattr(source, "encrypted", source)
-    to, of = _descriptor(sink), _descriptor(source)
+    to, of = _stat_of(sink), _stat_of(source)
     if to is None or of is None:
         is_same = sink is source and sink.seekable()
     else:
-        is_same = stat.S_ISREG(os.fstat(to).st_mode) and os.path.sameopenfile(to, of)
+        is_same = stat.S_ISREG(to.st_mode) and os.path.samestat(to, of)
     if is_same:
         raise ValueError(f"{name_of(sink)!r} is the source, and cannot be the sink too")
 
 
-def _refuse_path(path: Any, source: Any) -> None:
-    """Does the same for a file that is not opened yet."""
-    of = _descriptor(getattr(source, "encrypted", source))
-    if of is not None and os.path.exists(path) and os.path.samestat(os.stat(path), os.fstat(of)):
-        raise ValueError(f"{path!r} is the source, and cannot be the sink too")
+class Locked(io.FileIO):
+    """A file with one writer at a time, because two would destroy each other's chunks."""
 
+    name: Any
+    _process = 0
 
-class Output(io.FileIO):
-    """The file of a path, which keeps its contents until the first byte is written. A regular file
-    is locked meanwhile: two writers would destroy each other's chunks."""
+    def lock(self) -> bool:
+        """Refuses a file that another writer has locked. Returns False if there are no locks."""
+        self._process = os.getpid()
+        try:
+            fcntl.flock(self.fileno(), fcntl.LOCK_EX | fcntl.LOCK_NB)
+        except BlockingIOError:
+            self.close()
+            raise _busy(self.name) from None
+        except OSError:
+            return False
+        return True
 
-    def __init__(self, path: Any, mode: str, permissions: int) -> None:
-        def without_truncation(path: Any, flags: int) -> int:
-            return os.open(path, flags & ~os.O_TRUNC, permissions)
-
-        super().__init__(os.fspath(path), mode, opener=without_truncation)
-        self._is_kept = stat.S_ISREG(os.fstat(self.fileno()).st_mode)
-        self._locked_by = 0
-        if self._is_kept:
-            try:
-                fcntl.flock(self.fileno(), fcntl.LOCK_EX | fcntl.LOCK_NB)
-                self._locked_by = os.getpid()
-            except BlockingIOError as error:
-                self.close()
-                raise BlockingIOError(error.errno, "another writer has this file open", path) from None
-            except OSError:
-                # This file system has no locks.
-                pass
-
-    def empty(self) -> None:
-        if self._is_kept:
-            self.truncate(0)
-            self._is_kept = False
-
-    def write(self, data: Any, /) -> int:
-        self.empty()
-        return super().write(data)
+    def has_name(self) -> bool:
+        with contextlib.suppress(FileNotFoundError):
+            return os.path.samestat(os.lstat(self.name), os.fstat(self.fileno()))
+        return False
 
     def close(self) -> None:
-        if not self.closed and self._locked_by == os.getpid():
+        if not self.closed and self._process == os.getpid():
             # A forked child would keep the lock by its descriptor, and must not end it.
             with contextlib.suppress(OSError):
                 fcntl.flock(self.fileno(), fcntl.LOCK_UN)
         super().close()
 
 
-class Replacement(io.FileIO):
+def _busy(name: Any) -> BlockingIOError:
+    return BlockingIOError(errno.EAGAIN, "another writer has this file open", name)
+
+
+class Output(Locked):
+    """The file of a path, which keeps its contents until the first byte is written."""
+
+    def __init__(self, path: Any, mode: str, permissions: int = 0) -> None:
+        def without_truncation(path: Any, flags: int) -> int:
+            return os.open(path, flags & ~os.O_TRUNC, permissions)
+
+        super().__init__(os.fspath(path), mode, opener=without_truncation)
+        self._is_kept = stat.S_ISREG(os.fstat(self.fileno()).st_mode)
+        if self._is_kept:
+            self.lock()
+
+    def replace_old(self) -> None:
+        """Empties the file, if nothing was written."""
+        if self._is_kept:
+            self.truncate(0)
+            self._is_kept = False
+
+    def write(self, data: Any, /) -> int:
+        self.replace_old()
+        return super().write(data)
+
+
+class Replacement(Locked):
     """A new file beside the file of a path, with its owner and permissions. `replace_old` moves it
     to the path; `close` removes it if that was not called."""
 
-    def __init__(self, path: Any, mode: str, permissions: int) -> None:
-        self._target = os.path.realpath(os.fsdecode(path))
-        self._is_new, self._process, self._is_beside = "x" in mode, os.getpid(), False
+    _is_beside = False
+
+    def __init__(self, path: Any, mode: str, permissions: int, end: str = NEW) -> None:
+        self._target, self._is_new = os.path.realpath(os.fsdecode(path)), "x" in mode
         found = os.stat(self._target) if os.path.lexists(self._target) else None
         if found is not None and self._is_new:
             raise FileExistsError(errno.EEXIST, os.strerror(errno.EEXIST), path)
         if found is not None and not stat.S_ISREG(found.st_mode):
             raise ValueError(f"only a regular file is replaced, which {path!r} is not")
-        self._folder = os.path.dirname(self._target)
-        self._beside = os.path.join(self._folder, beside(self._target))
-        try:
-            super().__init__(self._beside, "xb", opener=functools.partial(os.open, mode=permissions))
-        except OSError as error:
-            error.filename = path
-            raise
-        self._is_beside = True
+        if found is not None and end == NEW:
+            # It must be one that may be written, and that nobody writes in its place.
+            Output(path, "ab").close()
+        self._create(self._target + end, permissions if found is None else 0o600)
         if found is not None:
             self._take_permissions(found)
+
+    def _create(self, name: str, permissions: int) -> None:
+        """Creates the new file, which must not exist, and locks it."""
+        _remove_dead(name)
+        try:
+            super().__init__(name, "xb", opener=functools.partial(os.open, mode=permissions))
+        except FileExistsError:
+            raise _busy(name) from None
+        # Who has the lock already takes this for the file of a killed writer, and removes it.
+        self.lock()
+        if not self.has_name():
+            self.close()
+            raise _busy(name)
+        self._is_beside = True
 
     def _take_permissions(self, found: os.stat_result) -> None:
         """Takes over owner, group, mode and ACL, or less where the system does not let them be kept:
         nobody may read the new file who could not read the old one."""
-        new, mode = self.fileno(), found.st_mode & 0o777
-        try:
-            os.fchown(new, found.st_uid, found.st_gid)
-        except OSError:
-            try:
-                os.fchown(new, -1, found.st_gid)
-            except OSError:
-                mode &= 0o707
-        acl = None
+        new, kept, acl = self.fileno(), 0o707, None
+        for owner in (found.st_uid, -1):
+            with contextlib.suppress(OSError):
+                os.fchown(new, owner, found.st_gid)
+                kept = 0o777
+                break
         try:
             acl = os.getxattr(self._target, _ACL)
             os.setxattr(new, _ACL, acl)
         except OSError as error:
             if acl is not None or error.errno not in (errno.ENODATA, errno.ENOTSUP):
-                mode &= 0o707
+                kept = 0o707
             with contextlib.suppress(OSError):
                 # One that the folder gave would come to life with the bits of the group, its mask.
                 os.removexattr(new, _ACL)
-        os.fchmod(new, mode)
+        os.fchmod(new, found.st_mode & kept)
 
     def replace_old(self) -> None:
         """Syncs the file, moves it to the path, and syncs the directory."""
-        folder = os.open(self._folder, os.O_RDONLY)
+        folder = os.open(os.path.dirname(self._target), os.O_RDONLY)
         try:
             os.fsync(self.fileno())
+            if not self.has_name():
+                raise FileNotFoundError(errno.ENOENT, "the new file was removed", self.name)
             if self._is_new:
-                os.link(self._beside, self._target)
+                os.link(self.name, self._target)
             else:
-                os.replace(self._beside, self._target)
+                os.replace(self.name, self._target)
                 self._is_beside = False
             os.fsync(folder)
         finally:
             os.close(folder)
 
     def close(self) -> None:
-        super().close()
-        # A forked child must not remove its parent's file.
-        if self._is_beside and self._process == os.getpid():
+        try:
+            # A forked child must not remove its parent's file.
+            if self._is_beside and self._process == os.getpid() and self.has_name():
+                os.unlink(self.name)
+        finally:
             self._is_beside = False
-            os.unlink(self._beside)
+            super().close()
 
 
-def beside(path: str) -> str:
-    """A name for a new file until it takes the place of the file of this path."""
-    return f".agefile-{os.path.basename(path)[:50]}-{os.urandom(8).hex()}"
+def _remove_dead(name: str) -> None:
+    """Removes the new file of a killed writer: nobody has locked it."""
+    flags = os.O_RDWR | os.O_NOFOLLOW | os.O_NONBLOCK | os.O_CLOEXEC
+    with contextlib.suppress(FileNotFoundError):
+        with Locked(name, "rb+", opener=lambda name, _: os.open(name, flags)) as dead:
+            if dead.lock() and dead.has_name():
+                os.unlink(name)
 
 
 def created(
@@ -267,16 +296,14 @@ def writing(
         yield file
         return
     if atomic and not in_place:
-        _refuse_path(file, source)
+        _refuse_source(file, source)
     elif not is_path(file) and not isinstance(file, int):
         if opener_of(file) is file:
             raise TypeError("a function could empty the source: pass a path, or the file that it opens")
         if getattr(getattr(file, "fs", None), "local_file", False):
-            _refuse_path(file.path, source)
+            _refuse_source(file.path, source)
     with created(file, "wb", atomic, closefd=False, permissions=permissions) as sink:
         _refuse_source(sink, source)
         yield sink
-        if isinstance(sink, Output):
-            sink.empty()
-        if isinstance(sink, Replacement):
+        if isinstance(sink, (Output, Replacement)):
             sink.replace_old()

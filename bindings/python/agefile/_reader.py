@@ -78,23 +78,12 @@ class _Chunks:
         self.errors: dict[int, Exception] = {}
         self._open_last()
 
-    @staticmethod
-    def unlocked(source: _Source, identities: Identities) -> lib.Ranges:
-        """Unlocks a source. Reads only its beginning."""
-        front, ranges = Front(source), lib.Ranges()
-        _, file_key = front.unlock(identities)
-        text = bytes(front.bytes)
-        lib.check("ranges_open", text, len(text), source.length, file_key, ctypes.byref(ranges))
-        return ranges
-
     def _open_last(self) -> None:
         """Opens the last chunk, whose tag proves where the plaintext ends."""
         before = max(self._sealed_len - 1, 0) // lib.SEALED_CHUNK
         length = self._read(before)
-        code, report = lib.call("ranges_last", ctypes.byref(self.ranges), self._chunk.base, length)
-        if code:
-            raise AgeError.of(code, report.place)
-        self.length: int = report.len
+        words = ctypes.byref(self.ranges), self._chunk.base, length
+        self.length: int = lib.check("ranges_last", *words).len
         self._number, self._len = before, self.length - before * lib.TEXT_CHUNK
 
     def _read(self, number: int) -> int:
@@ -191,11 +180,9 @@ class _Plaintext(io.RawIOBase):
 class Reader(BinaryBase):
     """The plaintext of an age file, as a seekable binary file.
 
-    Opens only the chunks that are read, so damage in other chunks is not noticed. A result shorter
-    than requested means the end of the plaintext. A call that needs a damaged chunk raises its
-    error, now and each time, and the position stays. `read1`, `peek` and `raw.readinto`, whose
-    results may be short anyway, return the verified bytes before the damaged chunk, and raise only
-    once there are none. `raw` has its own position.
+    Opens only the chunks that are read, so damage in other chunks is not noticed. A call that needs
+    a damaged chunk raises its error, now and each time, and the position stays. `read1`, `peek` and
+    `raw.readinto`, whose results may be short, first return the verified bytes before the chunk.
 
     A Reader opened from a path or an opener can be pickled, for example for worker processes. The
     pickle contains the key of the payload: whoever has the pickle can read the file. It opens the
@@ -339,22 +326,29 @@ class Reader(BinaryBase):
             self.raw.close()
 
 
+def _unlocked(source: _Source, identities: Identities) -> lib.Ranges:
+    """Unlocks a source. Reads only its beginning."""
+    front, ranges = Front(source), lib.Ranges()
+    _, file_key = front.unlock(identities)
+    text = bytes(front.bytes)
+    lib.check("ranges_open", text, len(text), source.length, file_key, ctypes.byref(ranges))
+    return ranges
+
+
 def open_reader(file: Any, identities: Identities) -> Reader:
     """Opens the plaintext of a path, a descriptor, an opener, or a seekable binary file."""
     owned = not is_open(file, "read")
     is_descriptor = isinstance(file, int)
     below, name = opened(file, closefd=not is_descriptor) if owned else file, name_of(file)
-    try:
+    with named(name), contextlib.ExitStack() as stack:
+        if owned:
+            stack.callback(below.close)
         source = _Source(below, file if owned and not is_descriptor else None, owned)
-        reader = Reader(_Chunks(source, _Chunks.unlocked(source, identities), name))
+        reader = Reader(_Chunks(source, _unlocked(source, identities), name))
         if is_descriptor:
             # Until here it stays the caller's, who may try another key.
             source.file = opened(file)
-    except BaseException as error:
-        if owned:
-            below.close()
-        with_name(error, name)
-        raise
+        stack.pop_all()
     return reader
 
 

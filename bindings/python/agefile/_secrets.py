@@ -76,8 +76,7 @@ class _Secret:
         return hash(type(self))
 
     def __dask_tokenize__(self) -> str:
-        """A name for this object and its pickles, which tells nothing of the secret: from a hash of
-        it a weak passphrase could be guessed."""
+        """A name for this object and its pickles, which for the same reason is not a hash."""
         return self._token
 
     def __repr__(self) -> str:
@@ -276,9 +275,7 @@ def header_of(text: bytes, file_key: bytes) -> bytes:
 def read_header(front: bytes) -> Header:
     """The header at the start of these bytes."""
     summary = lib.Summary()
-    code, report = lib.call("inspect", front, len(front), ctypes.byref(summary))
-    if code:
-        raise AgeError.of(code, report.place, report.detail)
+    lib.check("inspect", front, len(front), ctypes.byref(summary))
     count, length = summary.stanzas, summary.header_len
     sizes, room = (lib.StanzaSummary * count)(), ctypes.create_string_buffer(length)
     lib.check("stanzas", front, len(front), sizes, count, room, length)

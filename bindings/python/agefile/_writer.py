@@ -196,7 +196,8 @@ class Writer(BinaryBase):
     def _end(self) -> None:
         """Ends writing, unless `close` or another thread has."""
         try:
-            if (text := self._text()) is not None:
+            # After `detach` it has no buffer.
+            if (text := self._text()) is not None and text.buffer is not None:
                 text.flush()
             self._buffer.truncate()
         except BaseException as error:
@@ -284,11 +285,6 @@ class TextWriter(io.TextIOWrapper):
     def __init__(self, buffer: Writer, **words: Any) -> None:
         super().__init__(buffer, **words)
         buffer._text = weakref.ref(self)
-
-    def detach(self) -> Writer:
-        below: Any = super().detach()
-        below._text = lambda: None
-        return below  # type: ignore[no-any-return]
 
     def write(self, text: str, /) -> int:
         # Programs write few characters at a time, and `super()` takes as long as the rest.

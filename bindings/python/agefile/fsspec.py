@@ -1,4 +1,4 @@
-"""A file system of plaintexts for fsspec, and so for Dask and other users of fsspec.
+"""A file system of plaintexts for fsspec, and so for its users, such as Dask.
 
     import agefile, agefile.fsspec, dask.dataframe, fsspec
     secret = agefile.Passphrase("correct horse battery staple")
@@ -11,8 +11,8 @@ damage in one block fails only its task, and damage in the header or in the last
 Do not replace a file between the making of a table and its computation: Dask then reads as many
 bytes as the old file had, of plain files too.
 
-The keys of the last payloads are kept, so scrypt runs once for each file. The pickle of the file
-system for a worker contains them: whoever has the pickle can read these files.
+The pickle of the file system for a worker contains the keys of the last files that it read, so
+that scrypt runs once for each: whoever has the pickle can read these files.
 """
 
 from __future__ import annotations
@@ -33,26 +33,22 @@ from fsspec.utils import tokenize  # type: ignore[import]
 
 from ._errors import AgeError, Code
 from ._files import open as open_file
-from ._paths import beside, created, is_path
+from ._paths import NEW, Replacement, is_path
 from ._reader import Reader, open_reader, reopened
 from ._secrets import Identities, Key, Recipients, as_list
 from ._sources import write_all
-
-# Words of fsspec for each file system, and for each open file.
-_OF_SYSTEMS = "asynchronous batch_size listings_expiry_time loop max_paths skip_instance_cache"
-_OF_FILES = "autocommit block_size cache_options cache_type compression size"
-
-
-def _refuse_unknown(options: dict[str, Any], known: str) -> None:
-    unknown = sorted(set(options) - set(known.split()))
-    if unknown:
-        raise TypeError(f"unknown options: {', '.join(unknown)} (a secret is passed as identities or recipients)")
-
 
 # How a file that does not exist is reported.
 _ABSENT = FileNotFoundError, NotADirectoryError, IsADirectoryError
 # For how many files keys are kept, which the pickle of a file system has with it.
 _MOST_KEYS = 512
+
+
+def _refuse_slips(options: dict[str, Any], *others: str) -> None:
+    """Refuses likely slips. Other words may be those of a later fsspec, which are passed over."""
+    slips = {"key", "keys", "passphrase", "password", "secret", "identity", "recipient", *others}
+    if found := sorted(slips & {*options}):
+        raise TypeError(f"unknown: {', '.join(found)} (a secret is passed as identities or recipients)")
 
 
 @contextlib.contextmanager
@@ -65,6 +61,11 @@ def _reading(path: str) -> Iterator[None]:
         if isinstance(error, _ABSENT):
             raise
         raise AgeError(Code.READ, filename=path) from error
+
+
+def _random_end() -> str:
+    """The end of the name of a new file, where no lock tells it from that of another writer."""
+    return f".{os.urandom(8).hex()}{NEW}"
 
 
 def _below(name: str) -> Any:
@@ -93,7 +94,7 @@ class AgeFileSystem(AbstractFileSystem):  # type: ignore[misc]
         target_protocol: str = "file", target_options: dict[str, Any] | None = None,
         fo: Any = "", atomic: bool = False, **options: Any,
     ) -> None:
-        _refuse_unknown(options, _OF_SYSTEMS + " use_listings_cache")
+        _refuse_slips(options)
         super().__init__(**options)
         self.fs = fs or fsspec.filesystem(target_protocol, **(target_options or {}))
         self._identities = None if identities is None else as_list(identities, "unwrap")
@@ -127,7 +128,7 @@ class AgeFileSystem(AbstractFileSystem):  # type: ignore[misc]
         which would lose the end of the file, and a transaction are refused."""
         if "r" not in mode:
             return self._create(self._strip_protocol(path), mode, options)
-        _refuse_unknown(options, _OF_FILES + " encoding errors newline")
+        _refuse_slips(options, "identities", "recipients", "atomic")
         if "b" not in mode:
             options["encoding"] = options.get("encoding") or "utf-8"
         return super().open(path, mode, **options)
@@ -139,7 +140,7 @@ class AgeFileSystem(AbstractFileSystem):  # type: ignore[misc]
         is_later = self._intrans or not options.get("autocommit", True)
         if is_later or options.get("compression") is not None:
             raise ValueError("a file is written without compression, and outside of transactions")
-        _refuse_unknown(options, _OF_FILES + " encoding errors newline recipients atomic")
+        _refuse_slips(options, "identities")
         names = {"encoding", "errors", "newline", "recipients"} & set(options)
         words: Any = {"recipients": self._recipients, **{name: options[name] for name in names}}
         is_atomic = options.get("atomic", self._atomic)
@@ -239,7 +240,7 @@ class AgeFileSystem(AbstractFileSystem):  # type: ignore[misc]
             super().get_file(rpath, lpath, *arguments, **options)
             return
         os.makedirs(os.path.dirname(os.path.abspath(lpath)), exist_ok=True)
-        with created(lpath, "wb", atomic=True) as new:
+        with Replacement(lpath, "wb", 0o666, _random_end()) as new:
             super().get_file(rpath, new, *arguments, **options)
             new.replace_old()
 
@@ -256,18 +257,11 @@ class AgeFileSystem(AbstractFileSystem):  # type: ignore[misc]
         while not isinstance(fs, LocalFileSystem) and getattr(fs, "fs", None) is not None:
             name, fs = fs._join(name) if hasattr(fs, "_join") else name, fs.fs
         is_local = isinstance(fs, LocalFileSystem) and isinstance(local, (str, os.PathLike))
-        if is_local and os.path.exists(name) and os.path.exists(local):
-            if os.path.isfile(name) and os.path.samefile(name, local):
-                raise shutil.SameFileError(f"{name!r} and {local!r} are the same file")
+        if is_local and os.path.isfile(name) and os.path.exists(local) and os.path.samefile(name, local):
+            raise shutil.SameFileError(f"{name!r} and {local!r} are the same file")
 
     def invalidate_cache(self, path: str | None = None) -> None:
-        if path is None:
-            self._keys.clear()
-            self.fs.invalidate_cache()
-        else:
-            name = self._strip_protocol(path)
-            self._keys.pop(name, None)
-            self.fs.invalidate_cache(name)
+        self.fs.invalidate_cache(None if path is None else self._strip_protocol(path))
 
     def __reduce__(self) -> tuple[Any, ...]:
         words = {"fs": self.fs, "identities": self._identities, "recipients": self._recipients}
@@ -296,7 +290,7 @@ class _Beside:
 
     def __init__(self, fs: AbstractFileSystem, path: str) -> None:
         self._fs, self._path = fs, path
-        self._name = path[: path.rfind("/") + 1] + beside(path)
+        self._name = path + _random_end()
         self._file = fs.open(self._name, "wb")
         self.write, self.flush = self._file.write, self._file.flush
 

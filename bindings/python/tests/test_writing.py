@@ -3,6 +3,7 @@ write."""
 
 import contextlib
 import errno
+import fcntl
 import gzip
 import io
 import itertools
@@ -429,8 +430,12 @@ class Writing(InFolder):
         self.written(b"text", "o.age")
         with mock.patch("fcntl.flock", side_effect=OSError(errno.ENOLCK, "no locks")), new() as file, new():
             file.abort()
-        with agefile.open("o.age", "wb", recipients=KEY, atomic=True) as file:
-            self.written(b"other", "o.age", atomic=True)
+        replaced = lambda: agefile.open("o.age", "wb", recipients=KEY, atomic=True)
+        with new() as file:
+            self.assertRaises(BlockingIOError, replaced)
+            file.abort()
+        with replaced() as file:
+            self.assertRaises(BlockingIOError, replaced)
             file.write(b"last")
         self.assertEqual((self.read("o.age"), os.listdir()), (b"last", ["o.age"]))
 
@@ -439,8 +444,8 @@ class Writing(InFolder):
         def raises(file):
             raise KeyError
 
-        def opens_no_folder(path, flags, **words):
-            return fails() if flags == os.O_RDONLY else os_open(path, flags, **words)
+        def opens_no_folder(path, flags, *mode, **words):
+            return fails() if flags == os.O_RDONLY else os_open(path, flags, *mode, **words)
 
         os_open = os.open
 
@@ -486,16 +491,55 @@ class Writing(InFolder):
         self.assertRaises(TypeError, agefile.open, "n.age", "rb", identities=KEY, atomic=True)
         self.assertEqual(sorted(os.listdir()), ["like", "link", "loop", "n.age", "x.age"])
 
-    def test_names_beside(self):
-        """What a killed process left stays, and is in nobody's way. Errors name the path."""
+    def test_what_a_killed_writer_left(self):
+        """The next writer removes it, as agep does: it has the same name, and nobody has its lock. What is locked stays, and
+        so does whatever cannot be such a file."""
+        new, name = lambda: agefile.open("o.age", "wb", recipients=KEY, atomic=True), "o.age.agep-new"
         self.put(b"old", "o.age")
-        in_child(lambda: [agefile.open("o.age", "wb", recipients=KEY, atomic=True), os.kill(os.getpid(), signal.SIGKILL)])
-        self.assertRegex(" ".join(sorted(os.listdir())), r"^\.agefile-o\.age-[0-9a-f]{16} o\.age$")
-        for name in ("o.age", "ü" * 127, "a" * 255):
-            self.written(b"text", name, atomic=True)
-            self.assertEqual(self.read(name), b"text")
-        self.assertEqual(len(os.listdir()), 4)
-        self.assertEqual(error_of(lambda: agefile.open("absent/o.age", "wb", recipients=KEY, atomic=True), FileNotFoundError).filename, "absent/o.age")
+        in_child(lambda: [new(), os.kill(os.getpid(), signal.SIGKILL)])
+        self.assertEqual(sorted(os.listdir()), ["o.age", name])
+        no_locks = mock.patch("fcntl.flock", side_effect=OSError(errno.ENOLCK, "no locks"))
+        with open(name, "rb") as other:
+            with no_locks:
+                self.assertEqual(error_of(new, BlockingIOError).filename, os.path.realpath(name))
+            fcntl.flock(other, fcntl.LOCK_EX | fcntl.LOCK_NB)
+            self.assertEqual(error_of(new, BlockingIOError).filename, os.path.realpath(name))
+            self.assertEqual(sorted(os.listdir()), ["o.age", name])
+        self.written(b"text", "o.age", atomic=True)
+        with no_locks:
+            self.written(b"text", "o.age", atomic=True)
+        self.assertEqual((self.read("o.age"), os.listdir()), (b"text", ["o.age"]))
+        for make in (lambda: os.mkdir(name), lambda: os.symlink("o.age", name)):
+            make()
+            self.assertRaises(OSError, new)
+            self.assertEqual((self.read("o.age"), os.path.isdir(name), os.path.islink(name)), (b"text", os.path.isdir(name), not os.path.isdir(name)))
+            os.rmdir(name) if os.path.isdir(name) else os.remove(name)
+        for wrong, error in ("absent/o.age", FileNotFoundError), ("a" * 255, OSError):
+            self.assertRaises(error, agefile.open, wrong, "wb", recipients=KEY, atomic=True)
+
+    def test_a_new_file_that_is_removed(self):
+        """Another file of its name is neither moved nor removed."""
+        for end in ("commit", "abort"):
+            self.put(b"old", "o.age")
+            file = agefile.open("o.age", "wb", recipients=KEY, atomic=True)
+            os.remove("o.age.agep-new"), self.put(b"other", "o.age.agep-new")
+            self.assertRaisesRegex(FileNotFoundError, "was removed", file.commit) if end == "commit" else file.abort()
+            self.assertEqual((self.got("o.age"), self.got("o.age.agep-new")), (b"old", b"other"))
+
+    def test_many_writers(self):
+        """Of those that write at once one completes the file, and each other is refused; some are killed."""
+        def write():
+            for number in range(50):
+                with contextlib.suppress(BlockingIOError), agefile.open("m.age", "wb", recipients=KEY, atomic=True) as file:
+                    file.write(text(100000))
+                    if number == 49:
+                        os.kill(os.getpid(), signal.SIGKILL)
+
+        self.put(b"old", "m.age")
+        statuses = in_threads(lambda: in_child(write))
+        self.assertLessEqual({*statuses}, {0, signal.SIGKILL})
+        self.written(b"text", "m.age", atomic=True)
+        self.assertEqual((self.read("m.age"), os.listdir()), (b"text", ["m.age"]))
 
     def test_the_order_of_syncs(self):
         """The new file is synced before it replaces the old one, and the folder after that."""
@@ -512,8 +556,7 @@ class Writing(InFolder):
 
         with mock.patch("os.fsync", note_sync), mock.patch("os.replace", note_replace):
             self.written(b"text", "o.age", atomic=True)
-        self.assertRegex(noted.pop(0), r"^\.agefile-o\.age-")
-        self.assertEqual(noted, ["replace", os.path.basename(os.getcwd())])
+        self.assertEqual(noted, ["o.age.agep-new", "replace", os.path.basename(os.getcwd())])
 
     def test_fork(self):
         """A child neither writes, completes nor removes the file of its parent."""
