@@ -2,6 +2,7 @@
 package's error. A row is a way to read a folder; a column is what has happened to one file of it."""
 
 import contextlib
+import errno
 import importlib
 import io
 import json
@@ -25,6 +26,7 @@ except ImportError as error:
     raise unittest.SkipTest(str(error)) from error
 
 from agefile import AgeError, Key, _reader
+from agefile._paths import name_of
 from support import KEY, SEALED, InFolder, damaged, message
 
 
@@ -200,6 +202,25 @@ def rewriting(path, data):
     return mock.patch.object(_reader._Chunks, "_open_last", opened)
 
 
+@contextlib.contextmanager
+def failing(path, error):
+    """Lets the file not be opened or, if the error is that of a disk, its first chunk not be read."""
+    open_file, read_at = _reader.opened, _reader._Source.read_at
+
+    def opened(file, *words, **more):
+        if error.errno == errno.EACCES and str(name_of(file)).endswith(path):
+            raise error
+        return open_file(file, *words, **more)
+
+    def failing_read(source, offset, room):
+        if error.errno == errno.EIO and str(name_of(source.file)).endswith(path) and 0 < offset < SEALED:
+            raise error
+        return read_at(source, offset, room)
+
+    with mock.patch.object(_reader, "opened", opened), mock.patch.object(_reader._Source, "read_at", failing_read):
+        yield
+
+
 class Frameworks(InFolder):
     def outcome(self, folder, files, *then):
         """The value, or the error of a second try. `then` is written before the value is read."""
@@ -242,6 +263,10 @@ class Frameworks(InFolder):
             right = [whole] * (absent == whole) + [IndexError()] * (title in COMPUTES)
             for state, data, said in states(file):
                 self.check(f"{name} {state}", self.outcome("age", {**sealed, name: data}), *right, said=f"{said}: {os.path.abspath(f'age/{name}')!r}")
+            for number in (errno.EIO, errno.EACCES):
+                with failing(f"age/{name}", OSError(number, "failed")):
+                    found = self.outcome("age", sealed)
+                self.check(f"{name}, {errno.errorcode[number]}", found, *right, *[found] * isinstance(found, Exception))
             right += [whole] * (opened is not None or len(file) < SEALED)
             for kind in ("shorter", "longer"):
                 new = Place(kind).files()[name]
