@@ -4,7 +4,6 @@ from __future__ import annotations
 
 import contextlib
 import ctypes
-import functools
 import io
 import os
 import stat
@@ -191,8 +190,6 @@ class Reader(BinaryBase):
 
     mode = "rb"
     raw: _Plaintext
-    # Opens the file of a Reader from a pickle, at its first call.
-    _later: Any = None
 
     def __init__(self, chunks: _Chunks) -> None:
         self._chunks, self.name, self.raw = chunks, chunks.name, _Plaintext(chunks, 1)
@@ -201,21 +198,6 @@ class Reader(BinaryBase):
         self._errors = chunks.errors
         # Within a call no other thread may move the position.
         self._lock = threading.RLock()
-
-    if not TYPE_CHECKING:
-
-        def __getattr__(self, name: str) -> Any:
-            if name not in ("_chunks", "raw", "_below", "_buffer", "_errors", "_lock"):
-                raise AttributeError(name)
-            lock, open_again = self._later
-            with lock:
-                if name not in vars(self):
-                    if self.closed:
-                        raise ValueError("I/O operation on closed file")
-                    made = open_again()
-                    # What is closed with the other Reader is in use here.
-                    vars(self).update(vars(made), _made=made)
-            return vars(self)[name]
 
     def __repr__(self) -> str:
         return f"<agefile.Reader name={self.name!r} mode={self.mode!r}>"
@@ -316,9 +298,6 @@ class Reader(BinaryBase):
         return self._buffer.seekable()
 
     def close(self) -> None:
-        if "_lock" not in vars(self):
-            # It was not opened yet.
-            return super().close()
         with self._lock:
             super().close()
             # First the one whose own lock `readline` holds.
@@ -340,15 +319,17 @@ def open_reader(file: Any, identities: Identities) -> Reader:
     owned = not is_open(file, "read")
     is_descriptor = isinstance(file, int)
     below, name = opened(file, closefd=not is_descriptor) if owned else file, name_of(file)
-    with named(name), contextlib.ExitStack() as stack:
-        if owned:
-            stack.callback(below.close)
+    try:
         source = _Source(below, file if owned and not is_descriptor else None, owned)
         reader = Reader(_Chunks(source, _unlocked(source, identities), name))
         if is_descriptor:
             # Until here it stays the caller's, who may try another key.
             source.file = opened(file)
-        stack.pop_all()
+    except BaseException as error:
+        if owned:
+            below.close()
+        with_name(error, name)
+        raise
     return reader
 
 
@@ -369,9 +350,32 @@ def reopened(opener: Any, ranges: bytes, position: int) -> Reader:
     return reader
 
 
-def _reopen(opener: Any, ranges: bytes, position: int) -> Reader:
-    """A Reader from a pickle, which cannot fail: `multiprocessing.Pool` would hang."""
-    reader = Reader.__new__(Reader)
-    reader.name = name_of(opener)
-    reader._later = threading.RLock(), functools.partial(reopened, opener, ranges, position)
-    return reader
+class _LaterReader(Reader):
+    """A Reader from a pickle until its first call, which opens the file. An error in `pickle.loads`
+    would make a `multiprocessing.Pool` hang."""
+
+    def __init__(self, *source: Any) -> None:
+        self.name, self._source, self._opening = name_of(source[0]), source, threading.RLock()
+
+    if not TYPE_CHECKING:
+
+        def __getattr__(self, name: str) -> Any:
+            if name not in ("_chunks", "raw", "_below", "_buffer", "_errors", "_lock"):
+                raise AttributeError(name)
+            with self._opening:
+                if type(self) is not Reader:
+                    if self.closed:
+                        raise ValueError("I/O operation on closed file")
+                    made = reopened(*self._source)
+                    # What is closed with the other Reader is in use here.
+                    vars(self).update(vars(made), _made=made)
+                    # Lookups of attributes take longer in this class.
+                    self.__class__ = Reader
+            return vars(self)[name]
+
+    def close(self) -> None:
+        io.BufferedIOBase.close(self)
+
+
+def _reopen(*source: Any) -> Reader:
+    return _LaterReader(*source)
