@@ -3,6 +3,7 @@
 from __future__ import annotations
 
 import io
+import operator
 import os
 import sys
 import threading
@@ -152,6 +153,8 @@ class Writer(BinaryBase):
     A forked child cannot write: it would seal other bytes under the nonces of its parent.
     """
 
+    # A TextIOWrapper asks for it at each write.
+    closed: bool = property(operator.attrgetter("_sealer.closed"))  # type: ignore[assignment]
     # Whether `close` only ends writing, and what follows decides: the end of a `with` block.
     _is_decided_later = False
     # The TextWriter above, if there is one: what it has not passed on belongs to the file.
@@ -169,10 +172,6 @@ class Writer(BinaryBase):
 
     def __repr__(self) -> str:
         return f"<agefile.Writer name={self.name!r} mode={self.mode!r}>"
-
-    @property
-    def closed(self) -> bool:
-        return self._sealer.closed
 
     def write(self, data: Any, /) -> int:
         # Nothing may be added here: programs write few bytes at a time.
