@@ -205,8 +205,7 @@ class AgeFileSystem(AbstractFileSystem):  # type: ignore[misc]
             self.fs.mv(old, new, **options)
 
     def touch(self, path: str, truncate: bool = True, **options: Any) -> None:
-        """Makes a file without plaintext. Without `truncate` an existing file keeps its contents
-        and gets a new time, if the file system below can do that."""
+        """Makes a file without plaintext or, without `truncate`, gives an existing one a new time."""
         if truncate or not self.exists(path):
             self.open(path, "wb", **options).close()
         else:
@@ -270,8 +269,7 @@ class AgeFileSystem(AbstractFileSystem):  # type: ignore[misc]
 
 
 class _Opener:
-    """Opens a file of a file system to read it, to write it or, in mode `atomic`, to replace it. It
-    can be pickled if the file system can."""
+    """Opens a file of a file system. It can be pickled if the file system can."""
 
     def __init__(self, fs: AbstractFileSystem, path: str, mode: str) -> None:
         self._fs, self.path, self._mode = fs, path, mode

@@ -202,23 +202,14 @@ def rewriting(path, data):
     return mock.patch.object(_reader._Chunks, "_open_last", opened)
 
 
-@contextlib.contextmanager
 def failing(path, error):
-    """Lets the file not be opened or, if the error is that of a disk, its first chunk not be read."""
-    open_file, read_at = _reader.opened, _reader._Source.read_at
-
-    def opened(file, *words, **more):
-        if error.errno == errno.EACCES and str(name_of(file)).endswith(path):
+    """Lets the first read of a file fail or, if the error is that of a disk, the read of its first chunk."""
+    def read_at(source, offset, room, original=_reader._Source.read_at):
+        if str(name_of(source.file)).endswith(path) and (0 < offset < SEALED if error.errno == errno.EIO else offset == 0):
             raise error
-        return open_file(file, *words, **more)
+        return original(source, offset, room)
 
-    def failing_read(source, offset, room):
-        if error.errno == errno.EIO and str(name_of(source.file)).endswith(path) and 0 < offset < SEALED:
-            raise error
-        return read_at(source, offset, room)
-
-    with mock.patch.object(_reader, "opened", opened), mock.patch.object(_reader._Source, "read_at", failing_read):
-        yield
+    return mock.patch.object(_reader._Source, "read_at", read_at)
 
 
 class Frameworks(InFolder):

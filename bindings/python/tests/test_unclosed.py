@@ -27,21 +27,17 @@ class Unclosed(InFolder):
                 self.assertEqual((self.got("o.age"), told.called), (b"old", is_told and not end.__code__.co_names))
 
     def test_close_in_with(self):
-        """It ends writing, and the block decides. A commit after it is one."""
+        """It ends writing, and the block decides, or a commit does."""
         for mode, data in (("wb", text(100000)), ("w", "x" * 100000)):
-            for error in (None, KeyError()):
-                with contextlib.suppress(KeyError), agefile.open("w.age", mode, recipients=KEY, atomic=True) as file:
-                    file.write(data)
-                    file.close()
-                    self.assertTrue(file.closed)
-                    for call in (lambda: file.write(data), file.flush, file.__enter__):
-                        self.assertRaisesRegex(ValueError, "closed file", call)
-                    self.assertEqual(len(os.listdir()), 1 + os.path.exists("w.age"))
-                    if error:
-                        raise error
-                    file.commit() if mode == "w" else None
-                self.assertEqual(self.read("w.age", mode.replace("w", "r")), data)
-            self.assertEqual(os.listdir(), ["w.age"])
+            with agefile.open("w.age", mode, recipients=KEY, atomic=True) as file:
+                file.write(data)
+                file.close()
+                for call in (lambda: file.write(data), file.flush, file.__enter__):
+                    self.assertRaisesRegex(ValueError, "closed file", call)
+                self.assertEqual(os.listdir(), ["w.age.agep-new"])
+                file.commit() if mode == "w" else None
+            self.assertEqual((self.read("w.age", mode.replace("w", "r")), os.listdir()), (data, ["w.age"]))
+            os.remove("w.age")
 
     def test_a_write_beside_the_end(self):
         """Once a write has returned, its data are in the file; a write after the end is refused."""
@@ -69,19 +65,6 @@ class Unclosed(InFolder):
                     raise kind
                 self.refused("w.age")
 
-    def test_commit(self):
-        """It completes the file once, wherever it is called."""
-        for mode, end in (("wb", b"end"), ("w", "end")):
-            file = agefile.open("w.age", mode, recipients=KEY, atomic=True)
-            try:
-                raise KeyError
-            except KeyError:
-                file.write(end)
-                file.commit()
-            self.assertRaisesRegex(ValueError, "closed file", file.commit)
-            file.close()
-            self.assertEqual(self.read("w.age"), b"end")
-
     def test_the_buffer_of_text(self):
         """Text that has not reached it is in the file, by whatever name that is completed."""
         for end in (lambda file: file.buffer.commit(), lambda file: file.buffer.close(), lambda file: file.detach().commit(), lambda file: file.buffer.__exit__(None)):
@@ -100,4 +83,5 @@ class Unclosed(InFolder):
             file = agefile.open("w.age", mode, recipients=KEY)
             self.assertEqual(in_child(lambda: self.assertRaises(OSError, file.commit)), 0)
             file.commit()
+            self.assertRaisesRegex(ValueError, "closed file", file.commit)
             self.assertEqual(self.read("w.age"), b"")

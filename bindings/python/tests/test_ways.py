@@ -132,10 +132,8 @@ ENDS = {
     "ExitStack, a callback alone": ("with contextlib.ExitStack() as it: file = new(); it.callback(file.close); body(file)", gives_up),
     "commit": ("file = new(); body(file); file.commit()", completes),
     "Ctrl-C, commit": ("interrupted(new(), lambda file: file.commit())", completes),
-    "Ctrl-C, commit of text": ("interrupted(new('w'), lambda file: file.commit())", completes),
     "Ctrl-C, close": ("interrupted(new(), lambda file: file.close())", gives_up),
     "close": ("file = new(); body(file); file.close()", gives_up),
-    "close of text": ("file = new('w'); body(file); file.close()", gives_up),
     "finally": ("file = new()\ntry: body(file)\nfinally: file.close()", gives_up),
     **{f"asyncio, {end}": (f"import asyncio; asyncio.run(closed(new(), lambda file, cleanup: {end}))", gives_up) for end in (
         "cleanup()", "asyncio.shield(cleanup())", "asyncio.create_task(cleanup())", "asyncio.gather(cleanup())", "asyncio.wait_for(cleanup(), 5)",
