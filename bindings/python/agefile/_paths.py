@@ -132,7 +132,7 @@ class Locked(io.FileIO):
 
 
 def _busy(name: Any) -> BlockingIOError:
-    return BlockingIOError(errno.EAGAIN, "another writer has this file open", name)
+    return BlockingIOError(errno.EAGAIN, "another run is writing this file", name)
 
 
 class Output(Locked):
