@@ -172,7 +172,7 @@ class Replacement(Locked):
         if found is not None and not stat.S_ISREG(found.st_mode):
             raise ValueError(f"only a regular file is replaced, which {path!r} is not")
         if found is not None and end == NEW:
-            # It must be one that may be written, and that nobody writes in its place.
+            # As without `atomic`, it must be one that may be written, and has no other writer.
             Output(path, "ab").close()
         self._create(self._target + end, permissions if found is None else 0o600)
         if found is not None:
@@ -185,7 +185,7 @@ class Replacement(Locked):
             super().__init__(name, "xb", opener=functools.partial(os.open, mode=permissions))
         except FileExistsError:
             raise _busy(name) from None
-        # Who has the lock already takes this for the file of a killed writer, and removes it.
+        # Another writer may have locked this file first, to remove it as that of a killed one.
         self.lock()
         if not self.has_name():
             self.close()
@@ -239,7 +239,7 @@ class Replacement(Locked):
 
 
 def _remove_dead(name: str) -> None:
-    """Removes the new file of a killed writer: nobody has locked it."""
+    """Removes the new file that a killed writer left, whose lock is free."""
     flags = os.O_RDWR | os.O_NOFOLLOW | os.O_NONBLOCK | os.O_CLOEXEC
     with contextlib.suppress(FileNotFoundError):
         with Locked(name, "rb+", opener=lambda name, _: os.open(name, flags)) as dead:

@@ -48,7 +48,7 @@ def _refuse_slips(options: dict[str, Any], *others: str) -> None:
     """Refuses likely slips. Other words may be those of a later fsspec, which are passed over."""
     slips = {"key", "keys", "passphrase", "password", "secret", "identity", "recipient", *others}
     if found := sorted(slips & {*options}):
-        raise TypeError(f"unknown: {', '.join(found)} (a secret is passed as identities or recipients)")
+        raise TypeError(f"{', '.join(found)}: a secret is passed as identities or recipients")
 
 
 @contextlib.contextmanager
@@ -64,7 +64,7 @@ def _reading(path: str) -> Iterator[None]:
 
 
 def _random_end() -> str:
-    """The end of the name of a new file, where no lock tells it from that of another writer."""
+    """The end of a new file's name, where several writers may replace one file at a time."""
     return f".{os.urandom(8).hex()}{NEW}"
 
 
@@ -224,11 +224,9 @@ class AgeFileSystem(AbstractFileSystem):  # type: ignore[misc]
         is_left_out: Any = Exception if on_error == "omit" else ()
         return {name: each for name, each in found.items() if not isinstance(each, is_left_out)}
 
-    def cat_ranges(
-        self, paths: Any, starts: Any, ends: Any, max_gap: Any = None, on_error: str = "raise", **options: Any
-    ) -> Any:
-        """Raises each error, for the same reason."""
-        return super().cat_ranges(paths, starts, ends, max_gap, "raise", **options)
+    def cat_ranges(self, *arguments: Any, **options: Any) -> Any:
+        """Raises each error, for the same reason. The fifth argument would be `on_error`."""
+        return super().cat_ranges(*arguments[:4], **{**options, "on_error": "raise"})
 
     def get_file(self, rpath: str, lpath: Any, *arguments: Any, **options: Any) -> None:
         """Writes a local file, which keeps its contents until the new ones are complete: the caches
@@ -256,7 +254,8 @@ class AgeFileSystem(AbstractFileSystem):  # type: ignore[misc]
         while not isinstance(fs, LocalFileSystem) and getattr(fs, "fs", None) is not None:
             name, fs = fs._join(name) if hasattr(fs, "_join") else name, fs.fs
         is_local = isinstance(fs, LocalFileSystem) and isinstance(local, (str, os.PathLike))
-        if is_local and os.path.isfile(name) and os.path.exists(local) and os.path.samefile(name, local):
+        is_there = is_local and os.path.isfile(name) and os.path.exists(local)
+        if is_there and os.path.samefile(name, local):
             raise shutil.SameFileError(f"{name!r} and {local!r} are the same file")
 
     def invalidate_cache(self, path: str | None = None) -> None:
