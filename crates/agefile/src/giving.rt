@@ -11,7 +11,7 @@ use crate::report::Report;
 pub(crate) fn give_up(code: u32, out: &mut [u8], report: &mut Report) -> u32
     ensures { Returns code None out.old out.new report.new result }
 {
-    // The proof sees here that the buffer is unchanged.
+    // For the proof alone (docs/PROOFS.md, "How to read a clause"): the buffer is unchanged.
     let _ = out;
     *report = Report::default();
     code

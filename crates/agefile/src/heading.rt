@@ -84,7 +84,7 @@ pub extern "C" fn agefile_begin(
 pub(crate) fn refuse(fault: Fault, out: &mut [u8], report: &mut Report) -> u32
     ensures { Refuses fault out.old out.new report.new result }
 {
-    // The proof sees here that the buffer is unchanged.
+    // For the proof alone (docs/PROOFS.md, "How to read a clause"): the buffer is unchanged.
     let _ = out;
     report_fault(0, fault, report)
 }
