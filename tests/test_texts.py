@@ -151,11 +151,11 @@ class Manual(unittest.TestCase):
     def test_synopsis(self):
         """Each command with its options and arguments, as in help."""
         page = re.sub(r'^\.\\".*\n?', "", section("SYNOPSIS"), flags=re.MULTILINE)
-        lines = [[shlex.split(line) for line in entry.strip().split("\n")] for entry in page.split("\n.br\n")]
+        lines = [[shlex.split(line) for line in entry.strip().split("\n")] for entry in page.split("\n.YS\n")[:-1]]
         shown = [" ".join((" " if len(macro) == 2 else "").join(words).strip() for macro, *words in entry) for entry in lines]
         expected = []
         for command in commands():
-            pairs = {"-p": "{-p FILE | -k FILE...}", "-P": "{-P FILE | -K FILE...}"}
+            pairs = {"-p": f"{{-p FILE{'...' * (command != 'encrypt')} | -k FILE...}}", "-P": "{-P FILE | -K FILE...}"}
             rows = [row for row in option_rows(command) if row[0] not in ("-k", "-K", "-h", "-V")]
             words = [pairs.get(letter, f"[{letter or name} {value}]".replace(" ]", "]")) for letter, name, value in rows]
             usage = re.search(r"^Usage: agep \w+ \[OPTIONS\] (.*)", help_of(command), re.MULTILINE)[1]

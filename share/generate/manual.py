@@ -7,6 +7,10 @@ def _escaped(text):
     return text.replace("\\", r"\e").replace("-", r"\-")
 
 
+def _more(option):
+    return "..." * option.is_repeated
+
+
 def _usage(command):
     """The lines of a command: pairs of options of which one is required, other options, arguments."""
     done = []
@@ -14,8 +18,8 @@ def _usage(command):
         rivals = command.rivals(option)
         if rivals and option not in done:
             done += rivals
-            yield f'.RB {{ \\{option.short}\n.IR {option.value} " | "'
-            yield from (f".B \\{other.short}\n.IR {other.value} ...}}" for other in rivals)
+            yield f'.RB {{ \\{option.short}\n.IR {option.value} "{_more(option)} | "'
+            yield from (f".B \\{other.short}\n.IR {other.value} {_more(other)}}}" for other in rivals)
         elif not rivals:
             yield f".RB [ {_escaped(option.names[0])}" + (f"\n.IR {option.value} ]" if option.value else " ]")
     needed = [word.value for word in command.arguments if word.is_required]
@@ -28,8 +32,8 @@ def texts(commands):
     """Each generated text by its name."""
     lines = []
     for command in commands:
-        lines += [f".B agep {command.name}", *_usage(command), ".br"]
-    lines += [".B agep help", ".RI [ COMMAND ]", ".br", ".B agep", r'.RB { \-h " | " \-V }']
+        lines += [f'.SY "agep {command.name}"', *_usage(command), ".YS"]
+    lines += ['.SY "agep help"', ".RI [ COMMAND ]", ".YS", ".SY agep", r'.RB { \-h " | " \-V }', ".YS"]
     return {"synopsis": "\n".join(lines) + "\n", "options": _options(commands)}
 
 

@@ -7,9 +7,10 @@ ghost use Rattle.age_args.specs.CommandLine.{IsArg};
 
 use crate::texts::{
     ATOMIC_HELP, DECRYPT_END, DECRYPT_HELP, ENCRYPT_END, ENCRYPTED_OUTPUT_HELP, FILE_KEY_HELP,
-    INPUT_HELP, INSPECT_END, KEY_HELP, MAX_HEADER_HELP, MAX_WORK_HELP, NEW_KEY_HELP, NEW_PASS_HELP,
-    NO_CLOBBER_HELP, PASS_HELP, PASSES_HELP, PLAIN_OUTPUT_HELP, RANGE_END, REWRAP_END, SALT_HELP,
-    SALVAGE_END, SEED_HELP, SEEKABLE_INPUT_HELP, VERBOSE_HELP, WHOLE_END, WORK_HELP,
+    INPUT_HELP, INSPECT_END, KEY_HELP, KEYS_HELP, MAX_HEADER_HELP, MAX_WORK_HELP, NEW_KEY_HELP,
+    NEW_PASS_HELP, NO_CLOBBER_HELP, PASS_HELP, PASSES_HELP, PLAIN_OUTPUT_HELP, RANGE_END,
+    REWRAP_END, SALT_HELP, SALVAGE_END, SEED_HELP, SEEKABLE_INPUT_HELP, VERBOSE_HELP, WHOLE_END,
+    WORK_HELP,
 };
 use age_job::{
     DEFAULT_SEED, MAX_HEADER_SIZE, MAX_OFFSET, MAX_WORK_FACTOR, MIN_HEADER_SIZE, MIN_WORK_FACTOR,
@@ -159,7 +160,7 @@ fn encrypt_command<'a>(alloc: Global) -> Result<Command<'a>, AllocError>
         ENCRYPT_END,
     );
     let command = with_arg(command, pass_option(alloc));
-    let command = with_arg(command, key_option(alloc));
+    let command = with_arg(command, key_option(alloc, KEY_HELP));
     let command = with_arg(command, work_option(alloc));
     let command = with_arg(command, seed_option(alloc, SEED_HELP));
     let command = with_arg(command, max_header_option(alloc));
@@ -192,7 +193,7 @@ fn with_opening_options<'a>(
         → IfOk result (λ more. shape_of more ≡ line.with_rules shape line.opening) }
 {
     let command = with_arg(command, passes_option(alloc));
-    let command = with_arg(command, key_option(alloc));
+    let command = with_arg(command, key_option(alloc, KEYS_HELP));
     let command = with_arg(command, max_work_option(alloc));
     let command = with_arg(command, max_header_option(alloc));
     let command = with_output_options(alloc, command, output_help);
@@ -302,10 +303,10 @@ fn passes_option<'a>(alloc: Global) -> Arg<'a>
     text_option(alloc, PASS, 'p', "FILE", PASSES_HELP).action(ArgAction::Append)
 }
 
-fn key_option<'a>(alloc: Global) -> Arg<'a>
+fn key_option<'a>(alloc: Global, help: &'a str) -> Arg<'a>
     ensures { IsArg line.key result }
 {
-    text_option(alloc, KEY, 'k', "FILE", KEY_HELP).action(ArgAction::Append)
+    text_option(alloc, KEY, 'k', "FILE", help).action(ArgAction::Append)
 }
 
 fn work_option<'a>(alloc: Global) -> Arg<'a>
