@@ -1,17 +1,19 @@
 // For LD_PRELOAD: makes a call of the process short, or makes it fail. CALL names its kind: read,
-// write, ftruncate, fsync, lseek, statx, open, rename, unlink, fchmod or lchown, or message for a
-// write to standard error. NUMBER is its number among the calls of its kind, from 1, or 0 for all of
-// them. DO says what happens: the call transfers "one" byte, "half" of the bytes or "none", or fails
-// with this error number. If KEPT is set, each unlink fails too. The call creates the empty file
+// write, ftruncate, fsync, lseek, statx, open, rename, link, unlink, flock, fchmod or fchown, message
+// for a write to standard error, or any. NUMBER is its number among the calls of its kind, from 1, or
+// 0 for all of them. DO says what happens: the call transfers "one" byte, "half" of the bytes or
+// "none", or fails with this error number, or the process is killed by signal 9 before it, or a
+// command of the shell is run. If KEPT is set, each unlink fails too. The call creates the empty file
 // "met". The file that TRACE names gets a line for each call: its kind, the file, and the result. A
 // read of the character device /dev/urandom returns the bytes of the file that URANDOM names. If
-// INODE is set, the number of each file is its size times this. If BAD is set, to two offsets, no
-// byte of a file IN.age can be read from the first to before the second. If STEP is set, the clock
-// starts at 0, and each call that reads it finds it this many milliseconds later.
+// CLOCK is set, these milliseconds pass between two looks at the clock. If INODE is set, the number
+// of each file is its size times this. If BAD is set, to two offsets, no
+// byte of a file IN.age can be read from the first to before the second.
 #define _GNU_SOURCE
 #include <dlfcn.h>
 #include <errno.h>
 #include <fcntl.h>
+#include <signal.h>
 #include <stdarg.h>
 #include <stdio.h>
 #include <stdlib.h>
@@ -39,8 +41,11 @@ static int opened(const char *name, int flags, mode_t mode)
 // How much of a size the next call of this kind may transfer; -1, with errno set, if it must fail.
 static ssize_t allowed(const char *kind, long *calls, size_t size)
 {
+    static long all;
     const char *call = getenv("CALL");
-    if (call == NULL || strcmp(call, kind) != 0)
+    if (call != NULL && strcmp(call, "any") == 0)
+        calls = &all;
+    else if (call == NULL || strcmp(call, kind) != 0)
         return (ssize_t)size;
     long number = atol(getenv("NUMBER"));
     if (++*calls != number && number != 0)
@@ -53,6 +58,14 @@ static ssize_t allowed(const char *kind, long *calls, size_t size)
         return size < 1 ? 0 : 1;
     if (strcmp(what, "half") == 0)
         return (ssize_t)(size - size / 2);
+    if (strcmp(what, "kill") == 0)
+        raise(SIGKILL);
+    if (atoi(what) == 0) {
+        unsetenv("LD_PRELOAD");
+        if (system(what) != 0)
+            abort();
+        return (ssize_t)size;
+    }
     errno = atoi(what);
     return -1;
 }
@@ -220,25 +233,38 @@ int fchmod(int file, mode_t mode)
     return result;
 }
 
-int lchown(const char *name, uid_t owner, gid_t group)
+int clock_gettime(clockid_t clock, struct timespec *now)
+{
+    static long looks;
+    int (*next)(clockid_t, struct timespec *) =
+        (int (*)(clockid_t, struct timespec *))real("clock_gettime");
+    long passed = getenv("CLOCK") == NULL ? 0 : atol(getenv("CLOCK")) * ++looks;
+    if (passed == 0)
+        return next(clock, now);
+    now->tv_sec = passed / 1000;
+    now->tv_nsec = passed % 1000 * 1000000;
+    return 0;
+}
+
+int fchown(int file, uid_t owner, gid_t group)
 {
     static long calls;
-    int (*next)(const char *, uid_t, gid_t) =
-        (int (*)(const char *, uid_t, gid_t))real("lchown");
-    int result = allowed("lchown", &calls, 0) < 0 ? -1 : next(name, owner, group);
-    trace_name("lchown", name, result);
+    int (*next)(int, uid_t, gid_t) = (int (*)(int, uid_t, gid_t))real("fchown");
+    int result = allowed("fchown", &calls, 0) < 0 ? -1 : next(file, owner, group);
+    trace("fchown", file, result);
     return result;
 }
 
-int clock_gettime(clockid_t clock, struct timespec *now)
+int flock(int file, int how)
 {
     static long calls;
-    int (*next)(clockid_t, struct timespec *) =
-        (int (*)(clockid_t, struct timespec *))real("clock_gettime");
-    const char *step = getenv("STEP");
-    if (step == NULL)
-        return next(clock, now);
-    long time = calls++ * atol(step);
-    *now = (struct timespec){time / 1000, time % 1000 * 1000000};
-    return 0;
+    int (*next)(int, int) = (int (*)(int, int))real("flock");
+    return allowed("flock", &calls, 0) < 0 ? -1 : next(file, how);
+}
+
+int link(const char *from, const char *to)
+{
+    static long calls;
+    int (*next)(const char *, const char *) = (int (*)(const char *, const char *))real("link");
+    return allowed("link", &calls, 0) < 0 ? -1 : next(from, to);
 }

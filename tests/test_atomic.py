@@ -2,6 +2,7 @@
 file stays."""
 
 import errno
+import fcntl
 import itertools
 import os
 import shutil
@@ -22,25 +23,31 @@ NEW = "made.agep-new"
 # Each call of a run with OUT, by its kind and number: the fault if it fails, and what the second
 # line of -v says; or None if the run goes on.
 SITES = {
-    ("statx", "1"): ("Unidentified: made", "identifying made"), **{("statx", number): None for number in "234568"},
-    ("open", "1"): ("CannotOpen: key", "opening key"), ("statx", "7"): ("Unidentified: key", "identifying key"),
+    ("statx", "1"): ("Unidentified: made", "identifying made"), **{("statx", number): None for number in "2346"},
+    **{("statx", number): ("CannotCreate: made", f"creating {NEW}") for number in "89"},
+    **{("statx", number): ("Write", "replacing made") for number in ("10", "11")}, ("open", "1"): None,
+    ("open", "2"): ("CannotOpen: key", "opening key"), ("statx", "5"): ("Unidentified: key", "identifying key"),
     **{("read", number): ("Read", "reading the key file key") for number in "12"},
-    ("open", "2"): ("CannotOpen: small.age", "opening small.age"), ("statx", "9"): ("Unidentified: made", "identifying made"),
-    ("open", "3"): ("CannotCreate: made", "creating made"), ("open", "4"): ("CannotCreate: made", f"creating {NEW}"),
-    ("lchown", "1"): None, ("fchmod", "1"): ("CannotCreate: made", f"creating {NEW}"),
+    ("open", "3"): ("CannotOpen: small.age", "opening small.age"), ("statx", "7"): ("Unidentified: made", "identifying made"),
+    ("open", "4"): ("CannotCreate: made", "creating made"), ("open", "5"): ("CannotCreate: made", f"creating {NEW}"),
+    ("flock", "1"): None, ("fchown", "1"): None, ("fchmod", "1"): ("CannotCreate: made", f"creating {NEW}"),
     **{("read", number): ("Read", "reading small.age") for number in "34"},
     ("ftruncate", "1"): ("Write", "writing made"), ("write", "1"): ("Write", "writing made"), ("fsync", "1"): ("Write", "syncing made"),
-    ("open", "5"): ("Write", "syncing ."), ("rename", "1"): ("Write", "replacing made"), ("fsync", "2"): ("Write", "syncing ."),
+    ("open", "6"): ("Write", "syncing ."), ("rename", "1"): ("Write", "replacing made"), ("fsync", "2"): ("Write", "syncing ."),
 }
-# Errors after which a run goes on: OUT need not exist, and not every folder can be read or synced.
+# Errors after which a run goes on: OUT and a new file need not exist, and not every folder can be read or synced.
 GOES_ON = {
-    ("statx", "1"): (errno.ENOENT,), ("statx", "9"): (errno.ENOENT,), ("open", "5"): (errno.EPERM, errno.EACCES),
-    ("fsync", "2"): (errno.EINVAL,),
+    ("statx", "1"): (errno.ENOENT,), ("statx", "7"): (errno.ENOENT,), ("open", "5"): (errno.EEXIST,),
+    ("open", "6"): (errno.EPERM, errno.EACCES), ("fsync", "2"): (errno.EINVAL,),
 }
 # Errors with lines of their own.
 SPECIAL = {
-    ("open", "4", errno.EEXIST): (f"NewFileExists: {NEW}", ""),
-    **{("statx", "1", it): ("CannotCreate: made", f"creating made: {os.strerror(it)}") for it in (errno.ENOTDIR, errno.ENAMETOOLONG, errno.ELOOP)},
+    **{("statx", number, errno.ENOENT): ("OutputIsBusy: made", "") for number in "89"},
+    ("statx", "11", errno.ENOENT): ("Write", "replacing made: its new file was removed"),
+    **{
+        ("statx", "1", it): ("CannotCreate: made", f"creating made: {os.strerror(it)}")
+        for it in (errno.EPERM, errno.EACCES, errno.ENOTDIR, errno.ENAMETOOLONG, errno.ELOOP)
+    },
     **{(kind, number, errno.ENOMEM): ("OutOfMemory", "") for kind, number in (("read", "1"), ("read", "2"), ("statx", "1"))},
 }
 
@@ -55,39 +62,23 @@ def wait_for(is_met):
 
 class Calls(CallCase):
     def is_old_or_new(self, ran, job, form):
-        """A judge: OUT is the complete old or new file, depending on the status, and there is no other file."""
+        """A judge: OUT is the complete old or new file, and there is no other file. It is the new one with status 0,
+        and with status 1 only if its folder could not be synced."""
         self.assertFalse(os.path.exists(NEW), "the new file was left")
         if ran.status == 0:
             self.is_whole(ran, job, form)
-        else:
-            self.assertEqual(ran.status, 1)
-            self.assertTrue(ran.err)
-            self.assert_bytes(self.made, YESTERDAY, "OUT")
-
-    def is_old(self, ran, job, form):
-        self.assertNotEqual(ran.status, 0)
-        self.is_old_or_new(ran, job, form)
-
-    def is_unsynced(self, ran, job, form):
-        """A judge: OUT is the old file, or the new one if its folder could not be synced."""
-        if f"fsync {NEW} -1" in read("trace").decode():
-            self.is_old(ran, job, form)
-        else:
-            self.assert_ended(ran, 1, fault(message("Write")))
-            self.assert_bytes(self.made, job.expected, "OUT")
-            self.assertFalse(os.path.exists(NEW), "the new file was left")
+            return
+        self.assertEqual(ran.status, 1)
+        self.assertTrue(ran.err)
+        is_new = f"rename {NEW} 0" in read("trace").decode()
+        self.assert_bytes(self.made, job.expected if is_new else YESTERDAY, "OUT")
 
     def test_failing(self):
-        """Each system call fails in turn."""
+        """Each system call fails in turn. What `salvage` saves after a failed read is another test."""
         for job in self.jobs:
-            if job.has_out:
-                for kind in ("open", "read", "write", "ftruncate", "fchmod", "rename"):
-                    if (job.words[0], kind) != ("salvage", "read"):
-                        self.each_call(kind, IO_ERROR, job, ATOMIC, self.is_old)
-                for kind in ("statx", "lchown"):
-                    self.each_call(kind, IO_ERROR, job, ATOMIC, self.is_old_or_new)
-                self.each_call("fsync", IO_ERROR, job, ATOMIC, self.is_unsynced)
-        self.each_call("lseek", IO_ERROR, self.jobs[3], ATOMIC, self.is_old)
+            if job.has_out and job.words[0] != "salvage":
+                self.each_call("any", IO_ERROR, job, ATOMIC, self.is_old_or_new)
+        self.each_call("write", IO_ERROR, self.jobs[6], ATOMIC, self.is_old_or_new)
 
     def test_saved(self):
         """After a failed read, OUT is what it is without the option: what `salvage` saved, or the old file."""
@@ -107,27 +98,13 @@ class Calls(CallCase):
                     break
             self.assertGreater(number, 5)
 
-    def test_link(self):
-        """If the system fails to tell what OUT is, a link stays one to its file."""
-        def judge(ran, job, form):
-            self.assertEqual(os.readlink("made"), "target")
-            self.is_old_or_new(ran, job, form)
-
-        if os.path.exists("made"):
-            os.remove("made")
-        os.symlink("target", "made")
-        for error in (IO_ERROR, "1", "38"):
-            self.each_call("statx", error, self.jobs[1], ATOMIC, judge)
-        os.remove("made")
-        os.remove("target")
-
     def test_order(self):
         """The new file gets its owner and then its permissions; it is written, synced and renamed, in this order,
         and then its folder is synced. OUT is not touched."""
         self.is_whole(self.run_job(self.jobs[1], ATOMIC), self.jobs[1], ATOMIC)
         lines = read("trace").decode().splitlines()
         kinds = [line.split()[0] for line in lines if NEW in line]
-        self.assertEqual([*kinds[:3], *kinds[-2:]], ["lchown", "fchmod", "ftruncate", "fsync", "rename"])
+        self.assertEqual([*kinds[:3], *kinds[-2:]], ["fchown", "fchmod", "ftruncate", "fsync", "rename"])
         self.assertEqual(set(kinds[3:-2]), {"write"})
         self.assertNotIn(" made ", read("trace").decode())
         self.assertEqual(lines[-2:], [f"rename {NEW} 0", f"fsync {os.path.basename(self.folder)} 0"])
@@ -139,16 +116,9 @@ class Calls(CallCase):
             self.assertEqual(read("trace").decode().splitlines()[-2:], ["rename target.agep-new 0", "fsync other 0"])
             os.remove("made")
             shutil.rmtree("other")
-        if os.access("/", os.W_OK):
-            with self.subTest("in the root folder"):
-                name = f"/agep-test-{os.getpid()}"
-                os.symlink(name, "made")
-                self.addCleanup(os.remove, "made"), self.addCleanup(os.remove, name)
-                self.is_whole(self.run_job(self.jobs[1], ATOMIC), self.jobs[1], ATOMIC)
-                self.assertEqual(read("trace").decode().splitlines()[-1], "fsync  0")
 
     def test_left(self):
-        """A new file that cannot be removed stays, and the next run is refused until it is removed."""
+        """A new file that cannot be removed stays. The next run removes it; if it cannot, it is refused."""
         for call in ("write", "fsync", "rename", "fchmod"):
             with self.subTest(call):
                 write("made", YESTERDAY)
@@ -158,12 +128,10 @@ class Calls(CallCase):
                 self.assertEqual(self.run_agep(*words, env=env).status, 1)
                 mode = os.stat(NEW).st_mode & 0o777
                 self.assertEqual(f"{mode:o}", "600" if call == "fchmod" else "640", "before it has the mode of OUT, only its owner may read it")
-                line, more = message("NewFileExists", NEW), None
-                self.says(line, *words, more=more)
+                self.says(message("NewFileExists", NEW), *words, env=env)
                 self.assert_file("made", YESTERDAY)
-                os.remove(NEW)
                 self.writes(b"", *words)
-                self.assertNotEqual(read("made"), YESTERDAY)
+                self.assertFalse(os.path.exists(NEW))
 
     def test_each_error(self):
         """Each call of a run fails with each error. The second line of -v has the system's words for it."""
@@ -175,6 +143,8 @@ class Calls(CallCase):
                     self.judge_error(job, site, number)
 
     def judge_error(self, job, site, number):
+        if (site[0], number) == ("flock", errno.EAGAIN):
+            return
         ran = self.run_job(job, ATOMIC, call=site[0], number=site[1], do=number)
         self.assertTrue(self.met)
         self.assertFalse(os.path.exists(NEW))
@@ -185,42 +155,96 @@ class Calls(CallCase):
         self.assert_ended(ran, 1, f"{filled(f'agep: <{name}>')}\n{more and f'agep: {more}' + chr(10)}")
         self.assert_bytes(self.made, HELLO if site == ("fsync", "2") else YESTERDAY, "OUT")
 
+
 class Runs(ProgramCase):
+    WORDS = "decrypt -v -k key --atomic -o made key.age".split()
+
     def start(self, *words):
         return subprocess.Popen([AGEP, *words], stdin=subprocess.PIPE, stderr=subprocess.PIPE)
 
     def test_at_once(self):
         """Of several runs at once on one OUT, exactly one succeeds, and OUT is its file."""
-        for count in (2, 20):
-            with self.subTest(count):
-                write("made", YESTERDAY)
-                runs = [self.start("encrypt", "-k", "key", "-s", "seed", "--atomic", "-o", "made") for _ in range(count)]
-                wait_for(lambda: sum(run.poll() is None for run in runs) == 1)
-                (last,) = (run for run in runs if run.poll() is None)
-                self.assert_file("made", YESTERDAY)
-                for run in runs:
-                    if run is not last:
-                        self.assertEqual((run.returncode, run.communicate()[1]), (1, fault(message("NewFileExists", NEW)).encode()))
-                text = b"run %d\n" % runs.index(last)
-                self.assertEqual((last.communicate(text)[1], last.returncode), (b"", 0))
-                self.assert_file("made", fixture.for_keys(text, KEY))
-                self.assertFalse(os.path.exists(NEW))
+        write("made", YESTERDAY)
+        runs = [self.start("encrypt", "-k", "key", "-s", "seed", "--atomic", "-o", "made") for _ in range(20)]
+        wait_for(lambda: sum(run.poll() is None for run in runs) == 1)
+        (last,) = (run for run in runs if run.poll() is None)
+        self.assert_file("made", YESTERDAY)
+        for run in runs:
+            if run is not last:
+                self.assertEqual((run.returncode, run.communicate()[1]), (1, fault(message("OutputIsBusy", "made")).encode()))
+        self.assertEqual((last.communicate(HELLO)[1], last.returncode), (b"", 0))
+        self.assert_file("made", read("key.age"))
+        self.assertFalse(os.path.exists(NEW))
+
+    def test_two(self):
+        """Two short runs, 200 times, half of them beside what a killed run left: one succeeds, or both."""
+        for count in range(200):
+            write("made", YESTERDAY)
+            if count % 2:
+                write(NEW, b"half")
+            runs = [self.start(*self.WORDS) for _ in range(2)]
+            ended = {(run.communicate()[1].decode(), run.returncode) for run in runs}
+            self.assertIn(("", 0), ended)
+            self.assertLessEqual(ended, {("", 0), (fault(message("OutputIsBusy", "made")), 1)})
+            self.assert_file("made", HELLO)
+            self.assertFalse(os.path.exists(NEW))
+
+    def each_call(self, what, words, made):
+        """Runs the program until it makes no more calls, while this happens before each call in turn. OUT is this
+        at the start, or does not exist."""
+        for number in itertools.count(1):
+            for name in (NEW, "made", "met"):
+                self.run_agep("-rf", name, program="rm")
+            if made:
+                write("made", made)
+            env = {"LD_PRELOAD": preload("calls"), "CALL": "any", "NUMBER": str(number), "DO": what}
+            ran = self.run_agep(*words, env=env)
+            if not os.path.exists("met"):
+                break
+            with self.subTest(f"{what}, call {number}"):
+                yield ran
+        self.assertGreater(number, 15)
 
     def test_killed(self):
-        """A killed run leaves its new file and the old OUT, and the next run is refused."""
-        for number in (signal.SIGTERM, signal.SIGKILL, signal.SIGINT):
-            with self.subTest(number.name):
-                write("made", YESTERDAY)
-                run = self.start("encrypt", "-k", "key", "--atomic", "-o", "made")
-                run.stdin.write(fixture.PLAIN)
-                run.stdin.flush()
-                wait_for(lambda: os.path.exists(NEW) and os.path.getsize(NEW))
-                run.send_signal(number)
-                run.communicate()
-                self.assertEqual(run.returncode, -number)
-                self.says(message("NewFileExists", NEW), "encrypt", "-k", "key", "--atomic", "-o", "made", "hello")
-                self.assert_file("made", YESTERDAY)
-                os.remove(NEW)
+        """A run that is killed before any of its calls leaves the old OUT or the new one, and the next one succeeds."""
+        for ran in self.each_call("kill", self.WORDS, YESTERDAY):
+            self.assertEqual(ran.status, -signal.SIGKILL)
+            self.assertIn(read("made"), (YESTERDAY, HELLO))
+            self.writes(b"", *self.WORDS)
+            self.assert_file("made", HELLO)
+            self.assertFalse(os.path.exists(NEW))
+
+    def test_changed_names(self):
+        """Before any call another program removes the new file, or gives its name to a file of its own, which it has
+        locked, to a link or to a folder: no run ends with status 0 over that, and that stays as it is. Only between the
+        last look at the name and the rename nothing helps."""
+        write("theirs", b"theirs")
+        os.mkdir("theirs.d")
+        with open("theirs") as file:
+            fcntl.flock(file, fcntl.LOCK_EX)
+            kept = os.stat("theirs")
+            for what in ("", f"ln theirs {NEW}", f"ln -s theirs {NEW}", f"mkdir {NEW}"):
+                unseen = 0
+                for ran in self.each_call(f"rm -f {NEW}; {what}", self.WORDS, YESTERDAY):
+                    if read("made") == b"theirs":
+                        unseen += 1
+                        continue
+                    self.assert_file("made", YESTERDAY if ran.status else HELLO)
+                    self.assertEqual(os.path.lexists(NEW), bool(what))
+                    if what.startswith("ln theirs"):
+                        self.assertTrue(os.path.samestat(os.lstat(NEW), kept))
+                    found = os.stat("theirs")
+                    self.assertEqual((found.st_mode, found.st_uid, found.st_gid), (kept.st_mode, kept.st_uid, kept.st_gid))
+                    self.assert_file("theirs", b"theirs")
+                self.assertEqual(unseen, int(what.startswith("ln ")))
+
+    def test_made_meanwhile(self):
+        """With -n an OUT that appears before any call stays."""
+        write("theirs", b"theirs")
+        for words in self.WORDS, [word for word in self.WORDS if word != "--atomic"]:
+            for ran in self.each_call("ln theirs made 2>&1 || :", [*words, "-n"], None):
+                self.assertFalse(os.path.exists(NEW))
+                self.assert_file("made", HELLO if ran.status == 0 else b"theirs")
 
 
 class Atomic(Files):
@@ -287,26 +311,12 @@ class Atomic(Files):
                         self.assert_file("made", expected or old)
                         os.remove("made")
                     self.assertFalse(os.path.exists("made"))
-        with self.subTest("IN is OUT"):
-            write("made", read("damaged_two.age"))
-            self.assert_ended(self.run_line("salvage -k key --atomic -o made made"), 1, "".join(map(fault, lost)))
-            self.assert_file("made", plain[:65536] + b"\0")
-        with self.subTest("OUT was made meanwhile"):
-            os.remove("made")
-            with open("damaged_two.age", "rb") as file:
-                damaged = file.read()
-            run = subprocess.Popen([AGEP, "salvage", "-k", "key", "-n", "--atomic", "-o", "made"], stdin=subprocess.PIPE, stderr=subprocess.PIPE)
-            wait_for(lambda: os.path.exists(NEW))
-            write("made", YESTERDAY)
-            said = run.communicate(damaged)[1].decode()
-            self.assertEqual((said, run.returncode), ("".join(map(fault, (*lost, message("OutputExists", "made")))), 1))
-            self.assert_file("made", YESTERDAY)
 
     def test_in(self):
-        """IN may be OUT, by any name."""
+        """IN may be OUT, by any name, except of `salvage` (`test_files`)."""
         rotated = fixture.for_keys(HELLO, NEW_KEY)
         for line, source, expected in (
-            ("encrypt -k key -s seed", HELLO, read("key.age")), ("decrypt -k key", read("key.age"), HELLO), ("salvage -k key", read("key.age"), HELLO),
+            ("encrypt -k key -s seed", HELLO, read("key.age")), ("decrypt -k key", read("key.age"), HELLO),
             ("range -k key 1 3", read("key.age"), b"ell"), ("rewrap -k key -K new.key -s seed", read("key.age"), rotated),
         ):
             for name in ("made", "./made", "linked"):
@@ -326,21 +336,41 @@ class Atomic(Files):
             (0o640, 0o604, 0o666, 0o664, 0o400, 0o4755, 0o2755, 0o1777), (0o000, 0o077),
             (("none", 0o777, other), ("1", 0o777, (mine[0], other[1])), ("0", 0o707, mine)),
         ):
-            with self.subTest(f"{mode:o}, umask {umask:03o}, lchown refused: {refused}"):
+            with self.subTest(f"{mode:o}, umask {umask:03o}, fchown refused: {refused}"):
                 write("made", YESTERDAY)
                 os.chown("made", *other)
                 os.chmod("made", mode)
-                env = {} if refused == "none" else {"LD_PRELOAD": preload("calls"), "CALL": "lchown", "NUMBER": refused, "DO": "1"}
+                env = {} if refused == "none" else {"LD_PRELOAD": preload("calls"), "CALL": "fchown", "NUMBER": refused, "DO": "1"}
                 self.assert_ended(self.run_line("decrypt -k key --atomic -o made key.age", umask=umask, env=env))
                 found = os.stat("made")
                 self.assertEqual((f"{found.st_mode & 0o7777:o}", found.st_uid, found.st_gid), (f"{mode & kept:o}", *owner))
                 os.remove("made")
-        for line in WRITING:
-            mode = 0o666 if line.startswith(("encrypt", "rewrap")) else 0o600
-            with self.subTest(f"{line}, a new OUT"):
-                self.assert_ended(self.run_line(f"{line} --atomic -o made", umask=0o022))
-                self.assertEqual(f"{os.stat('made').st_mode & 0o777:o}", f"{mode & 0o755:o}")
-                os.remove("made")
+
+    @unittest.skipUnless(os.geteuid() == 0 and shutil.which("setfacl"), "needs root and acl")
+    def test_acl(self):
+        """What docs/USE.md says of ACLs: only with --atomic, the group gets the rights of OUT's mask, or those whom the
+        folder's default ACL names get the rights of the group."""
+        def readers(out, options):
+            """Who may read OUT after a run: group 100, and user 65534."""
+            self.assert_ended(self.run_line(f"decrypt -k key {options}-o {out} key.age"))
+            ids = (("user", 1234), ("group", 100)), (("user", 65534), ("group", 65534))
+            return [subprocess.run(["cat", out], capture_output=True, extra_groups=[], **dict(each)).returncode == 0 for each in ids]
+
+        os.chmod(self.folder, 0o755)
+        for options, theirs, named in (("", [False, True], [True, False]), ("--atomic ", [True, False], [True, True])):
+            os.mkdir("acl")
+            for name in ("acl/out", "acl/moved"):
+                write(name, YESTERDAY)
+                os.chown(name, 0, 100)
+                os.chmod(name, 0o640)
+            subprocess.run(["setfacl", "-m", "u:65534:r,g::-", "acl/out"], check=True)
+            subprocess.run(["setfacl", "-d", "-m", "u:65534:r", "acl"], check=True)
+            with self.subTest(options):
+                self.assertEqual(readers("acl/moved", options), named)
+                subprocess.run(["setfacl", "-k", "acl"], check=True)
+                self.assertEqual(readers("acl/out", options), theirs)
+                self.assertEqual(readers("acl/new", options), [False, False])
+            shutil.rmtree("acl")
 
     def test_links(self):
         """A symbolic link stays a link, and the file to which it leads is replaced, in its own folder."""
@@ -352,10 +382,6 @@ class Atomic(Files):
                 self.assert_ended(self.run_line("decrypt -k key --atomic -o linked key.age"))
                 self.assertEqual((os.readlink("linked"), read("other/made")), (target, HELLO))
                 self.assertEqual(os.listdir("other"), ["made"])
-                new = os.path.realpath("other/made") + ".agep-new"
-                write(new, b"")
-                self.line_says(f"NewFileExists: {new}", "decrypt -k key --atomic -o linked key.age")
-                os.remove(new)
                 os.remove("linked")
         with self.subTest("a link that leads nowhere"):
             os.symlink("nowhere", "linked")
@@ -367,19 +393,17 @@ class Atomic(Files):
     def test_special(self):
         """A folder, a device or a pipe is refused, and so is a name that cannot be created."""
         os.mkfifo("made")
-        for name in ("folder", "folder/", ".", "/dev/null", "/dev/full", "made"):
+        for name in ("folder", "folder/", ".", "/dev/null", "/dev/full", "made", "/dev/stdout"):
             with self.subTest(name):
                 self.changes_nothing(f"OutputIsSpecial: {name}", f"decrypt -k key --atomic -o {name} key.age")
         long = "x" * 250
         for name, made, reason in (
-            ("absent/made", "absent/made.agep-new", "No such file or directory"), ("", '""', "No such file or directory"),
+            ("absent/made", "absent/made.agep-new", "No such file or directory"), ("", "", "No such file or directory"),
             ("hello/made", "hello/made", "Not a directory"), ("hello/", "hello/", "Not a directory"),
             (long, f"{long}.agep-new", "File name too long"), (long + long, long + long, "File name too long"),
         ):
             with self.subTest(name[:20]):
                 self.changes_nothing(f"CannotCreate: {name}", f"decrypt -v -k key --atomic -o '{name}' key.age", more=f"creating {made}: {reason}")
-        with self.subTest("/dev/stdout"):
-            self.changes_nothing("CannotCreate: /dev/stdout", "decrypt -k key --atomic -o /dev/stdout key.age")
         with self.subTest("a link to itself"):
             os.symlink("linked", "linked")
             more = "creating linked: Too many levels of symbolic links"
@@ -410,12 +434,6 @@ class Atomic(Files):
             self.assert_file("closed/made", HELLO)
         shutil.rmtree("closed")
 
-    def test_alone(self):
-        """It needs OUT."""
-        for line in ("encrypt -k absent absent", *(f"{it} absent" for it in OPENING)):
-            with self.subTest(line):
-                self.changes_nothing("AtomicAlone", f"{line} --atomic")
-
 
 class NoClobber(Files):
     def test_exists(self):
@@ -429,22 +447,3 @@ class NoClobber(Files):
                     with self.subTest(f"{command} {option} -o {name}"):
                         self.changes_nothing(f"OutputExists: {name}", f"{command} {option} -o {name} absent")
         self.assertEqual(os.readlink("dangling"), "nowhere")
-
-    def test_made_meanwhile(self):
-        """An OUT that was created after the first check stays."""
-        for options in ("-n", "-n --atomic"):
-            with self.subTest(options):
-                words = [AGEP, "encrypt", "-k", "key", *options.split(), "-o", "made"]
-                run = subprocess.Popen(words, stdin=subprocess.PIPE, stderr=subprocess.PIPE)
-                if "--atomic" in options:
-                    wait_for(lambda: os.path.exists(NEW))
-                    write("made", YESTERDAY)
-                    self.assertEqual((run.communicate(HELLO)[1], run.returncode), (fault(message("OutputExists", "made")).encode(), 1))
-                else:
-                    run.communicate(HELLO)
-                    env = {"LD_PRELOAD": preload("calls"), "CALL": "statx", "NUMBER": "0", "DO": IO_ERROR}
-                    write("made", YESTERDAY)
-                    self.line_says("OutputExists: made", "encrypt -k key -s seed -n -o made hello", env=env)
-                self.assert_file("made", YESTERDAY)
-                self.assertFalse(os.path.exists(NEW))
-                os.remove("made")

@@ -113,7 +113,7 @@ class CallCase(ProgramCase):
         """Changes all calls of a kind, unless they are repeated then, and each in turn, until a run has no such
         call; that run must be complete."""
         with self.subTest(f"{job} {form}, each {kind} in turn, DO={what}"):
-            for number in range(what == INTERRUPTED, 1000):
+            for number in range(what == INTERRUPTED or kind == "any", 1000):
                 ran = self.run_job(job, form, call=kind, number=number, do=what)
                 if not self.met:
                     break

@@ -110,7 +110,8 @@ class Out(Files):
                         self.assert_file("made", expected)
                         os.remove("made")
                         without("Unidentified: old", f"{form} -v -o old", f"identifying old: {reason}")
-                        without("Unidentified: old", f"{form} -v --atomic -o old", f"identifying old: {reason}")
+                        name, what = ("CannotCreate", "creating") if error == "1" else ("Unidentified", "identifying")
+                        without(f"{name}: old", f"{form} -v --atomic -o old", f"{what} old: {reason}")
             with self.subTest(f"the default seed, {reason}"):
                 ran = without(None, "encrypt -v -k key hello")
                 write("made", ran.out)
@@ -166,9 +167,9 @@ class OutIsRead(Files):
 
     def outs(self, line, role, name):
         """Each way to name this file as OUT or as standard output: the name in messages, and the line. With
-        --atomic OUT may be IN."""
+        --atomic OUT may be IN, except of `salvage`."""
         standard = [f"{line[: line.rindex(' ')]} <{name}"] * (role == "Input" and not line.startswith("range"))
-        atomic = [f"{line} --atomic"] * (role != "Input")
+        atomic = [f"{line} --atomic"] * (role != "Input" or line.startswith("salvage"))
         yield from (("standard output", f"{it} >>{name}") for it in (line, *standard))
         for out in (name, f"./{name}", f"folder/../{name}", "linked", "hard", f"{self.folder}/{name}"):
             if not line.startswith("inspect"):

@@ -9,7 +9,6 @@ import fcntl
 import glob
 import os
 import re
-import shlex
 import shutil
 import signal
 import subprocess
@@ -547,13 +546,12 @@ class Systemd(unittest.TestCase):
         self.assertRegex(secret, "/etc/")
         write("dump", b"text")
         environment = {"PATH": self.FOLDERS.replace("/usr/local", installed()), "CREDENTIALS_DIRECTORY": os.getcwd()}
-        lines = re.findall("^ExecStart(?:Pre)?=(.*)$", service, re.MULTILINE)
-        self.assertEqual([shlex.split(line)[0] for line in lines], ["rm", "agep"])
+        (line,) = re.findall("^ExecStart=(.*)$", service, re.MULTILINE)
         write("dump.age.agep-new", b"half")
-        self.assertEqual([run(line, **environment) for line in lines], [b"", b""])
+        self.assertEqual(run(line, **environment), b"")
         self.assertEqual(run("agep decrypt -k key dump.age", **environment), b"text")
         os.remove("dump")
-        self.assertIn(b"dump: No such file or directory\n", run(lines[1], **environment))
+        self.assertIn(b"dump: No such file or directory\n", run(line, **environment))
 
     @unittest.skipUnless(shutil.which("systemd-analyze"), "systemd-analyze missing")
     def test_unit(self):

@@ -95,15 +95,13 @@ class Refused(ProgramCase):
                         self.refused(f"StandardInputTwice: Input, {role}", f"{named[: named.rindex(' ')]}{out} {stdin}")
 
     def test_two_roles(self):
-        """Nor may two files be standard input, by any of its names, which is found before it is read. IN comes first,
-        then they come as they are read."""
-        order = ["Input", "Passphrase", "Key", "NewPassphrase", "NewKey", "Seed", "FileKey"]
-        for line, two in ((line, two) for line in lines() for two in itertools.combinations(roles(line), 2)):
-            said = ", ".join(sorted({role for role, _ in two}, key=order.index))
-            out = "" if line.startswith("inspect") else " -o made"
-            for names, stdin in itertools.product((NAMES[:2], NAMES[:0:-1]), ("< <(cat yesterday)", "</dev/zero")):
-                named = with_names(line, {name: standard for (_, name), standard in zip(two, names)})
-                self.refused(f"StandardInputTwice: {said}", f"{named}{out} {stdin}")
+        """Nor may two files be standard input, by any of its names."""
+        for said, line in (
+            ("Passphrase", "decrypt -p {} -p {} pass.age <pass"), ("Key", "rewrap -k {} -k {} -K new.key key.age <key"), ("Key, Seed", "encrypt -k {} -s {} hello <key"),
+            ("Passphrase, NewPassphrase", "rewrap -p {} -P {} pass.age <pass"), ("NewKey", "rewrap -k key -K {} -K {} key.age < <(cat key)"),
+        ):
+            for names in itertools.permutations(NAMES, 2):
+                self.refused(f"StandardInputTwice: {said}", line.format(*names))
 
     def test_link(self):
         """A secret is standard input even by a link."""

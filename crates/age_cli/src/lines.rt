@@ -1,12 +1,14 @@
 //! The lines about chunks that `salvage` lost.
 
-use crate::messages::say;
+use crate::failure::Failure;
+use crate::messages::{say, tell};
+use crate::work::input_name;
 use age_commands::{Report, Unread};
 use age_file::{
-    CHUNK_SIZE, Losses, LostChunk, LostRun, Salvaged, SalvagedFile, Saved, Sink, TAG_SIZE,
+    CHUNK_SIZE, Fault, Losses, LostChunk, LostRun, Salvaged, SalvagedFile, Saved, Sink, TAG_SIZE,
     join_lost,
 };
-use age_job::{Bytes, Detail, ERASE, Name, Operation};
+use age_job::{Bytes, Detail, ERASE, Job, Operation};
 use std::alloc::Global;
 use std::fmt;
 
@@ -14,6 +16,9 @@ use std::fmt;
 pub(crate) trait Saving: Report {
     /// Whether, of this many bytes written, one is of a chunk that was saved.
     fn has_saved(&self, written: u64) -> bool;
+
+    /// Receives a failure of the work, unless its lost chunks were reported in place of it.
+    fn fail(&mut self, failure: &Failure<'_>);
 }
 
 /// Prints a line for each run of lost chunks as soon as it ends.
@@ -21,7 +26,7 @@ pub(crate) trait Saving: Report {
 pub(crate) struct LossLines<'a, 'b, E> {
     pub(crate) alloc: Global,
     pub(crate) err: &'a mut E,
-    pub(crate) input: Name<'b>,
+    pub(crate) job: &'b Job,
     pub(crate) run: Option<LostRun>,
     /// The number of bytes of all lost chunks.
     pub(crate) lost: u64,
@@ -51,6 +56,8 @@ impl Saving for NoLines {
     fn has_saved(&self, _written: u64) -> bool {
         false
     }
+
+    fn fail(&mut self, _failure: &Failure<'_>) {}
 }
 
 /// A run of lost chunks. Its text follows `agep: ` on standard error.
@@ -130,7 +137,7 @@ impl<'a, 'b, E: Sink> LossLines<'a, 'b, E> {
     }
 
     /// Prints the last run.
-    pub(crate) fn end(&mut self) {
+    fn end(&mut self) {
         if let Some(run) = self.run {
             self.run = None;
             self.print(&RunLine(run));
@@ -180,7 +187,7 @@ impl<'a, 'b, E: Sink> Report for LossLines<'a, 'b, E> {
             bytes,
             reason,
         } = *unread;
-        let detail = Detail::System(Operation::Reading, self.input, reason);
+        let detail = Detail::System(Operation::Reading, input_name(self.job), reason);
         let were = if bytes == 1 { "was" } else { "were" };
         let bytes = Bytes(bytes as u128);
         self.print(&format_args!("{detail}; {bytes} {were} left out, the first at byte {first}"));
@@ -190,5 +197,12 @@ impl<'a, 'b, E: Sink> Report for LossLines<'a, 'b, E> {
 impl<'a, 'b, E: Sink> Saving for LossLines<'a, 'b, E> {
     fn has_saved(&self, written: u64) -> bool {
         self.lost < written
+    }
+
+    fn fail(&mut self, failure: &Failure<'_>) {
+        self.end();
+        if !matches!(failure, Failure::AgeFile(Fault::BadChunk(_), _)) {
+            tell(self.alloc, self.job, failure, self.err);
+        }
     }
 }

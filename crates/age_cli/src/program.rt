@@ -12,21 +12,20 @@ ghost use Rattle.age_cli.specs.Told.{Tells, Told, stream_by};
 ghost use Rattle.age_file.specs.Texts.{fault_text};
 ghost use Rattle.age_header.specs.Device.{Moved, Stays, move_by};
 
-use crate::error_stream::Parts;
 use crate::failure::Failure;
 use crate::lines::{LossLines, NoLines, Saving};
 use crate::messages::{say, tell};
-use crate::work::{input_name, perform_to};
+use crate::work::perform_to;
 use age_args::{WordsFault, read_words};
 use age_commands::{Seed, Task, seed_of};
-use age_file::{Fault, Sink, write_all};
+use age_file::{Fault, Sink};
 use age_job::{
-    Command, Job, Lines, Pipe, ReadFiles, SEED_LEN, Shown, Target, Watched, read_encrypt_secrets,
-    read_file_key, read_rewrap_secrets, read_secret, refuse_output, shows_progress,
+    Command, Input, Job, Lines, Pipe, ReadFiles, SEED_LEN, SystemFile, Target, Watched,
+    read_encrypt_secrets, read_file_key, read_rewrap_secrets, read_secret, refuse_output,
+    shows_progress,
 };
 use std::alloc::Global;
-use std::fmt::{Display, Write as _};
-use std::io::{IsTerminal, Read, Seek, Write};
+use std::io::{IsTerminal, Read, Write};
 use std::rt::{Env, Files};
 use std::time::Clock;
 
@@ -44,14 +43,17 @@ const REFUSED: u8 = 2;
 /// takes `input` and `out` to be `/proc/self/fd/0` and `/proc/self/fd/1`. Writes the output of the
 /// command, and the texts of help and version, to `out`. Writes to `err` one line for a fault, with
 /// `--verbose` a second one on the file, the lines of `salvage` on lost chunks, and the text for a
-/// refused command line. If `err` is a terminal, `--verbose` also shows on `/dev/stderr` how
-/// much was read, in a line that is erased at the end.
-pub fn run<
-    F: Files + Clock + Env + AllocGlobal,
-    R: Read,
-    W: Write + IsTerminal,
-    E: Sink + IsTerminal,
->(rt: &F, words: &[&str], input: &mut R, out: &mut W, err: &mut E) -> u8
+/// refused command line. If `/dev/stderr` is a terminal, `--verbose` also shows there how much was
+/// read, in a line that is erased at the end.
+pub fn run<F: Files + Clock + Env + AllocGlobal, R: Read, W: Write + IsTerminal, E: Sink>(
+    rt: &F,
+    words: &[&str],
+    input: &mut R,
+    out: &mut W,
+    err: &mut E,
+) -> u8
+where
+    F::File: SystemFile,
     // The status is 0, 1 or 2.
     ensures status { result ≤ 2 }
     // Status 2: the words are wrong, the input was not read, and the output is unchanged.
@@ -100,12 +102,15 @@ pub fn run<
 }
 
 /// Does this job, and returns the exit status as `run` does: 0 for success, 1 after a fault.
-pub fn run_job<
-    F: Files + Clock + Env + AllocGlobal,
-    R: Read,
-    W: Write + IsTerminal,
-    E: Sink + IsTerminal,
->(rt: &F, job: &Job, input: &mut R, out: &mut W, err: &mut E) -> u8
+pub fn run_job<F: Files + Clock + Env + AllocGlobal, R: Read, W: Write + IsTerminal, E: Sink>(
+    rt: &F,
+    job: &Job,
+    input: &mut R,
+    out: &mut W,
+    err: &mut E,
+) -> u8
+where
+    F::File: SystemFile,
     requires { IsInRange job.now }
     // The status is 0 or 1.
     ensures status { result ≤ 1 }
@@ -134,7 +139,7 @@ pub fn run_job<
         (R.remaining input.old) (input.new ≡ input.old) (move_by W.contents out.old out.new)
         (stream_by E.taken E.failed err.old err.new) }
 {
-    let is_shown = shows_progress(rt, job, out, err);
+    let is_shown = shows_progress(rt, job, out);
     let target = Target::of(rt, job);
     let mut work = Work {
         job,
@@ -146,7 +151,7 @@ pub fn run_job<
         let mut lines = LossLines {
             alloc: rt.alloc(),
             err,
-            input: input_name(job),
+            job,
             run: None,
             lost: 0,
             is_shown,
@@ -154,11 +159,7 @@ pub fn run_job<
         let Err(failure) = perform(rt, &mut work, input, out, &mut lines) else {
             return DONE;
         };
-        lines.end();
-        let LossLines { alloc, err, .. } = lines;
-        if !is_told(&failure) {
-            tell(alloc, job, &failure, err);
-        }
+        lines.fail(&failure);
         return FAILED;
     }
     let Err(failure) = perform(rt, &mut work, input, out, &mut NoLines) else {
@@ -166,11 +167,6 @@ pub fn run_job<
     };
     tell(rt.alloc(), job, &failure, err);
     FAILED
-}
-
-/// Whether lines on lost chunks were printed instead of the fault of a `salvage`.
-fn is_told(failure: &Failure<'_>) -> bool {
-    matches!(failure, Failure::AgeFile(Fault::BadChunk(_), _))
 }
 
 /// A job with its files.
@@ -194,6 +190,8 @@ fn perform<'a, F: Files + Clock + AllocGlobal, R: Read, W: Write + IsTerminal, L
     out: &mut W,
     lines: &mut L,
 ) -> Result<(), Failure<'a>>
+where
+    F::File: SystemFile,
     requires { IsInRange work.old.job.now }
     ensures silent { OnOk result (lines.new ≡ lines.old) }
     ensures completes { let sink = move_by W.contents out.old out.new in
@@ -209,17 +207,15 @@ fn perform<'a, F: Files + Clock + AllocGlobal, R: Read, W: Write + IsTerminal, L
         Some(name) => {
             let file = work.read.open_input(rt, job.command, name.as_str())?;
             let size = work.read.input_size(job.command);
-            let input = Shown::over(rt, job, file, size, work.is_shown);
-            let mut input = Watched::new(input);
+            let mut input = Watched::new(rt, job, file, size, work.is_shown);
             perform_on(rt, work, task, &mut input, out, lines)
         }
         None => {
             work.read.add_standard_input()?;
             let size = work.read.input_size(job.command);
-            let shown = Shown::over(rt, job, Pipe(input), size, work.is_shown);
-            let mut watched = Watched::new(shown);
+            let mut watched = Watched::new(rt, job, Pipe(input), size, work.is_shown);
             let done = perform_on(rt, work, task, &mut watched, out, lines);
-            let input = watched.reader.reader.0;
+            let input = watched.reader.0;
             // For the proof alone (docs/PROOFS.md, "How to read a clause"): whether it was read.
             let _ = &*input;
             done
@@ -263,21 +259,23 @@ fn seed_from(bytes: &[u8; SEED_LEN]) -> Seed {
 }
 
 /// Creates the output, and performs the task on this input.
-fn perform_on<'a, F: Files + AllocGlobal, R: Read + Seek, W: Write, L: Saving>(
+fn perform_on<'a, F: Files + AllocGlobal, R: Input, W: Write, L: Saving>(
     rt: &F,
     work: &Work<'a>,
     task: Task,
-    input: &mut Watched<R>,
+    input: &mut R,
     out: &mut W,
     lines: &mut L,
 ) -> Result<(), Failure<'a>>
+where
+    F::File: SystemFile,
     requires { IsInRange work.now.job.now }
     ensures silent { OnOk result (lines.new ≡ lines.old) }
     ensures performs { let sink = move_by W.contents out.old out.new in
         OfWork (λ done. (target : Moved)
         × IsDevice (λ (file : F.File × F.File). move_by F.File.contents file.0 file.1)
         work.now.job.now.output sink target
-        × Works work.now.job.now task (R.remaining input.old.reader) target done)
+        × Works work.now.job.now task (R.remaining input.old) target done)
         (FailsBeside work.now.job.now (input.new ≡ input.old) sink) result }
     ensures output { work.now.job.now.output ≢ None → out.new ≡ out.old }
 {
@@ -289,10 +287,13 @@ fn perform_on<'a, F: Files + AllocGlobal, R: Read + Seek, W: Write, L: Saving>(
     let name = name.as_str();
     let mut output = target.create(rt, job, &work.read, name)?;
     let done = perform_to(rt.alloc(), job, task, input, &mut output, lines);
-    if is_kept(&done, lines.has_saved(output.written())) {
-        target.finish(rt, job, output, name)?;
-    } else {
-        target.discard(rt);
+    if !is_kept(&done, lines.has_saved(output.written())) {
+        target.discard(rt, &output);
+    } else if let Err(failure) = target.finish(rt, job, output, name) {
+        if let Err(first) = &done {
+            lines.fail(first);
+        }
+        return Err(Failure::Job(failure));
     }
     done
 }
@@ -317,18 +318,6 @@ fn fail<E: Sink>(alloc: Global, fault: Fault, err: &mut E) -> u8
     FAILED
 }
 
-/// Prints why the command line was refused, in parts if memory is refused for the whole text.
-fn refuse<D: Display, E: Sink>(alloc: Global, why: &D, err: &mut E) -> u8
-    ensures { result ≡ 2 }
-{
-    let mut whole = Vec::new(alloc);
-    let _ = match write!(whole, "{why}") {
-        Ok(()) => write_all(err, whole.as_slice()).is_ok(),
-        Err(_) => write!(Parts(err), "{why}").is_ok(),
-    };
-    REFUSED
-}
-
 /// Prints why the arguments are not a job, or prints the help or the version.
 fn answer_refusal<W: Write, E: Sink>(
     alloc: Global,
@@ -344,7 +333,8 @@ fn answer_refusal<W: Write, E: Sink>(
     match fault {
         WordsFault::Refused(error) => {
             if error.use_stderr() {
-                return refuse(alloc, &Lines(error), err);
+                say(alloc, &Lines(error), err);
+                return REFUSED;
             }
             match write!(out, "{error}").and_then(|()| out.flush()) {
                 Ok(()) => DONE,

@@ -1,6 +1,5 @@
 -- The names of files in messages.
-use Rattle.std.specs.Prelude.{◌++◌, ◌||◌, ◌&&◌, ℕ, List, Bool, ◌==◌, false, true, chars, codes, encode_utf8, flat_map, if◌then◌else◌, length, nat_eq, nat_lt, not}
-use Rattle.std.specs.List.{ends_with, starts_with}
+use Rattle.std.specs.Prelude.{◌++◌, ◌||◌, ◌&&◌, ℕ, List, Bool, ◌==◌, false, chars, codes, encode_utf8, flat_map, if◌then◌else◌, nat_lt}
 use Rattle.std.specs.Char.{is_control}
 use Rattle.std.specs.Fmt.{digits}
 
@@ -13,32 +12,17 @@ directs_writing c =
 
 -- The text of a character that keeps a message on one line and in its order: a control character
 -- is a backslash with a letter, or with x and its code in two hexadecimal digits, and a character
--- that sets the direction is its code. In an exact text, which no other name has, a backslash and a
--- quotation mark follow a backslash.
-abbrev pub escaped_char : (exact : Bool) → (c : ℕ) → List ℕ
-escaped_char exact c =
+-- that sets the direction is its code.
+abbrev pub escaped_char : (c : ℕ) → List ℕ
+escaped_char c =
     if c == 10 then codes "\\n"
     else if c == 13 then codes "\\r"
     else if c == 9 then codes "\\t"
     else if nat_lt c 16 then codes "\\x0" ++ digits 16 false c
     else if is_control c then codes "\\x" ++ digits 16 false c
     else if directs_writing c then codes "\\u{" ++ digits 16 false c ++ codes "}"
-    else if not exact then encode_utf8 c
-    else if c == 92 then codes "\\\\"
-    else if c == 34 then codes "\\\""
     else encode_utf8 c
 
 -- a name in a message
-abbrev pub escaped_name : (exact : Bool) → (name : List ℕ) → List ℕ
-escaped_name exact name = flat_map (escaped_char exact) (chars name)
-
--- whether a name is empty, or begins or ends with a space
-abbrev pub needs_quotes : (name : List ℕ) → Bool
-needs_quotes name =
-    (length name == 0) || starts_with nat_eq name (codes " ") || ends_with nat_eq name (codes " ")
-
--- a name on the second line, where no other name has the same text
-abbrev pub quoted_name : (name : List ℕ) → List ℕ
-quoted_name name =
-    if needs_quotes name then codes "\"" ++ escaped_name true name ++ codes "\"" else escaped_name
-    true name
+abbrev pub escaped_name : (name : List ℕ) → List ℕ
+escaped_name name = flat_map escaped_char (chars name)

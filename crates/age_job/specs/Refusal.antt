@@ -1,10 +1,11 @@
 -- The faults with which a job may be refused, by its options.
-use Rattle.std.specs.Prelude.{◌≡◌, ◌⊎◌, ◌<◌, ℕ, Bool, List, Option, None, Some, IsSome, String, ⊤, codes, false, length, true}
+use Rattle.std.specs.Prelude.{◌≡◌, ◌≢◌, ◌⊎◌, ◌<◌, ℕ, Bool, List, Option, None, Some, IsSome, String, ⊤, codes, false, length, true}
 use Rattle.std.specs.String.{string_bytes}
 use Rattle.age_job.specs.declared.fault.Fault.{Fault}
 use Rattle.age_job.specs.declared.fault.Fault.TheVariants as faults
 use Rattle.age_job.specs.declared.file_names.Role.{Role}
 use Rattle.age_job.specs.declared.file_names.Role.TheVariants as roles
+use Rattle.age_job.specs.declared.job.Command.{Command}
 use Rattle.age_job.specs.declared.job.Command.TheVariants as command
 use Rattle.age_job.specs.declared.job.Job.{Job}
 
@@ -38,10 +39,11 @@ IsRead job roles.NewKey name = IsNamed job.new_key name ⊎ (0 < length job.more
 IsRead job roles.Seed name = MakesHeader job × (name ≡ string_bytes job.seed)
 IsRead job roles.FileKey name = (job.command ≡ command.Inspect) × IsNamed job.file_key name
 
--- a new OUT may take the place of IN, but not of a secret
-abbrev pub may_be_replaced : Role → Bool
-may_be_replaced roles.Input = true
-may_be_replaced _ = false
+-- a new OUT may take the place of IN, but not of a secret, nor that of `salvage` of any file
+abbrev pub may_be_replaced : (command : Command) → Role → Bool
+may_be_replaced command.Salvage _ = false
+may_be_replaced _ roles.Input = true
+may_be_replaced _ _ = false
 
 -- a fault of a file that is read under this name
 abbrev pub IsFileFault : (name : List ℕ) (fault : Fault) → Type 0
@@ -59,10 +61,12 @@ IsSameFault name (faults.OutputIsRead role named) = named.0.now ≡ name
 IsSameFault name fault = ⊥
 
 -- the same, or it cannot be replaced
-abbrev pub IsFoundFault : (name : List ℕ) (fault : Fault) → Type 0
-IsFoundFault name (faults.OutputIsSpecial named) = named.0.now ≡ name
-IsFoundFault name (faults.CannotCreate named) = named.0.now ≡ name
-IsFoundFault name fault = IsSameFault name fault
+abbrev pub IsReplacedFault : (name : List ℕ) (fault : Fault) → Type 0
+IsReplacedFault name (faults.OutputIsSpecial named) = named.0.now ≡ name
+IsReplacedFault name (faults.CannotCreate named) = named.0.now ≡ name
+IsReplacedFault name (faults.NewFileExists named) = ⊤
+IsReplacedFault name (faults.OutputIsBusy named) = named.0.now ≡ name
+IsReplacedFault name fault = IsSameFault name fault
 
 -- a fault of the contents of a passphrase file
 abbrev pub IsPassphraseFault : (fault : Fault) → Type 0
@@ -77,7 +81,8 @@ abbrev pub MayRefuse : (job : Job) (fault : Fault) → Type 0
 MayRefuse job faults.Read = ⊤
 MayRefuse job faults.Write = ⊥
 MayRefuse job faults.OutOfMemory = ⊤
-MayRefuse job faults.KeyChoice = IsNoChoice job.pass job.key
+MayRefuse job faults.KeyChoice =
+    (job.command ≢ command.Inspect) × IsNoChoice job.pass job.key
 MayRefuse job faults.NewKeyChoice =
     (job.command ≡ command.Rewrap) × IsNoChoice job.new_pass job.new_key
 MayRefuse job (faults.CannotOpen name) = (role : Role) × IsRead job role name.0.now
@@ -88,6 +93,7 @@ MayRefuse job (faults.OutputExists name) =
     (job.no_clobber ≡ true) × IsNamed job.output name.0.now
 MayRefuse job (faults.OutputIsSpecial name) = (job.atomic ≡ true) × IsNamed job.output name.0.now
 MayRefuse job (faults.NewFileExists name) = (job.atomic ≡ true) × IsSome job.output
+MayRefuse job (faults.OutputIsBusy name) = (job.atomic ≡ true) × IsNamed job.output name.0.now
 MayRefuse job (faults.OutputIsRead role name) = IsOutput job.output name.0.now
 MayRefuse job (faults.StandardInputTwice one other) = ⊤
 MayRefuse job faults.KeyLength = IsSome job.key ⊎ IsSome job.new_key

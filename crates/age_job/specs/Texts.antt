@@ -1,5 +1,5 @@
 -- The texts of faults, which follow `agep: ` on standard error.
-use Rattle.std.specs.Prelude.{◌++◌, List, ℕ, codes, false, if◌then◌else◌}
+use Rattle.std.specs.Prelude.{◌++◌, List, ℕ, codes, if◌then◌else◌}
 use Rattle.std.specs.Str.{bytes_eq}
 use Rattle.age_job.specs.Names.{escaped_name}
 use Rattle.age_job.specs.declared.fault.Fault.{Fault}
@@ -22,7 +22,7 @@ role_text role.Input = codes "IN"
 role_text role = codes "the " ++ role_words role
 
 abbrev pub name_text : (name : Name) → List ℕ
-name_text name = escaped_name false name.0.now
+name_text name = escaped_name name.0.now
 
 abbrev pub fault_text : (fault : Fault) → List ℕ
 fault_text fault.Read = codes "read failed"
@@ -39,6 +39,7 @@ fault_text (fault.OutputExists name) = codes "OUT exists: " ++ name_text name
 fault_text (fault.OutputIsSpecial name) = codes "OUT is not a regular file: " ++ name_text name
 fault_text (fault.NewFileExists name) =
     name_text name ++ codes " exists: another run is writing it, or was killed"
+fault_text (fault.OutputIsBusy name) = codes "another run is writing OUT: " ++ name_text name
 fault_text (fault.OutputIsRead role name) =
     codes "OUT is also " ++ role_text role ++ codes ": " ++ name_text name
 fault_text (fault.StandardInputTwice one other) =

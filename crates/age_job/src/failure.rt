@@ -4,7 +4,7 @@ ghost use Rattle.std.specs.Prelude.{◌≡◌, Some};
 ghost use Rattle.age_job.specs.declared.fault.Fault.TheVariants.{OutOfMemory};
 
 use crate::fault::Fault;
-use crate::file_names::{Bytes, Name, Quoted, Role};
+use crate::file_names::{Bytes, Name, Role};
 use crate::files::MAX_SMALL;
 use crate::job::Job;
 use crate::watched::Front;
@@ -129,20 +129,19 @@ impl fmt::Display for Detail<'_> {
     fn fmt<W: fmt::Write>(&self, f: &mut fmt::Formatter<W>) -> fmt::Result {
         match self {
             Detail::System(operation, name, reason) => {
-                let name = Quoted(*name);
                 write!(f, "{operation} {name}: ")?;
                 let mut text = BeforeCode { f, ended: false };
                 write!(text, "{reason}")
             }
             Detail::Size(role, name, len) => write_size(*role, *name, *len, f),
             Detail::NoDevice(role, name) => {
-                let (words, name) = (role.words(), Quoted(*name));
+                let words = role.words();
                 write!(f, "{words} {name}: not a device, so its bytes may repeat")
             }
-            Detail::File(role, name) => write!(f, "{}: {}", role.words(), Quoted(*name)),
-            Detail::Front(name, front) => write!(f, "{}: {}", Quoted(*name), front.words()),
+            Detail::File(role, name) => write!(f, "{}: {name}", role.words()),
+            Detail::Front(name, front) => write!(f, "{name}: {}", front.words()),
             Detail::Unopened(name, job) => {
-                write!(f, "{}: not opened by", Quoted(*name))?;
+                write!(f, "{name}: not opened by")?;
                 write_tried(job, f)
             }
         }
@@ -156,7 +155,7 @@ fn write_size<W: fmt::Write>(
     len: usize,
     f: &mut fmt::Formatter<W>,
 ) -> fmt::Result {
-    let (words, name) = (role.words(), Quoted(name));
+    let words = role.words();
     write!(f, "{words} {name}: ")?;
     if len > MAX_SMALL {
         write!(f, "more than {MAX_SMALL} bytes")?;
@@ -181,10 +180,10 @@ fn write_tried<W: fmt::Write>(job: &Job, f: &mut fmt::Formatter<W>) -> fmt::Resu
         (None, Some(name)) => (Role::Key, name, job.more_keys.as_slice()),
         (None, None) => return Ok(()),
     };
-    let (words, name) = (role.words(), Quoted(Name(first.as_str())));
+    let (words, name) = (role.words(), Name(first.as_str()));
     write!(f, " {words} {name}")?;
     for name in more {
-        let name = Quoted(Name(name.as_str()));
+        let name = Name(name.as_str());
         write!(f, ", {words} {name}")?;
     }
     Ok(())

@@ -33,6 +33,8 @@ pub enum Fault<'a> {
     OutputIsSpecial(Name<'a>),
     /// `--atomic`, and the file that is to replace the file to write exists.
     NewFileExists(Name<'a>),
+    /// `--atomic`, and another run has locked that file.
+    OutputIsBusy(Name<'a>),
     /// The file to write is also read.
     OutputIsRead(Role, Name<'a>),
     /// Standard input has two roles.
@@ -84,6 +86,7 @@ impl fmt::Display for Fault<'_> {
             Fault::NewFileExists(name) => {
                 write!(f, "{name} exists: another run is writing it, or was killed")
             }
+            Fault::OutputIsBusy(name) => write!(f, "another run is writing OUT: {name}"),
             Fault::OutputIsRead(role, name) => write!(f, "OUT is also {role}: {name}"),
             Fault::StandardInputTwice(one, other) if one == other => {
                 write!(f, "standard input cannot be {one} twice")

@@ -1,12 +1,12 @@
 //! The names of a job's files in messages.
 
-ghost use Rattle.std.specs.Prelude.{◌≡◌, Some, false};
+ghost use Rattle.std.specs.Prelude.{◌≡◌, Some};
 ghost use Rattle.std.specs.Fmt.{WritesOnOk};
-ghost use Rattle.age_job.specs.Names.{directs_writing, escaped_name, escaped_char, needs_quotes};
-ghost use Rattle.age_job.specs.Names.{quoted_name};
+ghost use Rattle.age_job.specs.Names.{directs_writing, escaped_name, escaped_char};
 ghost use Rattle.age_job.specs.Refusal.{may_be_replaced};
 ghost use Rattle.age_job.specs.Texts.{role_text, role_words};
 
+use crate::job::Command;
 use std::fmt;
 use std::fmt::Write;
 
@@ -38,12 +38,13 @@ impl Role {
         }
     }
 
-    /// Whether a new OUT may take the place of the file in this role. A secret would be lost.
-    pub(crate) fn may_be_replaced(self) -> bool
-        ensures { result ≡ may_be_replaced self }
+    /// Whether the new OUT of this command may take the place of the file in this role. A secret
+    /// would be lost, and of `salvage` what could not be read.
+    pub(crate) fn may_be_replaced(self, command: Command) -> bool
+        ensures { result ≡ may_be_replaced command self }
     {
         match self {
-            Role::Input => true,
+            Role::Input => command != Command::Salvage,
             Role::Passphrase | Role::Key | Role::Seed | Role::FileKey => false,
             Role::NewPassphrase | Role::NewKey => false,
         }
@@ -69,40 +70,11 @@ impl fmt::Display for Role {
 pub struct Name<'a>(pub &'a str);
 
 impl fmt::Display for Name<'_> {
-    ghost output = { λ name. Some (escaped_name false name.0.now) };
+    ghost output = { λ name. Some (escaped_name name.0.now) };
 
     fn fmt<W: fmt::Write>(&self, f: &mut fmt::Formatter<W>) -> fmt::Result {
-        write_escaped(self.0, false, f)
+        write_escaped(self.0, f)
     }
-}
-
-/// A file's name, printed so that no other name has the same text. Also puts a backslash before a
-/// backslash or a quotation mark. A name that is empty, or begins or ends with a blank, is printed
-/// in quotation marks.
-#[derive(Clone, Copy)]
-pub struct Quoted<'a>(pub Name<'a>);
-
-impl fmt::Display for Quoted<'_> {
-    ghost output = { λ name. Some (quoted_name name.0.0.now) };
-
-    fn fmt<W: fmt::Write>(&self, f: &mut fmt::Formatter<W>) -> fmt::Result {
-        let name = self.0.0;
-        if needs_quotes(name) {
-            f.write_str("\"")?;
-            write_escaped(name, true, f)?;
-            f.write_str("\"")
-        } else {
-            write_escaped(name, true, f)
-        }
-    }
-}
-
-/// Whether a name is empty, or begins or ends with a blank.
-fn needs_quotes(name: &str) -> bool
-    ensures { result ≡ needs_quotes name.now }
-{
-    let bytes = name.as_bytes();
-    bytes.is_empty() || bytes.starts_with(b" ") || bytes.ends_with(b" ")
 }
 
 /// A number of bytes, in words.
@@ -118,18 +90,18 @@ impl fmt::Display for Bytes {
     }
 }
 
-fn write_escaped<W: fmt::Write>(text: &str, exact: bool, f: &mut fmt::Formatter<W>) -> fmt::Result
-    ensures { WritesOnOk W.write_str_gives f.old result (escaped_name exact text.now) f.new }
+fn write_escaped<W: fmt::Write>(text: &str, f: &mut fmt::Formatter<W>) -> fmt::Result
+    ensures { WritesOnOk W.write_str_gives f.old result (escaped_name text.now) f.new }
 {
     for c in text.chars() {
-        write_char(c, exact, f)?;
+        write_char(c, f)?;
     }
     Ok(())
 }
 
 /// Writes a character, or its escape.
-fn write_char<W: fmt::Write>(c: char, exact: bool, f: &mut fmt::Formatter<W>) -> fmt::Result
-    ensures { WritesOnOk W.write_str_gives f.old result (escaped_char exact c) f.new }
+fn write_char<W: fmt::Write>(c: char, f: &mut fmt::Formatter<W>) -> fmt::Result
+    ensures { WritesOnOk W.write_str_gives f.old result (escaped_char c) f.new }
 {
     let code = c as u32;
     match c {
@@ -139,9 +111,6 @@ fn write_char<W: fmt::Write>(c: char, exact: bool, f: &mut fmt::Formatter<W>) ->
         _ if code < 16 => write!(f, "\\x0{code:x}"),
         _ if c.is_control() => write!(f, "\\x{code:x}"),
         _ if directs_writing(code) => write!(f, "\\u{{{code:x}}}"),
-        _ if !exact => f.write_char(c),
-        '\\' => f.write_str("\\\\"),
-        '"' => f.write_str("\\\""),
         _ => f.write_char(c),
     }
 }
@@ -176,10 +145,10 @@ impl<W: fmt::Write> fmt::Write for Escaping<'_, W> {
         for line in text.split_inclusive('\n') {
             match line.strip_suffix('\n') {
                 Some(line) => {
-                    write_escaped(line, false, self.f)?;
+                    write_escaped(line, self.f)?;
                     self.f.write_str("\n")?;
                 }
-                None => write_escaped(line, false, self.f)?,
+                None => write_escaped(line, self.f)?,
             }
         }
         Ok(())

@@ -1,7 +1,7 @@
 //! The files that a job reads, and which of them are the same file.
 
 ghost use Rattle.std.specs.Prelude.{◌≡◌, ◌⊎◌, codes, take, IfErr, IfOk, IfSome};
-ghost use Rattle.age_job.specs.Refusal.{IsFileFault, IsSameFault, MayRefuse};
+ghost use Rattle.age_job.specs.Refusal.{IsFileFault, IsSameFault};
 
 use crate::failure::{Failure, Operation};
 use crate::fault::Fault;
@@ -188,26 +188,6 @@ impl<'a> ReadFiles<'a> {
         self.is_standard(&Inode::at(rt, name))
     }
 
-    /// Refuses secrets if two of them are standard input, before any is opened.
-    pub(crate) fn refuse_shared_input<F: Files + AllocGlobal>(
-        &self,
-        rt: &F,
-        job: &'a Job,
-    ) -> Result<(), Failure<'a>>
-        ensures { IfErr result (λ failure. MayRefuse job.now failure.fault) }
-    {
-        let mut earlier = None;
-        for file in secrets_of(rt.alloc(), job)?.as_slice() {
-            if self.is_named_standard(rt, file.name) {
-                if let Some(role) = earlier {
-                    return Err(Fault::StandardInputTwice(role, file.role).into());
-                }
-                earlier = Some(file.role);
-            }
-        }
-        Ok(())
-    }
-
     /// Refuses to write this file if that changes, or may change, a file that the job reads.
     pub(crate) fn refuse(&self, out: &Inode, name: &'a str) -> Result<(), Failure<'a>>
         ensures { IfErr result (λ failure. IsSameFault name.now failure.fault) }
@@ -218,12 +198,18 @@ impl<'a> ReadFiles<'a> {
         Ok(())
     }
 
-    /// The same, if the file to write is replaced at the end: then it may be IN.
-    pub(crate) fn refuse_secrets(&self, out: &Inode, name: &'a str) -> Result<(), Failure<'a>>
+    /// The same, if this command replaces the file to write at the end: then it may be IN, but
+    /// nothing may be that `salvage` reads.
+    pub(crate) fn refuse_replaced(
+        &self,
+        command: Command,
+        out: &Inode,
+        name: &'a str,
+    ) -> Result<(), Failure<'a>>
         ensures { IfErr result (λ failure. IsSameFault name.now failure.fault) }
     {
         for file in self.files.as_slice() {
-            if !file.named.role.may_be_replaced() {
+            if !file.named.role.may_be_replaced(command) {
                 file.refuse(out, name)?;
             }
         }
@@ -250,48 +236,6 @@ fn open<'a, F: Files>(rt: &F, name: &'a str) -> Result<F::File, Failure<'a>>
         Ok(file) => Ok(file),
         Err(reason) => Err(cannot_open(name, reason)),
     }
-}
-
-/// The files of the job's secrets.
-fn secrets_of<'a>(alloc: Global, job: &'a Job) -> Result<Vec<NamedFile<'a>>, AllocError> {
-    let mut files = Vec::new(alloc);
-    add_named(&mut files, Role::Passphrase, &job.pass)?;
-    add_all(&mut files, Role::Passphrase, job.more_passes.as_slice())?;
-    add_named(&mut files, Role::Key, &job.key)?;
-    add_all(&mut files, Role::Key, job.more_keys.as_slice())?;
-    add_named(&mut files, Role::NewPassphrase, &job.new_pass)?;
-    add_named(&mut files, Role::NewKey, &job.new_key)?;
-    add_all(&mut files, Role::NewKey, job.more_new_keys.as_slice())?;
-    let seed = NamedFile {
-        role: Role::Seed,
-        name: job.seed.as_str(),
-    };
-    files.push(seed)?;
-    Ok(files)
-}
-
-fn add_named<'a>(
-    files: &mut Vec<NamedFile<'a>>,
-    role: Role,
-    name: &'a Option<String>,
-) -> Result<(), AllocError> {
-    if let Some(name) = name {
-        let name = name.as_str();
-        files.push(NamedFile { role, name })?;
-    }
-    Ok(())
-}
-
-fn add_all<'a>(
-    files: &mut Vec<NamedFile<'a>>,
-    role: Role,
-    names: &'a [String],
-) -> Result<(), AllocError> {
-    for name in names {
-        let name = name.as_str();
-        files.push(NamedFile { role, name })?;
-    }
-    Ok(())
 }
 
 /// Reads at most `most` bytes of this file. Here, and only here, the standard library repeats an

@@ -3,6 +3,7 @@
 ghost use Rattle.std.specs.Prelude.{◌≡◌, ◌&&◌, nat_eq};
 
 use std::fs::{Metadata, OpenFile};
+use std::io::ErrorKind;
 use std::os::unix::fs::{FileTypeExt, MetadataExt};
 use std::rt::Files;
 use std::{fs, io};
@@ -54,6 +55,16 @@ impl Inode {
     /// An open file, unless the system refuses to say.
     pub(crate) fn of_open<F: OpenFile>(file: &F) -> io::Result<Inode> {
         Ok(Inode::of(&file.metadata()?))
+    }
+
+    /// Fails unless this name, which no link has, is that of this open file.
+    pub(crate) fn check_name<F: Files>(rt: &F, file: &F::File, name: &str) -> io::Result<()> {
+        let file = Inode::of_open(file)?;
+        match fs::symlink_metadata(rt, name) {
+            Ok(found) if Inode::of(&found).is(&file) => Ok(()),
+            Err(reason) if reason.kind() != ErrorKind::NotFound => Err(reason),
+            _ => Err(io::Error::new(ErrorKind::NotFound, "its new file was removed")),
+        }
     }
 
     /// Whether both are the same file.

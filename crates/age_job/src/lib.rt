@@ -5,7 +5,8 @@
 //! ```
 //! let target = Target::of(rt, &job);
 //! let mut read = ReadFiles::new(rt, &job);
-//! let mut input = Watched::new(read.open_input(rt, job.command, name)?);
+//! let file = read.open_input(rt, job.command, name)?;
+//! let mut input = Watched::new(rt, &job, file, None, false);
 //! let mut out = target.create(rt, &job, &read, out_name)?;
 //! ```
 //!
@@ -35,20 +36,22 @@ mod progress;
 mod ranges;
 mod secret;
 mod small_files;
+mod system_file;
 mod target;
 mod watched;
 
 pub use failure::{Detail, Failure, Operation};
 pub use fault::Fault;
-pub use file_names::{Bytes, Lines, Name, Quoted, Role};
+pub use file_names::{Bytes, Lines, Name, Role};
 pub use files::ReadFiles;
 pub use job::{Command, Job};
 pub use output::{Output, refuse_output};
-pub use progress::{ERASE, Shown, shows_progress};
+pub use progress::{ERASE, shows_progress};
 pub use ranges::{
     DEFAULT_SEED, MAX_HEADER_SIZE, MAX_OFFSET, MAX_WORK_FACTOR, MIN_HEADER_SIZE, MIN_WORK_FACTOR,
 };
 pub use secret::{SEED_LEN, Secret, exactly};
 pub use small_files::{read_encrypt_secrets, read_file_key, read_rewrap_secrets, read_secret};
+pub use system_file::SystemFile;
 pub use target::Target;
 pub use watched::{Front, Input, Pipe, Watched};

@@ -25,7 +25,7 @@ const FILE_MODE: u32 = 0o666;
 /// command succeeds.
 #[derive(Drop)]
 pub struct Output<F> {
-    file: F,
+    pub(crate) file: F,
     is_regular: bool,
     /// Whether this is a regular file that may still have its old contents.
     is_stale: bool,
@@ -175,9 +175,7 @@ impl<F: OpenFile> Output<F> {
 
     /// Ends the output, the file of this name, after success: truncates a regular file to which
     /// nothing was written, and syncs a regular file.
-    pub(crate) fn finish<'a>(mut self, name: &'a str) -> Result<(), Failure<'a>>
-    where
-        F: Drop,
+    pub(crate) fn finish<'a>(&mut self, name: &'a str) -> Result<(), Failure<'a>>
         ensures { IfErr result (λ failure. failure.fault ≡ Fault.Write) }
     {
         if let Err(reason) = self.empty() {

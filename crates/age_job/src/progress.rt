@@ -1,10 +1,9 @@
 //! The line at a terminal that shows how much of IN was read.
-ghost use Rattle.std.specs.Prelude.{◌≡◌};
-
 use crate::inode::{Inode, Kind};
 use crate::job::Job;
+use crate::system_file::SystemFile;
 use std::fs::OpenOptions;
-use std::io::{IsTerminal, Read, Seek, SeekFrom, Write};
+use std::io::{IsTerminal, Write};
 use std::rt::{Env, Files};
 use std::time::Clock;
 use std::{fmt, io};
@@ -29,19 +28,22 @@ const MAX_DRAWN: usize = 256;
 
 /// Whether to show how much was read: with `--verbose`, if standard error is a terminal that can
 /// erase a line and the output does not go to a terminal.
-pub fn shows_progress<F: Files + Env, W: IsTerminal, E: IsTerminal>(
-    rt: &F,
-    job: &Job,
-    out: &W,
-    err: &E,
-) -> bool {
-    if !job.verbose || !err.is_terminal() || is_dumb(rt) {
+pub fn shows_progress<F: Files + Env, W: IsTerminal>(rt: &F, job: &Job, out: &W) -> bool
+where
+    F::File: SystemFile,
+{
+    if !job.verbose || is_dumb(rt) || !matches!(terminal(rt), Ok(file) if file.is_terminal()) {
         return false;
     }
     match &job.output {
         Some(name) => !may_be_terminal(rt, name.as_str()),
         None => !out.is_terminal(),
     }
+}
+
+/// Standard error, for the line. It is not the stream itself, which has the messages.
+fn terminal<F: Files>(rt: &F) -> io::Result<F::File> {
+    OpenOptions::new().write(true).open(rt, "/dev/stderr")
 }
 
 /// Whether this is the name of a character device other than `/dev/null`. The standard library does
@@ -60,15 +62,8 @@ fn is_dumb<F: Env>(rt: &F) -> bool {
     matches!(rt.var("TERM", &mut name), Ok(4)) && name == *b"dumb"
 }
 
-/// A reader, and the line that shows how much was read from it.
-#[derive(Drop)]
-pub struct Shown<'a, R, C: Clock, T: Write + Drop> {
-    pub reader: R,
-    line: Option<Line<'a, C, T>>,
-}
-
 /// A line at a terminal. It is erased when it is dropped.
-struct Line<'a, C: Clock, T: Write + Drop> {
+pub struct Line<'a, C: Clock, T: Write + Drop> {
     clock: &'a C,
     terminal: T,
     portion: Portion,
@@ -89,43 +84,22 @@ struct Portion {
     took: u128,
 }
 
-impl<'a, R, F: Files + Clock> Shown<'a, R, F, F::File> {
-    /// Wraps this reader, which returns `size` bytes if that is known. If `is_shown`, standard
-    /// error must be the terminal. The line then says if the job has passphrases, because scrypt
-    /// takes time.
-    pub fn over(
-        rt: &'a F,
-        job: &Job,
-        reader: R,
-        size: Option<u64>,
-        is_shown: bool,
-    ) -> Shown<'a, R, F, F::File>
-        // Reading from the result is reading from this reader.
-        ensures { result.reader ≡ reader }
-    {
-        let mut line = if is_shown {
-            Line::at_terminal(rt, size)
-        } else {
-            None
-        };
-        let has_passphrase = job.pass.is_some() || job.new_pass.is_some();
-        if let Some(line) = &mut line
-            && has_passphrase
-        {
+impl<'a, F: Files + Clock> Line<'a, F, F::File> {
+    /// The line for a reader that returns `size` bytes, if that is known. Standard error must be
+    /// the terminal. The line says if the job has passphrases, because scrypt takes time.
+    pub(crate) fn of(rt: &'a F, job: &Job, size: Option<u64>) -> Option<Line<'a, F, F::File>> {
+        let mut line = Line::at_terminal(rt, size)?;
+        if job.pass.is_some() || job.new_pass.is_some() {
             line.draw(&"agep: making a key from the passphrase");
         }
-        Shown { reader, line }
+        Some(line)
     }
-}
 
-impl<'a, F: Files + Clock> Line<'a, F, F::File> {
     fn at_terminal(rt: &'a F, size: Option<u64>) -> Option<Line<'a, F, F::File>> {
         let started = rt.monotonic().ok()?.as_millis();
-        let mut options = OpenOptions::new();
-        options.write(true);
         Some(Line {
             clock: rt,
-            terminal: options.open(rt, "/dev/stderr").ok()?,
+            terminal: terminal(rt).ok()?,
             portion: Portion {
                 done: 0,
                 size,
@@ -141,7 +115,7 @@ impl<'a, F: Files + Clock> Line<'a, F, F::File> {
 
 impl<C: Clock, T: Write + Drop> Line<'_, C, T> {
     /// Adds this many bytes to those read.
-    fn add(&mut self, len: usize) {
+    pub(crate) fn add(&mut self, len: usize) {
         self.portion.done = self.portion.done.saturating_add(len as u64);
         if self.portion.done < self.next {
             return;
@@ -185,25 +159,6 @@ impl<C: Clock, T: Write + Drop> Drop for Line<'_, C, T> {
             is_drawn: _,
             next: _,
         } = self;
-    }
-}
-
-// Reading returns the bytes of the reader within.
-impl<R: Read, C: Clock, T: Write + Drop> Read for Shown<'_, R, C, T> {
-    ghost remaining = { λ shown. R.remaining shown.reader };
-
-    fn read(&mut self, buf: &mut [u8]) -> io::Result<usize> {
-        let n = self.reader.read(buf)?;
-        if let Some(line) = &mut self.line {
-            line.add(n);
-        }
-        Ok(n)
-    }
-}
-
-impl<R: Seek, C: Clock, T: Write + Drop> Seek for Shown<'_, R, C, T> {
-    fn seek(&mut self, pos: SeekFrom) -> io::Result<u64> {
-        self.reader.seek(pos)
     }
 }
 

@@ -1,6 +1,6 @@
 //! The small files that hold a job's secrets: passphrases, keys and seeds.
 
-ghost use Rattle.std.specs.Prelude.{◌≡◌, ◌≤◌, ◌<◌, ◌+◌, ◌⊎◌, [], ℕ};
+ghost use Rattle.std.specs.Prelude.{◌≡◌, ◌≢◌, ◌≤◌, ◌<◌, ◌+◌, ◌⊎◌, [], ℕ};
 ghost use Rattle.std.specs.Prelude.{List, length, vec_len, IfErr, IfOk};
 ghost use Rattle.std.specs.String.{string_bytes};
 ghost use Rattle.age_job.specs.Passphrase.{IsNewPassphrase};
@@ -35,10 +35,10 @@ pub fn read_secret<'a, F: Files + AllocGlobal>(
     // files are named, returns one or more keys, not more than there are key files.
     ensures secret { IfOk result (IsSecretOf job.now.pass job.now.more_passes.items job.now.key
         job.now.more_keys.items) }
-    ensures fault { IfErr result (λ failure. MayRefuse job.now failure.fault) }
+    ensures fault { job.now.command ≢ Command.Inspect
+        → IfErr result (λ failure. MayRefuse job.now failure.fault) }
 {
     let files = secret_files(job)?;
-    read.refuse_shared_input(rt, job)?;
     read_from(rt, read, files)
 }
 
@@ -61,7 +61,6 @@ pub fn read_encrypt_secrets<'a, F: Files + AllocGlobal, W: IsTerminal>(
 {
     let files = secret_files(job)?;
     refuse_terminal(job, out)?;
-    read.refuse_shared_input(rt, job)?;
     let secret = read_new_from(rt, read, files)?;
     Ok((secret, read_seed(rt, job, read)?))
 }
@@ -89,7 +88,6 @@ pub fn read_rewrap_secrets<'a, F: Files + AllocGlobal, W: IsTerminal>(
     let old = secret_files(job)?;
     let new = new_secret_files(job)?;
     refuse_terminal(job, out)?;
-    read.refuse_shared_input(rt, job)?;
     let old = read_from(rt, read, old)?;
     let new = read_new_from(rt, read, new)?;
     Ok((old, new, read_seed(rt, job, read)?))
@@ -131,7 +129,7 @@ enum SecretFiles<'a> {
 fn secret_files<'a>(job: &'a Job) -> Result<SecretFiles<'a>, Fault<'a>>
     ensures files { IfOk result (IsChoice job.now.pass job.now.more_passes.items job.now.key
         job.now.more_keys.items) }
-    ensures fault { IfErr result (MayRefuse job.now) }
+    ensures fault { job.now.command ≢ Command.Inspect → IfErr result (MayRefuse job.now) }
 {
     let passphrases = (Role::Passphrase, &job.pass, job.more_passes.as_slice());
     let keys = (Role::Key, &job.key, job.more_keys.as_slice());

@@ -1,7 +1,7 @@
 //! How OUT is written: in place, or with `--atomic` by a new file that takes its place.
 
 ghost use Rattle.std.specs.Prelude.{◌≡◌, ◌≢◌, IfErr, IsSome, false, true};
-ghost use Rattle.age_job.specs.Refusal.{IsFoundFault, IsNamed, MayEnd, MayRefuse};
+ghost use Rattle.age_job.specs.Refusal.{IsNamed, IsReplacedFault, MayEnd, MayRefuse};
 
 use crate::failure::{Failure, Operation};
 use crate::fault::Fault;
@@ -13,9 +13,10 @@ use crate::output::{
     Output, PLAINTEXT_MODE, cannot_create, failed_write, new_file, new_mode, open_in_place,
     refuse_output,
 };
+use crate::system_file::SystemFile;
 use std::fs::{Metadata, OpenFile, OpenOptions, Permissions};
 use std::io::ErrorKind;
-use std::os::unix::fs::{MetadataExt, PermissionsExt, lchown};
+use std::os::unix::fs::{MetadataExt, PermissionsExt};
 use std::rt::Files;
 use std::{fs, io};
 
@@ -60,8 +61,8 @@ impl Target {
     }
 
     /// Opens what is to be written for OUT, the file of this name. It is created if it does not
-    /// exist; a new file that takes the place of OUT must not exist. Refuses an OUT that the job
-    /// reads, except an IN that is replaced.
+    /// exist; a new file that takes the place of OUT must not exist, unless a killed run left it.
+    /// Refuses an OUT that the job reads, except an IN that is replaced, but not by `salvage`.
     pub fn create<'a, F: Files>(
         &'a self,
         rt: &F,
@@ -69,6 +70,8 @@ impl Target {
         read: &ReadFiles<'a>,
         name: &'a str,
     ) -> Result<Output<F::File>, Failure<'a>>
+    where
+        F::File: SystemFile,
         // A refusal of the OUT of this job, for which this was made, is one that the job allows.
         ensures { IsNamed job.now.output name.now
             → (job.now.atomic ≡ false → self.now ≡ Target.InPlace)
@@ -77,21 +80,28 @@ impl Target {
         let Target::Replaced(found) = self else {
             return open_in_place(rt, job, read, name);
         };
-        match found {
-            Ok(replacement) => replacement.create(rt, job, read, name),
-            Err(reason) => match reason.kind() {
-                ErrorKind::OutOfMemory => Err(Fault::OutOfMemory.into()),
-                ErrorKind::NotFound
-                | ErrorKind::NotADirectory
-                | ErrorKind::InvalidFilename
-                | ErrorKind::FilesystemLoop => Err(cannot_create(name, name, *reason)),
-                _ => Err(unidentified(name, *reason)),
-            },
+        let reason = match found {
+            Ok(replacement) => return replacement.create(rt, job, read, name),
+            Err(reason) => *reason,
+        };
+        // The link `/dev/stdout` leads to a pipe, which has no name.
+        if matches!(Inode::at(rt, name), Ok(inode) if inode.kind != Kind::Regular) {
+            return Err(Fault::OutputIsSpecial(Name(name)).into());
+        }
+        match reason.kind() {
+            ErrorKind::OutOfMemory => Err(Fault::OutOfMemory.into()),
+            ErrorKind::NotFound
+            | ErrorKind::NotADirectory
+            | ErrorKind::PermissionDenied
+            | ErrorKind::InvalidFilename
+            | ErrorKind::FilesystemLoop => Err(cannot_create(name, name, reason)),
+            _ => Err(unidentified(name, reason)),
         }
     }
 
     /// Ends the output: syncs what was written, gives a new file the name of OUT, and syncs its
-    /// folder. If this fails before OUT is replaced, the new file is removed.
+    /// folder. If this fails before OUT is replaced, the new file is removed. It is locked until
+    /// then.
     pub fn finish<'a, F: Files>(
         &'a self,
         rt: &F,
@@ -101,26 +111,29 @@ impl Target {
     ) -> Result<(), Failure<'a>>
         ensures { IfErr result (λ failure. MayEnd job.now failure.fault) }
     {
+        let mut output = output;
         let replaced = match output.finish(name) {
-            Ok(()) => self.replace(rt, job, name),
+            Ok(()) => self.replace(rt, job, &output.file, name),
             Err(failure) => Err(failure),
         };
         match replaced {
             Ok(Some(folder)) => folder.sync(),
             Ok(None) => Ok(()),
             Err(failure) => {
-                self.discard(rt);
+                self.discard(rt, &output);
                 Err(failure)
             }
         }
     }
 
     /// Gives a new file the name of OUT. Returns its folder, if there is a new file and the folder
-    /// may be read.
+    /// may be read. With `--no-clobber` the name is a link, because a rename would replace an OUT
+    /// that was created meanwhile; some file systems have no links.
     fn replace<'a, F: Files>(
         &'a self,
         rt: &F,
         job: &'a Job,
+        file: &F::File,
         name: &'a str,
     ) -> Result<Option<Folder<'a, F::File>>, Failure<'a>>
         ensures { IfErr result (λ failure. MayEnd job.now failure.fault) }
@@ -128,18 +141,28 @@ impl Target {
         let Target::Replaced(Ok(Replacement { old, new })) = self else {
             return Ok(None);
         };
-        refuse_output(rt, job)?;
-        let folder = Folder::of(rt, old.as_str())?;
-        match fs::rename(rt, new.as_str(), old.as_str()) {
+        let (old, new) = (old.as_str(), new.as_str());
+        let folder = Folder::of(rt, old)?;
+        if let Err(reason) = Inode::check_name(rt, file, new) {
+            return Err(failed_write(Operation::Replacing, name, reason));
+        }
+        let is_linked = job.no_clobber && fs::hard_link(rt, new, old).is_ok();
+        let replaced = if is_linked {
+            fs::remove_file(rt, new)
+        } else {
+            refuse_output(rt, job)?;
+            fs::rename(rt, new, old)
+        };
+        match replaced {
             Ok(()) => Ok(folder),
             Err(reason) => Err(failed_write(Operation::Replacing, name, reason)),
         }
     }
 
     /// Removes a new file after a fault. It stays if the system does not let it be removed.
-    pub fn discard<F: Files>(&self, rt: &F) {
+    pub fn discard<F: Files>(&self, rt: &F, output: &Output<F::File>) {
         if let Target::Replaced(Ok(replacement)) = self {
-            let _ = fs::remove_file(rt, replacement.new.as_str());
+            let _ = replacement.remove(rt, &output.file);
         }
     }
 }
@@ -197,40 +220,118 @@ impl Replacement {
         read: &ReadFiles<'a>,
         name: &'a str,
     ) -> Result<Output<F::File>, Failure<'a>>
-        ensures { IsNamed job.now.output name.now → job.now.atomic ≡ true
-            → IfErr result (λ failure. MayRefuse job.now failure.fault) }
+    where
+        F::File: SystemFile,
+        ensures { IfErr result (λ failure. IsReplacedFault name.now failure.fault) }
     {
-        let found = self.found(rt, read, name)?;
+        let found = self.found(rt, job, read, name)?;
         let mode = match &found {
             Some(_) => PLAINTEXT_MODE,
             None => new_mode(job.command),
         };
         let new = self.new.as_str();
-        let file = match new_file(mode).open(rt, new) {
-            Ok(file) => file,
-            Err(reason) if reason.kind() == ErrorKind::AlreadyExists => {
-                return Err(Fault::NewFileExists(Name(new)).into());
+        let file = self.open(rt, read, mode, name)?;
+        let prepared = match (file.lock_alone(), Inode::check_name(rt, &file, new)) {
+            (Ok(false), _) => return Err(Fault::OutputIsBusy(Name(name)).into()),
+            // Before it was locked, another run took it for that of a killed one.
+            (_, Err(reason)) if reason.kind() == ErrorKind::NotFound => {
+                Err(Fault::OutputIsBusy(Name(name)).into())
             }
-            Err(reason) => return Err(cannot_create(name, new, reason)),
+            (_, Err(reason)) => Err(cannot_create(name, new, reason)),
+            (_, Ok(())) => match keep_owner(&file, &found) {
+                Ok(()) => Ok(()),
+                Err(reason) => Err(cannot_create(name, new, reason)),
+            },
         };
-        if let Some(found) = &found
-            && let Err(reason) = self.keep_owner(rt, &file, found)
-        {
-            let _ = fs::remove_file(rt, new);
-            return Err(cannot_create(name, new, reason));
+        match prepared {
+            Ok(()) => Ok(Output::over(file, true)),
+            Err(failure) => {
+                let _ = self.remove(rt, &file);
+                Err(failure)
+            }
         }
-        Ok(Output::over(file, true))
     }
 
-    /// What is known of the file to replace, if there is one. It must be regular, not the file of
-    /// a secret, and one that may be written, as without `--atomic`.
-    fn found<'a, F: Files>(
-        &self,
+    /// Creates the new file, which must not exist, unless a killed run left it.
+    fn open<'a, F: Files>(
+        &'a self,
+        rt: &F,
+        read: &ReadFiles<'a>,
+        mode: u32,
+        name: &'a str,
+    ) -> Result<F::File, Failure<'a>>
+    where
+        F::File: SystemFile,
+        ensures { IfErr result (λ failure. IsReplacedFault name.now failure.fault) }
+    {
+        let (new, options) = (self.new.as_str(), new_file(mode));
+        let mut opened = options.open(rt, new);
+        if let Err(reason) = &opened
+            && reason.kind() == ErrorKind::AlreadyExists
+        {
+            self.remove_left(rt, read, name)?;
+            opened = options.open(rt, new);
+        }
+        match opened {
+            Ok(file) => Ok(file),
+            Err(reason) if reason.kind() == ErrorKind::AlreadyExists => {
+                Err(Fault::OutputIsBusy(Name(name)).into())
+            }
+            Err(reason) => Err(cannot_create(name, new, reason)),
+        }
+    }
+
+    /// Removes the new file that a killed run left, which can be locked: a run has locked the file
+    /// that it writes. What is no regular file, or is read, stays.
+    fn remove_left<'a, F: Files>(
+        &'a self,
         rt: &F,
         read: &ReadFiles<'a>,
         name: &'a str,
+    ) -> Result<(), Failure<'a>>
+    where
+        F::File: SystemFile,
+        ensures { IfErr result (λ failure. IsReplacedFault name.now failure.fault) }
+    {
+        let new = self.new.as_str();
+        let stays = Err(Fault::NewFileExists(Name(new)).into());
+        match fs::symlink_metadata(rt, new) {
+            Ok(found) if found.is_file() && read.refuse(&Inode::of(&found), name).is_ok() => {}
+            Err(reason) if reason.kind() == ErrorKind::NotFound => return Ok(()),
+            _ => return stays,
+        }
+        let file = match OpenOptions::new().write(true).open(rt, new) {
+            Ok(file) => file,
+            Err(reason) if reason.kind() == ErrorKind::NotFound => return Ok(()),
+            Err(_) => return stays,
+        };
+        match file.lock_alone() {
+            Ok(true) => match self.remove(rt, &file) {
+                Err(reason) if reason.kind() != ErrorKind::NotFound => stays,
+                _ => Ok(()),
+            },
+            Ok(false) => Err(Fault::OutputIsBusy(Name(name)).into()),
+            Err(_) => stays,
+        }
+    }
+
+    /// Removes the new file, if this open file still has its name.
+    fn remove<F: Files>(&self, rt: &F, file: &F::File) -> io::Result<()> {
+        let new = self.new.as_str();
+        Inode::check_name(rt, file, new)?;
+        fs::remove_file(rt, new)
+    }
+
+    /// What is known of the file to replace, if there is one. It must be regular, none that is read
+    /// and must stay, and one that may be written, as without `--atomic`.
+    fn found<'a, F: Files>(
+        &self,
+        rt: &F,
+        job: &Job,
+        read: &ReadFiles<'a>,
+        name: &'a str,
     ) -> Result<Option<Metadata>, Failure<'a>>
-        ensures { IfErr result (λ failure. IsFoundFault name.now failure.fault) }
+        ensures { IfErr result (λ failure. IsReplacedFault name.now failure.fault) }
     {
         let found = match fs::metadata(rt, self.old.as_str()) {
             Ok(found) => found,
@@ -241,22 +342,24 @@ impl Replacement {
         if inode.kind != Kind::Regular {
             return Err(Fault::OutputIsSpecial(Name(name)).into());
         }
-        read.refuse_secrets(&inode, name)?;
+        read.refuse_replaced(job.command, &inode, name)?;
         match OpenOptions::new().write(true).open(rt, self.old.as_str()) {
             Ok(_) => Ok(Some(found)),
             Err(reason) => Err(cannot_create(name, name, reason)),
         }
     }
+}
 
-    /// Gives the new file the permissions of the file that it replaces and, if the system allows
-    /// it, its owner and group. Another group gets no permission.
-    fn keep_owner<F: Files>(&self, rt: &F, file: &F::File, found: &Metadata) -> io::Result<()> {
-        let new = self.new.as_str();
-        let (owner, group) = (Some(found.uid()), Some(found.gid()));
-        let is_kept = lchown(rt, new, owner, group).is_ok() || lchown(rt, new, None, group).is_ok();
-        let kept = if is_kept { PERMISSIONS } else { WITHOUT_GROUP };
-        file.set_permissions(Permissions::from_mode(found.mode() & kept))
-    }
+/// Gives the new file the permissions of the file that it replaces and, if the system allows it,
+/// its owner and group. Another group gets no permission.
+fn keep_owner<F: OpenFile + SystemFile>(file: &F, found: &Option<Metadata>) -> io::Result<()> {
+    let Some(found) = found else {
+        return Ok(());
+    };
+    let (owner, group) = (Some(found.uid()), Some(found.gid()));
+    let is_kept = file.set_owner(owner, group).is_ok() || file.set_owner(None, group).is_ok();
+    let kept = if is_kept { PERMISSIONS } else { WITHOUT_GROUP };
+    file.set_permissions(Permissions::from_mode(found.mode() & kept))
 }
 
 /// The file to which a symbolic link leads; any other name stays as it is. No file has an empty

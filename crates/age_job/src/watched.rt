@@ -3,11 +3,16 @@ ghost use Rattle.std.specs.Prelude.{◌≡◌, ◌+◌, ◌-◌, ◌^◌, None, 
 ghost use Rattle.std.specs.Io.{ReadsAtMost};
 ghost use Rattle.std.specs.Io.KnownBytes.{ReadConsumes};
 
+use crate::job::Job;
+use crate::progress::Line;
 use crate::secret::begins_with_mark;
 use std::io;
-use std::io::{ErrorKind, Read, Seek, SeekFrom};
+use std::io::{ErrorKind, Read, Seek, SeekFrom, Write};
+use std::rt::Files;
+use std::time::Clock;
 
-/// A reader that counts its failed reads, so that clauses can speak of them.
+/// A reader that counts its failed reads, so that clauses can speak of them, and keeps what
+/// messages need.
 pub trait Input: Read + Seek {
     ghost use Rattle.std.specs.Prelude.{ℕ};
 
@@ -17,16 +22,23 @@ pub trait Input: Read + Seek {
     /// The number of failed reads, saturating at the largest `u64`.
     fn failures(&self) -> u64
         ensures { result ≡ failed self.now };
+
+    /// The reason of the last failed read or seek.
+    fn reason(&self) -> Option<io::Error>;
+
+    /// What the bytes of the first read show.
+    fn front(&self) -> Front;
 }
 
-/// A reader that counts its failed reads, and keeps the reason of the last one.
+/// A reader that counts its failed reads, and shows how much was read.
 #[derive(Drop)]
-pub struct Watched<R> {
+pub struct Watched<'a, R, C: Clock, T: Write + Drop> {
     pub reader: R,
     failures: u64,
     reason: Option<io::Error>,
     /// What the bytes of the first read show.
     front: Option<Front>,
+    line: Option<Line<'a, C, T>>,
 }
 
 /// What the first bytes of a file show, if it is not an age file.
@@ -60,9 +72,16 @@ impl<R> Seek for Pipe<'_, R> {
     }
 }
 
-impl<R> Watched<R> {
-    /// Watches this reader, which is at its first byte.
-    pub fn new(reader: R) -> Watched<R>
+impl<'a, R, F: Files + Clock> Watched<'a, R, F, F::File> {
+    /// Watches this reader, which is at its first byte and returns `size` bytes if that is known.
+    /// If `is_shown`, standard error must be the terminal.
+    pub fn new(
+        rt: &'a F,
+        job: &Job,
+        reader: R,
+        size: Option<u64>,
+        is_shown: bool,
+    ) -> Watched<'a, R, F, F::File>
         // Reading from the result is reading from this reader.
         ensures reader { result.reader ≡ reader }
         // No read has failed, and nothing was read.
@@ -73,24 +92,17 @@ impl<R> Watched<R> {
             failures: 0,
             reason: None,
             front: None,
+            line: if is_shown {
+                Line::of(rt, job, size)
+            } else {
+                None
+            },
         }
-    }
-
-    /// Returns the reason of the last failed read.
-    pub fn reason(&self) -> Option<io::Error>
-        ensures { result ≡ self.now.reason }
-    {
-        self.reason
-    }
-
-    /// Returns what the bytes of the first read show.
-    pub fn front(&self) -> Front {
-        self.front.unwrap_or(Front::Other)
     }
 }
 
 // Reading returns the bytes of IN. A failed read does not count as the end.
-impl<R: Read> Read for Watched<R> {
+impl<R: Read, C: Clock, T: Write + Drop> Read for Watched<'_, R, C, T> {
     ghost remaining = { λ watched. R.remaining watched.reader };
 
     fn read(&mut self, buf: &mut [u8]) -> io::Result<usize>
@@ -107,6 +119,9 @@ impl<R: Read> Read for Watched<R> {
                 if self.front.is_none() {
                     self.front = Some(Front::of(&buf[..n]));
                 }
+                if let Some(line) = &mut self.line {
+                    line.add(n);
+                }
                 Ok(n)
             }
             Err(reason) => {
@@ -118,15 +133,23 @@ impl<R: Read> Read for Watched<R> {
     }
 }
 
-impl<R: Read + Seek> Input for Watched<R> {
+impl<R: Read + Seek, C: Clock, T: Write + Drop> Input for Watched<'_, R, C, T> {
     ghost failed = { λ watched. watched.failures };
 
     fn failures(&self) -> u64 {
         self.failures
     }
+
+    fn reason(&self) -> Option<io::Error> {
+        self.reason
+    }
+
+    fn front(&self) -> Front {
+        self.front.unwrap_or(Front::Other)
+    }
 }
 
-impl<R: Seek> Seek for Watched<R> {
+impl<R: Seek, C: Clock, T: Write + Drop> Seek for Watched<'_, R, C, T> {
     fn seek(&mut self, pos: SeekFrom) -> io::Result<u64>
         // A seek is no read: it leaves the count, also if it fails.
         ensures count { self.new.failures ≡ self.old.failures }

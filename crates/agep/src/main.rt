@@ -49,7 +49,7 @@ fn run(rt: &HostRuntime, owned: &[String]) -> u8
         args.as_slice(),
         &mut rt.stdin(),
         &mut rt.stdout(),
-        &mut age_cli::ErrorStream::new(rt.stderr()),
+        &mut age_cli::WriteSink::new(rt.stderr()),
     )
 }
 

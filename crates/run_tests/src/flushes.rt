@@ -1,6 +1,6 @@
 //! A writer with a buffer, under `run`.
 
-use age_cli::{ErrorStream, run};
+use age_cli::{SystemFile, WriteSink, run};
 use std::io;
 use std::io::{ErrorKind, IsTerminal, Write};
 use std::process::Abort;
@@ -47,7 +47,10 @@ fn expect_flushed<F: Files + Clock + Env + AllocGlobal + Abort>(
     words: &[&str],
     input: &[u8],
     (status, len): (u8, Option<usize>),
-) {
+)
+where
+    F::File: SystemFile,
+{
     for refuses in [false, true] {
         let alloc = rt.alloc();
         let mut out = Buffered {
@@ -55,7 +58,7 @@ fn expect_flushed<F: Files + Clock + Env + AllocGlobal + Abort>(
             flushed: Vec::new(alloc),
             refuses,
         };
-        let mut err = ErrorStream::new(Buffered {
+        let mut err = WriteSink::new(Buffered {
             taken: Vec::new(alloc),
             flushed: Vec::new(alloc),
             refuses: false,

@@ -9,11 +9,11 @@ pub returns-in_ok-file-in-Some-clause-completes : goal.returns-in_ok-file-in-Som
 returns-in_ok-file-in-Some-clause-completes g c =
     let sink = move_by g.W.Write.contents c.args.out.now c.perform_on.new.out in
     completes g.F.File.Read.remaining g.F.File.Write.contents c.args.work.now.job.now c.in_ok-task.task
-    (g.R.Read.remaining c.args.input.now) (g.F.File.Read.remaining c.new-input.result.reader.reader) _ _ sink
+    (g.R.Read.remaining c.args.input.now) (g.F.File.Read.remaining c.new-input.result.reader) _ _ sink
     c.perform_on.result (λ same. refl) (search rules)
     (rw c.in-Some.is (
       c.in_ok-file-in-Some.file,
-      ap g.F.File.Read.remaining (ap (λ shown. shown.reader) c.new-input.ensures.reader ∙ c.over-input.ensures),
+      ap g.F.File.Read.remaining c.new-input.ensures.reader,
     ))
     c.perform_on.ensures.performs
 
@@ -33,15 +33,14 @@ pub returns-in_ok-add_standard_input-in-None-clause-completes :
     goal.returns-in_ok-add_standard_input-in-None-clause-completes
 returns-in_ok-add_standard_input-in-None-clause-completes g c =
     let sink = move_by g.W.Write.contents c.args.out.now c.perform_on-done.new.out in
-    let is : c.new-watched.result.reader.reader.0.now ≡ c.args.input.now =
-    ap (λ shown. shown.reader.0.now) c.new-watched.ensures.reader ∙ ap (λ pipe. pipe.0.now) c.over-shown.ensures in
+    let is : c.new-watched.result.reader.0.now ≡ c.args.input.now =
+    ap (λ pipe. pipe.0.now) c.new-watched.ensures.reader in
     completes g.F.File.Read.remaining g.F.File.Write.contents c.args.work.now.job.now c.in_ok-task.task
-    (g.R.Read.remaining c.args.input.now) (g.R.Read.remaining c.new-watched.result.reader.reader.0.now)
+    (g.R.Read.remaining c.args.input.now) (g.R.Read.remaining c.new-watched.result.reader.0.now)
     (c.perform_on-done.new.input ≡ c.new-watched.result) _ sink c.perform_on-done.result
     (λ same.
-    let name = ap (λ watched. watched.reader.reader.0.ghost_name) same
-    ∙ ap (λ shown. shown.reader.0.ghost_name) c.new-watched.ensures.reader
-    ∙ ap (λ pipe. pipe.0.ghost_name) c.over-shown.ensures in
-    let now = ap (λ watched. watched.reader.reader.0.now) same ∙ is in
+    let name = ap (λ watched. watched.reader.0.ghost_name) same
+    ∙ ap (λ pipe. pipe.0.ghost_name) c.new-watched.ensures.reader in
+    let now = ap (λ watched. watched.reader.0.now) same ∙ is in
     search rules) (search rules)
     (rw c.in-None.is (ap g.R.Read.remaining is)) c.perform_on-done.ensures.performs

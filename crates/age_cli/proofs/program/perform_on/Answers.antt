@@ -8,22 +8,20 @@ returns-clause-performs g c =
     let has = g.F.File.Write.contents in
     let old = c.in_ok-output.output.file in
     let new = c.perform_to-done.new.out.file in
-    performs has c.args.work.now.job.now c.args.task (g.R.Read.remaining c.args.input.now.reader)
+    performs has c.args.work.now.job.now c.args.task (g.R.Read.remaining c.args.input.now)
     (c.perform_to-done.new.input ≡ c.args.input.now) (move_by g.W.Write.contents c.args.out.now c.args.out.now)
     (move_by has old new) c.perform_to-done.result (rw c.in-Some.is ((old, new), refl))
     c.perform_to-done.ensures.performs
 
-pub returns-in_err-finish-clause-performs : goal.returns-in_err-finish-clause-performs
-returns-in_err-finish-clause-performs g c =
-    let is : c.from_residual-in_err-finish.result ≡ Err (OfJob c.in_err-finish.field-0.0) = search rules in
-    rw is (stays_known refl, inr (rw c.in-Some.is refl, c.in_err-finish.ensures))
+pub returns-in-Err-clause-performs : goal.returns-in-Err-clause-performs
+returns-in-Err-clause-performs g c = (stays_known refl, inr (rw c.in-Some.is refl, c.in-Err.ensures))
 
 pub returns-in_default-clause-performs : goal.returns-in_default-clause-performs
 returns-in_default-clause-performs g c =
     let none : c.args.work.now.job.now.output ≡ None = search rules in
     let sink = move_by g.W.Write.contents c.args.out.now c.perform_to.new.out in
     performs g.F.File.Write.contents c.args.work.now.job.now c.args.task
-    (g.R.Read.remaining c.args.input.now.reader) (c.perform_to.new.input ≡ c.args.input.now) sink sink
+    (g.R.Read.remaining c.args.input.now) (c.perform_to.new.input ≡ c.args.input.now) sink sink
     c.perform_to.result (rw none refl) c.perform_to.ensures.performs
 
 pub returns-in_err-refuse_standard_output-clause-performs : goal.returns-in_err-refuse_standard_output-clause-performs

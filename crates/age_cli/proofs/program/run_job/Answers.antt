@@ -16,4 +16,4 @@ returns-clause-begins g c = λ one.
     c.in-Err-perform.ensures.completes
 
 pub returns-clause-told : goal.returns-clause-told
-returns-clause-told g c = λ one other. (c.in-Err-perform.failure, c.in-Err-perform.ensures.completes, c.tell-2.ensures)
+returns-clause-told g c = λ one other. (c.in-Err-perform.failure, c.in-Err-perform.ensures.completes, c.tell.ensures)

@@ -8,12 +8,12 @@ use Rattle.age_job.proofs.file_names.write_escaped.Goals as goal
 
 pub loop-c-preserved : goal.loop-c-preserved
 loop-c-preserved g c = λ plain.
-    has_written_of_eq _ _ _ _ _ (flat_map_more (escaped_char c.args.exact) [] c.loop-c.yielded c.in-Some.c)
+    has_written_of_eq _ _ _ _ _ (flat_map_more escaped_char [] c.loop-c.yielded c.in-Some.c)
     (has_written_append _ _ _ _ _ _ (c.loop-c.invariant plain) (search rules))
 
 pub returns : goal.returns
 returns g c = λ plain _.
     let end = YieldsList-end (YieldsList-from_chars c.args.text.now c.utf8.text cc) c.loop-c.yielded _
     c.loop-c.yielded_by _ _ c.in-None.is c.next.ensures.steps in
-    let same = ap (flat_map (escaped_char c.args.exact)) (sym (map-id c.loop-c.yielded) ∙ end.0) in
+    let same = ap (flat_map escaped_char) (sym (map-id c.loop-c.yielded) ∙ end.0) in
     search (has_written_of_eq, same, c.loop-c.invariant plain)

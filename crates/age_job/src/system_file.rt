@@ -1,0 +1,30 @@
+//! What code that is generic over `Files` needs of a file besides `OpenFile`.
+
+use std::fs::{File, TryLockError};
+use std::io;
+use std::io::IsTerminal;
+use std::os::unix::fs::fchown;
+
+/// An open file of the system, which can be locked and given away.
+pub trait SystemFile: IsTerminal {
+    /// Locks the file until it is closed, and returns whether it did: not if another open of it is
+    /// locked. Some file systems have no locks.
+    fn lock_alone(&self) -> io::Result<bool>;
+
+    /// Sets the owner and the group of the file, or leaves them if `None`.
+    fn set_owner(&self, owner: Option<u32>, group: Option<u32>) -> io::Result<()>;
+}
+
+impl SystemFile for File {
+    fn lock_alone(&self) -> io::Result<bool> {
+        match self.try_lock() {
+            Ok(()) => Ok(true),
+            Err(TryLockError::WouldBlock) => Ok(false),
+            Err(TryLockError::Error(reason)) => Err(reason),
+        }
+    }
+
+    fn set_owner(&self, owner: Option<u32>, group: Option<u32>) -> io::Result<()> {
+        fchown(self, owner, group)
+    }
+}
