@@ -25,7 +25,7 @@ NEW = "made.agep-new"
 SITES = {
     ("statx", "1"): ("Unidentified: made", "identifying made"), **{("statx", number): None for number in "2346"},
     **{("statx", number): ("CannotCreate: made", f"creating {NEW}") for number in "89"},
-    **{("statx", number): ("Write", "replacing made") for number in ("10", "11")}, ("open", "1"): None,
+    **{("statx", number): ("Write", "replacing made") for number in ("10", "11", "12", "13")}, ("open", "1"): None,
     ("open", "2"): ("CannotOpen: key", "opening key"), ("statx", "5"): ("Unidentified: key", "identifying key"),
     **{("read", number): ("Read", "reading the key file key") for number in "12"},
     ("open", "3"): ("CannotOpen: small.age", "opening small.age"), ("statx", "7"): ("Unidentified: made", "identifying made"),
@@ -43,7 +43,7 @@ GOES_ON = {
 # Errors with lines of their own.
 SPECIAL = {
     **{("statx", number, errno.ENOENT): ("OutputIsBusy: made", "") for number in "89"},
-    ("statx", "11", errno.ENOENT): ("Write", "replacing made: its new file was removed"),
+    **{("statx", number, errno.ENOENT): ("Write", "replacing made: its new file was removed") for number in ("11", "13")},
     **{
         ("statx", "1", it): ("CannotCreate: made", f"creating made: {os.strerror(it)}")
         for it in (errno.EPERM, errno.EACCES, errno.ENOTDIR, errno.ENAMETOOLONG, errno.ELOOP)
@@ -63,7 +63,7 @@ def wait_for(is_met):
 class Calls(CallCase):
     def is_old_or_new(self, ran, job, form):
         """A judge: OUT is the complete old or new file, and there is no other file. It is the new one with status 0,
-        and with status 1 only if its folder could not be synced."""
+        and with status 1 only if it could not be looked at there, or its folder not be synced."""
         self.assertFalse(os.path.exists(NEW), "the new file was left")
         if ran.status == 0:
             self.is_whole(ran, job, form)
@@ -153,7 +153,8 @@ class Calls(CallCase):
             return
         name, more = SPECIAL.get((*site, number)) or (SITES[site][0], f"{SITES[site][1]}: {os.strerror(number)}")
         self.assert_ended(ran, 1, f"{filled(f'agep: <{name}>')}\n{more and f'agep: {more}' + chr(10)}")
-        self.assert_bytes(self.made, HELLO if site == ("fsync", "2") else YESTERDAY, "OUT")
+        is_replaced = site in (("fsync", "2"), ("statx", "12"), ("statx", "13"))
+        self.assert_bytes(self.made, HELLO if is_replaced else YESTERDAY, "OUT")
 
 
 class Runs(ProgramCase):
@@ -216,8 +217,8 @@ class Runs(ProgramCase):
 
     def test_changed_names(self):
         """Before any call another program removes the new file, or gives its name to a file of its own, which it has
-        locked, to a link or to a folder: no run ends with status 0 over that, and that stays as it is. Only between the
-        last look at the name and the rename nothing helps."""
+        locked, to a link or to a folder: no run ends with status 0 over that, and that stays as it is. What
+        comes right before the rename is renamed, with status 1."""
         write("theirs", b"theirs")
         os.mkdir("theirs.d")
         with open("theirs") as file:
@@ -227,7 +228,7 @@ class Runs(ProgramCase):
                 unseen = 0
                 for ran in self.each_call(f"rm -f {NEW}; {what}", self.WORDS, YESTERDAY):
                     if read("made") == b"theirs":
-                        unseen += 1
+                        unseen += ran.status
                         continue
                     self.assert_file("made", YESTERDAY if ran.status else HELLO)
                     self.assertEqual(os.path.lexists(NEW), bool(what))

@@ -153,7 +153,8 @@ impl Target {
             refuse_output(rt, job)?;
             fs::rename(rt, new, old)
         };
-        match replaced {
+        // A name that was changed right before the rename was renamed instead.
+        match replaced.and(Inode::check_name(rt, file, old)) {
             Ok(()) => Ok(folder),
             Err(reason) => Err(failed_write(Operation::Replacing, name, reason)),
         }
