@@ -174,10 +174,10 @@ class Cron(unittest.TestCase):
     def test_running(self):
         """While one runs, another one does not touch its files."""
         job = self.start_half()
-        header = read("data.age.new")[:150]
+        header = read("data.age.new.agep-new")[:150]
         self.assertTrue(header)
         self.says(self.SAYS)
-        self.assertEqual((read("data.age"), read("data.age.new")[:150]), (b"old", header))
+        self.assertEqual((read("data.age"), read("data.age.new.agep-new")[:150]), (b"old", header))
         self.kill(job)
 
     def test_killed(self):
@@ -450,12 +450,12 @@ class Database(unittest.TestCase):
                     self.assertEqual(self.rows("copy", "pay"), [])
 
     def test_log(self):
-        """PostgreSQL archives its log, and starts from a whole archive, but not from a damaged one. An archived
-        segment is accepted again, and never overwritten."""
+        """PostgreSQL archives its log, after a run that was killed too, and starts from a whole archive, but not from
+        a damaged one. An archived segment is accepted again, and never overwritten."""
         conf = "\n".join(lines_below("Archive the log of a database", "conf"))
         conf = conf.replace("/etc/wal.key", f"{self.folder}/key").replace("/srv/", f"{self.folder}/")
         self.does(f"mkdir wal && cp -a data live && cat >>live/postgresql.conf <<'end'\n{conf}\nend")
-        self.does("cp -a live old && touch old/recovery.signal")
+        self.does("cp -a live old && touch old/recovery.signal && echo half >wal/000000010000000000000001.age.agep-new")
         with self.server("live"):
             for number in "123":
                 self.does(f"psql -c 'create table z{number} as select {number}' -c 'select pg_switch_wal()'")
