@@ -38,6 +38,8 @@ class _Source:
                 raise io.UnsupportedOperation("a file that cannot seek is read by agefile.copy")
             file.seek(0, os.SEEK_END)
             self.length = file.tell()
+        if guarded := getattr(opener, "guarded", None):
+            setattr(self, "read_at", guarded(self.read_at))
 
     def read_at(self, offset: int, room: memoryview) -> int:
         """Reads until the room is full or the file ends."""

@@ -158,8 +158,7 @@ class AgeFileSystem(AbstractFileSystem):  # type: ignore[misc]
     def _reader(self, path: str) -> Reader:
         with _reading(path):
             opener, state = _Opener(self.fs, path, "rb"), str(self.fs.ukey(path))
-            before, key = self._keys.get(path, ("", b""))
-            reader = None
+            reader, (before, key) = None, self._keys.get(path, ("", b""))
             with contextlib.suppress(AgeError):
                 # An unchanged file is opened again with the key kept of it.
                 reader = reopened(opener, key, 0) if before == state else None
@@ -171,10 +170,7 @@ class AgeFileSystem(AbstractFileSystem):  # type: ignore[misc]
                     self._keys[path] = state, reader.again()[1]
                 if len(self._keys) > _MOST_KEYS:
                     self._keys.popitem(last=False)
-        # fsspec's own files have this attribute.
-        setattr(reader, "size", reader.length)
-        source: Any = reader._chunks.source
-        source.read_at = _reading(path)(source.read_at)
+        setattr(reader, "size", reader.length)  # as fsspec's own files have it
         return reader
 
     def info(self, path: str, **_: Any) -> dict[str, Any]:
@@ -276,9 +272,13 @@ class _Opener:
     def open(self) -> Any:
         if self._mode == "atomic":
             return _Beside(self._fs, self.path)
-        # No cache below: each chunk is read once.
-        words = {"cache_type": "none"} if self._mode == "rb" else {}
-        return self._fs.open(self.path, self._mode, **words)
+        if self._mode == "rb":
+            # No cache below: each chunk is read once.
+            return self.guarded(self._fs.open)(self.path, "rb", cache_type="none")
+        return self._fs.open(self.path, self._mode)
+
+    def guarded(self, read: Any) -> Any:
+        return _reading(self.path)(read)
 
 
 class _Beside:

@@ -145,6 +145,10 @@ class Reads(InSystem):
                     for read in (lambda: self.system.cat(path), lambda: self.system.cat([path, path], on_error="omit"), lambda: self.system.cat_ranges([path], [0], [1], on_error="return")):
                         found = error_of(read)
                         self.assertEqual((found.code, found.filename, found.__cause__), (Code.READ, path, error))
+            again = pickle.loads(pickle.dumps(self.system.open(path)))
+            for kind, call in ((type(self.system.fs), "open"), (_reader, "read_into")):
+                with mock.patch.object(kind, call, side_effect=error):
+                    self.assertEqual(error_of(again.read).code, Code.READ)
         self.assertEqual(self.system.cat([path, *absent], on_error="omit"), {path: b"text"})
         found = self.system.cat([path, *absent], on_error="return")
         self.assertEqual((sorted(found), found[path]), (sorted([path, *absent]), b"text"))
