@@ -396,10 +396,10 @@ class MustNotCompile(unittest.TestCase):
     its file is `// ` and the error's name."""
 
     def compile(self, name, folder):
-        """The output of the compiler for the program, as a crate of its own over a copy of the sources of the
-        libraries, where it stops at the error."""
+        """The output of the compiler for the program, as a crate of its own over a copy of the libraries, where it
+        stops at the error. The copy includes what is built of them, so that nothing is proved again."""
         for library in LIBRARIES:
-            for part in ("src", "specs", "proofs"):
+            for part in ("src", "specs", "proofs", "out/rlib"):
                 if os.path.isdir(f"{ROOT}/crates/{library}/{part}"):
                     shutil.copytree(f"{ROOT}/crates/{library}/{part}", f"{folder}/crates/{library}/{part}")
         os.makedirs(folder + "/crates/refused/src")
