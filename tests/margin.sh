@@ -7,7 +7,8 @@
 cd "$(dirname "$0")/../crates" || exit 1
 passed=0
 failed=0
-for crate in ${@:-$(sed -nE 's/^([a-z_0-9]+)[^:]*:.*/\1/p' ../crates.txt)}; do
+every=$(sed -nE 's/^([a-z_0-9]+)[^:]*:.*/\1/p' ../crates.txt) || exit 1
+for crate in ${@:-$every}; do
     if (cd "$crate" && exec rt check --margin); then
         passed=$((passed + 1))
     else

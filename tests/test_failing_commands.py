@@ -44,7 +44,7 @@ TOOLS = {
 OLDER = "; find result -type f -exec sh -c 'echo old >$0' {} \\;"
 # What the scripts need of the repository.
 USED = (*"agep install package generate release crates.txt CHANGELOG.md CONTRIBUTING.md README.md SECURITY.md LICENSE .gitignore share docs".split(),
-        *"bindings bench/README.md bench/throughput.svg tests/vectors/README.md tests/generated.sh .ci crates/age_cli crates/*/src/*.rt".split())
+        *"bindings bench/README.md bench/throughput.svg tests/vectors/README.md tests/generated.sh tests/margin.sh .ci crates/age_cli crates/*/src/*.rt".split())
 # Each command, and what was done before it.
 ROWS = (
     ("tree/agep", "tree/agep; touch tree/crates.txt"),
