@@ -1,5 +1,6 @@
 """Terminals, pipes without a reader, signals, another /dev/urandom, and the system calls of a run."""
 
+import glob
 import itertools
 import os
 import pty
@@ -75,20 +76,19 @@ class Interrupted(ProgramCase):
     def test_signal(self):
         """A signal during scrypt: an existing OUT stays as it was."""
         write("slow.age", fixture.for_passphrase(HELLO, work=18))
+        made = os.path.realpath("made")
         for words in ("encrypt -p pass -w 18 -o made hello", "decrypt -p pass -o made slow.age"):
             with self.subTest(words):
-                shutil.copy("yesterday", "made")
-                os.utime("made", (10**9, 10**9))
-                with subprocess.Popen([AGEP, *words.split()], stdin=subprocess.DEVNULL) as process:
-                    made = os.path.realpath("made")
-                    folder = f"/proc/{process.pid}/fd"
-                    for _ in range(10000):
-                        opened = [os.path.realpath(f"{folder}/{name}") for name in os.listdir(folder)]
-                        if made in opened:
-                            break
-                        time.sleep(0.001)
-                    process.terminate()
-                    self.assertEqual(process.wait(), -signal.SIGTERM)
+                for _ in range(100):  # On a busy machine, a run may end before it is seen with OUT open.
+                    shutil.copy("yesterday", "made")
+                    os.utime("made", (10**9, 10**9))
+                    with subprocess.Popen([AGEP, *words.split()], stdin=subprocess.DEVNULL) as process:
+                        while process.poll() is None and made not in map(os.path.realpath, glob.glob(f"/proc/{process.pid}/fd/*")):
+                            time.sleep(0.001)
+                        process.terminate()
+                    if process.returncode != 0:
+                        break
+                self.assertEqual(process.returncode, -signal.SIGTERM)
                 self.assert_file("made", read("yesterday"))
                 self.assertEqual(os.stat("made").st_mtime, 10**9)
 
