@@ -314,7 +314,7 @@ class Atomic(Files):
                     self.assertFalse(os.path.exists("made"))
 
     def test_in(self):
-        """IN may be OUT, by any name, except of `salvage` (`test_files`)."""
+        """IN may be OUT, by any name, except for `salvage` (`test_files`)."""
         rotated = fixture.for_keys(HELLO, NEW_KEY)
         for line, source, expected in (
             ("encrypt -k key -s seed", HELLO, read("key.age")), ("decrypt -k key", read("key.age"), HELLO),

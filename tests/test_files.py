@@ -167,7 +167,7 @@ class OutIsRead(Files):
 
     def outs(self, line, role, name):
         """Each way to name this file as OUT or as standard output: the name in messages, and the line. With
-        --atomic OUT may be IN, except of `salvage`."""
+        --atomic OUT may be IN, except for `salvage`."""
         standard = [f"{line[: line.rindex(' ')]} <{name}"] * (role == "Input" and not line.startswith("range"))
         atomic = [f"{line} --atomic"] * (role != "Input" or line.startswith("salvage"))
         yield from (("standard output", f"{it} >>{name}") for it in (line, *standard))
