@@ -55,7 +55,7 @@ pub fn pair_opens<M: Matched>(pair: &M)
 /// the identities choose) open for ranges: the only faults are a failed read and out of memory. The
 /// length of a reader opened on a source of these bytes is the plaintext's, and each slice is a
 /// part of the plaintext. Each chunk opens to its part of the plaintext, so no chunk is bad. The
-/// first clause holds of all known bytes: a header that was read is theirs.
+/// first clause holds of all known bytes: a header that was read is the one at their start.
 pub fn file_is_sliced<D: ReadAt>()
     ensures header { (dev : D) (limits : Bounds) (b : Bytes) (at : ℕ) (h : HeaderParts)
         (first : GaveHeader limits (D.gave dev) at h) → D.bytes dev ≡ Some b

@@ -7,8 +7,8 @@ use std::os::unix::fs::fchown;
 
 /// An open file of the system, which can be locked and given away.
 pub trait SystemFile: IsTerminal {
-    /// Locks the file until it is closed, and returns whether it did: not if another open of it is
-    /// locked. Some file systems have no locks.
+    /// Locks the file until it is closed. Returns false if another program, or another opening of
+    /// the file, has locked it. Some file systems have no locks.
     fn lock_alone(&self) -> io::Result<bool>;
 
     /// Sets the owner and the group of the file, or leaves them if `None`.

@@ -86,8 +86,8 @@ pub fn salvage_is_sliced()
         + padding (last_saved (payload_parts file_key text)) ≡ plain_len (drop nonce_size text) }
 {}
 
-/// What a source with known contents gave is what they have there. So a range of it is a part of
-/// their plaintext, and a fault is theirs.
+/// A source with known contents gave nothing else. So what a range of it returns is a part of the
+/// contents' plaintext, and its fault is one of the contents.
 pub fn given_is_known<D: ReadAt>()
     // A reader was opened with the outcome and the layout of the known payload.
     ensures opened { (dev : D) (b : Bytes) (file_key : FileKey) (max at : ℕ) (s : RangeState)

@@ -83,7 +83,7 @@ pub trait ReadAt {
     fn failures(&self) -> u64
         ensures { result ≡ failed self.now };
 
-    // What a source with known contents gave, and the size that was found, are theirs.
+    // What a source with known contents gave, and the size that was found, agree with them.
     ghost agrees: { (s : Self) (b : Bytes) → bytes s ≡ Some b → Agrees b (gave s) (found s) };
 }
 

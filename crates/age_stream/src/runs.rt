@@ -22,8 +22,8 @@ pub struct LostRun {
 /// which then begins the next.
 pub fn join_lost(run: &mut Option<LostRun>, chunk: LostChunk) -> Option<LostRun>
     requires { chunk.start + chunk.len < 2 ^ 128 }
-    // Whatever chunks follow, the runs from here on are the run returned, if there is one, and then
-    // the later ones.
+    // Whatever chunks follow: the runs that were still to come are the run returned, if there is
+    // one, and then those that are still to come.
     ensures { (rest : List LostChunk) → runs_after run.old (runs (chunk ∷ rest))
         ≡ option_to_list result ++ runs_after run.new (runs rest) }
 {
