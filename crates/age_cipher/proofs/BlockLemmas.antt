@@ -1,13 +1,6 @@
 -- Vectors as rows, words as bytes, and texts xored piece by piece.
-use Rattle.age_cipher.proofs.Common.{◌≡◌, ℕ, suc, ◌+◌, ◌-◌, ◌*◌, ◌/◌, ◌%◌, ◌^◌, ◌<◌, ◌≤◌, List, [], ◌∷◌, ◌++◌, length, take, drop, map, slice_index, slice_index_or, bit_xor, arith, refl, sym, ap, ◌∙◌, number_l, digits_l, zip2, range_with_len, length-append, length-map, fill_by_all, cases_lt, length-zip2, get_or-zip2, Bytes, Words, start, block_words, block, stream_byte, lane, bytes, Each1, put_chunk, get_or_append_left, get_or-append_right, length-chunk, get_or-chunk, get_or-put_chunk_below, get_or-put_chunk_at, get_or-put_chunk_above, IsXoredAt, rules}
-use Rattle.age_cipher.proofs.LaneLemmas.{lane_word}
-
--- lane j of sixteen vectors, written out
-pub lane_written : (state : List Words) (j : ℕ) → length state ≡ 16
-    → map (λ k. slice_index (slice_index_or state k []) j) (range_with_len 0 16) ≡ lane j state
-lane_written state j long =
-    sym (fill_by_all (λ k. slice_index (slice_index_or state k []) j) (lane j state) 16 0
-    (length-map state (λ v. slice_index v j) ∙ long) (λ k h. lane_word state j k (omega arith)))
+use Rattle.age_cipher.proofs.Common.{flat_map-append, le_bytes, ◌≡◌, ℕ, suc, ◌+◌, ◌-◌, ◌*◌, ◌/◌, ◌%◌, ◌^◌, ◌<◌, ◌≤◌, List, [], ◌∷◌, ◌++◌, length, take, drop, slice_index, slice_index_or, bit_xor, arith, refl, ap, ◌∙◌, number_l, digits_l, zip2, cases_lt, length-zip2, get_or-zip2, Bytes, Words, start, block_words, block, stream_byte, lane, bytes, column, lane_byte, Each1, put_chunk, get_or_append_left, get_or-append_right, length-chunk, get_or-chunk, get_or-put_chunk_below, get_or-put_chunk_at, get_or-put_chunk_above, IsXored, rules}
+use Rattle.age_cipher.proofs.LaneLemmas.{lane_written}
 
 -- the bytes of a vector of words
 pub digits_bytes : (words : Words) → Each1 (λ w. w < 2 ^ 32) words
@@ -29,71 +22,76 @@ pub length-bytes : (words : Words) → length (bytes words) ≡ 4 * length words
 length-bytes [] = refl
 length-bytes (w ∷ words) = omega (arith, length-bytes words)
 
--- the length of four blocks
-pub length-four_blocks : (a b c d : Bytes) → length a ≡ 64 → length b ≡ 64 → length c ≡ 64 → length d ≡ 64
-    → length (a ++ (b ++ (c ++ d))) ≡ 256
-length-four_blocks a b c d la lb lc ld = search (rules, length-append)
-
 -- two pieces xored one after the other
-pub xored_on : {at next : ℕ} {s t old mid new : Bytes} → next ≡ at + length s → IsXoredAt at s old mid
-    → IsXoredAt next t mid new → IsXoredAt at (s ++ t) old new
-xored_on {at} {next} {s} {t} {old} {mid} {new} e first then =
-    search (rules, cases_lt, get_or_append_left, get_or-append_right, length-append)
+pub xored_on : {at m next n : ℕ} {f : ℕ → ℕ} {old half new : Bytes} → next ≡ at + m
+    → IsXored at m f old half → IsXored next n f half new → IsXored at (m + n) f old new
+xored_on {at} {m} {next} {n} {f} {old} {half} {new} e first then = search (rules, cases_lt)
+
+-- the same stream by another name
+pub xored_by : {at n : ℕ} {f g : ℕ → ℕ} {old new : Bytes} → ((j : ℕ) → at ≤ j → j < at + n → f j ≡ g j)
+    → IsXored at n f old new → IsXored at n g old new
+xored_by {at} {n} {f} {g} {old} {new} same xored = search rules
 
 -- n bytes of a buffer xored with a stream
 pub chunk_xored : (n at : ℕ) (buf : Bytes) {digits : Bytes} (stream : Bytes)
     → digits ≡ stream → length stream ≡ n → at + n ≤ length buf
-    → IsXoredAt at stream buf (put_chunk at buf (zip2 bit_xor (take n (drop at buf)) digits))
-chunk_xored n at buf stream e long room =
-    search (
-      rules,
-      length-chunk,
-      length-zip2,
-      get_or-put_chunk_below,
-      get_or-put_chunk_at,
-      get_or-zip2,
-      get_or-chunk,
-      get_or-put_chunk_above,
-    )
+    → IsXored at n (λ j. slice_index stream (j - at)) buf
+    (put_chunk at buf (zip2 bit_xor (take n (drop at buf)) digits))
+chunk_xored n at buf {digits} stream e long room =
+    let new : Bytes = put_chunk at buf (zip2 bit_xor (take n (drop at buf)) digits) in
+    let each : (j : ℕ) → j < n → slice_index new (at + j) ≡ bit_xor (slice_index buf (at + j)) (slice_index stream j) =
+    λ j below. search (rules, length-chunk, length-zip2, get_or-put_chunk_at, get_or-zip2, get_or-chunk) in
+    record {
+      before = λ j below. search (rules, get_or-put_chunk_below);
+      inside = λ j low high.
+          let place : at + (j - at) ≡ j = omega arith in
+          rw place at (each (j - at) (omega arith));
+      after = λ j above. search (rules, length-chunk, length-zip2, get_or-put_chunk_above);
+    }
 
--- a list is the key stream's first n bytes, from the block `counter` on
-pub record IsStream (key nonce : Bytes) (counter n : ℕ) (stream : Bytes) : Type 0 where
-  pub long : length stream ≡ n
-  pub byte : (j : ℕ) → j < n → slice_index stream j ≡ stream_byte key nonce counter j
+-- the bytes of some words xored, and those of the words after them
+pub xored_next : {at m next n : ℕ} (x y : Words) {old half new : Bytes} → 4 * length x ≡ m → next ≡ at + m
+    → IsXored at m (λ j. slice_index (bytes x) (j - at)) old half
+    → IsXored next n (λ j. slice_index (bytes y) (j - next)) half new
+    → IsXored at (m + n) (λ j. slice_index (bytes (x ++ y)) (j - at)) old new
+xored_next {at} {m} {next} {n} x y {old} {half} {new} long e first then =
+    let long_bytes : length (bytes x) ≡ m = length-bytes x ∙ long in
+    rw (flat_map-append (λ w. le_bytes 4 w) x y) (search (rules, cases_lt, get_or_append_left, get_or-append_right))
 
--- the bytes of a block's words are the stream for one block
-pub block_stream : (key nonce : Bytes) (counter : ℕ) (words : Words) → words ≡ block_words (start key nonce counter)
-    → IsStream key nonce counter 64 (bytes words)
-unfolding block block_words
-block_stream key nonce counter words e = rw e (record {
-  long = refl;
-  byte = λ j below.
-      let none : j / 64 ≡ 0 = omega arith in
-      let same : j % 64 ≡ j = omega arith in
-      let here : counter + 0 ≡ counter = omega arith in
-      rw (none, same, here) refl;
-})
+-- words i to i + 3 of lane k
+abbrev four_words : (words : List Words) (k i : ℕ) → Words
+four_words words k i =
+    column k (slice_index_or words i []) (slice_index_or words (i + 1) []) (slice_index_or words (i + 2) [])
+    (slice_index_or words (i + 3) [])
 
--- a stream of m blocks, and the stream after it
-pub stream_on : (key nonce : Bytes) (counter next m n : ℕ) {prefix back : Bytes} → next ≡ counter + m
-    → IsStream key nonce counter (64 * m) prefix → IsStream key nonce next n back
-    → IsStream key nonce counter (64 * m + n) (prefix ++ back)
-stream_on key nonce counter next m n {prefix} {back} e one two =
-    search (rules, length-append, cases_lt, get_or_append_left, get_or-append_right)
+-- a block xored is lane k of sixteen vectors, at its place among all lanes from `at` on
+pub block_xored : (words : List Words) (at k : ℕ) {place : ℕ} {a b c d : Words} {old new : Bytes}
+    → length words ≡ 16 → place ≡ at + 64 * k
+    → a ≡ four_words words k 0 → b ≡ four_words words k 4 → c ≡ four_words words k 8 → d ≡ four_words words k 12
+    → IsXored place 64 (λ j. slice_index (bytes (a ++ (b ++ (c ++ d)))) (j - place)) old new
+    → IsXored place 64 (λ j. lane_byte words (j - at)) old new
+block_xored words at k {place} long e ea eb ec ed xored =
+    xored_by (λ j low below.
+    let number : (j - at) / 64 ≡ k = omega (arith, e) in
+    let byte : (j - at) % 64 ≡ j - place = omega (arith, e) in
+    rw (ea, eb, ec, ed, number, byte) (ap (λ w. slice_index (bytes w) (j - place)) (lane_written words k long))) xored
 
--- four blocks' stream
-pub four_stream : (key nonce : Bytes) (counter : ℕ) {a b c d : Bytes}
-    → a ≡ block_words (start key nonce counter) → b ≡ block_words (start key nonce (counter + 1))
-    → c ≡ block_words (start key nonce (counter + 2)) → d ≡ block_words (start key nonce (counter + 3))
-    → IsStream key nonce counter 256 (bytes a ++ (bytes b ++ (bytes c ++ bytes d)))
-four_stream key nonce counter {a} {b} {c} {d} ea eb ec ed =
-    stream_on key nonce counter (counter + 1) 1 192 (omega arith) (block_stream key nonce counter a ea)
-    (stream_on key nonce (counter + 1) (counter + 2) 1 128 (omega arith) (block_stream key nonce (counter + 1) b eb)
-    (stream_on key nonce (counter + 2) (counter + 3) 1 64 (omega arith) (block_stream key nonce (counter + 2) c ec)
-    (block_stream key nonce (counter + 3) d ed)))
+-- xored with lanes that are the blocks from `counter` on
+pub xored_with_lanes : (words : List Words) (key nonce : Bytes) (counter : ℕ) {at n : ℕ} {old new : Bytes}
+    → ((k : ℕ) → 64 * k < n → lane k words ≡ block_words (start key nonce (counter + k)))
+    → IsXored at n (λ j. lane_byte words (j - at)) old new
+    → IsXored at n (λ j. stream_byte key nonce counter (j - at)) old new
+unfolding block
+xored_with_lanes words key nonce counter {at} {n} each xored =
+    xored_by (λ j low below. ap (λ w. slice_index (bytes w) ((j - at) % 64)) (each ((j - at) / 64) (omega arith))) xored
 
--- xored with a list that is the stream, byte by byte
-pub xored_with_stream : {key nonce : Bytes} {counter : ℕ} (at : ℕ) {n : ℕ} {stream old new : Bytes}
-    → IsStream key nonce counter n stream → IsXoredAt at stream old new → (j : ℕ) → at ≤ j → j < at + n
-    → slice_index new j ≡ bit_xor (slice_index old j) (stream_byte key nonce counter (j - at))
-xored_with_stream at {old} {new} is xored j low high = search (rules)
+-- a piece that begins with a whole block, as a part of the whole text
+pub xored_as_part : (key nonce : Bytes) (counter : ℕ) {number at n : ℕ} {old new : Bytes}
+    → at % 64 ≡ 0 → number ≡ counter + at / 64
+    → IsXored at n (λ j. stream_byte key nonce number (j - at)) old new
+    → IsXored at n (stream_byte key nonce counter) old new
+xored_as_part key nonce counter {number} {at} {n} whole e xored =
+    xored_by (λ j low below.
+    let block_number : number + (j - at) / 64 ≡ counter + j / 64 = omega (arith, whole, e) in
+    let place : (j - at) % 64 ≡ j % 64 = omega (arith, whole) in
+    rw (block_number, place) refl) xored

@@ -19,7 +19,7 @@ pub use Rattle.std.specs.Simd.Lanes.{Each1, digits_l, number_l, put_chunk, zip2}
 pub use Rattle.age_cipher.specs.Bytes.{Bytes, Words, tag_size}
 pub use Rattle.age_cipher.specs.ChaCha20.{add_words, stream_byte}
 unfoldable pub use Rattle.age_cipher.specs.ChaCha20.{add_xor_rotate, block, block_words, double_round, quarter_round, start, ten_double_rounds, xored_text}
-pub use Rattle.age_cipher.specs.Lanes.{AreApart, IsXoredAt, bytes, lane, quarter_round_at}
+pub use Rattle.age_cipher.specs.Lanes.{IsXored, bytes, column, lane, lane_byte}
 pub use Rattle.age_cipher.specs.LimbLanes.{EachLane}
 unfoldable pub use Rattle.age_cipher.specs.LimbLanes.{lanes_sum}
 pub use Rattle.age_cipher.specs.Limbs.{AtMost}

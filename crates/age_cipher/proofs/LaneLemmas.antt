@@ -1,5 +1,8 @@
 -- Vectors, seen lane by lane.
-use Rattle.age_cipher.proofs.Common.{◌≡◌, ◌≢◌, ℕ, ◌-◌, ◌*◌, ◌/◌, ◌%◌, ◌^◌, ◌<◌, List, [], ◌∷◌, length, set, replicate, slice_index, slice_index_or, bit_xor, arith, refl, sym, ap, ◌∙◌, w32, rotate_left, zip2, length-map, fill_by_all, get_or-zip2, zip2_splat, length-zip2, Words, add_words, add_xor_rotate, quarter_round, start, lane, bit_or, get_or-map, get_or-set_other, map-set, set_comm, length-set, length-replicate, quarter_round_at, AreApart, rules}
+use Rattle.std.proofs.lemmas.List.{get_or-replicate}
+pub use Rattle.std.proofs.lemmas.List.FromFn.{get_or-range_with_len}
+pub use Rattle.std.proofs.lemmas.Simd.{shifts_fit_splat}
+use Rattle.age_cipher.proofs.Common.{map, range_with_len, ◌≡◌, ℕ, ◌-◌, ◌*◌, ◌/◌, ◌%◌, ◌^◌, ◌<◌, List, [], ◌∷◌, length, set, replicate, slice_index, slice_index_or, arith, refl, sym, ap, ◌∙◌, w32, rotate_left, zip2, fill_by_all, get_or-zip2, zip2_splat, length-zip2, Words, add_words, add_xor_rotate, quarter_round, double_round, start, lane, bit_or, get_or-map, map-set, length-replicate}
 
 -- a word of a lane is a lane of a word
 pub lane_word : (state : List Words) (j k : ℕ) → k < length state
@@ -30,78 +33,49 @@ shifts_rotate n x by j long low high inside =
     get_or-zip2 bit_or _ _ j 0 0 0 (here _ by) (here _ (32 - by))
     ∙ rw (with_splat n _ x by j long inside, with_splat n _ x (32 - by) j long inside, same, rest) refl
 
--- one line of the quarter round, in lane j
-pub lane_line : (state : List Words) (a b d by j : ℕ) (sum turned : Words)
-    → a < length state → b < length state → d < length state
-    → slice_index sum j ≡ add_words (slice_index (slice_index_or state a []) j)
-    (slice_index (slice_index_or state b []) j)
-    → slice_index turned j ≡ rotate_left w32
-    (bit_xor (slice_index (slice_index_or (set state a sum) d []) j)
-    (slice_index (slice_index_or (set state a sum) a []) j)) by
-    → lane j (set (set state a sum) d turned) ≡ add_xor_rotate a b d by (lane j state)
-unfolding add_xor_rotate
-lane_line state a b d by j sum turned a_in b_in d_in es et = search (rules, length-set, lane_word, lane_set)
+-- sixteen vectors, written out
+pub sixteen_long : (state : List Words) → length state ≡ 16
+    → state ≡ map (λ k. slice_index_or state k []) (range_with_len 0 16)
+sixteen_long state long = fill_by_all (λ k. slice_index_or state k []) state 16 [] long (λ k h. refl)
+
+-- lane j of sixteen vectors, written out
+pub lane_written : (state : List Words) (j : ℕ) → length state ≡ 16
+    → map (λ k. slice_index (slice_index_or state k []) j) (range_with_len 0 16) ≡ lane j state
+lane_written state j long = sym (ap (λ vectors. lane j vectors) (sixteen_long state long))
 
 -- sixteen words that are those of lane j
 pub lane_is : (state : List Words) (words : Words) (j : ℕ) → length state ≡ 16 → length words ≡ 16
     → ((k : ℕ) → k < 16 → slice_index words k ≡ slice_index (slice_index_or state k []) j) → words ≡ lane j state
 lane_is state words j state_long words_long each =
-    let f : ℕ → ℕ = λ k. slice_index (slice_index_or state k []) j in
-    fill_by_all f words 16 0 words_long each
-    ∙ sym (fill_by_all f (lane j state) 16 0 (length-map state (λ v. slice_index v j) ∙ state_long)
-    (λ k h. lane_word state j k (omega arith)))
+    fill_by_all (λ k. slice_index (slice_index_or state k []) j) words 16 0 words_long each
+    ∙ lane_written state j state_long
 
 -- the counter is word 12 of a block's first state
-pub start_set : (key nonce : Words) (a b : ℕ) → set (start key nonce a) 12 b ≡ start key nonce b
+pub start_next : (key nonce : Words) (n more : ℕ)
+    → set (start key nonce n) 12 (add_words (slice_index (start key nonce n) 12) more) ≡ start key nonce (add_words n more)
 unfolding start
-start_set key nonce a b = refl
+start_next key nonce n more = refl
 
-pub eight_long : (x : Words) → length x ≡ 8
-    → x ≡ slice_index x 0 ∷ slice_index x 1 ∷ slice_index x 2 ∷ slice_index x 3
-    ∷ slice_index x 4 ∷ slice_index x 5 ∷ slice_index x 6 ∷ slice_index x 7 ∷ []
-eight_long x long = fill_by_all (λ k. slice_index x k) x 8 0 long (λ k h. refl)
+-- the quarter round of four words alone
+abbrev quarter : (a b c d : ℕ) → Words
+quarter a b c d = quarter_round 0 1 2 3 (a ∷ b ∷ c ∷ d ∷ [])
 
--- half a line of the quarter round: a word is written that depends on what it was and on another
-abbrev step : (f : ℕ → ℕ → ℕ) (i k : ℕ) (w : Words) → Words
-step f i k w = set w i (f (slice_index w i) (slice_index w k))
+-- the double round, as eight quarter rounds of four words alone
+pub double_parts : (x0 x1 x2 x3 x4 x5 x6 x7 x8 x9 x10 x11 x12 x13 x14 x15 : ℕ) (q0 q1 q2 q3 p0 p1 p2 p3 : Words)
+    → q0 ≡ quarter x0 x4 x8 x12
+    → q1 ≡ quarter x1 x5 x9 x13
+    → q2 ≡ quarter x2 x6 x10 x14
+    → q3 ≡ quarter x3 x7 x11 x15
+    → p0 ≡ quarter (slice_index q0 0) (slice_index q1 1) (slice_index q2 2) (slice_index q3 3)
+    → p1 ≡ quarter (slice_index q1 0) (slice_index q2 1) (slice_index q3 2) (slice_index q0 3)
+    → p2 ≡ quarter (slice_index q2 0) (slice_index q3 1) (slice_index q0 2) (slice_index q1 3)
+    → p3 ≡ quarter (slice_index q3 0) (slice_index q0 1) (slice_index q1 2) (slice_index q2 3)
+    → double_round (x0 ∷ x1 ∷ x2 ∷ x3 ∷ x4 ∷ x5 ∷ x6 ∷ x7 ∷ x8 ∷ x9 ∷ x10 ∷ x11 ∷ x12 ∷ x13 ∷ x14 ∷ x15 ∷ [])
+    ≡ (slice_index p0 0 ∷ slice_index p1 0 ∷ slice_index p2 0 ∷ slice_index p3 0 ∷ slice_index p3 1 ∷ slice_index p0 1 ∷ slice_index p1 1 ∷ slice_index p2 1 ∷ slice_index p2 2 ∷ slice_index p3 2 ∷ slice_index p0 2 ∷ slice_index p1 2 ∷ slice_index p1 3 ∷ slice_index p2 3 ∷ slice_index p3 3 ∷ slice_index p0 3 ∷ [])
+unfolding double_round quarter_round add_xor_rotate
+double_parts x0 x1 x2 x3 x4 x5 x6 x7 x8 x9 x10 x11 x12 x13 x14 x15 q0 q1 q2 q3 p0 p1 p2 p3 e0 e1 e2 e3 f0 f1 f2 f3 =
+    rw (f0, f1, f2, f3, e0, e1, e2, e3) refl
 
--- two such writes, in either order
-step_swap : (f g : ℕ → ℕ → ℕ) (i k m n : ℕ) (w : Words) → i ≢ m → i ≢ n → k ≢ m
-    → step g m n (step f i k w) ≡ step f i k (step g m n w)
-step_swap f g i k m n w im kn km = search (rules, get_or-set_other, set_comm)
+pub ruleset spread = (lane_is, lane_set, start_next, get_or-replicate)
 
--- a line on three of four indices
-abbrev line : (by i k l : ℕ) (indices : List ℕ) (w : Words) → Words
-line by i k l indices w = add_xor_rotate (slice_index indices i) (slice_index indices k) (slice_index indices l) by w
-
--- lines on indices that are apart, in either order
-line_swap : (p q : List ℕ) → AreApart p q → (m n : ℕ) (i k l r s t : ℕ) (w : Words)
-    → i < 4 → k < 4 → l < 4 → r < 4 → s < 4 → t < 4
-    → line m i k l p (line n r s t q w) ≡ line n r s t q (line m i k l p w)
-unfolding add_xor_rotate
-line_swap p q apart m n i k l r s t w hi hk hl hr hs ht =
-    let turned : ℕ → ℕ → ℕ → ℕ = λ by u v. rotate_left w32 (bit_xor u v) by in
-    let at : ℕ → ℕ = λ j. slice_index p j in
-    let on : ℕ → ℕ = λ j. slice_index q j in
-    let p_add : Words → Words = λ v. step add_words (at i) (at k) v in
-    let p_turn : Words → Words = λ v. step (turned m) (at l) (at i) v in
-    let q_add : Words → Words = λ v. step add_words (on r) (on s) v in
-    let q_turn : Words → Words = λ v. step (turned n) (on t) (on r) v in
-    ap p_turn (sym (step_swap add_words (turned n) (at i) (at k) (on t) (on r) (q_add w) (apart i t hi ht)
-    (apart i r hi hr) (apart k t hk ht)))
-    ∙ sym (step_swap (turned m) (turned n) (at l) (at i) (on t) (on r) (p_add (q_add w)) (apart l t hl ht)
-    (apart l r hl hr) (apart i t hi ht))
-    ∙ ap (λ v. q_turn (p_turn v)) (sym (step_swap add_words add_words (at i) (at k) (on r) (on s) w (apart i r hi hr)
-    (apart i s hi hs) (apart k r hk hr)))
-    ∙ ap q_turn (sym (step_swap (turned m) add_words (at l) (at i) (on r) (on s) (p_add w) (apart l r hl hr)
-    (apart l s hl hs) (apart i r hi hr)))
-
--- two quarter rounds on indices that are apart, line by line: the lines on p come first, one by one
-pub two_by_lines : (p q : List ℕ) (w : Words) → AreApart p q
-    → line 7 2 3 1 q (line 7 2 3 1 p (line 8 0 1 3 q
-    (line 8 0 1 3 p (line 12 2 3 1 q (line 12 2 3 1 p (line 16 0 1 3 q (line 16 0 1 3 p w)))))))
-    ≡ quarter_round_at q (quarter_round_at p w)
-unfolding quarter_round
-two_by_lines p q w apart = search (rules, line_swap)
-
-pub ruleset start_lanes = (lane_is, lane_set, start_set)
+pub ruleset advance = (lane_word, lane_set, start_next, get_or-replicate)
