@@ -4,7 +4,7 @@ pub use Rattle.std.proofs.Math.Nat.{add-mul-mod_self_left, mod-eq_of_lt, pow-suc
 pub use Rattle.std.proofs.Math.Seq.{take-append_seam, set-append_seam}
 pub use Rattle.std.proofs.lemmas.Bool.{cases_Bool, cases_lt}
 pub use Rattle.std.proofs.lemmas.Grind.{common_steps, flat_map-append}
-pub use Rattle.std.proofs.lemmas.List.{append-nil, drop-drop, drop_at, get_or-append_right, get_or-map, get_or-set_other, get_or_append_left, length-drop, length-map, length-set, length-take-le, map-set, set_comm, take-append-drop, take-replicate, take_all, take_at, drop-replicate}
+pub use Rattle.std.proofs.lemmas.List.{append-nil, drop-drop, drop_at, get_or-append_right, get_or-map, get_or_append_left, length-drop, length-map, length-set, length-take-le, map-set, take-append-drop, take-replicate, take_all, take_at, drop-replicate}
 pub use Rattle.std.proofs.lemmas.List.FromFn.{fill_by_all, get_or-map-range_with_len, length-map-range_with_len}
 pub use Rattle.std.proofs.lemmas.List.Sums.{sum_by-cons}
 pub use Rattle.std.proofs.lemmas.Nat.{and_mask, mul-le, mul-mod_first}
