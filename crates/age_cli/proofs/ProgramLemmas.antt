@@ -4,6 +4,7 @@ use Rattle.std.proofs.KnownBytes.{Keeps-refl}
 use Rattle.age_args.specs.declared.fault.WordsFault.{WordsFault}
 use Rattle.age_args.specs.declared.fault.WordsFault.TheVariants.{Memory, Refused}
 use Rattle.age_args.proofs.RefusalLemmas.{shown, wrong}
+use Rattle.age_job.proofs.RefusalLemmas.{of_secret}
 use Rattle.age_cli.specs.declared.failure.Failure.{Failure}
 use Rattle.age_cli.specs.declared.failure.Failure.TheVariants.{AgeFile, Job as OfJob}
 
@@ -98,3 +99,5 @@ wrong_status words (Refused error) status h (inr (two, stays, hidden)) = inr (in
 -- words that make a job are not wrong
 pub not_wrong : (words : List Bytes) (job : Job) → Makes words job → AreWrong words → ⊥
 not_wrong words job makes bad = let none = rw makes.0 at bad in absurd (cc)
+
+pub ruleset task_of = (of_secret)

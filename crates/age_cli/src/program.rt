@@ -224,6 +224,7 @@ where
 }
 
 /// Makes the task of a job, with the secrets that its options name, unless they forbid OUT.
+#[tactic(auto, using(crate::proofs::ProgramLemmas::task_of))]
 fn task_of<'a, F: Files + AllocGlobal, W: IsTerminal>(
     rt: &F,
     job: &'a Job,

@@ -1,7 +1,7 @@
 -- The faults of a job's files are those with which the job may be refused.
 use Rattle.std.specs.Prelude.{String, IsSome}
 use Rattle.std.specs.String.{string_bytes}
-use Rattle.std.proofs.Common.{◌≡◌, ◌⊎◌, ◌<◌, ℕ, List, [], Option, None, Some, length, inl, inr, arith, refl}
+use Rattle.std.proofs.Common.{◌≡◌, ◌≢◌, ◌⊎◌, ◌<◌, ℕ, List, [], Option, None, Some, length, inl, inr, arith, refl}
 use Rattle.age_job.specs.declared.fault.Fault.{Fault}
 use Rattle.age_job.specs.declared.fault.Fault.TheVariants as faults
 use Rattle.age_job.specs.declared.file_names.Role.{Role}
@@ -10,7 +10,7 @@ use Rattle.age_job.specs.declared.job.Command.TheVariants as command
 use Rattle.age_job.specs.declared.job.Job.{Job}
 use Rattle.age_job.specs.declared.small_files.SecretFiles.{SecretFiles}
 use Rattle.age_job.specs.declared.small_files.SecretFiles.TheVariants as files
-use Rattle.age_job.specs.Refusal.{IsFileFault, IsNamed, IsPassphraseFault, IsRead, MakesHeader, MayRefuse}
+use Rattle.age_job.specs.Refusal.{IsFileFault, IsNamed, IsNoChoice, IsPassphraseFault, IsRead, MakesHeader, MayRefuse}
 use Rattle.age_job.specs.Secret.{IsChoice, IsFilesFault, IsListFault}
 use Rattle.age_job.proofs.SecretLemmas.{chosen}
 
@@ -65,6 +65,17 @@ of_passphrase job faults.NoPassphrase makes some h = (makes, some)
 of_passphrase job faults.UntypedPassphrase makes some h = (makes, some)
 of_passphrase job fault makes some h = absurd h
 
+-- no choice of a secret, of a command that has one
+pub of_choice : (job : Job) (fault : Fault) → job.command ≢ command.Inspect
+    → (fault ≡ faults.KeyChoice) × IsNoChoice job.pass job.key → MayRefuse job fault
+of_choice job fault has (same, none) = rw same (has, none)
+
+-- the secret of such a command
+pub of_secret : (job : Job) (fault : Fault) → job.command ≢ command.Inspect
+    → MayRefuse job fault ⊎ ((fault ≡ faults.KeyChoice) × IsNoChoice job.pass job.key) → MayRefuse job fault
+of_secret job fault has (inl may) = may
+of_secret job fault has (inr none) = of_choice job fault has none
+
 -- the files of the secret, to open a file
 pub of_files : (job : Job) (from : SecretFiles) (fault : Fault)
     → IsChoice job.pass job.more_passes.items job.key job.more_keys.items from
@@ -108,6 +119,6 @@ of_file_key job name fault inspects named some (inr same) = rw same (inspects, s
 
 pub ruleset read_secret = (chosen, of_files)
 
-pub ruleset read_encrypt_secrets = (chosen, of_new_files, of_seed)
+pub ruleset read_encrypt_secrets = (chosen, of_choice, of_new_files, of_seed)
 
-pub ruleset read_rewrap_secrets = (chosen, of_files, of_other_files, of_seed)
+pub ruleset read_rewrap_secrets = (chosen, of_choice, of_files, of_other_files, of_seed)

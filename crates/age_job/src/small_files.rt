@@ -1,6 +1,6 @@
 //! The small files that hold a job's secrets: passphrases, keys and seeds.
 
-ghost use Rattle.std.specs.Prelude.{◌≡◌, ◌≢◌, ◌≤◌, ◌<◌, ◌+◌, ◌⊎◌, [], ℕ};
+ghost use Rattle.std.specs.Prelude.{◌≡◌, ◌≤◌, ◌<◌, ◌+◌, ◌⊎◌, [], ℕ};
 ghost use Rattle.std.specs.Prelude.{List, length, vec_len, IfErr, IfOk};
 ghost use Rattle.std.specs.String.{string_bytes};
 ghost use Rattle.age_job.specs.Passphrase.{IsNewPassphrase};
@@ -35,8 +35,9 @@ pub fn read_secret<'a, F: Files + AllocGlobal>(
     // files are named, returns one or more keys, not more than there are key files.
     ensures secret { IfOk result (IsSecretOf job.now.pass job.now.more_passes.items job.now.key
         job.now.more_keys.items) }
-    ensures fault { job.now.command ≢ Command.Inspect
-        → IfErr result (λ failure. MayRefuse job.now failure.fault) }
+    // A job of `inspect`, which has no secret, may be refused as others are for its choice.
+    ensures fault { IfErr result (λ failure. MayRefuse job.now failure.fault
+        ⊎ ((failure.fault ≡ Fault.KeyChoice) × IsNoChoice job.now.pass job.now.key)) }
 {
     let files = secret_files(job)?;
     read_from(rt, read, files)
@@ -129,7 +130,8 @@ enum SecretFiles<'a> {
 fn secret_files<'a>(job: &'a Job) -> Result<SecretFiles<'a>, Fault<'a>>
     ensures files { IfOk result (IsChoice job.now.pass job.now.more_passes.items job.now.key
         job.now.more_keys.items) }
-    ensures fault { job.now.command ≢ Command.Inspect → IfErr result (MayRefuse job.now) }
+    ensures fault { IfErr result
+        (λ fault. (fault ≡ Fault.KeyChoice) × IsNoChoice job.now.pass job.now.key) }
 {
     let passphrases = (Role::Passphrase, &job.pass, job.more_passes.as_slice());
     let keys = (Role::Key, &job.key, job.more_keys.as_slice());
