@@ -89,8 +89,9 @@ of_files job from fault is h =
 -- the same, to make one
 pub of_new_files : (job : Job) (from : SecretFiles) (fault : Fault) → MakesHeader job
     → IsChoice job.pass job.more_passes.items job.key job.more_keys.items from
-    → IsFilesFault IsPassphraseFault from fault → MayRefuse job fault
-of_new_files job from fault makes is h =
+    → IsFilesFault IsPassphraseFault from fault ⊎ (MakesHeader job → MayRefuse job fault) → MayRefuse job fault
+of_new_files job from fault makes is (inr may) = may makes
+of_new_files job from fault makes is (inl h) =
     choose job.pass job.more_passes.items job.key job.more_keys.items from IsPassphraseFault fault is h
     (λ some. of_passphrase job fault makes (inl some)) (λ some same. rw same (inl some))
     (λ name named. of_file job roles.Passphrase name fault named)
@@ -103,8 +104,9 @@ only_first (inr none) = absurd (omega (arith, none))
 -- the files of the new secret
 pub of_other_files : (job : Job) (from : SecretFiles) (fault : Fault) → MakesHeader job
     → IsChoice job.new_pass [] job.new_key job.more_new_keys.items from
-    → IsFilesFault IsPassphraseFault from fault → MayRefuse job fault
-of_other_files job from fault makes is h =
+    → IsFilesFault IsPassphraseFault from fault ⊎ (MakesHeader job → MayRefuse job fault) → MayRefuse job fault
+of_other_files job from fault makes is (inr may) = may makes
+of_other_files job from fault makes is (inl h) =
     choose job.new_pass [] job.new_key job.more_new_keys.items from IsPassphraseFault fault is h
     (λ some. of_passphrase job fault makes (inr some)) (λ some same. rw same (inr some))
     (λ name named. of_file job roles.NewPassphrase name fault (only_first named))
@@ -119,6 +121,6 @@ of_file_key job name fault inspects named some (inr same) = rw same (inspects, s
 
 pub ruleset read_secret = (chosen, of_files)
 
-pub ruleset read_encrypt_secrets = (chosen, of_choice, of_new_files, of_seed)
+pub ruleset read_encrypt_secrets = (chosen, of_choice, of_new_files)
 
-pub ruleset read_rewrap_secrets = (chosen, of_choice, of_files, of_other_files, of_seed)
+pub ruleset read_rewrap_secrets = (chosen, of_choice, of_files, of_other_files)

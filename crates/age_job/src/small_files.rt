@@ -2,7 +2,6 @@
 
 ghost use Rattle.std.specs.Prelude.{◌≡◌, ◌≤◌, ◌<◌, ◌+◌, ◌⊎◌, [], ℕ};
 ghost use Rattle.std.specs.Prelude.{List, length, vec_len, IfErr, IfOk};
-ghost use Rattle.std.specs.String.{string_bytes};
 ghost use Rattle.age_job.specs.Passphrase.{IsNewPassphrase};
 ghost use Rattle.age_job.specs.Refusal.{IsFileFault, IsNoChoice, IsPassphraseFault, MakesHeader};
 ghost use Rattle.age_job.specs.Refusal.{MayRefuse};
@@ -20,8 +19,9 @@ use crate::ranges::DEFAULT_SEED;
 use crate::secret::{
     SEED_LEN, Secret, begins_with_mark, ends_in_line_end, exactly, without_line_end,
 };
+use std::alloc::Global;
 use std::fs::OpenFile;
-use std::io::{IsTerminal, Seek, SeekFrom};
+use std::io::{IsTerminal, Read, Seek, SeekFrom};
 use std::rt::Files;
 
 /// Reads the secret of a command that has only one.
@@ -62,8 +62,7 @@ pub fn read_encrypt_secrets<'a, F: Files + AllocGlobal, W: IsTerminal>(
 {
     let files = secret_files(job)?;
     refuse_terminal(job, out)?;
-    let secret = read_new_from(rt, read, files)?;
-    Ok((secret, read_seed(rt, job, read)?))
+    read_new_from(rt, job, read, files)
 }
 
 /// Reads the old secret, the new one, and the seed for a file that is written to `out` if the job
@@ -90,8 +89,8 @@ pub fn read_rewrap_secrets<'a, F: Files + AllocGlobal, W: IsTerminal>(
     let new = new_secret_files(job)?;
     refuse_terminal(job, out)?;
     let old = read_from(rt, read, old)?;
-    let new = read_new_from(rt, read, new)?;
-    Ok((old, new, read_seed(rt, job, read)?))
+    let (new, seed) = read_new_from(rt, job, read, new)?;
+    Ok((old, new, seed))
 }
 
 /// Reads the file key under which to check the header's MAC.
@@ -197,24 +196,26 @@ fn read_from<'a, F: Files + AllocGlobal>(
     }
 }
 
-/// The same, to make a file, for which there is one passphrase.
+/// The same, to make a file, for which there is one passphrase. Reads the job's seed after it.
 fn read_new_from<'a, F: Files + AllocGlobal>(
     rt: &F,
+    job: &'a Job,
     read: &mut ReadFiles<'a>,
     files: SecretFiles<'a>,
-) -> Result<Secret, Failure<'a>>
-    ensures secret { IfOk result (λ secret. IsReadFrom files.entry secret) }
-    ensures new { IfOk result IsNewSecret }
+) -> Result<(Secret, [u8; SEED_LEN]), Failure<'a>>
+    ensures secret { IfOk result (λ read. IsReadFrom files.entry read.0) }
+    ensures new { IfOk result (λ read. IsNewSecret read.0) }
     ensures fault { IfErr result
-        (λ failure. IsFilesFault IsPassphraseFault files.entry failure.fault) }
+        (λ failure. IsFilesFault IsPassphraseFault files.entry failure.fault
+        ⊎ (MakesHeader job.now → MayRefuse job.now failure.fault)) }
 {
-    match files {
+    let secret = match files {
         SecretFiles::Passphrase(named, _) => {
-            let passphrase = read_new_passphrase(rt, read, named)?;
-            Ok(Secret::Passphrase(passphrase, Vec::new(rt.alloc())))
+            Secret::Passphrase(read_new_passphrase(rt, read, named)?, Vec::new(rt.alloc()))
         }
-        SecretFiles::Keys(first, more) => Ok(Secret::Keys(read_keys(rt, read, first, more)?)),
-    }
+        SecretFiles::Keys(first, more) => Secret::Keys(read_keys(rt, read, first, more)?),
+    };
+    Ok((secret, read_seed(rt, job, read)?))
 }
 
 /// Reads the passphrase of a new file. Refuses an empty one, which a failed command would have
@@ -309,36 +310,30 @@ fn read_keys<'a, F: Files + AllocGlobal>(
 
 /// Reads the first 48 bytes of the job's seed file. The default one must be a device, because an
 /// ordinary file in its place would give every file the same keys.
+#[tactic(auto, using(crate::proofs::RefusalLemmas::of_seed))]
 fn read_seed<'a, F: Files + AllocGlobal>(
     rt: &F,
     job: &'a Job,
     read: &mut ReadFiles<'a>,
 ) -> Result<[u8; SEED_LEN], Failure<'a>>
-    ensures { IfErr result (λ failure. IsFileFault (string_bytes job.now.seed) failure.fault
-        ⊎ (failure.fault ≡ Fault.SeedLength)) }
+    ensures { MakesHeader job.now → IfErr result (λ failure. MayRefuse job.now failure.fault) }
 {
     let name = job.seed.as_str();
     let role = Role::Seed;
     let named = NamedFile { role, name };
     let mut file = read.open_small(rt, named)?;
-    if name == DEFAULT_SEED {
-        refuse_ordinary(&mut file, name)?;
-    }
-    let bytes = read_prefix(rt.alloc(), named, file, SEED_LEN)?;
-    match exactly(bytes.as_slice()) {
-        Some(seed) => Ok(seed),
-        None => Err(Failure::with(
-            Fault::SeedLength,
-            Detail::Size(role, Name(name), bytes.len()),
-        )),
-    }
+    refuse_ordinary(&mut file, name)?;
+    read_exactly(rt.alloc(), named, file, SEED_LEN, Fault::SeedLength)
 }
 
-/// Refuses a seed file that is not a character device. If the system does not tell, a file that has
-/// no end, as the default one, is accepted.
+/// Refuses the default seed file if it is not a character device. If the system does not tell, a
+/// file that has no end, as the device, is accepted.
 fn refuse_ordinary<'a, F: OpenFile + Seek>(file: &mut F, name: &'a str) -> Result<(), Failure<'a>>
     ensures { IfErr result (λ failure. IsFileFault name.now failure.fault) }
 {
+    if name != DEFAULT_SEED {
+        return Ok(());
+    }
     match Inode::of_open(file) {
         Ok(inode) if inode.kind == Kind::CharDevice => Ok(()),
         Ok(_) => Err(Failure::with(
@@ -362,9 +357,23 @@ fn read_just<'a, F: Files + AllocGlobal, const N: usize>(
     ensures { IfErr result (λ failure. IsFileFault named.entry.name.now failure.fault
         ⊎ (failure.fault ≡ length.entry)) }
 {
-    let NamedFile { role, name } = named;
     let file = read.open_small(rt, named)?;
-    let bytes = read_prefix(rt.alloc(), named, file, MAX_SMALL + 1)?;
+    read_exactly(rt.alloc(), named, file, MAX_SMALL + 1, length)
+}
+
+/// Reads at most `most` bytes of this file, which must have N.
+fn read_exactly<'a, R: Read + Drop, const N: usize>(
+    alloc: Global,
+    named: NamedFile<'a>,
+    file: R,
+    most: usize,
+    length: Fault<'a>,
+) -> Result<[u8; N], Failure<'a>>
+    ensures { IfErr result (λ failure. IsFileFault named.entry.name.now failure.fault
+        ⊎ (failure.fault ≡ length.entry)) }
+{
+    let NamedFile { role, name } = named;
+    let bytes = read_prefix(alloc, named, file, most)?;
     match exactly(bytes.as_slice()) {
         Some(array) => Ok(array),
         None => Err(Failure::with(length, Detail::Size(role, Name(name), bytes.len()))),
