@@ -156,21 +156,15 @@ fn write_size<W: fmt::Write>(
     f: &mut fmt::Formatter<W>,
 ) -> fmt::Result {
     let words = role.words();
-    write!(f, "{words} {name}: ")?;
-    if len > MAX_SMALL {
-        write!(f, "more than {MAX_SMALL} bytes")?;
-    } else {
-        let len = Bytes(len as u128);
-        write!(f, "{len}")?;
-    }
-    match role {
-        Role::Key | Role::NewKey => {
-            f.write_str("; a key file holds 32 raw bytes, not hexadecimal")
-        }
-        Role::FileKey => f.write_str("; a file key file holds 16 raw bytes, not hexadecimal"),
-        Role::Seed => f.write_str("; a seed file holds at least 48 bytes"),
-        Role::Input | Role::Passphrase | Role::NewPassphrase => Ok(()),
-    }
+    let more = if len > MAX_SMALL { "more than " } else { "" };
+    let len = Bytes(len.min(MAX_SMALL) as u128);
+    write!(f, "{words} {name}: {more}{len}")?;
+    f.write_str(match role {
+        Role::Key | Role::NewKey => "; a key file holds 32 raw bytes, not hexadecimal",
+        Role::FileKey => "; a file key file holds 16 raw bytes, not hexadecimal",
+        Role::Seed => "; a seed file holds at least 48 bytes",
+        Role::Input | Role::Passphrase | Role::NewPassphrase => "",
+    })
 }
 
 /// Writes the names of the files whose secrets were tried.

@@ -142,13 +142,11 @@ struct Escaping<'a, W> {
 
 impl<W: fmt::Write> fmt::Write for Escaping<'_, W> {
     fn write_str(&mut self, text: &str) -> fmt::Result {
-        for line in text.split_inclusive('\n') {
-            match line.strip_suffix('\n') {
-                Some(line) => {
-                    write_escaped(line, self.f)?;
-                    self.f.write_str("\n")?;
-                }
-                None => write_escaped(line, self.f)?,
+        for c in text.chars() {
+            if c == '\n' {
+                self.f.write_char(c)?;
+            } else {
+                write_char(c, self.f)?;
             }
         }
         Ok(())

@@ -76,40 +76,33 @@ pub struct Line<'a, C: Clock, T: Write + Drop> {
     next: u64,
 }
 
-/// The number of bytes read, the number in all if it is known, and the time in milliseconds.
+/// The number of bytes read, the number in all if it is known, and the number each second.
 #[derive(Clone, Copy)]
 struct Portion {
     done: u64,
     size: Option<u64>,
-    took: u128,
+    rate: u128,
 }
 
 impl<'a, F: Files + Clock> Line<'a, F, F::File> {
     /// The line for a reader that returns `size` bytes, if that is known. Standard error must be
     /// the terminal. The line says if the job has passphrases, because scrypt takes time.
     pub(crate) fn of(rt: &'a F, job: &Job, size: Option<u64>) -> Option<Line<'a, F, F::File>> {
-        let mut line = Line::at_terminal(rt, size)?;
-        if job.pass.is_some() || job.new_pass.is_some() {
-            line.draw(&"agep: making a key from the passphrase");
-        }
-        Some(line)
-    }
-
-    fn at_terminal(rt: &'a F, size: Option<u64>) -> Option<Line<'a, F, F::File>> {
         let started = rt.monotonic().ok()?.as_millis();
-        Some(Line {
+        let (done, rate) = (0, 0);
+        let mut line = Line {
             clock: rt,
             terminal: terminal(rt).ok()?,
-            portion: Portion {
-                done: 0,
-                size,
-                took: 0,
-            },
+            portion: Portion { done, size, rate },
             started,
             drawn: started,
             is_drawn: false,
             next: STRIDE,
-        })
+        };
+        if job.pass.is_some() || job.new_pass.is_some() {
+            line.draw(&"agep: making a key from the passphrase");
+        }
+        Some(line)
     }
 }
 
@@ -125,7 +118,9 @@ impl<C: Clock, T: Write + Drop> Line<'_, C, T> {
             let now = now.as_millis();
             if now.saturating_sub(self.drawn) >= PAUSE {
                 self.drawn = now;
-                self.portion.took = now.saturating_sub(self.started);
+                let took = now.saturating_sub(self.started);
+                let all = (self.portion.done as u128).saturating_mul(1000);
+                self.portion.rate = all.checked_div(took).unwrap_or(0);
                 let portion = self.portion;
                 self.draw(&portion);
             }
@@ -164,26 +159,17 @@ impl<C: Clock, T: Write + Drop> Drop for Line<'_, C, T> {
 
 impl fmt::Display for Portion {
     fn fmt<W: fmt::Write>(&self, f: &mut fmt::Formatter<W>) -> fmt::Result {
-        let done = Amount(self.done as u128);
-        write!(f, "agep: {done}")?;
-        if let Some(size) = self.size {
-            let size = Amount(size as u128);
-            write!(f, " of {size}")?;
-        }
-        let Some(rate) = (self.done as u128)
-            .saturating_mul(1000)
-            .checked_div(self.took)
-        else {
-            return Ok(());
+        let (done, rate) = (Amount(self.done as u128), Amount(self.rate));
+        let Some(size) = self.size else {
+            return write!(f, "agep: {done}, {rate}/s");
         };
-        let amount = Amount(rate);
-        write!(f, ", {amount}/s")?;
-        if let Some(size) = self.size
-            && let Some(left) = (size.saturating_sub(self.done) as u128).checked_div(rate)
-        {
-            write!(f, ", {left} s left")?;
+        let left = (size.saturating_sub(self.done) as u128).checked_div(self.rate);
+        let size = Amount(size as u128);
+        write!(f, "agep: {done} of {size}, {rate}/s")?;
+        match left {
+            Some(left) => write!(f, ", {left} s left"),
+            None => Ok(()),
         }
-        Ok(())
     }
 }
 
