@@ -206,14 +206,12 @@ where
     match &job.input {
         Some(name) => {
             let file = work.read.open_input(rt, job.command, name.as_str())?;
-            let size = work.read.input_size(job.command);
-            let mut input = Watched::new(rt, job, file, size, work.is_shown);
+            let mut input = Watched::new(rt, job, &work.read, file, work.is_shown);
             perform_on(rt, work, task, &mut input, out, lines)
         }
         None => {
-            work.read.add_standard_input()?;
-            let size = work.read.input_size(job.command);
-            let mut watched = Watched::new(rt, job, Pipe(input), size, work.is_shown);
+            work.read.add_standard_input();
+            let mut watched = Watched::new(rt, job, &work.read, Pipe(input), work.is_shown);
             let done = perform_on(rt, work, task, &mut watched, out, lines);
             let input = watched.reader.0;
             // For the proof alone (docs/PROOFS.md, "How to read a clause"): whether it was read.

@@ -8,7 +8,7 @@ use crate::fault::Fault;
 use crate::file_names::{Name, Role};
 use crate::inode::{Inode, Kind, STANDARD_INPUT, STANDARD_OUTPUT};
 use crate::job::{Command, Job};
-use std::alloc::{AllocError, Global};
+use std::alloc::Global;
 use std::io::{ErrorKind, Read, Seek, SeekFrom};
 use std::rt::Files;
 use std::{fs, io};
@@ -34,8 +34,8 @@ pub(crate) struct ReadFile<'a> {
 /// The files that a job has opened for reading. The file to write is compared with them.
 #[derive(Drop)]
 pub struct ReadFiles<'a> {
-    /// IN is the first.
-    files: Vec<ReadFile<'a>>,
+    input: Option<ReadFile<'a>>,
+    small: Vec<ReadFile<'a>>,
     /// The identities of standard input and output at the start, which are not known if the stream
     /// is closed or there is no /proc.
     standard: io::Result<Inode>,
@@ -85,7 +85,8 @@ impl<'a> ReadFiles<'a> {
     /// Makes the list of a job's files, with none opened yet.
     pub fn new<F: Files + AllocGlobal>(rt: &F, job: &'a Job) -> ReadFiles<'a> {
         let mut read = ReadFiles {
-            files: Vec::new(rt.alloc()),
+            input: None,
+            small: Vec::new(rt.alloc()),
             standard: Inode::at(rt, STANDARD_INPUT),
             standard_output: Inode::at(rt, STANDARD_OUTPUT),
             standard_role: None,
@@ -112,7 +113,7 @@ impl<'a> ReadFiles<'a> {
             (λ failure. IsFileFault name.now failure.fault) }
     {
         let mut file = open(rt, name)?;
-        self.add_input(name, Inode::of_open(&file))?;
+        self.add_input(name, Inode::of_open(&file));
         if command == Command::Range
             && let Err(reason) = file.seek(SeekFrom::Start(0))
         {
@@ -122,15 +123,14 @@ impl<'a> ReadFiles<'a> {
     }
 
     /// Adds standard input as IN.
-    pub fn add_standard_input(&mut self) -> Result<(), AllocError> {
-        self.add_input("standard input", self.standard)
+    pub fn add_standard_input(&mut self) {
+        self.add_input("standard input", self.standard);
     }
 
-    fn add_input(&mut self, name: &'a str, inode: io::Result<Inode>) -> Result<(), AllocError> {
+    fn add_input(&mut self, name: &'a str, inode: io::Result<Inode>) {
         let role = Role::Input;
         let named = NamedFile { role, name };
-        self.files.insert(0, ReadFile { named, inode })?;
-        Ok(())
+        self.input = Some(ReadFile { named, inode });
     }
 
     /// Opens the small file that an option names. Standard input can have only one role, because
@@ -157,13 +157,13 @@ impl<'a> ReadFiles<'a> {
             }
             self.standard_role = Some(role);
         }
-        self.files.push(ReadFile { named, inode })?;
+        self.small.push(ReadFile { named, inode })?;
         Ok(file)
     }
 
     /// Returns the number of bytes that this command reads from IN, if known. IN was added.
-    pub fn input_size(&self, command: Command) -> Option<u64> {
-        match self.files.first()?.inode {
+    pub(crate) fn input_size(&self, command: Command) -> Option<u64> {
+        match self.input.as_ref()?.inode {
             Ok(inode) if inode.kind == Kind::Regular && command != Command::Range => {
                 Some(inode.len)
             }
@@ -192,7 +192,10 @@ impl<'a> ReadFiles<'a> {
     pub(crate) fn refuse(&self, out: &Inode, name: &'a str) -> Result<(), Failure<'a>>
         ensures { IfErr result (λ failure. IsSameFault name.now failure.fault) }
     {
-        for file in self.files.as_slice() {
+        if let Some(file) = &self.input {
+            file.refuse(out, name)?;
+        }
+        for file in self.small.as_slice() {
             file.refuse(out, name)?;
         }
         Ok(())
@@ -208,7 +211,12 @@ impl<'a> ReadFiles<'a> {
     ) -> Result<(), Failure<'a>>
         ensures { IfErr result (λ failure. IsSameFault name.now failure.fault) }
     {
-        for file in self.files.as_slice() {
+        if let Some(file) = &self.input
+            && !file.named.role.may_be_replaced(command)
+        {
+            file.refuse(out, name)?;
+        }
+        for file in self.small.as_slice() {
             if !file.named.role.may_be_replaced(command) {
                 file.refuse(out, name)?;
             }

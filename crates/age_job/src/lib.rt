@@ -6,7 +6,7 @@
 //! let target = Target::of(rt, &job);
 //! let mut read = ReadFiles::new(rt, &job);
 //! let file = read.open_input(rt, job.command, name)?;
-//! let mut input = Watched::new(rt, &job, file, None, false);
+//! let mut input = Watched::new(rt, &job, &read, file, false);
 //! let mut out = target.create(rt, &job, &read, out_name)?;
 //! ```
 //!

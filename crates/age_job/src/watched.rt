@@ -3,6 +3,7 @@ ghost use Rattle.std.specs.Prelude.{◌≡◌, ◌+◌, ◌-◌, ◌^◌, None, 
 ghost use Rattle.std.specs.Io.{ReadsAtMost};
 ghost use Rattle.std.specs.Io.KnownBytes.{ReadConsumes};
 
+use crate::files::ReadFiles;
 use crate::job::Job;
 use crate::progress::Line;
 use crate::secret::begins_with_mark;
@@ -73,13 +74,13 @@ impl<R> Seek for Pipe<'_, R> {
 }
 
 impl<'a, R, F: Files + Clock> Watched<'a, R, F, F::File> {
-    /// Watches this reader, which is at its first byte and returns `size` bytes if that is known.
-    /// If `is_shown`, standard error must be the terminal.
+    /// Watches the reader of IN, which was added to the files and is at its first byte. If
+    /// `is_shown`, standard error must be the terminal.
     pub fn new(
         rt: &'a F,
         job: &Job,
+        read: &ReadFiles<'_>,
         reader: R,
-        size: Option<u64>,
         is_shown: bool,
     ) -> Watched<'a, R, F, F::File>
         // Reading from the result is reading from this reader.
@@ -93,7 +94,7 @@ impl<'a, R, F: Files + Clock> Watched<'a, R, F, F::File> {
             reason: None,
             front: None,
             line: if is_shown {
-                Line::of(rt, job, size)
+                Line::of(rt, job, read.input_size(job.command))
             } else {
                 None
             },

@@ -29,9 +29,8 @@ returns-in_err-file-in-Some-clause-completes g c =
       ),
     )
 
-pub returns-in_ok-add_standard_input-in-None-clause-completes :
-    goal.returns-in_ok-add_standard_input-in-None-clause-completes
-returns-in_ok-add_standard_input-in-None-clause-completes g c =
+pub returns-in-None-clause-completes : goal.returns-in-None-clause-completes
+returns-in-None-clause-completes g c =
     let sink = move_by g.W.Write.contents c.args.out.now c.perform_on-done.new.out in
     let is : c.new-watched.result.reader.0.now ≡ c.args.input.now =
     ap (λ pipe. pipe.0.now) c.new-watched.ensures.reader in
