@@ -286,15 +286,14 @@ where
     let name = name.as_str();
     let mut output = target.create(rt, job, &work.read, name)?;
     let done = perform_to(rt.alloc(), job, task, input, &mut output, lines);
-    if !is_kept(&done, lines.has_saved(output.written())) {
-        target.discard(rt, &output);
-    } else if let Err(failure) = target.finish(rt, job, output, name) {
-        if let Err(first) = &done {
-            lines.fail(first);
-        }
-        return Err(Failure::Job(failure));
+    let is_kept = is_kept(&done, lines.has_saved(output.written()));
+    let Err(failure) = target.finish(rt, job, output, name, is_kept) else {
+        return done;
+    };
+    if let Err(first) = &done {
+        lines.fail(first);
     }
-    done
+    Err(Failure::Job(failure))
 }
 
 /// Whether what was written takes the place of OUT after this result.

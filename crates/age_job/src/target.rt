@@ -99,19 +99,24 @@ impl Target {
         }
     }
 
-    /// Ends the output: syncs what was written, gives a new file the name of OUT, and syncs its
-    /// folder. If this fails before OUT is replaced, the new file is removed. It is locked until
-    /// then.
+    /// Ends the output. If it is kept: syncs what was written, gives a new file the name of OUT,
+    /// and syncs its folder. If it is not, or if this fails before OUT is replaced, a new file is
+    /// removed. It is locked until then, and stays if the system does not let it be removed.
     pub fn finish<'a, F: Files>(
         &'a self,
         rt: &F,
         job: &'a Job,
         output: Output<F::File>,
         name: &'a str,
+        is_kept: bool,
     ) -> Result<(), Failure<'a>>
         ensures { IfErr result (λ failure. MayEnd job.now failure.fault) }
     {
         let mut output = output;
+        if !is_kept {
+            self.discard(rt, &output);
+            return Ok(());
+        }
         let replaced = match output.finish(name) {
             Ok(()) => self.replace(rt, job, &output.file, name),
             Err(failure) => Err(failure),
@@ -160,8 +165,7 @@ impl Target {
         }
     }
 
-    /// Removes a new file after a fault. It stays if the system does not let it be removed.
-    pub fn discard<F: Files>(&self, rt: &F, output: &Output<F::File>) {
+    fn discard<F: Files>(&self, rt: &F, output: &Output<F::File>) {
         if let Target::Replaced(Ok(replacement)) = self {
             let _ = replacement.remove(rt, &output.file);
         }
@@ -289,13 +293,13 @@ impl Replacement {
         rt: &F,
         read: &ReadFiles<'a>,
         name: &'a str,
-    ) -> Result<(), Failure<'a>>
+    ) -> Result<(), Fault<'a>>
     where
         F::File: SystemFile,
-        ensures { IfErr result (λ failure. IsReplacedFault name.now failure.fault) }
+        ensures { IfErr result (IsReplacedFault name.now) }
     {
         let new = self.new.as_str();
-        let stays = Err(Fault::NewFileExists(Name(new)).into());
+        let stays = Err(Fault::NewFileExists(Name(new)));
         match fs::symlink_metadata(rt, new) {
             Ok(found) if found.is_file() && read.refuse(&Inode::of(&found), name).is_ok() => {}
             Err(reason) if reason.kind() == ErrorKind::NotFound => return Ok(()),
@@ -311,7 +315,7 @@ impl Replacement {
                 Err(reason) if reason.kind() != ErrorKind::NotFound => stays,
                 _ => Ok(()),
             },
-            Ok(false) => Err(Fault::OutputIsBusy(Name(name)).into()),
+            Ok(false) => Err(Fault::OutputIsBusy(Name(name))),
             Err(_) => stays,
         }
     }

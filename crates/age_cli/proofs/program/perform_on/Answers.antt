@@ -3,8 +3,8 @@ use Rattle.age_cli.proofs.ProgramLemmas.{performs, stays_known}
 use Rattle.age_cli.specs.declared.failure.Failure.TheVariants.{Job as OfJob}
 use Rattle.age_cli.proofs.program.perform_on.Goals as goal
 
-pub returns-clause-performs : goal.returns-clause-performs
-returns-clause-performs g c =
+pub returns-in_default-finish-clause-performs : goal.returns-in_default-finish-clause-performs
+returns-in_default-finish-clause-performs g c =
     let has = g.F.File.Write.contents in
     let old = c.in_ok-output.output.file in
     let new = c.perform_to-done.new.out.file in
@@ -13,8 +13,8 @@ returns-clause-performs g c =
     (move_by has old new) c.perform_to-done.result (rw c.in-Some.is ((old, new), refl))
     c.perform_to-done.ensures.performs
 
-pub returns-in-Err-clause-performs : goal.returns-in-Err-clause-performs
-returns-in-Err-clause-performs g c = (stays_known refl, inr (rw c.in-Some.is refl, c.in-Err.ensures))
+pub returns-clause-performs : goal.returns-clause-performs
+returns-clause-performs g c = (stays_known refl, inr (rw c.in-Some.is refl, c.in-Err.ensures))
 
 pub returns-in_default-clause-performs : goal.returns-in_default-clause-performs
 returns-in_default-clause-performs g c =
