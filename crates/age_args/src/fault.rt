@@ -8,7 +8,7 @@ use clap::error::ErrorKind;
 use std::alloc::AllocError;
 
 /// Why the arguments are not a job.
-#[derive(Debug, Drop)]
+#[derive(Drop)]
 pub enum WordsFault {
     /// `clap` refused the arguments, or has the help or the version to show.
     Refused(Error),

@@ -5,14 +5,14 @@ ghost use Rattle.age_commands.specs.Secret.{limits_of};
 ghost use Rattle.age_commands.specs.Skipping.{come_by};
 
 use crate::skipping::{Begun, SkippingSource};
-use age_file::{BUFFER_SIZE, Fault, FileAt, Limits, MAX_CHUNKS, ReadAt, ReadSource, Source};
+use age_file::{Fault, FileAt, Limits, MAX_CHUNKS, ReadAt, ReadSource, Source};
 use age_job::{Input, Job};
 use std::alloc::Global;
 use std::io::{BufReader, Read, Seek};
 
-/// The size of the buffer through which a header is read. Bytes of the payload in it are copied;
-/// the rest of the payload is read directly into the buffer in which it is opened.
-const HEADER_BUFFER_LEN: usize = 8_192;
+/// The size of the buffer through which a header is read before its payload. Bytes of the payload in
+/// it are copied; the rest of the payload is read directly into the buffer in which it is opened.
+pub(crate) const HEADER_BUFFER_LEN: usize = 8_192;
 
 /// Returns the limits of this job.
 pub fn limits_of(job: &Job) -> Limits
@@ -24,30 +24,6 @@ pub fn limits_of(job: &Job) -> Limits
         unreachable!();
     };
     limits
-}
-
-/// Makes a source over this reader, for a header only.
-pub(crate) fn header_source<R: Read + Drop>(
-    alloc: Global,
-    input: R,
-) -> Result<ReadSource<BufReader<R>>, Fault>
-    ensures ok { IfOk result (λ source. ⟦<ReadSource<BufReader<R>> as Source>⟧.to_come source
-        ≡ R.remaining input) }
-    ensures err { IfErr result (λ fault. fault ≡ Fault.OutOfMemory) }
-{
-    buffered_source(alloc, BUFFER_SIZE, input)
-}
-
-/// Makes a source over this reader, for a header and its payload.
-pub(crate) fn file_source<R: Read + Drop>(
-    alloc: Global,
-    input: R,
-) -> Result<ReadSource<BufReader<R>>, Fault>
-    ensures ok { IfOk result (λ source. ⟦<ReadSource<BufReader<R>> as Source>⟧.to_come source
-        ≡ R.remaining input) }
-    ensures err { IfErr result (λ fault. fault ≡ Fault.OutOfMemory) }
-{
-    buffered_source(alloc, HEADER_BUFFER_LEN, input)
 }
 
 /// Makes a source over this reader, for a damaged file. If `skips`, it continues after what cannot
@@ -71,7 +47,8 @@ pub(crate) fn skipping_source<'a, R: Input, K: Begun>(
     }
 }
 
-fn buffered_source<R: Read + Drop>(
+/// Makes a source over this reader, with a buffer of this size.
+pub(crate) fn buffered_source<R: Read + Drop>(
     alloc: Global,
     len: usize,
     input: R,

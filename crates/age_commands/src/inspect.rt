@@ -17,7 +17,7 @@ use std::io::Write;
 use std::{fmt, io};
 
 /// The result of checking a header's MAC.
-#[derive(Clone, Copy, Debug, PartialEq, Eq)]
+#[derive(Clone, Copy)]
 enum Check {
     /// No file key was given.
     None,

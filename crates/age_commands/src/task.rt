@@ -7,7 +7,7 @@ ghost use Rattle.age_file.specs.Device.{is_write};
 ghost use Rattle.age_header.specs.Device.{CountsIf, move_by};
 ghost use Rattle.age_stream.specs.Salvage.{losses_by};
 
-use crate::buffering::{file_source, header_source, source_at_offsets};
+use crate::buffering::{HEADER_BUFFER_LEN, buffered_source, source_at_offsets};
 use crate::decrypt::decrypt;
 use crate::encrypt::encrypt;
 use crate::inspect::inspect;
@@ -15,7 +15,7 @@ use crate::range::range_of;
 use crate::rewrap::rewrap;
 use crate::salvage::{Report, salvage_all};
 use crate::seed::Seed;
-use age_file::{Done, Fault, ReadSource, Sink};
+use age_file::{BUFFER_SIZE, Done, Fault, ReadSource, Sink};
 use age_job::{Input, Job, Secret};
 use std::alloc::Global;
 use std::marker::Brand;
@@ -64,15 +64,15 @@ pub fn perform_between<R: Input, W: Sink, L: Report>(
             without_counts(encrypt(alloc, job, secret, &seed, &mut ReadSource::new(input), out))
         }
         Task::Decrypt(secret) => {
-            let mut source = file_source(alloc, input)?;
+            let mut source = buffered_source(alloc, HEADER_BUFFER_LEN, input)?;
             without_counts(decrypt(alloc, job, secret, &mut source, out))
         }
         Task::Rewrap(old, new, salt) => {
-            let mut source = file_source(alloc, input)?;
+            let mut source = buffered_source(alloc, HEADER_BUFFER_LEN, input)?;
             rewrap(alloc, job, old, new, salt, &mut source, out)
         }
         Task::Inspect(file_key) => {
-            let mut source = header_source(alloc, input)?;
+            let mut source = buffered_source(alloc, BUFFER_SIZE, input)?;
             inspect(alloc, job, &file_key, &mut source, out)
         }
         Task::Range(secret) => {
