@@ -15,7 +15,7 @@ import fixture
 from fixture import HELLO, KEY, NEW_KEY, with_other_mac
 from messages import filled, message
 from program import AGEP, IO_ERROR, OPENING, ProgramCase, fault, preload, read, write
-from test_calls import ERRORS, YESTERDAY, CallCase, Job
+from test_calls import ERRORS, LONG_PLAIN, YESTERDAY, CallCase, Job
 from test_files import WRITING, Files
 
 ATOMIC = "--atomic -o"
@@ -81,22 +81,26 @@ class Calls(CallCase):
         self.each_call("write", IO_ERROR, self.jobs[6], ATOMIC, self.is_old_or_new)
 
     def test_saved(self):
-        """After a failed read, OUT is what it is without the option: what `salvage` saved, or the old file."""
-        def salvaged(options, source, number):
+        """After a failed read, OUT is as without the option. If its folder cannot be synced then, both faults are told."""
+        def salvaged(options, source, **call):
             write("made", YESTERDAY)
-            env = {"LD_PRELOAD": preload("calls"), "CALL": "read", "NUMBER": str(number), "DO": IO_ERROR}
-            ran = self.run_line(f"salvage -k key {options} made {source}", env=env)
-            return ran.status, ran.err, read("made")
+            ran = self.run_line(f"salvage -k key {options} made {source}", env={"LD_PRELOAD": preload("calls"), "DO": IO_ERROR, **call})
+            return ran.status, ran.err.decode(), read("made")
 
         for source in ("key.age", "<key.age"):
             for number in itertools.count(1):
                 with self.subTest(f"{source}, read {number}"):
-                    expected = salvaged("-o", source, number)
-                    self.assertEqual(salvaged("--atomic -o", source, number), expected)
+                    call = {"CALL": "read", "NUMBER": str(number)}
+                    expected = salvaged("-o", source, **call)
+                    self.assertEqual(salvaged("--atomic -o", source, **call), expected)
                     self.assertFalse(os.path.exists(NEW))
                 if not expected[0]:
                     break
             self.assertGreater(number, 5)
+        os.link("key.age", "IN.age")
+        both = fault("read failed", "reading standard input: Input/output error") + fault("write failed", "syncing .: Input/output error")
+        ran = salvaged("-v --atomic -o", "<IN.age", BAD="70000 200000", CALL="fsync", NUMBER="2")
+        self.assertEqual(ran, (1, both, LONG_PLAIN[:65536]))
 
     def test_order(self):
         """The new file gets its owner and then its permissions; it is written, synced and renamed, in this order,
@@ -405,10 +409,6 @@ class Atomic(Files):
         ):
             with self.subTest(name[:20]):
                 self.changes_nothing(f"CannotCreate: {name}", f"decrypt -v -k key --atomic -o '{name}' key.age", more=f"creating {made}: {reason}")
-        with self.subTest("a link to itself"):
-            os.symlink("linked", "linked")
-            more = "creating linked: Too many levels of symbolic links"
-            self.line_says("CannotCreate: linked", "decrypt -v -k key --atomic -o linked key.age", more=more)
 
     @unittest.skipUnless(os.geteuid() == 0, "needs another user")
     def test_forbidden(self):
