@@ -58,7 +58,7 @@ def enter_examples():
     os.symlink(AGEP, folder + "/bin/agep")
     os.chdir(folder + "/work")
     for name, text in {
-        "passphrase": b"correct horse\n", "old": b"correct horse\n", "new": b"another horse\n", "passphrase.new": b"another horse\n",
+        "passphrase": b"correct horse\n", "old": b"correct horse\n", "new": b"another horse\n",
         "key": os.urandom(32), "recovery.key": os.urandom(32), "seed": os.urandom(48), "notes": b"notes\n", "folder/notes": b"notes\n",
         "dump": b"dump\n", "disk": bytes(1200000),
     }.items():
@@ -191,7 +191,7 @@ class Manual(unittest.TestCase):
     def test_examples(self):
         """Each of EXAMPLES runs in a plain shell, except for a typed passphrase (test_recipes.Typed). Its files
         open; if tar fails, the old backup stays."""
-        secrets = ("-p passphrase", "-p passphrase.new", "-k key", "-k recovery.key")
+        secrets = ("-p passphrase", "-p new", "-k key", "-k recovery.key")
         opened = {"notes.age": "agep decrypt {} notes.age", "folder.tar.age": "agep decrypt {} folder.tar.age | tar xO folder/notes"}
         blocks = re.findall(r"^\.nf\n(.*?)^\.fi$", section("EXAMPLES"), re.MULTILINE | re.DOTALL)
         self.assertGreater(len(blocks), 5)
