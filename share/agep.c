@@ -1,12 +1,12 @@
-/* The program agep of a package: contains the proved program twice, and calls the build that fits
- * the processor. The main of each build is named after its level. This file is not proved. */
+/* The program agep of a package: contains the proved program once for each level of processor, and
+ * calls the build that fits this one. The main of each is named after its level. This file is not
+ * proved. */
 #include <signal.h>
-#include <stdbool.h>
 #include <stdio.h>
 #include <string.h>
 
-int main_x86_64(int argc, char **argv, char **environment);
-int main_x86_64_v3(int argc, char **argv, char **environment);
+typedef int build(int argc, char **argv, char **environment);
+build main_x86_64, main_x86_64_v3, main_x86_64_v4;
 
 /* Answers --version, as the only argument, with the version of the package and the level of the
  * build, because a build knows neither. */
@@ -20,11 +20,19 @@ static int say_version(const char *level)
 
 int main(int argc, char **argv, char **environment)
 {
+    build *fitting = main_x86_64;
+    const char *level = "x86-64";
     __builtin_cpu_init();
-    bool has_v3 = __builtin_cpu_supports("x86-64-v3");
+    if (__builtin_cpu_supports("x86-64-v4")) {
+        fitting = main_x86_64_v4;
+        level = "x86-64-v4";
+    } else if (__builtin_cpu_supports("x86-64-v3")) {
+        fitting = main_x86_64_v3;
+        level = "x86-64-v3";
+    }
     if (argc == 2 && (strcmp(argv[1], "--version") == 0 || strcmp(argv[1], "-V") == 0))
-        return say_version(has_v3 ? "x86-64-v3" : "x86-64");
+        return say_version(level);
     /* A write above the file size limit must fail, and must not end the program. */
     signal(SIGXFSZ, SIG_IGN);
-    return has_v3 ? main_x86_64_v3(argc, argv, environment) : main_x86_64(argc, argv, environment);
+    return fitting(argc, argv, environment);
 }

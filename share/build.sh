@@ -1,13 +1,23 @@
 # Builds the program and the library. ./agep, ./install, ./package, ./release and .ci/run source this
 # file, with the repository's folder in `root`.
-# shellcheck shell=sh disable=SC2154
+# shellcheck shell=sh disable=SC2046,SC2154
 
-# Whether the processor has all of the level x86-64-v3.
-has_v3() {
+# The levels of processor for which the library and the packages' program contain builds, lowest
+# first. Debian and most distributions support x86-64.
+levels="x86-64 x86-64-v3 x86-64-v4"
+
+# Whether this machine's processor has all of a level: runs LEVEL. Any has x86-64-v2.
+runs() {
+    parts="avx avx2 bmi1 bmi2 f16c fma abm movbe xsave"
+    case $1 in
+        x86-64-v4) parts="$parts avx512f avx512bw avx512cd avx512dq avx512vl" ;;
+        x86-64-v3) ;;
+        *) return 0 ;;
+    esac
     flags=" $(sed -n 's/^flags[^:]*: //p' /proc/cpuinfo 2>/dev/null | head -n 1) "
-    for flag in avx avx2 bmi1 bmi2 f16c fma abm movbe xsave; do
+    for part in $parts; do
         case $flags in
-            *" $flag "*) ;;
+            *" $part "*) ;;
             *) return 1 ;;
         esac
     done
@@ -17,11 +27,20 @@ has_v3() {
 processor() {
     if [ -n "${AGEP_CPU:-}" ]; then
         echo "$AGEP_CPU"
-    elif has_v3; then
+    elif runs x86-64-v4; then
+        echo x86-64-v4
+    elif runs x86-64-v3; then
         echo x86-64-v3
     else
         echo x86-64-v2
     fi
+}
+
+# The words by which `rt` builds for a level. LLVM builds for all but x86-64-v4, for which the
+# toolchain refuses it.
+target() {
+    echo "--cpu $1"
+    [ "$1" != x86-64-v4 ] || echo "--backend rattle"
 }
 
 # The version of the toolchain, or nothing if there is none. `rt version` prints the same, but takes
@@ -103,7 +122,6 @@ library() {
 # Ends the script and the proofs that it runs in the background, which do not get an interrupt.
 stop_libraries() {
     for job in "$cipher" $words; do
-        # shellcheck disable=SC2046
         kill "$job" $(cat "/proc/$job/task/$job/children" 2>/dev/null) 2>/dev/null || :
     done
     rm -f "$finished" "$begun"
@@ -182,7 +200,8 @@ build_program() {
     : >"$built.began"
     libraries age_cli
     show proving agep
-    if ! said=$(cd "$root/crates/agep" && rt run --cpu "$2" -- --version 2>&1 </dev/null); then
+    if ! said=$(cd "$root/crates/agep" &&
+        rt run $(target "$2") -- --version 2>&1 </dev/null); then
         show
         printf '%s\n' "$said" >&2
         echo "$1: the build failed" >&2
@@ -220,10 +239,6 @@ Libs: -L\${libdir} -lagefile
 END
 }
 
-# The levels of processor for which the library and the packages' program contain builds. Debian and
-# most distributions support x86-64.
-levels="x86-64 x86-64-v3"
-
 crate=$root/crates/agefile
 
 # Whether the library for a level is current.
@@ -241,7 +256,7 @@ build_library() {
         rm -f "$crate/out/$level.built"
         : >"$crate/out/built.began"
         libraries age_file
-        if ! said=$(cd "$crate" && rt lib --cpu "$level" 2>&1 </dev/null); then
+        if ! said=$(cd "$crate" && rt lib $(target "$level") 2>&1 </dev/null); then
             printf '%s\n' "$said" >&2
             echo "$1: the build failed" >&2
             exit 1
@@ -253,8 +268,8 @@ build_library() {
 
 # Links the builds of build_library into the archive and the shared library, in a folder:
 # link_library FOLDER. Both are made from one object, whose only global names are the functions of
-# agefile.c. They call the two builds, in which agefile_NAME is named x86_64_agefile_NAME or
-# x86_64_v3_agefile_NAME. Three functions of C that allocate come from the toolchain.
+# agefile.c. They call the builds, in which agefile_NAME is named x86_64_agefile_NAME,
+# x86_64_v3_agefile_NAME and so on. Three functions of C that allocate come from the toolchain.
 link_library() {
     parts=$1/parts
     mkdir -p "$parts"

@@ -61,12 +61,12 @@ def instructions_of(file):
 
 
 def functions_of(file):
-    """For each function of a program or archive its name, which is the same in both builds, and its number of
+    """For each function of a program or archive its name, which is the same in all builds, and its number of
     newer instructions."""
     found = [["", 0]]
     for line in disassembled(file):
         if line.endswith(">:"):
-            found.append([line.split()[-1].replace("_v3_", "_"), 0])
+            found.append([re.sub("_v[34]_", "_", line.split()[-1]), 0])
         elif NEWER.search(line):
             found[-1][1] += 1
     return found

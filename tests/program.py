@@ -21,6 +21,8 @@ AGEP = os.path.join(ROOT, "crates", "agep", "out", "agep")
 # The commands that open IN, which must follow, with a key and with a passphrase.
 OPENING = ("decrypt -k key", "range -k key 0 1", "rewrap -k key -K key", "salvage -k key")
 BY_PASSPHRASE = ("decrypt -p pass", "range -p pass 0 1", "rewrap -p pass -K key", "salvage -p pass")
+# The levels of processor for which the packages contain builds, lowest first.
+LEVELS = ("x86-64", "x86-64-v3", "x86-64-v4")
 IO_ERROR, NO_SPACE, INTERRUPTED = "5", "28", "4"
 # How many programs run at a time, since other scripts run at the same time as most of these.
 AT_A_TIME = int(os.environ.get("AT_A_TIME", max(1, (os.cpu_count() or 1) // 2)))
@@ -57,6 +59,13 @@ def fixture_folder():
 
 def copy_fixture(folder):
     shutil.copytree(fixture_folder(), folder, symlinks=True)
+
+
+@made_once
+def levels_here():
+    """Those of LEVELS that this machine's processor has."""
+    script = f'root={ROOT}; . "$root/share/build.sh"; runs "$0"'
+    return [level for level in LEVELS if subprocess.run(["sh", "-c", script, level]).returncode == 0]
 
 
 @made_once

@@ -22,7 +22,7 @@ import test_damaged_files
 import test_vectors
 import testkit
 from messages import message
-from program import AGEP, version
+from program import AGEP, LEVELS, levels_here, version
 
 
 ROOT = Path(__file__).resolve().parent.parent
@@ -46,6 +46,8 @@ int main(void)
         fwrite(front, 1, report.len, stdout) != report.len || !seal(&payload, stdin, stdout);
 }
 """
+# The registers that the system saves if it supports a level, as xgetbv tells them.
+SAVED = {"x86-64": 0, "x86-64-v3": 6, "x86-64-v4": 0xE6}
 USAGE = """usage: ./install [--uninstall] [PREFIX]
        ./install --library [--libdir=DIR] [--uninstall] [PREFIX]
 """
@@ -104,7 +106,7 @@ def prefix():
     (folder / "include").mkdir(parents=True)
     (folder / "include/other.h").touch(0o644)
     done = run(ROOT / "install", "--library", folder, umask=0o077, status=0)
-    if not re.fullmatch(rb"(install: building the library for x86-64(-v3)?; its proofs are checked first\n)*", done.stderr):
+    if not re.fullmatch(rb"(install: building the library for x86-64(-v\d)?; its proofs are checked first\n)*", done.stderr):
         raise AssertionError(done.stderr)
     return folder
 
@@ -123,25 +125,27 @@ def archive():
     return prefix() / "lib/libagefile.a"
 
 
+def saving(level):
+    """The flags of a C compiler for a system that saves the registers of this level alone."""
+    (work() / "saving.h").write_text("#include <immintrin.h>\n#define _xgetbv(number) (0 * (number) + SAVED)\n")
+    return f"-include{work()}/saving.h", f"-DSAVED={SAVED[level]}"
+
+
 @functools.cache
-def older():
-    """The same on a processor without x86-64-v3: here cpuid reports nothing."""
-    (work() / "older.h").write_text("#include <cpuid.h>\n#define __get_cpuid(...) 0\n")
-    (work() / "older_cc").write_text(f'#!/bin/sh\nexec cc -include {work()}/older.h "$@"\n')
-    (work() / "older_cc").chmod(0o755)
-    (work() / "temporary").mkdir()
-    variables = {"CC": str(work() / "older_cc"), "TMPDIR": str(work() / "temporary")}
-    run(ROOT / "install", "--library", "older", cwd=work(), umask=0o077, env=os.environ | variables, status=0)
-    return work() / "older/lib/libagefile.a"
+def held_to(level):
+    """An archive that calls the build for this level."""
+    compiler, temporary = work() / f"cc_{level}", work() / "temporary"
+    compiler.write_text(f'#!/bin/sh\nexec cc {" ".join(saving(level))} "$@"\n')
+    compiler.chmod(0o755)
+    temporary.mkdir(exist_ok=True)
+    variables = {"CC": str(compiler), "TMPDIR": str(temporary)}
+    run(ROOT / "install", "--library", level, cwd=work(), umask=0o077, env=os.environ | variables, status=0)
+    return work() / level / "lib/libagefile.a"
 
 
-def has_v3():
-    return run("sh", "-c", f'root={ROOT}; . "$root/share/build.sh"; has_v3').returncode == 0
-
-
-def both_builds():
+def each_build():
     """For each build of the proved code that this processor can run, an archive that calls it."""
-    return {"": (archive(),), "as on an older processor": (older(),)} if has_v3() else {"": (archive(),)}
+    return {level: (held_to(level) if level != levels_here()[-1] else archive(),) for level in levels_here()}
 
 
 def files_of(folder):
@@ -184,7 +188,7 @@ class Installing(unittest.TestCase):
             "644 include/agefile.h", "644 include/other.h", "644 lib/libagefile.a", f"lib/libagefile.so -> {SONAME}", f"755 lib/{SONAME}",
             "644 lib/pkgconfig/agefile.pc",
         ])
-        for folder in (prefix() / "lib", prefix() / "lib/pkgconfig", older().parents[1]):
+        for folder in (prefix() / "lib", prefix() / "lib/pkgconfig", held_to("x86-64").parents[1]):
             self.assertEqual(folder.stat().st_mode & 0o777, 0o755, folder)
         self.assertEqual(list((work() / "temporary").iterdir()), [])
         self.assertEqual((prefix() / "include/agefile.h").read_bytes(), HEADER.read_bytes())
@@ -226,13 +230,17 @@ class Names(unittest.TestCase):
         self.assertEqual(names_in("-D", "--defined-only", prefix() / "lib" / SONAME), versioned)
 
     def test_builds(self):
-        """The archive and the shared library contain code for x86-64-v3, as its registers show."""
+        """The archive and the shared library contain code for x86-64-v3, as its registers show, and for x86-64-v4,
+        as its rotations show."""
         for library in (archive(), prefix() / "lib" / SONAME):
-            self.assertGreater(said("objdump", "-d", library).count("%ymm"), 1000, library.name)
+            code = said("objdump", "-d", library)
+            self.assertGreater(code.count("%ymm"), 1000, library.name)
+            self.assertGreater(code.count("\tvprold "), 100, library.name)
 
     def test_what_they_need(self):
-        """They need malloc, realloc, free, functions on memory, and no library but libc."""
-        needed = {"free", "malloc", "realloc", "memcpy", "memmove", "memset", "memcmp"}
+        """They need malloc, realloc, free, functions on memory, and no library but libc. The linker defines the last
+        name."""
+        needed = {"free", "malloc", "realloc", "memcpy", "memmove", "memset", "memcmp", "_GLOBAL_OFFSET_TABLE_"}
         self.assertLessEqual(set(names_in("-u", archive())), needed)
         text = said("readelf", "-Wdl", prefix() / "lib" / SONAME)
         self.assertIn(f"[{SONAME}]", text)
@@ -282,16 +290,28 @@ class Processors(unittest.TestCase):
 
     def test_this_processor(self):
         """The build that fits the processor is called, never with a null pointer."""
-        self.assertEqual(said(self.passed(*sanitizers())), "x86-64-v3\n" if has_v3() else "x86-64\n")
-        self.assertEqual(said(self.passed(f"-include{older().parents[2]}/older.h")), "x86-64\n")
+        (work() / "older.h").write_text("#include <cpuid.h>\n#define __get_cpuid(leaf, a, b, c, d) (*(b) = 0)\n")
+        self.assertEqual(said(self.passed(*sanitizers())), f"{levels_here()[-1]}\n")
+        self.assertEqual(said(self.passed(f"-include{work()}/older.h")), "x86-64\n")
 
-    @unittest.skipUnless(has_v3(), "this processor is not of the level x86-64-v3")
     def test_registers(self):
-        """The build for x86-64-v3 is called only if the system saves both halves of the AVX registers."""
-        (work() / "system.h").write_text("#include <immintrin.h>\n#define _xgetbv(number) (0 * (number) + KEPT)\n")
-        for kept in range(8):
-            found = said(self.passed(f"-include{work()}/system.h", f"-DKEPT={kept}"))
-            self.assertEqual(found, "x86-64-v3\n" if kept >= 6 else "x86-64\n", kept)
+        """A build is called only if the system saves all registers of its level."""
+        for saved in {*range(8), 0xE6, *(0xE6 & ~(1 << bit) for bit in range(8))}:
+            flags = (*saving("x86-64")[:1], f"-DSAVED={saved}")
+            fitting = [level for level in levels_here() if saved & SAVED[level] == SAVED[level]]
+            self.assertEqual(said(self.passed(*flags)), f"{fitting[-1]}\n", saved)
+
+    def test_parts(self):
+        """The build for x86-64-v4 is called only if no part of that level is missing. No emulator has them."""
+        (work() / "lacking.h").write_text(
+            "#include <cpuid.h>\n"
+            "static inline int lacking(unsigned leaf, unsigned part, unsigned *a, unsigned *b, unsigned *c, unsigned *d)\n"
+            "{ int known = __get_cpuid_count(leaf, part, a, b, c, d); *b &= ~LACKED; return known; }\n"
+            "#define __get_cpuid_count lacking\n"
+        )
+        for part in "F BW CD DQ VL".split():
+            found = said(self.passed(f"-include{work()}/lacking.h", f"-DLACKED=bit_AVX512{part}"))
+            self.assertEqual(found, f"{levels_here()[:2][-1]}\n", part)
 
     @needs("qemu-x86_64")
     def test_other_processors(self):
@@ -462,18 +482,18 @@ class Calls(unittest.TestCase):
                     done = run(*emulator, program, name, env=os.environ | placing)
                     self.assertEqual((done.returncode, done.stderr), (0, b""), done.stdout.decode() + done.stderr.decode())
 
-    def by_both_builds(self, name, *flags):
-        for title, library in both_builds().items():
-            self.each_test(built(name, *sanitizers(), *flags, library=library), f"{name} {title}".strip())
+    def by_each_build(self, name, *flags):
+        for level, library in each_build().items():
+            self.each_test(built(name, *sanitizers(), *flags, library=library), f"{name} {level}")
 
     def test_buffers(self):
-        self.by_both_builds("buffers")
+        self.by_each_build("buffers")
 
     def test_steps(self):
-        self.by_both_builds("steps")
+        self.by_each_build("steps")
 
     def test_headers(self):
-        self.by_both_builds("headers")
+        self.by_each_build("headers")
 
     @needs("qemu-x86_64")
     def test_older_processors(self):
@@ -495,7 +515,7 @@ class Calls(unittest.TestCase):
         shutil.copy2(made, kept)
         try:
             run("rt", "lib", "--backend", "rattle", cwd=ROOT / "crates/agefile", status=0)
-            for level in ("x86-64", "x86-64-v3"):
+            for level in LEVELS:
                 shutil.copy(made, second / f"out/{level}.a")
         finally:
             shutil.copy2(kept, made)
@@ -506,8 +526,8 @@ class Calls(unittest.TestCase):
     def test_random_calls(self):
         """Calls with each pointer null or each allocation refused, and random calls, agree with a model of the
         library in Python."""
-        for title, library in both_builds().items():
-            with self.subTest(title):
+        for level, library in each_build().items():
+            with self.subTest(level):
                 driver = built("driver", *sanitizers(), *REFUSING, f"-I{texts()}", library=library)
                 done = run(sys.executable, TESTS / "random_calls.py", driver, RANDOM_CALLS)
                 self.assertEqual((done.returncode, done.stderr), (0, b""), done.stdout.decode() + done.stderr.decode())
@@ -535,7 +555,7 @@ class Calls(unittest.TestCase):
     def test_threads(self):
         """Eight threads at once and a forked child, at most 24 of 32 KiB of stack, and no changed signal
         handler."""
-        for library in both_builds().values():
+        for library in each_build().values():
             self.assertGreater(int(said(built("threads", "-O2", library=library))), 0)
 
 

@@ -22,7 +22,7 @@ import test_damaged_files
 import test_salvage
 import test_vectors
 import testkit
-from program import AGEP
+from program import AGEP, LEVELS, levels_here
 from program import version as last_release
 
 sys.path.append(str(Path(__file__).resolve().parent / "library"))
@@ -189,19 +189,20 @@ class Packages(unittest.TestCase):
                 yield pattern, path
 
     def test_instructions(self):
-        """Each program has a build for x86-64-v3, and one without any instruction that a processor of the level
-        x86-64 may lack: a quarter of its instructions are in one row. In the archives each function of the proved
-        code occurs twice."""
+        """Each program has builds for newer processors, and one without any instruction that a processor of the level
+        x86-64 may lack: a fifth of its instructions are in one row. In the archives each export with such an
+        instruction also occurs without any."""
         for name, path in self.programs():
             with self.subTest(f"{name}: {path.name}"):
                 row, newer, every = instructions_of(path)
                 self.assertGreater(newer, 1000)
-                self.assertGreater(row, every / 4)
+                self.assertGreater(row, every / 5)
         for pattern in ("libagefile-dev_*.deb", "agep-*.tar.xz"):
             (archive,) = self.unpacked(pattern).rglob("libagefile.a")
             with self.subTest(f"{pattern}: libagefile.a"):
-                newer, older = ({name for name, count in functions_of(archive) if (count > 0) == is_newer} for is_newer in (True, False))
-                self.assertGreater(len(newer), 30)
+                exports = [(name, count) for name, count in functions_of(archive) if "x86_64_agefile_" in name]
+                newer, older = ({name for name, count in exports if (count > 0) == is_newer} for is_newer in (True, False))
+                self.assertGreater(len(newer), 20)
                 self.assertEqual(newer - older, set())
 
     @needs("cc", "qemu-x86_64")
@@ -309,7 +310,7 @@ class Packages(unittest.TestCase):
     def test_program(self):
         root = self.unpacked("agep_*.deb")
         agep = root / "usr/bin/agep"
-        self.assertEqual(run(agep, "--version"), f"agep {self.version} ({level()})\n")
+        self.assertEqual(run(agep, "--version"), f"agep {self.version} ({levels_here()[-1]})\n")
         (self.work / "pass").write_text("correct horse\n")
         self.assertEqual(run(agep, "decrypt", "-p", self.work / "pass", SECRET), "hello\n")
         alone = shutil.copy(agep, self.work / "copy")
@@ -442,7 +443,7 @@ class Packages(unittest.TestCase):
         self.assertEqual(len(commands), 4)
         words = "; ".join(["set -e", *commands[:3], "agep --version", "ldd program", "touch ~/.local/bin/other", commands[3]])
         said = run("bash", "-c", words, cwd=home, env={"HOME": str(home), "PATH": os.environ["PATH"]})
-        self.assertIn(f"agep {self.version} ({level()})\n", said)
+        self.assertIn(f"agep {self.version} ({levels_here()[-1]})\n", said)
         self.assertIn(f" => {home}/.local/lib/", said)
         left = [str(path.relative_to(home)) for path in home.rglob("*") if path.is_file() or path.is_symlink()]
         self.assertEqual(sorted(left), sorted([".local/bin/other", *(path.name for path in home.glob("*") if path.is_file())]))
@@ -478,16 +479,10 @@ class Packages(unittest.TestCase):
         self.assertEqual(run(*in_a_namespace(":"), "chroot", root, "/agep-static", "decrypt", "-p", "pass", "file"), "hello\n")
 
 
-def level():
-    """The level of the build that this processor runs."""
-    has_v3 = subprocess.run(["sh", "-c", f'root={ROOT}; . "$root/share/build.sh"; has_v3']).returncode == 0
-    return "x86-64-v3" if has_v3 else "x86-64"
-
-
 # Stand-ins for the builds: each prints its name and its first argument, if it gets the environment.
 STAND_INS = "extern char **environ;\n" + "".join(
-    f'int main_{build}(int n, char **words, char **all) {{ return n < 2 || all != environ || printf("{level} %s\\n", words[1]) < 0; }}\n'
-    for build, level in (("x86_64", "x86-64"), ("x86_64_v3", "x86-64-v3"))
+    f'int main_{level.replace("-", "_")}(int n, char **words, char **all) {{ return n < 2 || all != environ || printf("{level} %s\\n", words[1]) < 0; }}\n'
+    for level in LEVELS
 )
 
 
@@ -510,9 +505,9 @@ class Chooser(unittest.TestCase):
 
     def test_this_processor(self):
         """The build that fits the processor is called."""
-        self.calls(level(), self.compile())
-        for answer, build in (('__builtin_strcmp(level, "x86-64-v3") == 0', "x86-64-v3"), ("((void)level, 0)", "x86-64")):
-            self.calls(build, self.compile(f"-D__builtin_cpu_supports(level)=({answer})"))
+        self.calls(levels_here()[-1], self.compile())
+        for level in LEVELS:
+            self.calls(level, self.compile(f'-D__builtin_cpu_supports(level)=(__builtin_strcmp(level, "{level}") <= 0)'))
 
     @needs("qemu-x86_64")
     def test_other_processors(self):
@@ -527,7 +522,7 @@ class Chooser(unittest.TestCase):
         agep = self.compile()
         done = subprocess.run(["sh", "-c", 'exec "$0" --version >/dev/full', agep], capture_output=True, text=True)
         self.assertEqual((done.returncode, done.stderr), (1, "agep: write failed\n"))
-        self.assertEqual(run(agep, "--version", "word"), f"{level()} --version\n")
+        self.assertEqual(run(agep, "--version", "word"), f"{levels_here()[-1]} --version\n")
 
 
 @functools.cache

@@ -13,7 +13,7 @@ import unittest
 from pathlib import Path
 
 import stand_in
-from program import AGEP, ROOT, read, scratch, version, write
+from program import AGEP, LEVELS, ROOT, read, scratch, version, write
 
 # It logs its calls, makes each file that the scripts take from it, and runs a script that a test
 # sets. By itself it is of kit two.
@@ -24,9 +24,14 @@ mkdir -p out
 touch out/agep.o out/libagefile.a
 [ ! -f "$folder/meanwhile" ] || . "$folder/meanwhile"
 """
-LEVELS = ("x86-64", "x86-64-v3")
-PROGRAM = "agep run --cpu {} -- --version"
-LIBRARIES = [f"agefile lib --cpu {level}" for level in LEVELS]
+
+
+def for_program(level):
+    """What ./agep asks of it for a level. LLVM is refused for x86-64-v4."""
+    return f"agep run --cpu {level}{' --backend rattle' * (level == 'x86-64-v4')} -- --version"
+
+
+LIBRARIES = ["agefile lib --cpu x86-64", "agefile lib --cpu x86-64-v3", "agefile lib --cpu x86-64-v4 --backend rattle"]
 # Set as that script: the two libraries that are proved in parallel with others end after these.
 LAST = """
 case $PWD in *cipher) other=age_header ;; *words) other=age_file ;; esac
@@ -38,9 +43,9 @@ echo "${{PWD##*/}} is done" >>{0}
 # What each script has the toolchain build if AGEP_CPU is x86-64-v9. The last one fails when it
 # links the files of the stand-in.
 SCRIPTS = {
-    "agep --version": [PROGRAM.format("x86-64-v9")],
-    "install prefix": [PROGRAM.format("x86-64-v9")],
-    "package --build": sorted(LIBRARIES + [PROGRAM.format(level) for level in LEVELS]),
+    "agep --version": [for_program("x86-64-v9")],
+    "install prefix": [for_program("x86-64-v9")],
+    "package --build": sorted([*LIBRARIES, *map(for_program, LEVELS)]),
     "install --library prefix": LIBRARIES,
 }
 
@@ -109,26 +114,28 @@ class Builds(unittest.TestCase):
     def test_processors(self):
         """The program is built for the processor that AGEP_CPU names, and the packages always for theirs."""
         for script, level, is_built in (
-            ("agep --version", "x86-64-v2", True), ("install prefix", "x86-64-v2", False), ("install prefix", "x86-64-v4", True),
-            ("agep --version", "x86-64-v4", False), ("agep --version", "x86-64-v2", False),
+            ("agep --version", "x86-64-v2", True), ("install prefix", "x86-64-v2", False), ("install prefix", "x86-64-v5", True),
+            ("agep --version", "x86-64-v5", False), ("agep --version", "x86-64-v2", False),
         ):
-            self.assertEqual(self.asked(script, AGEP_CPU=level), [PROGRAM.format(level)] * is_built, f"{script} for {level}")
+            self.assertEqual(self.asked(script, AGEP_CPU=level), [for_program(level)] * is_built, f"{script} for {level}")
         self.assertEqual(self.asked("package --build", AGEP_CPU="x86-64-v2"), SCRIPTS["package --build"])
         program = "tree/crates/agep/out/agep"
-        write(f"{program}-x86-64-v4", read(AGEP) + b"v4")
-        for level in ("x86-64-v2", "x86-64-v4", "x86-64-v2", "x86-64-v4"):
+        write(f"{program}-x86-64-v5", read(AGEP) + b"v5")
+        for level in ("x86-64-v2", "x86-64-v5", "x86-64-v2", "x86-64-v5"):
             self.assertEqual(self.asked("agep --version", AGEP_CPU=level), [], "the programs of ./agep stay")
             self.assertEqual(read(program), read(f"{program}-{level}"), level)
 
     def test_levels(self):
-        """If AGEP_CPU is not set, a build is for x86-64-v3 if the processor has all of that level."""
-        parts = "avx avx2 bmi1 bmi2 f16c fma abm movbe xsave".split()
+        """If AGEP_CPU is not set, a build is for the highest level of which the processor has all."""
+        third, fourth = "avx avx2 bmi1 bmi2 f16c fma abm movbe xsave", "avx512f avx512bw avx512cd avx512dq avx512vl"
         script = 'root=tree; . tree/share/build.sh; sed() { echo "$FLAGS"; }; processor'
-        for part in ("", *parts):
-            flags = " ".join(["fpu", *(each for each in parts if each != part), "sse"])
-            environment = {**self.environment, "AGEP_CPU": "", "FLAGS": flags}
-            said = subprocess.check_output(["sh", "-c", script], env=environment, text=True)
-            self.assertEqual(said, "x86-64-v2\n" if part else "x86-64-v3\n", f"without {part}")
+        every = f"{third} {fourth}".split()
+        for level, parts in ("x86-64-v4", [""]), ("x86-64-v3", fourth.split()), ("x86-64-v2", third.split()):
+            for part in parts:
+                flags = " ".join(["fpu", *(each for each in every if each != part), "sse"])
+                environment = {**self.environment, "AGEP_CPU": "", "FLAGS": flags}
+                said = subprocess.check_output(["sh", "-c", script], env=environment, text=True)
+                self.assertEqual(said, f"{level}\n", f"without {part}")
 
     def test_order(self):
         """Each library is proved once, after those that it depends on. A line says how many are left."""
@@ -203,7 +210,7 @@ class Builds(unittest.TestCase):
         self.asked("agep --version")
         for script, name, lines in (
             ("agep --version", "agep/out/agep", []), ("package --build", "agefile/out/x86-64.a", LIBRARIES[:1]),
-            ("package --build", "agep/out/agep-x86-64-v3.o", [PROGRAM.format("x86-64-v3")]),
+            ("package --build", "agep/out/agep-x86-64-v3.o", [for_program("x86-64-v3")]),
         ):
             os.remove(f"tree/crates/{name}")
             self.assertEqual(self.asked(script), lines, name)

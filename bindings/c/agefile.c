@@ -1,38 +1,41 @@
 /* agefile.c: the functions of agefile.h, as the library exports them. The library contains the
- * proved code twice, built for any x86-64 and for x86-64-v3. Each function checks for null
- * pointers, as agefile.h says, and calls the build that fits the processor. This file is not
- * proved. */
+ * proved code once for each level of processor: any x86-64, x86-64-v3 and x86-64-v4. Each function
+ * checks for null pointers, as agefile.h says, and calls the build that fits the processor. This
+ * file is not proved. */
 #include "agefile.h"
 #include <cpuid.h>
 #include <immintrin.h>
 
-/* Whether the processor has all of x86-64-v3, and the system saves the AVX registers. The attribute
- * is for _xgetbv, which runs only if the processor has it (OSXSAVE). */
-__attribute__((target("xsave"))) static bool find_v3(void)
+/* The number of the level: 4 or 3 if the processor has all of x86-64-v4 or of x86-64-v3, and the
+ * system saves the registers of AVX-512 or AVX; otherwise 1. The attribute is for _xgetbv, which
+ * runs only if the processor has it (OSXSAVE). */
+__attribute__((target("xsave"))) static int find_level(void)
 {
     const unsigned first = bit_SSE3 | bit_SSSE3 | bit_FMA | bit_CMPXCHG16B | bit_SSE4_1 |
                            bit_SSE4_2 | bit_MOVBE | bit_POPCNT | bit_OSXSAVE | bit_AVX | bit_F16C;
     const unsigned seventh = bit_BMI | bit_AVX2 | bit_BMI2, extended = bit_LAHF_LM | bit_LZCNT;
-    unsigned a, b, c, d;
+    const unsigned wide = bit_AVX512F | bit_AVX512BW | bit_AVX512CD | bit_AVX512DQ | bit_AVX512VL;
+    unsigned a, b, c, d, parts;
     if (!__get_cpuid(1, &a, &b, &c, &d) || (c & first) != first ||
-        !__get_cpuid_count(7, 0, &a, &b, &c, &d) || (b & seventh) != seventh ||
-        !__get_cpuid(0x80000001, &a, &b, &c, &d) || (c & extended) != extended)
-        return false;
-    return (_xgetbv(0) & 6) == 6;
+        !__get_cpuid_count(7, 0, &a, &parts, &c, &d) || (parts & seventh) != seventh ||
+        !__get_cpuid(0x80000001, &a, &b, &c, &d) || (c & extended) != extended ||
+        (_xgetbv(0) & 6) != 6)
+        return 1;
+    return (parts & wide) == wide && (_xgetbv(0) & 0xe6) == 0xe6 ? 4 : 3;
 }
 
-/* Whether to call the build for x86-64-v3. The processor is asked once; threads that do so at the
- * same time store the same answer. */
-static bool has_v3(void)
+/* The same. The processor is asked once; threads that do so at the same time store the same
+ * answer. */
+static int level(void)
 {
-    enum { UNKNOWN, YES, NO };
+    enum { UNKNOWN };
     static int stored = UNKNOWN;
     int answer = __atomic_load_n(&stored, __ATOMIC_RELAXED);
     if (answer == UNKNOWN) {
-        answer = find_v3() ? YES : NO;
+        answer = find_level();
         __atomic_store_n(&stored, answer, __ATOMIC_RELAXED);
     }
-    return answer == YES;
+    return answer;
 }
 
 /* Replaces a null pointer with the length 0. It is neither read nor written. */
@@ -45,13 +48,17 @@ static const agefile_stanza_summary nothing;
     if (pointer == NULL)                      \
         pointer = (void *)&nothing;
 
-/* A function: its checks, and then the call. share/build.sh gives the two builds these names. */
-#define FUNCTION(result, name, parameters, checks, arguments)                                   \
-    __typeof__(agefile_##name) x86_64_agefile_##name, x86_64_v3_agefile_##name;                 \
-    result agefile_##name parameters                                                            \
-    {                                                                                           \
-        checks                                                                                  \
-        return has_v3() ? x86_64_v3_agefile_##name arguments : x86_64_agefile_##name arguments; \
+/* A function: its checks, and then the call. share/build.sh gives the builds these names. */
+#define FUNCTION(result, name, parameters, checks, arguments)                   \
+    __typeof__(agefile_##name) x86_64_agefile_##name, x86_64_v3_agefile_##name, \
+        x86_64_v4_agefile_##name;                                               \
+    result agefile_##name parameters                                            \
+    {                                                                           \
+        checks                                                                  \
+        const int fits = level();                                               \
+        return (fits == 4   ? x86_64_v4_agefile_##name                          \
+                : fits == 3 ? x86_64_v3_agefile_##name                          \
+                            : x86_64_agefile_##name)arguments;                  \
     }
 
 /* Closes a struct that a function will open; it stays closed if a pointer is refused. */

@@ -9,6 +9,7 @@ ROOT = Path(__file__).resolve().parent.parent.parent
 sys.path.append(str(ROOT / "share/generate"))
 
 from calls import IN_C, LAYOUT, Export, Value, nonnull, snake
+from program import LEVELS
 
 WORDS = {word: kind for kind, word in IN_C.items()}
 FUNCTION = re.compile(r"(AGEFILE_CALL\(\([\d, ]+\)\) )?(static inline )?(uint\d+_t) agefile_(\w+)\(([^)]*)\)( AGEFILE_\w+(?:\(\([\d, ]+\)\))?;| \{)")
@@ -97,16 +98,16 @@ def _arguments(function):
 
 
 def stand_ins(header):
-    """For passed.c: the functions of both builds, and a table of all calls."""
+    """For passed.c: the functions of all builds, and a table of all calls."""
     functions, rows = [], []
     for function in header.exports:
         found, result = list(_arguments(function)), IN_C[function.result]
         parameters = ", ".join(map(_in_c, function.parameters)) or "void"
         values = ", ".join(f"(uintptr_t){name}" for name, _, _ in found) or "0"
-        for build, by_v3 in (("x86_64", "false"), ("x86_64_v3", "true")):
-            functions.append(f"{result} {build}_agefile_{function.name}({parameters});")
-            taken = f"took({by_v3}, (const uintptr_t[]){{{values}}}, {len(found)})"
-            functions.append(f"{result} {build}_agefile_{function.name}({parameters}) {{ return ({result}){taken}; }}")
+        for level in LEVELS:
+            declared = f"{result} {level.replace('-', '_')}_agefile_{function.name}({parameters})"
+            taken = f'took("{level}", (const uintptr_t[]){{{values}}}, {len(found)})'
+            functions += [f"{declared};", f"{declared} {{ return ({result}){taken}; }}"]
         passed = ", ".join(f"({kind})a[{i}]" for i, (_, kind, _) in enumerate(found))
         unused = "" if found else "(void)a; "
         functions.append(f"static uint64_t make_{function.name}(const uintptr_t *a) {{ {unused}return agefile_{function.name}({passed}); }}")
