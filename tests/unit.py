@@ -22,7 +22,7 @@ sys.dont_write_bytecode = True
 import program
 
 # These build something first, which takes long, or test the tools: other scripts run them.
-ALONE = {"test_" + name for name in "avx2 failing_commands library packages releases".split()}
+ALONE = {"test_" + name for name in "failing_commands levels library packages releases".split()}
 
 
 class Result(unittest.TestResult):
