@@ -3,7 +3,7 @@
 import os
 import shutil
 
-from program import ROOT
+from program import ROOT, read, write
 
 RT = """case $1 in doc | version) exec "{rt}" "$@" ;; esac
 built={root}/crates/${{PWD##*/}}/out
@@ -29,6 +29,12 @@ def tool(path, script):
     with open(path, "w") as file:
         file.write(f"#!/bin/sh\n{script}\n")
     os.chmod(path, 0o755)
+
+
+def processor(tree, file):
+    """Makes a file by which the scripts of a tree find that the processor has all of x86-64-v4."""
+    write(file, b"flags\t\t: fpu avx avx2 bmi1 bmi2 f16c fma abm movbe xsave avx512f avx512bw avx512cd avx512dq avx512vl\n")
+    write(f"{tree}/share/build.sh", read(f"{tree}/share/build.sh").replace(b"/proc/cpuinfo", os.fsencode(file)))
 
 
 def toolchain(folder, *hidden):

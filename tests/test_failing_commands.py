@@ -85,6 +85,7 @@ class Fails(unittest.TestCase):
         tree = cls.kit / "made/tree"
         make_tree(tree)
         write(tree / "package", read(tree / "package").replace(b"/usr/bin/python3", b"python"))
+        stand_in.processor(tree, cls.kit / "cpuinfo")
         write(tree / ".ci/run", b"#!/bin/sh\n")
         write(tree / "share/signers", b'maintainers namespaces="git,cushionduck" ' + read(cls.kit / "made/key.pub"))
         write(tree / "share/project", b"Maintainer: Name <name@host>\nHomepage: https://host/\nVcs-Git: https://host/git\n")

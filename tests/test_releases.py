@@ -235,6 +235,7 @@ class Release(Case):
         self.write(".ci/run", f"#!/bin/sh\ngit log -1 --format=%s >>{self.work}/gate\ntest ! -e {self.work}/wrong\n")
         _, _, older = (ROOT / "CHANGELOG.md").read_text().partition(f"\n## {LAST} ")
         self.write("CHANGELOG.md", f"{UNRELEASED}\n## {LAST} {older}")
+        stand_in.processor(self.tree, self.work / "cpuinfo")
         self.before = self.commit()
 
     def release(self, version="80.9.2"):
@@ -299,6 +300,9 @@ class Release(Case):
         self.folder.mkdir()
         (self.folder / "file").touch()
         self.refused(f"release: {self.folder} is not empty", *self.release())
+        (self.folder / "file").unlink()
+        (self.work / "cpuinfo").write_text("flags\t\t: fpu avx avx2\n")
+        self.refused("release: this processor lacks AVX-512, so it cannot test the build for x86-64-v4", *self.release())
         self.assertEqual((self.git("rev-parse", "HEAD")[:10], self.git("tag")), (self.before, ""))
         self.refused("release: /absent is not a private SSH key", "./release", "80.9.2", "/absent", self.folder / "new")
         self.git("tag", "80.9.2")
