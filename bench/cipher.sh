@@ -1,31 +1,59 @@
 #!/usr/bin/env bash
 # Builds cipher_bench for a level of processor, and counts the instructions that the compiler made
-# of Poly1305's loop: status 1 if there are more than expected. Usage: bench/cipher.sh [CPU]. CPU is
-# a level such as x86-64-v3; the default is the toolchain's.
+# of the loops of ChaCha20 and Poly1305: status 1 if they are not those expected. Usage:
+# bench/cipher.sh [CPU]. CPU is a level such as x86-64-v3; the default is this machine's.
 set -euo pipefail
-cpu=${1:-}
-cd "$(dirname "$0")/../crates/cipher_bench"
+root=$(cd "$(dirname "$0")/.." && pwd -P)
+source "$root/share/build.sh"
+cpu=${1:-$(processor)}
+cd "$root/crates/cipher_bench"
 
-if ! said=$(rt run ${cpu:+--cpu "$cpu"} -- seal 65536 1 7 2>&1); then
+# For each level its widest register, the shifts or rotations of ChaCha20 on such registers and the
+# most vectors that its loop stores on the stack, and the same for the multiplications of Poly1305.
+# Other numbers mean slower code: the compiler no longer sees that factors have 32 bits (three times
+# the multiplications), takes narrower registers, or works in an order for which these are too few.
+expected="x86-64 xmm 64 100 150 30
+x86-64-v2 xmm 32 90 150 30
+x86-64-v3 ymm 16 10 75 8"
+
+# The counts of a level's registers: counts REGISTER. ChaCha20's loop has all its shifts, and
+# Poly1305's the first two thirds of its multiplications; each is in one function.
+counts() {
+    objdump -d --no-show-raw-insn out/cipher_bench | awk -v wide="%$1" '
+        /^[0-9a-f]+ <.*>:$/ { name = $2 }
+        /mov[a-z0-9]* +%[xyz]mm[0-9]+,[^ ]*\(%r[sb]p/ { stores[name]++ }
+        index($0, wide) && /pslld|prold/ { note("shifts") }
+        index($0, wide) && /pmuludq/ { note("products") }
+        function note(what) {
+            before[what, name, ++count[what, name]] = stores[name] + 0
+            if (count[what, name] > most[what]) {
+                most[what] = count[what, name]
+                place[what] = name
+            }
+        }
+        function stored(what, last) {
+            return before[what, place[what], last] - before[what, place[what], 1]
+        }
+        END {
+            print most["shifts"] + 0, stored("shifts", most["shifts"]),
+                most["products"] + 0, stored("products", int(most["products"] * 2 / 3))
+        }'
+}
+
+if ! row=$(grep "^$cpu " <<<"$expected"); then
+    echo "no numbers for $cpu" >&2
+    exit 1
+fi
+# shellcheck disable=SC2046
+if ! said=$(rt run $(target "$cpu") -- seal 65536 1 7 2>&1); then
     echo "$said" >&2
     exit 1
 fi
-
-# The loop multiplies eight blocks in 50 vectors, and the code after it four blocks in 25: 75
-# pmuludq if a register holds four words of 64 bits, 150 if it holds two. If the compiler no longer
-# sees that the factors have 32 bits, there are three times as many. Between the first and the last
-# of the 50, the loop stores 4 vectors on the stack; if it multiplies in another order, it stores
-# many more.
-read -r multiplications stores < <(objdump -d --no-show-raw-insn out/cipher_bench | awk '
-    /^[0-9a-f]+ <.*>:$/ { inside = /fours::whole_fours/ }
-    inside && /mov[a-z]* +%[xy]mm[0-9]+,[^ ]*\(%r[sb]p\)/ { latest++ }
-    inside && /pmuludq/ { if (multiplications++ && multiplications <= 50) stores += latest; latest = 0 }
-    END { print multiplications + 0, stores + 0 }')
-echo "Poly1305's loop: $multiplications pmuludq, $stores stores"
-if [[ $multiplications != 75 && $multiplications != 150 ]]; then
-    echo "expected 75 or 150 pmuludq: the loop is slower than it should be" >&2
-    exit 1
-elif [[ $multiplications == 75 && $stores -gt 8 ]]; then
-    echo "expected at most 8 stores: the loop is slower than it should be" >&2
+read -r _ wide shifts stores products more_stores <<<"$row"
+read -ra found < <(counts "$wide")
+echo "ChaCha20: ${found[0]} shifts, ${found[1]} stores"
+echo "Poly1305: ${found[2]} multiplications, ${found[3]} stores"
+if ((found[0] != shifts || found[1] > stores || found[2] != products || found[3] > more_stores)); then
+    echo "expected $shifts, at most $stores, $products, at most $more_stores: the code is slower" >&2
     exit 1
 fi

@@ -32,7 +32,8 @@ AGEP = ROOT / "crates/agep/out/agep"
 CIPHER = ROOT / "crates/cipher_bench/out/cipher_bench"
 KDF = ROOT / "crates/kdf_bench/out/kdf_bench"
 LOG_N, R, P = 18, 8, 1
-# What openssl must not use at each level: AVX-512, and at x86-64-v2 also AVX and AVX2.
+LEVELS = ("x86-64-v2", "x86-64-v3", "x86-64-v4")
+# What openssl must not use to be held to a level: AVX-512, and for x86-64-v2 also AVX and AVX2.
 HELD = {"x86-64-v3": ":~0xD0230000", "x86-64-v2": "~0x1000000000000000:~0xD0230020"}
 
 
@@ -120,7 +121,8 @@ class HashlibScrypt:
 
 def primitives(level, mib):
     """Each kind of work on bytes, with our program and its peers."""
-    held, held_name = HELD[level], f"openssl held to {level}"
+    below = min(level, max(HELD))
+    held, held_name = HELD[below], f"openssl held to {below}"
     aead = ["-aead", "-evp", "chacha20-poly1305"]
     for part, size, words in (
         ("seal", 65536, aead),
@@ -229,6 +231,12 @@ def print_throughput(rates):
         print(f"| {size >> 10} KiB | {' | '.join(f'{n:.0f}' if n >= 10 else f'{n:.2f}' for n in millions)} |")
 
 
+def by_shell(line):
+    """The words that a line with the functions of share/build.sh prints."""
+    script = f"root='{ROOT}'; . '{ROOT}/share/build.sh'; {line}"
+    return subprocess.check_output(["sh", "-c", script], text=True).split()
+
+
 def build(level):
     """Builds the programs to be measured, and checks that both scrypts give the same key."""
     os.environ["AGEP_CPU"] = level
@@ -236,7 +244,7 @@ def build(level):
     for line, folder in (
         ([ROOT / "agep", "--version"], "."),
         ([ROOT / "bench/cipher.sh", level], "."),
-        (["rt", "run", "--cpu", level, "--", "1", "1", "1"], KDF.parent.parent),
+        (["rt", "run", *by_shell(f"target {level}"), "--", "1", "1", "1"], KDF.parent.parent),
         ([ROOT / "install", "--library", "prefix"], "."),
         ([*stream, "prefix/lib/libagefile.a"], "."),
     ):
@@ -296,9 +304,8 @@ def arguments():
     parser = argparse.ArgumentParser(description=__doc__.splitlines()[0])
     for name, default in (("--mib", 1024), ("--runs", 7), ("--files", 1000)):
         parser.add_argument(name, type=int, default=default)
-    at_hand = f"root='{ROOT}'; . '{ROOT}/share/build.sh'; processor"
-    level = subprocess.check_output(["sh", "-c", at_hand], text=True).strip()
-    parser.add_argument("--cpu", choices=HELD, default=level)
+    (level,) = by_shell("processor")
+    parser.add_argument("--cpu", choices=LEVELS, default=level)
     parser.add_argument("--only", metavar="WORD", default="")
     parser.add_argument("--svg", metavar="FILE", type=Path)
     return parser.parse_args()
