@@ -12,9 +12,10 @@ cd "$root/crates/cipher_bench"
 # most vectors that its loop stores on the stack, and the same for the multiplications of Poly1305.
 # Other numbers mean slower code: the compiler no longer sees that factors have 32 bits (three times
 # the multiplications), takes narrower registers, or works in an order for which these are too few.
-expected="x86-64 xmm 64 100 150 30
-x86-64-v2 xmm 32 90 150 30
-x86-64-v3 ymm 16 10 75 8"
+expected="x86-64 xmm 128 160 300 70
+x86-64-v2 xmm 64 170 300 70
+x86-64-v3 ymm 32 50 150 40
+x86-64-v4 zmm 32 4 75 16"
 
 # The counts of a level's registers: counts REGISTER. ChaCha20's loop has all its shifts, and
 # Poly1305's the first two thirds of its multiplications; each is in one function.
