@@ -2,7 +2,7 @@
 # Makes the packages, uses what is inside, and runs the tests of the packages for Python and Rust
 # (tests/test_packages.py); makes a release in a scratch repository (tests/test_releases.py); lets
 # each command of the scripts fail (tests/test_failing_commands.py). All run in parallel, on all
-# processors, because the gate runs it last. The last line is 'N passed, M failed'.
+# processors, because the gate starts it last. The last line is 'N passed, M failed'.
 "$(dirname "$0")/../package" --build # once, and not in each process
 PACKAGES=$(mktemp -d) || exit 1
 trap 'rm -rf "$PACKAGES"' EXIT
