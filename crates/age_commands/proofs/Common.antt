@@ -10,7 +10,7 @@ pub use Rattle.age_file.specs.Ranges.{BeginsFile, IsOpenFault}
 pub use Rattle.age_file.specs.Salvage.{SalvagesFile, SalvagesText, is_whole_file}
 pub use Rattle.age_file.specs.Verdict.{stream_fault}
 pub use Rattle.age_file.specs.declared.salvaging.SalvagedFile.{SalvagedFile}
-pub use Rattle.age_header.proofs.DeviceLemmas.{of_any, of_map, some_none}
+pub use Rattle.age_header.proofs.DeviceLemmas.{gave_none, of_all, of_any, of_map, of_more}
 pub use Rattle.age_header.specs.Device.{CountsFaultIf, CountsIf, Seen, flow, move_by, move_of}
 pub use Rattle.age_job.specs.declared.secret.Secret.{Secret}
 pub use Rattle.age_recipient.specs.Answer.{decision_from}

@@ -1,50 +1,38 @@
 -- What reading a header returns, as what `inspect` says of it.
-use Rattle.age_commands.proofs.Common.{◌≡◌, ◌∙◌, ◌++◌, ◌∷◌, ◌+◌, ◌<◌, ℕ, List, ap, arith, get_or, length, take, Option, Bool, Ok, Err, refl, [], subst, sym, append_assoc, append-nil, length-take-le, take_more, ⊤, ◌^◌, ◌-◌, OnOk, Result, codes, min, Appends, Appends-trans, Keeps-refl, Bytes, Flow, Known, OfGiven, Seen, flow, move_of, Head, HeaderParts, StanzaParts, of_map, Fault, Bounds, header_fault, Inspecting, InspectsText, IsShown, IsTable, OfShown, check_of, first_lines, last_lines, row, rows}
+use Rattle.age_commands.proofs.Common.{◌≡◌, ◌∙◌, ◌++◌, ◌∷◌, ◌+◌, ◌<◌, ℕ, List, ap, arith, get_or, length, take, Option, Bool, Ok, Err, refl, [], subst, sym, append_assoc, append-nil, length-take-le, take_more, ⊤, ◌^◌, ◌-◌, OnOk, Result, codes, min, Appends, Appends-trans, Keeps-refl, Bytes, Flow, Known, OfGiven, Seen, flow, move_of, Head, HeaderParts, StanzaParts, of_any, of_map, of_more, Fault, Bounds, header_fault, Inspecting, InspectsText, IsShown, IsTable, OfShown, check_of, first_lines, last_lines, row, rows}
 use Rattle.age_header.specs.declared.fault.HeaderFault.{HeaderFault}
 use Rattle.age_header.specs.declared.fault.HeaderFault.TheVariants as header
 use Rattle.age_header.specs.Base64.{IsBase64}
-use Rattle.age_header.specs.Reader.{ReadsHeader, ReadsHeaderOf}
+use Rattle.age_header.specs.Reader.{Refuses}
+use Rattle.age_header.proofs.VerdictUniqueLemmas.{found_again}
 use Rattle.age_file.specs.Inspect.{Inspects}
+use Rattle.age_file.specs.Verdict.{finding}
 use Rattle.age_commands.specs.declared.inspect.Check.{Check}
 
-missed_of : (limits : Bounds) (raw : Bool) (key : Option Bytes) (b : Bytes) (source : Flow) (old : Known)
-    (e : HeaderFault)
-    → ReadsHeaderOf b source limits.max_header (Err e)
+missed_of : (limits : Bounds) (raw : Bool) (key : Option Bytes) (b : Bytes) (old : Known) (e : HeaderFault)
+    → Refuses b limits.max_header e
     → InspectsText limits raw key b (move_of old old) (Err (header_fault e))
-missed_of limits raw key b source old header.Read h = Keeps-refl old
-missed_of limits raw key b source old header.Memory h = Keeps-refl old
-missed_of limits raw key b source old e h = (e, h, refl, Keeps-refl old)
-
-missed_from : (limits : Bounds) (raw : Bool) (key : Option Bytes) (from to : Seen) (old : Known) (e : HeaderFault)
-    → ReadsHeader (flow from to) limits.max_header (Err e)
-    → Inspecting limits raw key (flow from to) (move_of old old) (Err (header_fault e))
-missed_from limits raw key from to old e h =
-    of_map h (λ b reads. missed_of limits raw key b (flow from to) old e reads)
+missed_of limits raw key b old header.Read h = Keeps-refl old
+missed_of limits raw key b old header.Memory h = Keeps-refl old
+missed_of limits raw key b old e h = (e, h, refl, Keeps-refl old)
 
 -- there is no header
 pub missed : {limits l : Bounds} (raw : Bool) (key : Option Bytes) {from to : Seen} (old : Known) {fault : Fault}
     → l ≡ limits → Inspects l (flow from to) (Err fault)
     → Inspecting limits raw key (flow from to) (move_of old old) (Err fault)
-missed raw key old same (Ok h, is, reads) = absurd (cc)
-missed {limits} raw key {from} {to} old {fault} same (Err e, is, reads) =
-    let one : ◌≡◌ {A = Fault} fault (header_fault e) = cc in
-    subst (λ f. Inspecting limits raw key (flow from to) (move_of old old) (Err f)) (sym one)
-    (missed_from limits raw key from to old e
-    (subst (λ (m : Bounds). ReadsHeader (flow from to) m.max_header (Err e)) same reads))
+missed {limits} raw key old same (e, is, reads) =
+    rw is (of_map (rw same at reads) (λ b refuses. missed_of limits raw key b old e refuses))
 
 -- what was shown of a header that was read
 pub shown_of : {limits l : Bounds} (raw : Bool) (key : Option Bytes) {from to : Seen} {h : HeaderParts}
     {checked : Check} (P : Check → Bytes → Type 0) (text : Bytes) → l ≡ limits → Inspects l (flow from to) (Ok h)
     → checked ≡ check_of key h → IsShown raw h checked text → P checked text
     → OfGiven (flow from to) (λ b. OfShown limits raw key b P)
-shown_of raw key P text same (Err e, is, reads) made spelled holds = absurd (cc)
-shown_of {l} raw key {from} {to} {h} P text same (Ok g, is, reads) made spelled holds =
-    let one : ◌≡◌ {A = HeaderParts} g h = cc in
-    of_map (subst (λ (m : Bounds). ReadsHeader (flow from to) m.max_header (Ok h)) same
-    (subst (λ (x : HeaderParts). ReadsHeader (flow from to) l.max_header (Ok x)) one reads)) (λ b found. record {
+shown_of {limits} raw key {h = h} P text same (front, took, found) made spelled holds =
+    of_more took (λ d end. record {
       header = h;
-      text = found.0;
-      verdict = found.1;
+      text = front;
+      verdict = found_again front limits.max_header (finding front h) (rw same at found) d;
       shown = text;
       is = subst (λ (x : Check). IsShown raw h x text) made spelled;
       holds = subst (λ (x : Check). P x text) made holds;
@@ -98,3 +86,5 @@ tabled {header} checked one two three four five six characters {text} {n} (Ok u)
           (Appends-trans one two three prefix lines a b) c)
           d) f,
     )
+
+pub ruleset inspects = (missed, of_any)

@@ -1,5 +1,5 @@
 -- What salvaging comes to from a source that may skip what cannot be read.
-use Rattle.age_commands.proofs.Common.{arith, append-nil, ◌≡◌, ◌⊎◌, ◌∙◌, ◌++◌, [], ap, subst, cond, false, true, Bool, ℕ, Option, None, Result, Ok, Err, OnOk, IfOk, inl, inr, sym, refl, ◌&&◌, ⊤, IfSome, is_some, Consumes-whole, Bytes, CountsIf, Known, Moved, OfGiven, Seen, flow, KnownLosses, is_whole_to, losses_of, Fault, BadChunk, SalvagedFile, Bounds, IsQuiet, is_write, SalvagesFile, is_whole_file, Answering, SalvagesAll, if_whole, of_any, some_none, reports_none, Consumes, Consumes-kept, Keeps}
+use Rattle.age_commands.proofs.Common.{arith, append-nil, ◌≡◌, ◌⊎◌, ◌∙◌, ◌++◌, [], ap, subst, cond, false, true, Bool, ℕ, Option, None, Result, Ok, Err, OnOk, IfOk, inl, inr, sym, refl, ◌&&◌, ⊤, IfSome, is_some, Consumes-whole, Bytes, CountsIf, Known, Moved, OfGiven, Seen, flow, KnownLosses, is_whole_to, losses_of, Fault, BadChunk, SalvagedFile, Bounds, IsQuiet, is_write, SalvagesFile, is_whole_file, Answering, SalvagesAll, if_whole, of_any, gave_none, of_all, reports_none, Consumes, Consumes-kept, Consumes-nil, Keeps}
 use Rattle.std.proofs.lemmas.Bool.Decides.{nat_tests}
 use Rattle.age_stream.specs.declared.salvaged.Saved.{Saved}
 use Rattle.age_stream.specs.declared.salvaged.Saved.TheVariants.{LastChunk}
@@ -8,11 +8,11 @@ use Rattle.age_commands.specs.declared.skipping.Reached.TheVariants.{Place, End,
 use Rattle.age_commands.specs.Skipping.{HasRead, IsFirst, OfRead, come_by, is_end}
 
 -- after a failed read nothing more was returned, and the reader has what it had unless it counted a failure
-pub read_no_more : (reached : Reached) {next : Reached} {failed : Type 0} (start : Known) {R : Type 0}
+pub read_no_more : (reached : Reached) {next : Reached} {failed : Type 0} (skips : Bool) (start : Known) {R : Type 0}
     (remaining : R → Known) (before : R) {mid after : R} (past : Bytes) → next ≡ Failure
-    → Keeps (remaining before) (remaining mid) → (after ≡ mid) ⊎ failed
+    → Keeps (remaining before) (remaining mid) → (after ≡ mid) ⊎ ((skips ≡ true) × failed)
     → HasRead reached failed start (remaining before) past → HasRead next failed start (remaining after) (past ++ [])
-read_no_more reached {next} {failed} start remaining before {mid} {after} past is keeps moved read =
+read_no_more reached {next} {failed} skips start remaining before {mid} {after} past is keeps moved read =
     subst (λ n. HasRead n failed start (remaining after) (past ++ [])) (sym is)
     (subst (λ b. Consumes start (remaining after) b ⊎ failed) (sym (append-nil past)) (go moved (kept reached read)))
   where
@@ -22,12 +22,21 @@ read_no_more reached {next} {failed} start remaining before {mid} {after} past i
     kept End h = inl h.0
     kept Failure h = h
 
-    go : (after ≡ mid) ⊎ failed → Consumes start (remaining before) past ⊎ failed
+    go : (after ≡ mid) ⊎ ((skips ≡ true) × failed) → Consumes start (remaining before) past ⊎ failed
         → Consumes start (remaining after) past ⊎ failed
-    go (inr bad) h = inr bad
+    go (inr bad) h = inr bad.1
     go (inl same) (inr bad) = inr bad
     go (inl same) (inl h) =
         inl (subst (λ k. Consumes start k past) (sym (ap remaining same)) (Consumes-kept start _ _ past h keeps))
+
+-- and it took none of the known bytes
+pub come_no_more : {failed : Type 0} (skips : Bool) {R : Type 0} (remaining : R → Known) (before : R) {mid after : R}
+    → Keeps (remaining before) (remaining mid) → (after ≡ mid) ⊎ ((skips ≡ true) × failed)
+    → Consumes (come_by skips (remaining before)) (come_by skips (remaining after)) []
+come_no_more true remaining before keeps moved = tt
+come_no_more false remaining before {mid} keeps (inl same) =
+    rw same (Consumes-kept (remaining before) _ (remaining mid) [] (Consumes-nil (remaining before)) keeps)
+come_no_more false remaining before keeps (inr (skips, bad)) = absurd (cc)
 
 -- what holds of the bytes that a source returned holds of those that its reader had, if it skips none or has read all
 pub read_of : {A : Type 0} (input : Option A) (reached : Reached) {failed : Type 0} (start now : Known) {old new : Seen}
@@ -35,10 +44,13 @@ pub read_of : {A : Type 0} (input : Option A) (reached : Reached) {failed : Type
     → ((past : Bytes) → new.gave past → HasRead reached failed start now past) → OfGiven (flow old new) P
     → OfRead input (is_end reached) failed start P
 read_of {A} input reached {failed} start now {old} {new} {P} same none gave o =
-    (o.given, o.holds, first reached read, all)
+    (o.given, holds, first reached read, all)
   where
     read : HasRead reached failed start now o.given
-    read = gave o.given (o.grew [] none)
+    read = gave o.given (o.gave.grew [] none)
+
+    holds : P o.given
+    holds = rw append-nil at (o.holds [] (λ end. refl))
 
     first : (r : Reached) → HasRead r failed start now o.given → IsFirst start o.given ⊎ failed
     first Place h = inl (now, h)
@@ -47,12 +59,12 @@ read_of {A} input reached {failed} start now {old} {new} {P} same none gave o =
     first Failure (inr h) = inr h
 
     ended : (r : Reached) → is_end r ≡ true → HasRead r failed start now o.given → IfSome start P
-    ended End is h = Consumes-whole start now o.given P h.0 h.1 o.holds
+    ended End is h = Consumes-whole start now o.given P h.0 h.1 holds
     ended Place is h = absurd (cc)
     ended Failure is h = absurd (cc)
 
     all : (input ≡ None) ⊎ (is_end reached ≡ true) → IfSome start P
-    all (inl is) = subst (λ k. IfSome k P) (same ∙ ap (λ i. come_by (is_some i) start) is) o.known
+    all (inl is) = subst (λ k. IfSome k P) (same ∙ ap (λ i. come_by (is_some i) start) is) (of_all o)
     all (inr is) = ended reached is read
 
 pub salvages_from : {A : Type 0} {limits : Bounds} {answers : Answering} (input : Option A) (reached : Reached)
@@ -116,4 +128,4 @@ silent_whole {L} old mid new is_read (Ok s) is h kept =
     go true whole false same = tt
     go false whole r same = tt
 
-pub ruleset salvage = (of_any, some_none, reports_none)
+pub ruleset salvage = (of_any, gave_none, reports_none)

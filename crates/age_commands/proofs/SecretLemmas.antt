@@ -1,5 +1,5 @@
 -- A list of one recipient or identity, and one that is known by its meaning.
-use Rattle.age_commands.proofs.Common.{◌≡◌, ◌∙◌, ◌+◌, ◌<◌, ◌++◌, [], ◌∷◌, List, ap, get_or, drop, length, map, subst, sym, take, Result, get_or_default, map_push, take_more, ℕ, Bytes, Flow, Known, OfGiven, Seen, flow, move_of, of_any, some_none, StanzaParts, decision_from, Fault, Bounds, Answering, Secret, gathering_of, labels_of, recipient_of, wraps_of, Encrypting}
+use Rattle.age_commands.proofs.Common.{◌≡◌, ◌∙◌, ◌+◌, ◌<◌, ◌++◌, [], ◌∷◌, List, ap, get_or, drop, length, map, subst, sym, take, Result, get_or_default, map_push, take_more, ℕ, Bytes, Flow, Known, OfGiven, Seen, flow, move_of, of_any, gave_none, StanzaParts, decision_from, Fault, Bounds, Answering, Secret, gathering_of, labels_of, recipient_of, wraps_of, Encrypting}
 use denote.Param.Object.{Made, read_made}
 use denote.Param.Table.{Entry, Table}
 use Rattle.age_header.specs.declared.file_key.FileKey.{FileKey}
@@ -31,7 +31,7 @@ gathering_meant (Keys keys) work salt wraps labels = rw (wraps, labels)
 
 -- what holds of any bytes, where nothing was read
 pub unread : (a : Seen) {P : Bytes → Type 0} → ((b : Bytes) → P b) → OfGiven (flow a a) P
-unread a p = of_any (some_none a) p
+unread a p = of_any ([], gave_none) p
 
 pub encrypting_meant : {f g : FileKey → Gathering} {limits : Bounds} {fresh : Fresh} {source : Flow} {old new : Known}
     {r : Result Done Fault} → f ≡ g → Encrypting limits fresh (f fresh.file_key) source (move_of old new) r

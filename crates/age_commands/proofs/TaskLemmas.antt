@@ -1,11 +1,16 @@
 -- What a task does, if proofs know only the bytes to come.
-use Rattle.age_commands.proofs.Common.{◌≡◌, [], ap, false, Option, Some, None, Err, inl, refl, Appends-nil, Consumes-nil, Keeps-refl, KnownLosses, losses_of, reports_none, Bytes, Known, move_of, SalvagesText, Fault, OutOfMemory, Bounds, Answering, Job, Encrypt, Decrypt, Rewrap, Inspect, Range, Salvage, answers_of, limits_of, OfKnown, Performs, SalvagesAll}
+use Rattle.age_commands.proofs.Common.{◌≡◌, [], ap, false, Option, Some, None, Err, inl, refl, Appends-nil, Consumes-nil, Keeps-refl, KnownLosses, losses_of, reports_none, append-nil, of_all, Bytes, Known, OfGiven, Seen, flow, move_of, SalvagesText, Fault, OutOfMemory, Bounds, Answering, Job, Encrypt, Decrypt, Rewrap, Inspect, Range, Salvage, answers_of, limits_of, OfKnown, Performs, SalvagesAll}
 use Rattle.age_commands.specs.declared.task.Task.{Task}
 
 -- what holds of any bytes
 pub known_any : (from : Known) {P : Bytes → Type 0} → ((b : Bytes) → P b) → OfKnown from P
 known_any None p = ([], p [], tt)
 known_any (Some bytes) p = ([], p [], p bytes)
+
+-- what holds of the bytes that a source returned
+pub known_told : {a b : Seen} {from : Known} {P : Bytes → Type 0} → a.to_come ≡ from → OfGiven (flow a b) P
+    → OfKnown from P
+known_told is o = (o.given, rw append-nil at (o.holds [] (λ end. refl)), rw is at (of_all o))
 
 -- memory was refused before a source was made
 pub no_source : {A : Type 0} (limits : Bounds) (answers : Answering) (input : Option A) (failed : Type 0)

@@ -13,6 +13,7 @@ use age_job::{Job, Secret};
 use std::alloc::Global;
 
 /// Encrypts the source to the sink for the recipient of this secret, as `age_file::encrypt` does.
+#[tactic(auto, using(crate::proofs::SecretLemmas::unread))]
 pub(crate) fn encrypt<S: Source, W: Sink>(
     alloc: Global,
     job: &Job,

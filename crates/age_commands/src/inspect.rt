@@ -42,7 +42,7 @@ impl fmt::Display for Check {
 
 /// Writes the header at the start of the source. If there is none, nothing is written. A header
 /// whose MAC is wrong is written before the fault is returned.
-#[tactic(auto, using(crate::proofs::InspectLemmas::missed))]
+#[tactic(auto, using(crate::proofs::InspectLemmas::inspects))]
 pub(crate) fn inspect<S: Source, W: Sink>(
     alloc: Global,
     job: &Job,

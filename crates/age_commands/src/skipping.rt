@@ -112,8 +112,9 @@ impl<'a, R: Input, K: Begun> SkippingSource<'a, R, K> {
         ensures noted { IfSome result (λ n. unread_len self.new.unread
             ≡ min (unread_len self.old.unread + n) (2 ^ 64 - 1)) }
         ensures reached { self.new.reached ≡ Reached.Failure }
-        // The reader is moved only if it counted a failed read.
-        ensures moved { (self.new.reader ≡ self.old.reader) ⊎ HasFailed R.failed K.failed }
+        // Only a source that may go on moves the reader, and only if it counted a failed read.
+        ensures moved { (self.new.reader ≡ self.old.reader)
+            ⊎ ((self.old.skips ≡ true) × HasFailed R.failed K.failed) }
         ensures stays { (self.new.skips ≡ self.old.skips)
             × (self.new.failures ≡ self.old.failures) }
         // Only a source that may goes on, and only if the reader counted a failed read.

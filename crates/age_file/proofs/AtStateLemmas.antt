@@ -1,5 +1,5 @@
 -- A source read from its first byte on.
-use Rattle.age_file.proofs.Common.{◌≡◌, ℕ, [], refl, slice_index, inl, inr, ◌++◌, ◌+◌, ◌-◌, ◌^◌, ◌<◌, ◌≤◌, length, take, drop, min, sym, ◌∙◌, ap, arith, subst, IfOk, Option, Some, None, Result, Ok, cases_lt, length-append, length-drop, length-take, length-take-le, drop-drop, drop_all, get_or-append_right, get_or-take, get_or_append_left, take-append-drop, Bytes, Gives, Grows, Known, flow_by, move_of, AtState, GaveFirst, IsWithin, EmptyAtEnd, GaveAt, HasOffsets, StaysGiven, option_map}
+use Rattle.age_file.proofs.Common.{◌≡◌, ℕ, [], refl, slice_index, inl, inr, ◌++◌, ◌+◌, ◌-◌, ◌^◌, ◌<◌, ◌≤◌, length, take, drop, min, sym, ◌∙◌, ap, arith, subst, IfOk, Option, Some, None, Result, Ok, cases_lt, length-append, length-drop, length-take, length-take-le, drop-drop, drop_all, get_or-append_right, get_or-take, get_or_append_left, take-append-drop, Bytes, Flow, Gave, Gives, Known, flow_by, Consumes, Consumes-nil, IsAtEnd, AtState, GaveFirst, IsWithin, EmptyAtEnd, GaveAt, IsPast, HasOffsets, StaysGiven, option_map}
 
 -- what a source gave there is what its known contents have there
 abbrev pub HasThere : (told : Known) (at : ℕ) (xs : Bytes) → Type 0
@@ -15,31 +15,23 @@ within_on (Some b) at at2 n buf within le next has =
     omega (arith, next, within, l, d, ap length (has b refl), length-take (length (take n buf)) (drop at b))
 
 -- a read at the current offset returns the next bytes
-pub gives_on : {E : Type 0} (told : Known) (size : Option ℕ) (at at2 n : ℕ) (buf : Bytes) (r : Result ℕ E) → r ≡ Ok n
-    → HasOffsets told → IsWithin told at → n ≤ length buf
-    → at2 ≡ min (at + n) (2 ^ 64 - 1) → EmptyAtEnd told size at r buf
-    → HasThere told at (take n buf)
-    → Gives (move_of (option_map (drop at) told) (option_map (drop at2) told)) r buf
-gives_on {E} told size at at2 n buf r is offsets within le next ends has =
-    subst (λ (x : Result ℕ E). Gives (move_of (option_map (drop at) told) (option_map (drop at2) told)) x buf) (sym is)
-    (go told offsets within (subst (λ (x : Result ℕ E). EmptyAtEnd told size at x buf) is ends) has)
-  where
-    go : (t : Known) → HasOffsets t → IsWithin t at → EmptyAtEnd {E = E} t size at (Ok n) buf
-        → HasThere t at (take n buf)
-        → Gives {E = E} (move_of (option_map (drop at) t) (option_map (drop at2) t)) (Ok n) buf
-    go None p w g has = (tt, λ e some. tt)
-    go (Some bytes) p w g has =
-        let fits : length bytes < 2 ^ 64 = p in
-        let inside : at ≤ length bytes = w in
-        let l : length (take n buf) ≡ n = length-take-le n buf le in
-        let d : length (drop at bytes) ≡ length bytes - at = length-drop at bytes in
-        let had : take n buf ≡ take n (drop at bytes) = has bytes refl ∙ ap (λ k. take k (drop at bytes)) l in
-        let room : n ≡ min n (length (drop at bytes)) = sym l ∙ ap length had ∙ length-take n (drop at bytes) in
-        let sum : at2 ≡ at + n = omega arith in (
-          sym (take-append-drop n (drop at bytes)) ∙ ap (λ x. x ++ drop n (drop at bytes)) (sym had)
-              ∙ ap (λ x. take n buf ++ x) (drop-drop n at bytes ∙ ap (λ k. drop k bytes) (sym sum)),
-          λ e some. let past : length bytes ≤ at = (g e some).0 in drop_all at2 bytes (omega arith),
-        )
+next_there : (told : Known) (at at2 n : ℕ) (buf : Bytes) → HasOffsets told → IsWithin told at → n ≤ length buf
+    → at2 ≡ min (at + n) (2 ^ 64 - 1) → (n ≡ 0 → 0 < length buf → IsPast told at) → HasThere told at (take n buf)
+    → Consumes (option_map (drop at) told) (option_map (drop at2) told) (take n buf)
+    × (n ≡ 0 → 0 < length buf → IsAtEnd (option_map (drop at2) told))
+next_there None at at2 n buf p w le next g has = (tt, λ e some. tt)
+next_there (Some bytes) at at2 n buf p w le next g has =
+    let fits : length bytes < 2 ^ 64 = p in
+    let inside : at ≤ length bytes = w in
+    let l : length (take n buf) ≡ n = length-take-le n buf le in
+    let d : length (drop at bytes) ≡ length bytes - at = length-drop at bytes in
+    let had : take n buf ≡ take n (drop at bytes) = has bytes refl ∙ ap (λ k. take k (drop at bytes)) l in
+    let room : n ≡ min n (length (drop at bytes)) = sym l ∙ ap length had ∙ length-take n (drop at bytes) in
+    let sum : at2 ≡ at + n = omega arith in (
+      sym (take-append-drop n (drop at bytes)) ∙ ap (λ x. x ++ drop n (drop at bytes)) (sym had)
+          ∙ ap (λ x. take n buf ++ x) (drop-drop n at bytes ∙ ap (λ k. drop k bytes) (sym sum)),
+      λ e some. let past : length bytes ≤ at = g e some in drop_all at2 bytes (omega arith),
+    )
 
 -- no byte was returned yet
 pub first_none : (gave : ℕ → ℕ → Type 0) → GaveFirst gave 0 []
@@ -76,15 +68,35 @@ first_then old new at at2 past more stays first gave next =
           ],
     )
 
--- a read at the current offset adds its bytes to those returned before
-pub grows_on : {D E : Type 0} (told : D → Known) (gave : D → ℕ → ℕ → Type 0) (old : AtState D) {new : AtState D} {n : ℕ}
-    (buf : Bytes) {r : Result ℕ E} → r ≡ Ok n → n ≤ length buf → new.at ≡ min (old.at + n) (2 ^ 64 - 1)
-    → StaysGiven (gave old.dev) (gave new.dev) → IfOk r (λ n. GaveAt (gave new.dev) old.at (take n buf))
-    → Grows (flow_by (λ s. option_map (drop s.at) (told s.dev)) (λ s. GaveFirst (gave s.dev) s.at) old new) r buf
-grows_on {D} {E} told gave old {new} {n} buf is le next stays reads =
-    let more : GaveAt (gave new.dev) old.at (take n buf) =
-    subst (λ (x : Result ℕ E). IfOk x (λ k. GaveAt (gave new.dev) old.at (take k buf))) is reads in
-    subst (λ (x : Result ℕ E). Grows (flow_by (λ (s : AtState D). option_map (drop s.at) (told s.dev))
-    (λ (s : AtState D). GaveFirst (gave s.dev) s.at) old new) x buf) (sym is)
-    (λ past first. first_then (gave old.dev) (gave new.dev) old.at new.at past (take n buf) stays first more
-    (next ∙ ap (λ k. min (old.at + k) (2 ^ 64 - 1)) (sym (length-take-le n buf le))))
+module _ {D : Type 0} (told : D → Known) (gave : D → ℕ → ℕ → Type 0) (old new : AtState D)
+    (stay : told new.dev ≡ told old.dev) (stays : StaysGiven (gave old.dev) (gave new.dev)) where
+  abbrev read_of : Flow
+  read_of = flow_by (λ s. option_map (drop s.at) (told s.dev)) (λ s. GaveFirst (gave s.dev) s.at) old new
+
+  -- a read returns the next bytes, and adds them to those returned before
+  pub gives_on : {E : Type 0} (size : Option ℕ) {n : ℕ} (buf : Bytes) {r : Result ℕ E} → r ≡ Ok n
+      → HasOffsets (told old.dev) → IsWithin (told old.dev) old.at → n ≤ length buf
+      → new.at ≡ min (old.at + n) (2 ^ 64 - 1) → EmptyAtEnd (told old.dev) size old.at r buf
+      → HasThere (told old.dev) old.at (take n buf) → IfOk r (λ n. GaveAt (gave new.dev) old.at (take n buf))
+      → Gives read_of r buf
+  gives_on {E} size {n} buf {r} is offsets within le next ends has reads =
+      let ends_ok = subst (λ (x : Result ℕ E). EmptyAtEnd (told old.dev) size old.at x buf) is ends in
+      let (here, end) = next_there (told old.dev) old.at new.at n buf offsets within le next (λ e some. (ends_ok e some).0) has in
+      let more : GaveAt (gave new.dev) old.at (take n buf) =
+      subst (λ (x : Result ℕ E). IfOk x (λ k. GaveAt (gave new.dev) old.at (take k buf))) is reads in
+      let sum = next ∙ ap (λ k. min (old.at + k) (2 ^ 64 - 1)) (sym (length-take-le n buf le)) in
+      subst (λ (x : Result ℕ E). Gives read_of x buf) (sym is) (
+        record {
+          consumes = rw stay here;
+          grew = λ past first. first_then (gave old.dev) (gave new.dev) old.at new.at past (take n buf) stays first more sum;
+        },
+        rw stay end,
+      )
+
+  -- a read that failed returns none
+  pub gives_none : new.at ≡ old.at → Gave read_of []
+  gives_none at = record {
+    consumes = rw (stay, at) (Consumes-nil (option_map (drop old.at) (told old.dev)));
+    grew = λ past first. first_then (gave old.dev) (gave new.dev) old.at new.at past [] stays first
+        (λ k lt. absurd (omega (arith, lt))) (omega (arith, at, first.0));
+  }

@@ -1,12 +1,12 @@
 -- The names that the proofs of this crate cite, passed on from one place.
 pub use Rattle.std.proofs.Common.{Bool, Err, IfOk, List, None, Ok, Option, Result, Some, [], add-one, ap, append_assoc, arith, cond, drop, false, get_or, inl, inr, length, map, min, not, refl, replicate, rules, slice_index, subst, suc, sym, take, true, zero, ℕ, ◌*◌, ◌++◌, ◌+◌, ◌-◌, ◌/◌, ◌<◌, ◌^◌, ◌↔◌, ◌∙◌, ◌∷◌, ◌≡◌, ◌≤◌, ◌⊎◌}
-pub use Rattle.std.proofs.KnownBytes.{Appends-nil, Appends-trans, Keeps-refl}
+pub use Rattle.std.proofs.KnownBytes.{Appends-nil, Appends-trans, Consumes-nil, Keeps-refl}
 pub use Rattle.std.proofs.lemmas.Bool.{cases_lt, le-ltb, lt-ltb}
 pub use Rattle.std.proofs.lemmas.List.{append-nil, drop-drop, drop-map, drop_all, drop_at, drop_more, get_or-append_right, get_or-take, get_or_append_left, length-append, length-drop, length-map, length-take, length-take-le, take-append-drop, take_all, take_at}
 pub use Rattle.std.proofs.lemmas.Option.{none-some}
 pub use Rattle.std.proofs.lemmas.Result.{err_from_is_err_and}
 pub use Rattle.std.proofs.lemmas.Slice.Eq.{bytes_eq-Decides}
-pub use Rattle.std.specs.Io.KnownBytes.{Appends}
+pub use Rattle.std.specs.Io.KnownBytes.{Appends, Consumes, IsAtEnd}
 pub use Rattle.std.specs.List.{AllZip, concat, list_any, position_from}
 pub use Rattle.std.specs.Prelude.{IfErr, IfNone, if◌then◌else◌, option_map, ⊤, ◌&&◌}
 pub use Rattle.std.specs.Result.{result_map_both}
@@ -25,11 +25,11 @@ pub use Rattle.age_file.specs.declared.fault.Fault.{Fault}
 pub use Rattle.age_file.specs.declared.fault.Fault.TheVariants.{BadMac, MixedPassphrase, OutOfMemory, Read, Refused, TooManyChunks, Write, NonceTruncated}
 pub use Rattle.age_file.specs.declared.limits.Fresh.{Fresh}
 pub use Rattle.age_file.specs.declared.salvaging.SalvagedFile.{SalvagedFile}
-pub use Rattle.age_header.proofs.DeviceLemmas.{done_more, done_part, done_start, gave_more, gave_none, gave_some, gave_then, of_any, of_ended, of_known, of_map, of_more, of_then, writes_last}
+pub use Rattle.age_header.proofs.DeviceLemmas.{done_more, done_part, done_start, gave_more, gave_none, gave_then, of_any, of_ended, of_known, of_map, of_more, of_then, writes_last}
 pub use Rattle.age_header.proofs.HeaderLemmas.{one_text}
 pub use Rattle.age_header.proofs.VerdictTotalLemmas.{some_verdict}
 pub use Rattle.age_header.proofs.VerdictUniqueLemmas.{begins_found, found_again}
-pub use Rattle.age_header.specs.Device.{Bytes, CountsFaultIf, Flow, Gave, GaveAtMost, GaveSome, Gives, Grows, Known, Moved, Seen, Took, WritesPart, flow, flow_by, move_by, move_of, seen_by}
+pub use Rattle.age_header.specs.Device.{Bytes, CountsFaultIf, Flow, Gave, GaveAtMost, GaveSome, Gives, Known, Moved, Seen, Took, WritesPart, flow, flow_by, move_by, move_of, seen_by}
 pub use Rattle.age_header.specs.Header.{Head, HeaderParts, StanzaParts}
 pub use Rattle.age_header.specs.Mac.{header_mac}
 pub use Rattle.age_header.specs.Reader.{Refuses}
@@ -52,7 +52,7 @@ pub use Rattle.age_stream.proofs.SalvageLemmas.{reports_none}
 pub use Rattle.age_stream.proofs.SalvageReading.{payload_exactly, payload_plaintext, payload_whole}
 pub use Rattle.age_stream.proofs.SealingLemmas.{filled_finishes, filled_seals}
 pub use Rattle.age_stream.proofs.WholeSlices.{whole_len, whole_opens, whole_slice, whole_chunk}
-pub use Rattle.age_stream.specs.Offsets.{Agrees, EmptyAtEnd, GaveAt, HasOffsets, StaysGiven}
+pub use Rattle.age_stream.specs.Offsets.{Agrees, EmptyAtEnd, GaveAt, HasOffsets, IsPast, StaysGiven}
 pub use Rattle.age_stream.specs.Opening.{EndsAt, OpenerState, Starts, WritesAll, WritesReading}
 pub use Rattle.age_stream.specs.Payload.{payload, payload_key, pieces, sealed_chunks}
 pub use Rattle.age_stream.specs.Ranges.{BeginsRanges, HasPlain, OpensRanges, RangeState, source_opening}

@@ -41,9 +41,8 @@ header_text limits answers b old g h =
 pub inspect_decrypts : (limits : Bounds) (answers : Answering) {come mid : Seen} (old : Known) {fault : Fault}
     → Inspects limits (flow come mid) (Err fault)
     → Decrypts limits answers (flow come mid) (move_of old old) (Err fault)
-inspect_decrypts limits answers old (Ok parts, is, h) = absurd (cc)
-inspect_decrypts limits answers old {fault} (Err g, is, h) =
-    let e : fault ≡ header_fault g = cc in rw e (of_map h (λ b refuses. header_text limits answers b old g refuses))
+inspect_decrypts limits answers old (g, is, h) =
+    rw is (of_map h (λ b refuses. header_text limits answers b old g refuses))
 
 -- the header that was read, whatever follows it
 pub record IsHeaded (limits : Bounds) (come mid : Seen) (h : HeaderParts) : Type 0 where
@@ -53,12 +52,8 @@ pub record IsHeaded (limits : Bounds) (come mid : Seen) (h : HeaderParts) : Type
 
 pub headed : (limits : Bounds) {come mid : Seen} {h : HeaderParts} → Inspects limits (flow come mid) (Ok h)
     → IsHeaded limits come mid h
-headed limits (Err g, is, r) = absurd (cc)
-headed limits {h} (Ok k, is, r) = let e : h ≡ k = cc in rw e (record {
-  text = r.holds.0;
-  took = r.holds.2;
-  verdict = λ rest. found_again r.given limits.max_header (finding r.holds.0 k) r.holds.1 rest;
-})
+headed limits {h = h} (text, took, found) =
+    record { text = text; took = took; verdict = found_again text limits.max_header (finding text h) found }
 
 module _ {limits : Bounds} (answers : Answering) {come mid : Seen} {h : HeaderParts}
     (i : IsHeaded limits come mid h) where

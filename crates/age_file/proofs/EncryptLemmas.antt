@@ -1,6 +1,7 @@
 -- What a call of `encrypt` has written.
 use Rattle.age_file.proofs.Common.{Bool, true, false, ◌≡◌, ℕ, ◌+◌, ◌-◌, ◌*◌, ◌≤◌, List, [], ◌++◌, length, take, ap, refl, arith, None, Result, Ok, Err, append_assoc, length-append, concat, Appends, Appends-nil, Appends-trans, Bytes, GaveAtMost, GaveSome, Moved, WritesPart, Known, Seen, Flow, flow, move_by, move_of, StanzaParts, Head, header_mac, gave_none, of_any, of_map, of_then, one_text, FileKey, Done, StreamFault, payload, payload_key, sealed_chunks, Fills, FinishesBy, SealerState, SealsAll, Stopped, at_start, chunk_size, filled_finishes, filled_seals, Fault, TooManyChunks, Read, Write, Fresh, Bounds, BegunFile, EncryptsGiven, FailsHeading, Gathering, IsHeading, IsNewHeader, FillsChunk, TookWhileEncrypting, TookChunks, IfNone, inl, inr, stream_fault}
 use Rattle.age_stream.specs.declared.fault.StreamFault.TheVariants as stream
+use Rattle.age_stream.specs.Salvage.{IsOfPieces}
 use Rattle.age_file.proofs.CopiesLemmas.{part_after, part_more}
 use Rattle.age_file.proofs.DecryptLemmas.{file_result}
 
@@ -42,8 +43,8 @@ pub sealed_ended : {key : Bytes} {max : ℕ} {t : SealerState} {from mid : Seen}
     (r : Result Done StreamFault) → 1 ≤ max → Fills (at_start key max) t (flow from mid) (Ok false)
     → IfNone t.fault (FinishesBy t (move_of a c) r)
     → SealsAll (at_start key max) (flow from mid) (move_of a c) r
-sealed_ended {key} {max} {t} {from} {mid} a c r low fills h = filled_finishes key max t from mid mid a c r low fills
-    gave_none (rw (kept_none {key = key} {max = max} t false (flow from mid) fills) at h)
+sealed_ended {key} {max} {t} {from} {mid} a c r low fills h = filled_finishes key max t from mid a c r low fills
+    (rw (kept_none {key = key} {max = max} t false (flow from mid) fills) at h)
 
 -- or it has not: what comes follows
 pub sealed_on : {W : Type 0} (taken : W → Known) {key : Bytes} {max : ℕ} {s t : SealerState} {from mid : Seen}
@@ -54,6 +55,14 @@ pub sealed_on : {W : Type 0} (taken : W → Known) {key : Bytes} {max : ℕ} {s 
 sealed_on taken {key} {max} {s} {t} {from} {mid} to o old new last r ends begins is fills h =
     rw ends at (filled_seals key max t true from mid to (taken old) (taken new) r fills
     (rw (kept_none {key = key} {max = max} t true (flow from mid) fills) at (rw (begins, is) at h)))
+
+-- the faults of sealing
+pub stopped_faults : {key : Bytes} {max i j : ℕ} {held : Bytes} {source : Flow} {sink : Moved} {fault : StreamFault}
+    → Stopped key max i j held source sink fault → IsOfPieces fault
+stopped_faults {fault = stream.Read} s = tt
+stopped_faults {fault = stream.Write} s = tt
+stopped_faults {fault = stream.TooManyChunks} s = tt
+stopped_faults {fault = fault} s = absurd (s.stops.holds [] (λ end. refl))
 
 module _ {limits : Bounds} (fresh : Fresh) {gathered : Gathering} {text : Bytes}
     (header : IsNewHeader limits fresh.file_key gathered text) where
@@ -133,7 +142,7 @@ module _ {limits : Bounds} (fresh : Fresh) {gathered : Gathering} {text : Bytes}
         record { text = text; header = header; too_many = omega (arith, q.0); spelled = refl },
         rw append_assoc at (Appends-trans a b c (text ++ fresh.nonce) out put (rw below at q.1)),
       ))
-  encrypts_payload (Err fault) a b c sixteen put s = absurd s.1.stops.holds
+  encrypts_payload (Err fault) a b c sixteen put s = absurd (stopped_faults s.1)
 
   took : {source : Flow} (a b c : Known) {fault : StreamFault} → length fresh.nonce ≡ 16
       → Appends a b (text ++ fresh.nonce) → (chunk : ℕ)
@@ -165,7 +174,14 @@ module _ {limits : Bounds} (fresh : Fresh) {gathered : Gathering} {text : Bytes}
       elim s.gave [ inl e ↦ absurd (cc) | inr gave ↦ took a b c sixteen put chunk s gave ]
   takes_payload stream.TooManyChunks a b c sixteen put (chunk, s) =
       elim s.gave [ inl e ↦ absurd (cc) | inr gave ↦ took a b c sixteen put chunk s gave ]
-  takes_payload fault a b c sixteen put s = absurd s.1.stops.holds
+  takes_payload fault a b c sixteen put s = absurd (stopped_faults s.1)
+
+-- a fault of sealing what comes after the first chunk
+pub late_faults : {key : Bytes} {max : ℕ} {s t : SealerState} {from mid : Seen} (to : Seen) (a c : Known)
+    (fault : StreamFault) → s ≡ t → Fills (at_start key max) t (flow from mid) (Ok true)
+    → IfNone s.fault (SealsAll s (flow mid to) (move_of a c) (Err fault)) → IsOfPieces fault
+late_faults {key} {max} {t = t} {from} {mid} to a c fault same fills h =
+    stopped_faults (rw (kept_none {key = key} {max = max} t true (flow from mid) fills) at (rw same at h)).1
 
 -- a read failed after something was written: the source returned a whole chunk
 pub read_late : {key : Bytes} {max : ℕ} {s t : SealerState} {from mid : Seen} (to : Seen) (a c : Known)

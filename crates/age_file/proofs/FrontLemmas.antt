@@ -5,10 +5,8 @@ use Rattle.age_file.proofs.CopiesLemmas.{ahead_then}
 
 pub front_gave : (limits : Bounds) (source : Flow) (h : HeaderParts) → Inspects limits source (Ok h)
     → GaveAtMost limits.max_header source
-front_gave limits source h (Ok header, is, reads) =
-    let (text, found, gave) = reads.holds in
-    (text, gave, (begins_found reads.given limits.max_header (finding text header) found).fits)
-front_gave limits source h (Err e, is, reads) = absurd (cc)
+front_gave limits source h (text, gave, found) =
+    (text, gave, (begins_found text limits.max_header (finding text h) found).fits)
 
 -- ---- of a file that is rewrapped
 

@@ -9,25 +9,22 @@ use Rattle.age_stream.proofs.JudgesLastLemmas.{refused_there}
 use Rattle.age_stream.proofs.ReadAtLemmas.{has_at}
 use Rattle.age_file.proofs.FileLemmas.{key_faults}
 use Rattle.age_file.proofs.AtStateLemmas.{first_none}
-use Rattle.age_file.proofs.DecryptLemmas.{err_err, found_key, headed}
+use Rattle.age_file.proofs.DecryptLemmas.{err_err, found_key}
 
 -- a header that was read from the first byte on
 pub header_gave : {D : Type 0} (to_come : AtState D → Known) (gave : D → ℕ → ℕ → Type 0) {limits : Bounds}
     {old new : AtState D} {h : HeaderParts} → limits.max_header < 2 ^ 64 → old.at ≡ 0
     → Inspects limits (flow_by to_come (λ s. GaveFirst (gave s.dev) s.at) old new) (Ok h)
     → GaveHeader limits (gave new.dev) new.at h
-header_gave to_come gave {limits} {old} {new} {h} small start i =
-    let is = headed limits i in
-    let (at, read) = is.took.grew []
+header_gave to_come gave {limits} {old} {new} {h} small start (text, took, verdict) =
+    let (at, read) = took.grew []
     (subst (λ n. GaveFirst (gave old.dev) n []) (sym start) (first_none (gave old.dev))) in
-    let verdict = subst (λ t. HeaderVerdict t limits.max_header (Ok (finding is.text h))) (append-nil is.text)
-    (is.verdict []) in
-    let found = begins_found is.text limits.max_header (finding is.text h) verdict in
-    let len : length is.text ≡ new.at = omega (arith, at, found.fits, small) in
+    let found = begins_found text limits.max_header (finding text h) verdict in
+    let len : length text ≡ new.at = omega (arith, at, found.fits, small) in
     record {
-      text = is.text;
+      text = text;
       len = len;
-      read = subst (GaveAt (gave new.dev) 0) (take_all new.at is.text (omega (arith, len))) read;
+      read = subst (GaveAt (gave new.dev) 0) (take_all new.at text (omega (arith, len))) read;
       verdict = verdict;
     }
 
@@ -65,10 +62,9 @@ pub header_missed : (limits : Bounds) (told : Known) {a mid : Seen} (fault : Fau
     → a.to_come ≡ option_map (drop 0) told → Inspects limits (flow a mid) (Err fault)
     → MissesHeader limits told fault
 header_missed limits None fault old i = inr (inr tt)
-header_missed limits (Some b) fault old (Ok parts, is, h) = absurd (cc)
-header_missed limits (Some b) {a} {mid} fault old (Err g, is, h) =
-    subst (MissesHeader limits (Some b)) (sym (err_err {A = HeaderParts} fault (header_fault g) is))
-    (refused limits b g (of_known (λ x. Refuses x limits.max_header g) (flow a mid) b old h))
+header_missed limits (Some b) {a} {mid} fault old (g, is, h) =
+    subst (MissesHeader limits (Some b)) (sym is) (refused limits b g
+    (of_known (λ x. Refuses x limits.max_header g) (flow a mid) b old h))
 
 pub missed_ranges : (limits : Bounds) (answers : Answering) (told : Known) (fault : Fault)
     → MissesHeader limits told fault → MissesRanges limits answers told fault
@@ -120,9 +116,7 @@ inspect_open g = tt
 
 pub header_named : (limits : Bounds) {old mid : Seen} (fault : Fault) → Inspects limits (flow old mid) (Err fault)
     → IsOpenFault fault
-header_named limits fault (Ok parts, is, h) = absurd (cc)
-header_named limits fault (Err g, is, h) =
-    subst IsOpenFault (sym (err_err {A = HeaderParts} fault (header_fault g) is)) (inspect_open g)
+header_named limits fault (g, is, h) = subst IsOpenFault (sym is) (inspect_open g)
 
 unlock_open : (e : UnlockFault) → IsOpenFault (unlock_fault e)
 unlock_open unlock.NoMatch = tt

@@ -27,9 +27,8 @@ no_header limits answers gathered b old g h = (Err g, h, refl)
 pub inspect_rewraps : (limits : Bounds) (answers : Answering) (gathered : FileKey → Gathering) {come mid : Seen}
     (old : Known) {fault : Fault} → Inspects limits (flow come mid) (Err fault)
     → Rewraps limits answers gathered (flow come mid) (move_of old old) (Err fault)
-inspect_rewraps limits answers gathered old (Ok parts, is, h) = absurd (cc)
-inspect_rewraps limits answers gathered old {fault} (Err g, is, h) = let e : fault ≡ header_fault g = cc in
-    rw e (of_map h (λ b refuses. no_header limits answers gathered b old g refuses))
+inspect_rewraps limits answers gathered old (g, is, h) =
+    rw is (of_map h (λ b refuses. no_header limits answers gathered b old g refuses))
 
 -- a fault of unlocking is early
 early_unlocked : (answers : Answering) (h : HeaderParts) (fault : Fault) → header_key answers h ≡ Err fault

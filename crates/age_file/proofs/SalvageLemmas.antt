@@ -1,5 +1,5 @@
 -- What salvaging returns, from what its parts return.
-use Rattle.age_file.proofs.Common.{◌≡◌, ◌⊎◌, ◌++◌, length, refl, subst, inl, inr, Result, Ok, Err, ℕ, result_map_both, Appends-nil, drop_at, HeaderFault, FileKey, Bytes, Known, Moved, Seen, flow, move_of, HeaderParts, Refuses, gave_some, of_any, of_map, of_more, of_then, StreamFault, Salvaged, EndsAt, EndsSaving, KnownLosses, Salvages, SavesPayload, LossesMoved, losses_of, reports_none, Fault, Read, OutOfMemory, Bounds, TookUpTo, Inspects, SalvagedFile, SalvagesFile, SalvagesText, SavesFile, SavesNone, SavesUnder, salvaged_file, Answering, finding, header_fault, stream_fault, found_key, Bool}
+use Rattle.age_file.proofs.Common.{◌≡◌, ◌⊎◌, ◌++◌, length, refl, subst, inl, inr, Result, Ok, Err, ℕ, result_map_both, Appends-nil, drop_at, HeaderFault, FileKey, Bytes, Known, Moved, Seen, flow, move_of, HeaderParts, Refuses, of_any, of_map, of_more, of_then, StreamFault, Salvaged, EndsAt, EndsSaving, KnownLosses, Salvages, SavesPayload, LossesMoved, losses_of, reports_none, Fault, Read, OutOfMemory, Bounds, TookUpTo, Inspects, SalvagedFile, SalvagesFile, SalvagesText, SavesFile, SavesNone, SavesUnder, salvaged_file, Answering, finding, header_fault, stream_fault, found_key, Bool}
 use Rattle.age_header.specs.declared.fault.HeaderFault.TheVariants as header
 use Rattle.age_stream.specs.declared.fault.StreamFault.TheVariants as stream
 use Rattle.age_file.proofs.DecryptLemmas.{IsHeaded, headed, payload_takes}
@@ -28,10 +28,8 @@ header_text limits answers b old lost g h =
 pub inspect_salvages : (limits : Bounds) (answers : Answering) {come mid : Seen} (old : Known) (lost : KnownLosses)
     {fault : Fault} → Inspects limits (flow come mid) (Err fault)
     → SalvagesFile limits answers (flow come mid) (move_of old old) (losses_of lost lost) (Err fault)
-inspect_salvages limits answers {come} {mid} old lost {fault} (Ok parts, is, h) = absurd (cc)
-inspect_salvages limits answers {come} {mid} old lost {fault} (Err g, is, h) =
-    let same : fault ≡ header_fault g = cc in
-    rw same (of_map h (λ b refuses. header_text limits answers b old lost g refuses))
+inspect_salvages limits answers old lost (g, is, h) =
+    rw is (of_map h (λ b refuses. header_text limits answers b old lost g refuses))
 
 -- what follows a header that was read
 after_header : (limits : Bounds) (answers : Answering) (come mid : Seen) (h : HeaderParts)
@@ -54,7 +52,7 @@ pub locked_salvages : (limits : Bounds) (answers : Answering) {come mid : Seen} 
 locked_salvages limits answers {come} {mid} old lost {h} {fault} i (inl memory) =
     let is = headed limits i in
     let same : fault ≡ OutOfMemory = cc in
-    rw same (of_any (gave_some is.took) (λ b. saves_none old lost))
+    rw same (of_any (is.text, is.took) (λ b. saves_none old lost))
 locked_salvages limits answers {come} {mid} old lost {h} {fault} i (inr key) =
     let is = headed limits i in
     of_more is.took (λ d end. stopped limits answers (is.text ++ d) old lost fault

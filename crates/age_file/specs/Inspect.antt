@@ -9,16 +9,12 @@ use Rattle.age_file.specs.declared.fault.Fault.TheVariants.{Read}
 use Rattle.age_file.specs.AgeFile.{Bounds}
 use Rattle.age_file.specs.Verdict.{header_fault}
 
--- the result of a reader of headers, with the file's names of the faults
-abbrev pub file_result : {A : Type 0} → Result A HeaderFault → Result A Fault
-file_result (Ok header) = Ok header
-file_result (Err fault) = Err (header_fault fault)
-
--- the result of a reader of headers under these limits
+-- the result of a reader of headers under these limits, with the file's names of the faults
 abbrev pub Inspects : (limits : Bounds) (source : Flow) (r : Result HeaderParts Fault) → Type 0
-Inspects limits source r =
-    (answer : Result HeaderParts HeaderFault) × (r ≡ file_result answer)
-    × ReadsHeader source limits.max_header answer
+Inspects limits source (Ok header) = ReadsHeader source limits.max_header (Ok header)
+Inspects limits source (Err fault) =
+    (reason : HeaderFault) × (fault ≡ header_fault reason)
+    × ReadsHeader source limits.max_header (Err reason)
 
 -- a read failed, or at most as many bytes were read as a header may have
 abbrev pub ReadsFront : (limits : Bounds) (source : Flow) (fault : Fault) → Type 0

@@ -29,13 +29,13 @@ pub use Rattle.std.specs.String.{string_bytes}
 pub use Rattle.age_header.specs.Arguments.{NoVisible}
 pub use Rattle.age_header.specs.Base64.{IsOne, IsThree, IsTwo, StandsFor}
 unfoldable pub use Rattle.age_header.specs.Base64.{IsBase64, alphabet, base64_of, candidate, decoded_bytes, value_of}
-pub use Rattle.age_header.specs.Device.{Flow, Gave, GaveAtMost, GaveSome, Gives, Grew, Grows, Known, OfGiven, Seen, Writes, WritesPart, flow, flow_by, move_of, seen_by}
+pub use Rattle.age_header.specs.Device.{Flow, Gave, GaveAtMost, GaveSome, Gives, Grew, Known, OfGiven, Seen, Writes, WritesPart, flow, flow_by, move_of, seen_by}
 pub use Rattle.age_header.specs.Filling.{Filled, Got}
 pub use Rattle.age_header.specs.Header.{AreArguments, AreStanzas, Head, HeaderParts, IsArgument, IsFullLine, IsStanza, IsVisible, StanzaParts, argument_line, bytes_of_a_line, line, line_size, mac_size, version_size}
 unfoldable pub use Rattle.age_header.specs.Header.{version_line}
 pub use Rattle.age_header.specs.Lines.{IsEnd, IsOutside, line_bytes}
 unfoldable pub use Rattle.age_header.specs.Mac.{header_mac}
-pub use Rattle.age_header.specs.Reader.{ReadAtMost, ReadsHeader, ReadsHeaderOf, Refuses}
+pub use Rattle.age_header.specs.Reader.{ReadAtMost, ReadsHeader, Refuses}
 pub use Rattle.age_header.specs.Steps.{Leads, State, Step, between, within}
 pub use Rattle.age_header.specs.Text.{IsHeaderValue, IsPlain, IsWhole}
 unfoldable pub use Rattle.age_header.specs.Text.{body_lines, body_text, mac_end, signed_text, stanza_text}

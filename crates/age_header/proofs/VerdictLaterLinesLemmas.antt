@@ -60,11 +60,8 @@ path_header {max} {text} p took is low e =
       spelled = sym (flat_map_more line version_line p.ls text)
           ∙ ap (λ (z : Bytes). (version_line ++ lines_text p.ls) ++ line z) e.spelled;
     } in
-    of_more q.read (λ n end. (
-      all,
-      found_begins (all ++ n) max _ (record { rest = n; head = head; prefix = refl; fits = path_fits q }),
-      q.read,
-    ))
+    let whole = sym (append-nil all) in
+    (all, q.read, found_begins all max _ (record { rest = []; head = head; prefix = whole; fits = path_fits q }))
 
 -- a line that leads nowhere and is not an end line
 pub path_bad : {a mid new : Seen} {max room count : ℕ} {s : State} {text : Bytes}

@@ -1,5 +1,5 @@
 -- Every text has a header verdict under every limit: line after line, one of the verdict's cases is met.
-use Rattle.age_header.proofs.Common.{inl, inr, ◌≡◌, ◌≢◌, ◌⊎◌, ℕ, zero, suc, ◌+◌, ◌-◌, ◌<◌, ◌≤◌, List, [], ◌∷◌, ◌++◌, length, length-append, min, refl, sym, ap, arith, ◌∙◌, codes, Some, None, Ok, Err, append_cancel_left, cases_lt, cases_order, AllByRecursion, Result, Bytes, Known, HeaderFault, NotAge, BadLine, Truncated, TooLarge, LineEnd, Lf, Input, Room, NoVisible, IsBase64, decoded_bytes, StanzaParts, IsVisible, line, version_size, line_size, mac_size, line_bytes, IsEnd, State, between, within, Step, IsLineText, Found, HeaderVerdict, cases_eq, rules}
+use Rattle.age_header.proofs.Common.{inl, inr, ◌≡◌, ◌≢◌, ◌⊎◌, ℕ, zero, suc, ◌+◌, ◌-◌, ◌<◌, ◌≤◌, List, [], ◌∷◌, ◌++◌, length, length-append, min, refl, sym, ap, arith, ◌∙◌, codes, Some, None, Ok, Err, append_cancel_left, cases_lt, cases_order, subst, AllByRecursion, Result, Bytes, Known, HeaderFault, NotAge, BadLine, Truncated, TooLarge, LineEnd, Lf, Input, Room, NoVisible, IsBase64, decoded_bytes, StanzaParts, IsVisible, line, version_size, line_size, mac_size, line_bytes, IsEnd, State, between, within, Step, IsLineText, Found, HeaderVerdict, cases_eq, rules}
 use Rattle.age_header.proofs.DeviceLemmas.{gave_told, of_known, of_told}
 use Rattle.age_header.proofs.ArgumentsLemmas.{Parsed, SpellsArguments, SpellsNone, no_arrow, parsed_none, parsed_more, parsed_all, parsed_nothing, stuck_space, stuck_empty}
 use Rattle.age_header.proofs.Base64Lemmas.{decoded_b64, b64_decoded, IsBase64-injective}
@@ -7,7 +7,7 @@ use Rattle.age_header.proofs.VerdictPathLemmas.{version_text, Reached}
 use Rattle.age_header.proofs.StepsLemmas.{no_arguments, no_base64}
 use Rattle.age_header.proofs.VerdictFirstLineLemmas.{no_prefix, short_line, short_input, short_room, version_read}
 use Rattle.age_header.proofs.VerdictLaterLinesLemmas.{path_start, path_more, path_header, path_bad, path_truncated, path_too_large, IsEndLine}
-use Rattle.age_header.proofs.VerdictUniqueLemmas.{one_verdict}
+use Rattle.age_header.proofs.VerdictUniqueLemmas.{found_again, one_verdict}
 
 -- ---- what can be decided
 
@@ -172,8 +172,9 @@ path_verdict (suc n) b m max room count s low p text Lf rest is took ends =
     let line_told = gave_told m (line text) rest took in
     elim (end_of s text) [
       | inl e ↦
-          let (found, verdict, _) = of_known _ _ b refl (path_header p line_told is ends e) in
-          (Ok (record { stanzas = e.stanzas; mac = e.mac; text = found }), verdict)
+          let (found, took, verdict) = path_header p line_told is ends e in
+          let x : Found = record { stanzas = e.stanzas; mac = e.mac; text = found } in
+          (Ok x, subst (λ c. HeaderVerdict c max (Ok x)) (sym took.consumes) (found_again found max x verdict rest))
       | inr no_end ↦ elim (step_of s text) [
         | inl (t, step) ↦
             let l = first_line (room - (length text + 1)) rest in

@@ -1,5 +1,5 @@
 -- The effect of a read or a write on the known bytes of a device and on its count of failures.
-use Rattle.std.specs.Prelude.{◌≡◌, ℕ, ◌+◌, ◌-◌, ◌^◌, ◌<◌, ◌≤◌, ◌++◌, [], Bool, true, min, length, take, ⊤, IfSome, MatchResult, if◌then◌else◌}
+use Rattle.std.specs.Prelude.{◌≡◌, ℕ, ◌+◌, ◌-◌, ◌^◌, ◌<◌, ◌≤◌, ◌++◌, [], Bool, true, min, length, take, MatchResult, if◌then◌else◌}
 use Rattle.std.specs.declared.option.Option.{Option}
 use Rattle.std.specs.declared.result.Result.{Result}
 use Rattle.std.specs.Io.KnownBytes.{Consumes, Appends, Keeps, IsAtEnd}
@@ -53,9 +53,8 @@ pub record Gave (source : Flow) (bytes : Bytes) : Type 0 where
   pub grew : Grew source bytes
 
 -- the source returned some bytes, perhaps none
-pub record GaveSome (source : Flow) : Type 0 where
-  pub bytes : Bytes
-  pub grew : Grew source bytes
+abbrev pub GaveSome : (source : Flow) → Type 0
+GaveSome source = (bytes : Bytes) × Gave source bytes
 
 -- the sink took these bytes after its earlier ones
 abbrev pub Took : (sink : Moved) (bytes : Bytes) → Type 0
@@ -82,18 +81,12 @@ CountsIf is_own old new r = MatchResult r (λ _. new ≡ old) (CountsFaultIf is_
 abbrev pub Counts : {A E : Type 0} (old new : ℕ) (r : Result A E) → Type 0
 Counts old new r = CountsIf (λ _. true) old new r
 
--- Ok(n) returns the next n bytes, and 0 for a nonempty buffer only at the end; an Err says nothing
--- about the bytes
-abbrev pub Gives : {E : Type 0} (source : Moved) (r : Result ℕ E) (buf : Bytes) → Type 0
+-- Ok(n) returns the next n bytes, and 0 for a nonempty buffer only at the end; an Err returns none
+abbrev pub Gives : {E : Type 0} (source : Flow) (r : Result ℕ E) (buf : Bytes) → Type 0
 Gives source r buf =
     MatchResult r
-    (λ n. Consumes source.before source.after (take n buf)
-    × (n ≡ 0 → 0 < length buf → IsAtEnd source.after))
-    (λ _. ⊤)
-
--- the source returned n more bytes on Ok(n), and none on an Err
-abbrev pub Grows : {E : Type 0} (source : Flow) (r : Result ℕ E) (buf : Bytes) → Type 0
-Grows source r buf = MatchResult r (λ n. Grew source (take n buf)) (λ _. Grew source [])
+    (λ n. Gave source (take n buf) × (n ≡ 0 → 0 < length buf → IsAtEnd source.after.to_come))
+    (λ _. Gave source [])
 
 -- the sink took the first n bytes on Ok(n), at least one of a nonempty piece, and nothing on an Err
 abbrev pub Takes : {E : Type 0} (sink : Moved) (r : Result ℕ E) (piece : Bytes) → Type 0
@@ -108,12 +101,12 @@ WritesPart sink text = (n : ℕ) × Took sink (take n text)
 abbrev pub Writes : {A E : Type 0} (sink : Moved) (r : Result A E) (text : Bytes) → Type 0
 Writes sink r text = MatchResult r (λ _. Took sink text) (λ _. WritesPart sink text)
 
--- P holds of the bytes that the source returned, and of those that were to come, if they are known.
+-- P holds of the bytes that the source returned, whatever follows them. Nothing does at the end, nor
+-- if the bytes to come are unknown.
 pub record OfGiven (source : Flow) (P : Bytes → Type 0) : Type 0 where
   pub given : Bytes
-  pub grew : Grew source given
-  pub holds : P given
-  pub known : IfSome source.before.to_come P
+  pub gave : Gave source given
+  pub holds : (d : Bytes) → (IsAtEnd source.after.to_come → d ≡ []) → P (given ++ d)
 
 -- the source returned at most n bytes
 abbrev pub GaveAtMost : (n : ℕ) (source : Flow) → Type 0

@@ -22,19 +22,13 @@ abbrev pub ReadAtMost : (n : ℕ) (source : Flow) (fault : HeaderFault) → Type
 ReadAtMost n source Read = ⊤
 ReadAtMost n source fault = GaveAtMost n source
 
--- The result of a reader for the bytes b under a limit of max bytes: the header verdict. If that is
--- a header, exactly the header's bytes are read.
-abbrev pub ReadsHeaderOf : (b : Bytes) (source : Flow) (max : ℕ)
-    (result : Result HeaderParts HeaderFault) → Type 0
-ReadsHeaderOf b source max (Ok h) =
-    (text : Bytes)
-    × HeaderVerdict b max (Ok (record { stanzas = h.stanzas; mac = h.mac; text = text }))
-    × Gave source text
-ReadsHeaderOf b source max (Err fault) = Refuses b max fault
-
--- the same for the bytes read from the source
+-- The result of a reader under a limit of max bytes: the header verdict on the bytes read from the
+-- source. If that is a header, they are exactly the header's, and it is found whatever follows.
 abbrev pub ReadsHeader : (source : Flow) (max : ℕ) (r : Result HeaderParts HeaderFault) → Type 0
-ReadsHeader source max r = OfGiven source (λ b. ReadsHeaderOf b source max r)
+ReadsHeader source max (Ok h) =
+    (text : Bytes) × Gave source text
+    × HeaderVerdict text max (Ok (record { stanzas = h.stanzas; mac = h.mac; text = text }))
+ReadsHeader source max (Err fault) = OfGiven source (λ b. Refuses b max fault)
 
 -- a failed read, which the source counts
 abbrev pub is_read : HeaderFault → Bool

@@ -5,7 +5,7 @@ ghost use Rattle.std.specs.Prelude.{◌≡◌, ◌<◌, ◌≤◌, ◌+◌, ◌-
 ghost use Rattle.std.specs.Prelude.{Some, length, min, ⊤, vec_capacity, vec_len, IfOk, OnErr};
 ghost use Rattle.std.specs.declared.option.Option.{Option};
 ghost use Rattle.std.specs.Io.{ReadsAtMost};
-ghost use Rattle.age_header.specs.Device.{Bytes, Known, Counts, Gives, Grows, Takes, Writes};
+ghost use Rattle.age_header.specs.Device.{Bytes, Known, Counts, Gives, Takes, Writes};
 ghost use Rattle.age_header.specs.Device.{flow_by, move_of, move_by};
 ghost use Rattle.age_header.specs.MemSink.{spare_of};
 
@@ -34,11 +34,9 @@ pub trait Source {
         ensures bound { ReadsAtMost result buf.new }
         // An error raises the count of failures. On Ok the count is unchanged.
         ensures count { Counts (failed self.old) (failed self.new) result }
-        // On Ok the next bytes are at the start of the buffer. A nonempty buffer gets none only at
-        // the end.
-        ensures bytes { Gives (move_by to_come self.old self.new) result buf.new }
-        // On Ok the source has returned these bytes after the earlier ones, on an error none.
-        ensures gave { Grows (flow_by to_come gave self.old self.new) result buf.new };
+        // On Ok the source has returned the next bytes, which are at the start of the buffer, on an
+        // error none. A nonempty buffer gets none only at the end.
+        ensures gave { Gives (flow_by to_come gave self.old self.new) result buf.new };
 
     /// The number of failed reads, saturating at the largest `u64`.
     fn failures(&self) -> u64

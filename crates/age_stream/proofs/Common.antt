@@ -16,7 +16,7 @@ pub use Rattle.std.specs.Prelude.{IfErr, IfNone, IfSome, IsErrOf, ok_or}
 pub use Rattle.std.specs.Vec.{with_items}
 pub use Rattle.age_cipher.proofs.OpeningLemmas.{length-sealed_text, opened_is, opened_text-sealed_text}
 pub use Rattle.age_cipher.specs.Sealing.{opened_text, sealed_text}
-pub use Rattle.age_header.proofs.DeviceLemmas.{done_part, gave_all, gave_more, gave_none, gave_then, of_any, of_ended, of_map, of_more, of_still, of_then}
+pub use Rattle.age_header.proofs.DeviceLemmas.{done_part, gave_more, gave_none, gave_then, of_any, of_ended, of_map, of_more, of_then}
 pub use Rattle.age_header.specs.Device.{Flow, Gave, GaveAtMost, GaveSome, Known, OfGiven, Seen, WritesPart, flow, flow_by, move_by, move_of, seen_by}
 pub use Rattle.age_header.specs.Filling.{Filled}
 pub use Rattle.age_header.specs.declared.file_key.FileKey.{FileKey}

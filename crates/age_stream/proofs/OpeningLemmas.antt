@@ -187,7 +187,7 @@ advances_none from ahead len bytes view over none small = rw (← view, over, no
   ahead = omega arith;
   given = [];
   gave = gave_none;
-  filled = refl;
+  filled = (refl, refl);
   opens = (refl, refl);
 }))
 

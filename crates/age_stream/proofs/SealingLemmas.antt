@@ -1,5 +1,5 @@
 -- Full chunks that go out, one after another.
-use Rattle.age_stream.proofs.Common.{◌≡◌, ◌⊎◌, ◌∙◌, ◌++◌, ◌+◌, ◌-◌, ◌*◌, ◌<◌, ◌≤◌, ℕ, List, [], ◌∷◌, length, take, drop, ap, sym, arith, append-nil, append_assoc, length-append, refl, Bool, Option, Some, None, Result, Ok, Err, false, inl, inr, zero, suc, slice_set, slice_index_or, concat, Appends, IsAtEnd, Appends-trans, Appends-nil, take-add, length-take-le, take_at, length-drop, Bytes, sealed_text, Flow, Gave, GaveAtMost, GaveSome, Known, Seen, WritesPart, flow, move_of, Done as StreamDone, StreamFault, Read, Write, TooManyChunks, chunk_size, sealed_chunk_size, chunk_buf_size, length-sealed_text, Filled, gave_all, gave_then, of_any, of_ended, of_more, of_still, of_then, done_part, cut_after, chunk_nonce, IfNone, FinishesBy, Fills, SealerState, SealsAll, StopsIn, TakesAll, Fed, IsFed, Stopped, WroteAtLeast, at_start, sealed_chunks_after, concat-append, at_none, when_none, sealed_chunk}
+use Rattle.age_stream.proofs.Common.{◌≡◌, ◌⊎◌, ◌∙◌, ◌++◌, ◌+◌, ◌-◌, ◌*◌, ◌<◌, ◌≤◌, ℕ, List, [], ◌∷◌, length, take, drop, ap, sym, arith, append-nil, append_assoc, length-append, refl, Bool, Option, Some, None, Result, Ok, Err, false, inl, inr, zero, suc, slice_set, slice_index_or, concat, Appends, IsAtEnd, Appends-trans, Appends-nil, take-add, length-take-le, take_at, length-drop, Bytes, sealed_text, Flow, Gave, GaveAtMost, GaveSome, Known, Seen, WritesPart, flow, move_of, Done as StreamDone, StreamFault, Read, Write, TooManyChunks, chunk_size, sealed_chunk_size, chunk_buf_size, length-sealed_text, Filled, gave_then, of_any, of_ended, of_more, of_then, done_part, cut_after, chunk_nonce, IfNone, FinishesBy, Fills, SealerState, SealsAll, StopsIn, TakesAll, Fed, IsFed, Stopped, WroteAtLeast, at_start, sealed_chunks_after, concat-append, at_none, when_none, sealed_chunk}
 use Rattle.age_header.proofs.DeviceLemmas.{Done}
 use Rattle.age_stream.proofs.CuttingLemmas.{cut_first, cut_fits}
 use Rattle.age_stream.proofs.PayloadLemmas.{length_each}
@@ -54,12 +54,11 @@ module _ {key : Bytes} {i j : ℕ} {held text now : Bytes} {a b : Known}
 
   -- the source is at its end: what fits is held
   pub fed_end : (piece : Bytes) {from mid to : Seen} → length now + length piece ≤ chunk_size
-      → Gave (flow from mid) text → Gave (flow mid to) piece → IsAtEnd to.to_come
+      → Gave (flow from mid) text → Gave (flow mid to) piece
       → IsFed key i j held (now ++ piece) (flow from to) (move_of a b)
-  fed_end piece {from} {to} fits took more end = record {
+  fed_end piece fits took more = record {
     text = text ++ piece;
     took = gave_then took more;
-    all = gave_all from.to_come to.to_come (text ++ piece) (gave_then took more).consumes end;
     fed = record {
       gone = f.gone;
       count = f.count;
@@ -307,12 +306,11 @@ filled_seals key max t more from mid to a c r (x, took, is, fits, full, ended) s
     )
 
 -- a sealer that was filled with all that came seals it as the last chunk
-pub filled_finishes : (key : Bytes) (max : ℕ) (t : SealerState) (from mid to : Seen) (a c : Known)
+pub filled_finishes : (key : Bytes) (max : ℕ) (t : SealerState) (from to : Seen) (a c : Known)
     (r : Result StreamDone StreamFault) → 1 ≤ max
-    → Fills (at_start key max) t (flow from mid) (Ok false) → Gave (flow mid to) [] → FinishesBy t (move_of a c) r
+    → Fills (at_start key max) t (flow from to) (Ok false) → FinishesBy t (move_of a c) r
     → SealsAll (at_start key max) (flow from to) (move_of a c) r
-filled_finishes key max t from mid to a c r some (x, took, is, fits, full, ended) still finishes =
-    go r (rw is at finishes)
+filled_finishes key max t from to a c r some (x, took, is, fits, full, ended) finishes = go r (rw is at finishes)
   where
     le : length x ≤ chunk_size
     le = rw is at fits
@@ -322,13 +320,13 @@ filled_finishes key max t from mid to a c r some (x, took, is, fits, full, ended
 
     go : (q : Result StreamDone StreamFault) → FinishesBy (record (at_start key max) { held = x }) (move_of a c) q
         → SealsAll (at_start key max) (flow from to) (move_of a c) q
-    go (Ok done) (put, bytes, count) = of_still from mid to (of_ended took (ended refl)
-        (rw same (put, omega (arith, some), omega (arith, bytes), omega (arith, count)))) still.grew
+    go (Ok done) (put, bytes, count) = of_ended took (ended refl)
+        (rw same (put, omega (arith, some), omega (arith, bytes), omega (arith, count)))
     go (Err fault) (write, part) = (
       0,
       rw write (record {
-        stops = of_still from mid to (of_ended took (ended refl) (rw same part)) still.grew;
+        stops = of_ended took (ended refl) (rw same part);
         wrote = (take part.0 (concat (sealed_chunks_after key 0 x [])), part.1, omega arith);
-        gave = inr (x ++ [], gave_then took still, omega (arith, le, length-append x []));
+        gave = inr (x, took, omega (arith, le));
       }),
     )

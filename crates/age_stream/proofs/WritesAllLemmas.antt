@@ -1,5 +1,5 @@
 -- The openings of pieces, written one after another.
-use Rattle.age_stream.proofs.Common.{◌≡◌, ◌⊎◌, ◌∙◌, ◌++◌, ◌+◌, ◌-◌, ◌*◌, ◌<◌, ◌≤◌, ℕ, [], length, take, ap, arith, append-nil, append_assoc, length-append, refl, Some, None, Bool, true, false, inl, inr, Result, Ok, Err, Fits, IfNone, IfSome, IsErrOf, w128, Appends, IsAtEnd, Appends-trans, Appends-nil, le-leb, lt-leb, cases_lt, drop-append-le, take-append-le, Bytes, Gave, Known, Seen, WritesPart, flow, move_of, Done, StreamFault, Read, Write, chunk_size, sealed_chunk_size, gave_none, gave_then, of_any, of_more, of_still, of_then, done_part, Advances, EndsAt, IsAtPiece, IsFilled, Loses, OpenerState, OpensNext, WritesAll, WritesReading, left_of, pieces_left, reading_left, pieces, Reading, after_first, first_outcome, reading_from, stop, at_none, cases_Option}
+use Rattle.age_stream.proofs.Common.{◌≡◌, ◌⊎◌, ◌∙◌, ◌++◌, ◌+◌, ◌-◌, ◌*◌, ◌<◌, ◌≤◌, ℕ, [], length, take, ap, arith, append-nil, append_assoc, length-append, refl, Some, None, Bool, true, false, inl, inr, Result, Ok, Err, Fits, IfNone, IfSome, IsErrOf, w128, Appends, IsAtEnd, Appends-trans, Appends-nil, le-leb, lt-leb, cases_lt, drop-append-le, take-append-le, Bytes, Gave, Known, Seen, WritesPart, flow, move_of, Done, StreamFault, Read, Write, chunk_size, sealed_chunk_size, gave_none, gave_then, of_any, of_more, of_then, done_part, Advances, EndsAt, IsAtPiece, IsFilled, Loses, OpenerState, OpensNext, WritesAll, WritesReading, left_of, pieces_left, reading_left, pieces, Reading, after_first, first_outcome, reading_from, stop, at_none, cases_Option}
 use Rattle.age_stream.proofs.ReadingLemmas.{count_first, reading_first}
 
 -- a text, and then what a reading gives
@@ -91,7 +91,7 @@ module _ {s t u : OpenerState} {n : ℕ} {from now next : Seen} {a b : Known} {r
   record HasPiece : Type 0 where
     held : Bytes
     is : t.held ≡ Some held
-    filled : IsFilled (Some held) adv.given next.to_come
+    filled : IsFilled (Some held) adv.given (flow now next)
     opens : OpensNext s.key s.max_chunks t.index (Some (held ++ adv.given)) u.held u.text r
 
   has_piece : (r ≡ Ok false → ⊥) → HasPiece
@@ -214,11 +214,10 @@ module _ {s t u : OpenerState} {n : ℕ} {from now next : Seen} {a b : Known}
   writes_done done bytes chunks = elim (cases_Option t.held) [
     | inl (h, is) ↦ let some = rw is at adv.opens in absurd (cc)
     | inr is ↦
-        let none = rw is at adv.filled in
-        of_still from now next (of_more o.gave (λ d end.
-        let past = rw is at (reads_on is d end) in
-        rw (past.0, append-nil o.done) (refl, o.written, bytes ∙ o.len, chunks ∙ omega (arith, past.1))))
-        (rw none at adv.gave.grew)
+        let (none, same) = rw is at adv.filled in
+        of_more (rw (none, append-nil o.given) at (gave_then o.gave adv.gave)) (λ d end.
+        let past = rw is at (reads_on is d (rw same at end)) in
+        rw (past.0, append-nil o.done) (refl, o.written, bytes ∙ o.len, chunks ∙ omega (arith, past.1)))
   ]
 
 -- a read failed

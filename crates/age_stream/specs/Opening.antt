@@ -1,7 +1,7 @@
 -- The state of an opener of pieces between two calls, and the results of its calls.
 use Rattle.std.specs.Prelude.{ℕ, List, [], ◌++◌, ◌≡◌, ◌≤◌, ◌<◌, ◌+◌, ◌*◌, ◌⊎◌, length, take, drop, option_map, IfSome, MatchResult, Bool, true, false, Option, Some, None, Result, Ok, Err, if◌then◌else◌}
 use Rattle.std.specs.Bool.{OnFalse}
-use Rattle.age_stream.specs.Words.{Bytes, Key, Known, Flow, Gave, GaveAtMost, GaveSome, OfGiven, WritesPart, Moved, Took, FileKey, Done, StreamFault, NonceTruncated, ChunkShort, EmptyFinal, BadChunk, TooManyChunks, Read, Write, nonce_size, chunk_size, sealed_chunk_size, most_chunks, chunk_buf_size}
+use Rattle.age_stream.specs.Words.{Bytes, Key, Flow, Gave, GaveAtMost, GaveSome, OfGiven, WritesPart, Moved, Took, FileKey, Done, StreamFault, NonceTruncated, ChunkShort, EmptyFinal, BadChunk, TooManyChunks, Read, Write, nonce_size, chunk_size, sealed_chunk_size, most_chunks, chunk_buf_size}
 use Rattle.std.specs.Io.KnownBytes.{IsAtEnd}
 use Rattle.age_stream.specs.declared.opening.Piece.{Piece}
 use Rattle.age_stream.specs.Payload.{payload_key, pieces}
@@ -76,11 +76,11 @@ IsSpentAfter s r = MatchResult r (λ some. OnFalse some (IsSpent s)) (λ _. IsSp
 
 -- the bytes read after those held fill the buffer, or are all up to the end of the source; after
 -- the last piece none are read
-abbrev pub IsFilled : (held : Option Bytes) (given : Bytes) (left : Known) → Type 0
-IsFilled None given left = given ≡ []
-IsFilled (Some ahead) given left =
+abbrev pub IsFilled : (held : Option Bytes) (given : Bytes) (source : Flow) → Type 0
+IsFilled None given source = (given ≡ []) × (source.after.to_come ≡ source.before.to_come)
+IsFilled (Some ahead) given source =
     (length ahead + length given ≤ chunk_buf_size)
-    × (length ahead + length given < chunk_buf_size → IsAtEnd left)
+    × (length ahead + length given < chunk_buf_size → IsAtEnd source.after.to_come)
 
 -- there was another piece, and some bytes were read, perhaps none
 abbrev pub Loses : (held : Option Bytes) (source : Flow) → Type 0
@@ -98,7 +98,7 @@ pub record Advances (old new : OpenerState) (source : Flow)
   pub ahead : ahead_len old.held ≤ 1
   pub given : Bytes
   pub gave : Gave source given
-  pub filled : IsFilled old.held given source.after.to_come
+  pub filled : IsFilled old.held given source
   pub opens : OpensNext old.key old.max_chunks old.index (left_of old.held given) new.held new.text
       r
 
@@ -187,5 +187,5 @@ pub record ReadsPiece (key : Key) (max i : ℕ) (ahead after : Bytes) (source : 
     (result : Result Piece StreamFault) : Type 0 where
   pub given : Bytes
   pub gave : Gave source given
-  pub filled : IsFilled (Some ahead) given source.after.to_come
+  pub filled : IsFilled (Some ahead) given source
   pub opens : OpensPiece key max i (ahead ++ given) after result

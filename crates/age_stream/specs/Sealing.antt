@@ -1,5 +1,5 @@
 -- The state of a sealer of chunks between two calls, and the results of its calls.
-use Rattle.std.specs.Prelude.{ℕ, List, [], ◌++◌, ◌≡◌, ◌⊎◌, ◌≤◌, ◌<◌, ◌+◌, ◌-◌, ◌*◌, length, take, drop, Bool, true, false, IfSome, MatchResult, Option, Some, None, Result, Ok, Err}
+use Rattle.std.specs.Prelude.{ℕ, List, [], ◌++◌, ◌≡◌, ◌⊎◌, ◌≤◌, ◌<◌, ◌+◌, ◌-◌, ◌*◌, length, take, drop, Bool, true, false, MatchResult, Option, Some, None, Result, Ok, Err}
 use Rattle.std.specs.Io.KnownBytes.{IsAtEnd}
 use Rattle.std.specs.List.{concat}
 use Rattle.age_stream.specs.Words.{Bytes, Key, sealed_text, Flow, GaveAtMost, GaveSome, OfGiven, WritesPart, Moved, Gave, Took, Done, StreamFault, Read, Write, TooManyChunks, chunk_size, sealed_chunk_size}
@@ -61,7 +61,6 @@ pub record IsFed (key : Key) (i j : ℕ) (held now : Bytes) (source : Flow)
     (sink : Moved) : Type 0 where
   pub text : Bytes
   pub took : Gave source text
-  pub all : IfSome source.before.to_come (λ told. told ≡ text)
   pub fed : Fed key i j held text now sink
 
 -- a fault occurred in the text read from the source, with chunk j the next to be written; this

@@ -2,17 +2,16 @@
 pub use Rattle.age_cipher.proofs.OpeningLemmas.{length-sealed_text, opened_text-sealed_text}
 pub use Rattle.age_file.proofs.DecryptLemmas.{err_err}
 pub use Rattle.age_file.specs.AgeFile.{AgeFile}
-pub use Rattle.age_file.specs.Inspect.{Inspects, file_result}
+pub use Rattle.age_file.specs.Inspect.{Inspects}
 pub use Rattle.age_file.specs.Verdict.{finding, if_right, reading_after, reading_under, with_file_fault}
 pub use Rattle.age_header.proofs.HeaderLemmas.{one_text, reading}
 pub use Rattle.age_header.proofs.LengthLemmas.{length-line, length-version_line}
-pub use Rattle.age_header.proofs.ReaderLemmas.{reads_known}
+pub use Rattle.age_header.proofs.DeviceLemmas.{of_known, of_more}
 pub use Rattle.age_header.proofs.TextLemmas.{characters_are, stanza_text_is}
-pub use Rattle.age_header.proofs.VerdictUniqueLemmas.{begins_found}
+pub use Rattle.age_header.proofs.VerdictUniqueLemmas.{begins_found, found_again}
 pub use Rattle.age_header.specs.Device.{CountsIf, Flow}
 pub use Rattle.age_header.specs.Header.{AreStanzas, Head, IsArgument, version_size}
 pub use Rattle.age_header.specs.Mac.{header_mac}
-pub use Rattle.age_header.specs.Reader.{ReadsHeaderOf}
 pub use Rattle.age_header.specs.Verdict.{AreLines, BeginsAsAge, Finds, lines_text}
 pub use Rattle.age_recipient.proofs.HeaderSizeLemmas.{b64_size, key_header, least_header, pass_header}
 pub use Rattle.age_stream.proofs.CuttingLemmas.{AtMost, concat-cut_after, cut_at_most, cut_last, is_cut}

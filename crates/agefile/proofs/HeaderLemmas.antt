@@ -1,5 +1,5 @@
 -- The header in front of bytes that lie in memory.
-use Rattle.agefile.proofs.Common.{◌≡◌, ◌⊎◌, ℕ, ◌<◌, ◌≤◌, ◌-◌, ◌^◌, List, [], ◌∷◌, ◌++◌, length, length-take, take, map, min, sym, ◌∙◌, ap, refl, inl, inr, arith, Some, None, Result, Ok, Err, String, IfOk, take-take, Global, string_bytes, join_by, Bytes, CountsIf, Flow, HeaderFault, Head, HeaderParts, Found, HeaderVerdict, ReadsHeaderOf, one_text, begins_found, reads_known, Fault, Inspects, file_result, finding, header_fault, Report, fault_code, Refuses, Returns, report_of, GivesStanzas, HeaderOf, Inspected, InspectsStanzas, arguments_text, limits, front_size, IsFront}
+use Rattle.agefile.proofs.Common.{◌≡◌, ◌⊎◌, ℕ, ◌<◌, ◌≤◌, ◌-◌, ◌^◌, List, [], ◌∷◌, ◌++◌, length, length-take, take, map, min, sym, ◌∙◌, ap, refl, inl, inr, arith, Some, None, Result, Ok, Err, String, IfOk, take-take, Global, string_bytes, join_by, Bytes, CountsIf, Flow, HeaderFault, Head, HeaderParts, Found, HeaderVerdict, one_text, begins_found, found_again, of_known, of_more, Fault, Inspects, finding, header_fault, Report, fault_code, Refuses, Returns, report_of, GivesStanzas, HeaderOf, Inspected, InspectsStanzas, arguments_text, limits, front_size, IsFront}
 use Rattle.age_header.specs.declared.fault.HeaderFault.TheVariants as header
 use Rattle.age_file.specs.Device.{is_read}
 use Rattle.std.proofs.lemmas.List.Folds.{flat_map-map}
@@ -7,17 +7,17 @@ use Rattle.agefile.specs.declared.inspecting.StanzaSummary.{StanzaSummary}
 use Rattle.agefile.specs.declared.inspecting.Summary.{Summary}
 
 -- what a reader returned
-pub header_found : {b : Bytes} {source : Flow} {r : Result HeaderParts Fault} → source.before.to_come ≡ Some b
+pub header_found : {b : Bytes} (source : Flow) (r : Result HeaderParts Fault) → source.before.to_come ≡ Some b
     → CountsIf is_read 0 0 r → Inspects limits source r → HeaderOf b r
-header_found {b} {source} {r} come count (answer, is, reads) =
-    rw is (of_answer answer (rw is at count) (reads_known b source limits.max_header answer come reads))
-  where
-    of_answer : (answer : Result HeaderParts HeaderFault) → CountsIf is_read 0 0 (file_result answer)
-        → ReadsHeaderOf b source limits.max_header answer → HeaderOf b (file_result answer)
-    of_answer (Ok h) rises (text, verdict, taken) = (text, verdict)
-    of_answer (Err header.Memory) rises h = inl refl
-    of_answer (Err header.Read) rises h = absurd (omega arith)
-    of_answer (Err reason) rises h = inr (reason, h, refl)
+header_found {b} source (Ok h) come count (text, took, found) =
+    let x = finding text h in (
+      text,
+      of_known (λ c. HeaderVerdict c limits.max_header (Ok x)) source b come
+          (of_more took (λ d end. found_again text limits.max_header x found d)),
+    )
+header_found source (Err fault) come count (header.Memory, is, h) = inl is
+header_found source (Err fault) come count (header.Read, is, h) = absurd (omega (arith, rw is at count))
+header_found {b} source (Err fault) come count (reason, is, h) = inr (reason, of_known _ source b come h, is)
 
 -- ---- a front of 65,552 bytes
 

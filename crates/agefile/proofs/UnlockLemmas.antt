@@ -1,5 +1,5 @@
 -- Finding a file key, and where the chunks begin, from what the parts return; and the verdict, by the file key.
-use Rattle.agefile.proofs.Common.{◌≡◌, ◌≢◌, ◌⊎◌, ℕ, ◌+◌, ◌-◌, [], ◌++◌, length, take, drop, sym, ◌∙◌, ap, refl, arith, inl, inr, length-append, Some, Result, Ok, Err, Bool, true, false, cond, ◌<◌, ◌≤◌, length-drop, Bytes, Flow, HeaderFault, HeaderParts, ReadsHeaderOf, Found, HeaderVerdict, reads_known, FileKey, Reading, stop, Fault, OutOfMemory, BadMac, MixedPassphrase, NonceTruncated, Inspects, Answering, IsVerdict, header_fault, reading_after, parts_of, reading_under, header_key, if_right, finding, err_err, Report, code_of, HeaderOf, limits, IsFront, Refuses, report_of, FindsKey, FindsStart, GivesKey, IsKey, IsStart, Opens, StartsAt, Unlocks, by_file_key, start_under, with_len, bytes_eq, header_mac, is_mixed, cases_lt, le-ltb, lt-ltb, payload_key, begins_found, Payload, Start}
+use Rattle.agefile.proofs.Common.{◌≡◌, ◌≢◌, ◌⊎◌, ℕ, ◌+◌, ◌-◌, [], ◌++◌, length, take, drop, sym, ◌∙◌, ap, refl, arith, inl, inr, length-append, Some, Result, Ok, Err, Bool, true, false, cond, ◌<◌, ◌≤◌, length-drop, Bytes, Flow, HeaderFault, HeaderParts, Found, HeaderVerdict, found_again, FileKey, Reading, stop, Fault, OutOfMemory, BadMac, MixedPassphrase, NonceTruncated, Inspects, Answering, IsVerdict, header_fault, reading_after, parts_of, reading_under, header_key, if_right, finding, err_err, Report, code_of, HeaderOf, limits, IsFront, Refuses, report_of, FindsKey, FindsStart, GivesKey, IsKey, IsStart, Opens, StartsAt, Unlocks, by_file_key, start_under, with_len, bytes_eq, header_mac, is_mixed, cases_lt, le-ltb, lt-ltb, payload_key, begins_found, Payload, Start}
 use Rattle.age_file.proofs.FileLemmas.{tested_key, one_verdict}
 use Rattle.agefile.specs.declared.unlocking.Unlocked.{Unlocked}
 use Rattle.agefile.proofs.HeaderLemmas.{front_verdict}
@@ -18,13 +18,10 @@ pub record Fronts (b rest : Bytes) (h : HeaderParts) : Type 0 where
 
 pub fronts : {source : Flow} {b rest : Bytes} {h : HeaderParts} → source.before.to_come ≡ Some b
     → source.after.to_come ≡ Some rest → Inspects limits source (Ok h) → Fronts b rest h
-fronts come left (Err g, is, reads) = absurd (cc)
-fronts {source} {b} {rest} come left (Ok parts, is, reads) =
-    rw (ok_ok is) (known (reads_known b source limits.max_header (Ok parts) come reads))
-  where
-    known : ReadsHeaderOf b source limits.max_header (Ok parts) → Fronts b rest parts
-    known (text, verdict, took) =
-        record { text = text; verdict = verdict; begins = rw (come, left) at took.consumes }
+fronts {rest = rest} {h} come left (text, took, found) =
+    let begins = rw (come, left) at took.consumes in
+    let verdict = found_again text limits.max_header (finding text h) found rest in
+    record { text = text; verdict = rw begins verdict; begins = begins }
 
 -- ---- the file key
 

@@ -1,7 +1,12 @@
-use Rattle.age_commands.proofs.Common.{◌≡◌, rules, ◌≢◌, Took, WritesPart, move_by}
-use Rattle.age_commands.proofs.InspectLemmas.{shown_of}
+use Rattle.age_commands.proofs.Common.{◌≡◌, Err, rules, ◌≢◌, Took, WritesPart, move_by}
+use Rattle.age_commands.proofs.InspectLemmas.{missed, shown_of}
 use Rattle.age_commands.specs.declared.inspect.Check.TheVariants.{Bad}
 use Rattle.age_commands.proofs.inspect.inspect.Goals as goal
+
+pub returns-in_err-header-clause-inspects : goal.returns-in_err-header-clause-inspects
+returns-in_err-header-clause-inspects g c =
+    let is : c.from_residual.result ≡ Err c.in_err-header.field-0.0 = search rules in
+    rw is (missed c.args.job.now.raw c.args.file_key.now _ c.limits_of.ensures c.in_err-header.ensures.verdict)
 
 pub returns-in_default-clause-inspects : goal.returns-in_default-clause-inspects
 returns-in_default-clause-inspects g c =

@@ -1,12 +1,15 @@
-use Rattle.age_file.proofs.Common.{◌≡◌, ◌++◌, rules, Ok, Err, inr, gave_some, stream_fault}
-use Rattle.age_file.proofs.EncryptLemmas.{encrypts_begun, encrypts_payload, filled, read_late, sealed_ended, sealed_on, takes_begun, takes_payload}
+use Rattle.age_file.proofs.Common.{◌≡◌, ◌++◌, [], rules, Ok, Err, inr, gave_none, of_any, stream_fault}
+use Rattle.age_file.proofs.EncryptLemmas.{encrypts_begun, encrypts_payload, filled, late_faults, read_late, sealed_ended, sealed_on, takes_begun, takes_payload}
 use Rattle.age_file.proofs.encrypting.encrypt.Goals as goal
+
+pub returns-in_err-front-clause-encrypts : goal.returns-in_err-front-clause-encrypts
+returns-in_err-front-clause-encrypts g c = of_any ([], gave_none) (λ plain. search rules)
 
 pub returns-in_default-write_all-clause-encrypts : goal.returns-in_default-write_all-clause-encrypts
 returns-in_default-write_all-clause-encrypts g c =
     let all = filled c.new-sealer.ensures c.max_chunks.ensures.value c.in-Ok.ensures.fills in
     let front : c.as_slice.result.now ≡ c.in_ok-front.front.items ++ c.args.fresh.now.nonce = search rules in
-    encrypts_begun c.args.fresh.now c.in_ok-front.ensures.ok _ (gave_some all.1)
+    encrypts_begun c.args.fresh.now c.in_ok-front.ensures.ok _ (_, all.1)
     (rw front at c.in_default-write_all.ensures.text)
 
 pub returns-in_default-write_all-clause-took : goal.returns-in_default-write_all-clause-took
@@ -35,6 +38,16 @@ returns-in_err-seal_from-clause-encrypts g c =
     (rw front at c.in-Ok-write_all.ensures.text) (sealed_on g.W.Sink.taken _ _ _ c.seal_from.new.self.0 _
     (Err c.in_err-seal_from.field-0.0) (search rules) c.over.ensures.unchanged c.over.ensures.sealer all
     c.in_err-seal_from.ensures.seals))
+
+pub returns-in_err-seal_from-clause-refused : goal.returns-in_err-seal_from-clause-refused
+returns-in_err-seal_from-clause-refused g c =
+    let all = rw c.if-is_open.true at (filled c.new-sealer.ensures c.max_chunks.ensures.value c.in-Ok.ensures.fills) in
+    search (rules, late_faults _ _ _ _ c.over.ensures.sealer all c.in_err-seal_from.ensures.seals)
+
+pub returns-in_err-seal_from-clause-quiet : goal.returns-in_err-seal_from-clause-quiet
+returns-in_err-seal_from-clause-quiet g c =
+    let all = rw c.if-is_open.true at (filled c.new-sealer.ensures c.max_chunks.ensures.value c.in-Ok.ensures.fills) in
+    search (rules, late_faults _ _ _ _ c.over.ensures.sealer all c.in_err-seal_from.ensures.seals)
 
 pub returns-in_err-seal_from-clause-spared : goal.returns-in_err-seal_from-clause-spared
 returns-in_err-seal_from-clause-spared g c = λ read.

@@ -1,5 +1,5 @@
 use Rattle.age_header.proofs.Common.{◌≡◌, ◌∙◌, length, sym, arith, rules, Err, common_steps, Bytes, iff_false, seen_by}
-use Rattle.age_header.proofs.DeviceLemmas.{gave_some, of_any, some_then}
+use Rattle.age_header.proofs.DeviceLemmas.{of_any, some_then}
 use Rattle.age_header.proofs.MostLemmas.{line_within, reached_most}
 use Rattle.age_header.proofs.ReaderLemmas.{outside}
 use Rattle.age_header.proofs.VerdictLaterLinesLemmas.{path_truncated, path_too_large, path_header, path_bad, path_more, path_lines, path_start}
@@ -21,11 +21,11 @@ returns-in_err-text-clause-verdict g c =
 
 pub returns-in-Err-clause-verdict : goal.returns-in-Err-clause-verdict
 returns-in-Err-clause-verdict g c =
-    of_any (some_then c.lines.invariant.path.read (gave_some c.in_ok-text.ensures.bytes)) (λ b. tt)
+    of_any (some_then c.lines.invariant.path.read (_, c.in_ok-text.ensures.bytes)) (λ b. tt)
 
 pub returns-in-Err-step-clause-verdict : goal.returns-in-Err-step-clause-verdict
 returns-in-Err-step-clause-verdict g c =
-    of_any (some_then c.lines.invariant.path.read (gave_some c.in_ok-text.ensures.bytes)) (λ b. tt)
+    of_any (some_then c.lines.invariant.path.read (_, c.in_ok-text.ensures.bytes)) (λ b. tt)
 
 pub returns-in-Input-clause-verdict : goal.returns-in-Input-clause-verdict
 returns-in-Input-clause-verdict g c =

@@ -1,6 +1,12 @@
-use Rattle.age_stream.proofs.Common.{rules, ◌≡◌, length, Err}
-use Rattle.age_stream.proofs.SalvageLemmas.{nonce_ends, nonce_salvages, payload_ends, payload_salvages}
+use Rattle.age_stream.proofs.Common.{rules, ◌≡◌, [], length, refl, Err, Appends-nil, gave_none, of_any}
+use Rattle.age_stream.proofs.SalvageLemmas.{nonce_ends, nonce_salvages, payload_ends, payload_salvages, reports_none}
 use Rattle.age_stream.proofs.salvaging.salvage_payload.Goals as goal
+
+pub returns-in_default-clause-salvages : goal.returns-in_default-clause-salvages
+returns-in_default-clause-salvages g c = of_any ([], gave_none) (λ text. (Appends-nil _, reports_none _))
+
+pub returns-clause-quiet : goal.returns-clause-quiet
+returns-clause-quiet g c = search (rules, c.save_pieces.ensures.saves.holds [] (λ end. refl))
 
 pub returns-in_err-nonce-clause-salvages : goal.returns-in_err-nonce-clause-salvages
 returns-in_err-nonce-clause-salvages g c =

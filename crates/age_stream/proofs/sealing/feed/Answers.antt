@@ -24,10 +24,7 @@ returns-then-is_last-clause-fed g c =
     let now : Bytes = take c.loop-n.held c.loop-n.bytes in
     let l : length now ≡ c.loop-n.held =
     length-take-le c.loop-n.held c.loop-n.bytes (omega (arith, c.loop-n.invariant.held, c.loop-n.invariant.size)) in
-    let end = c.in-Ok.ensures.end (search rules) in (
-      rw f.is (fed_end inv.2 f.piece (omega (arith, f.len)) inv.1 f.bytes end),
-      end,
-    )
+    (rw f.is (fed_end inv.2 f.piece (omega (arith, f.len)) inv.1 f.bytes), c.in-Ok.ensures.end (search rules))
 
 pub returns-in_err-put_full-clause-fed : goal.returns-in_err-put_full-clause-fed
 returns-in_err-put_full-clause-fed g c =

@@ -7,7 +7,7 @@ use Rattle.agefile.proofs.heading.mac_under.Goals as goal
 pub returns-in-Err : goal.returns-in-Err
 returns-in-Err c stanzas is =
     mac_none stanzas c.args.key.now c.in-Err.fault c.in_text.ensures
-    (header_found (c.new-source.ensures ∙ ap Some is) c.in-Err.ensures.reads
+    (header_found _ (Err c.in-Err.fault) (c.new-source.ensures ∙ ap Some is) c.in-Err.ensures.reads
     (rw c.limits.ensures at c.in-Err.ensures.verdict))
 
 pub returns-then-rest-gt0 : goal.returns-then-rest-gt0

@@ -6,7 +6,7 @@ use Rattle.agefile.proofs.unlocking.find_key.Goals as goal
 
 pub returns-in_err-header : goal.returns-in_err-header
 returns-in_err-header g c =
-    let found = header_found c.new-source.ensures c.in_err-header.ensures.reads
+    let found = header_found _ (Err c.in_err-header.field-0.0) c.new-source.ensures c.in_err-header.ensures.reads
     (rw c.limits.ensures at c.in_err-header.ensures.verdict) in
     let is : c.from_residual.result ≡ Err c.in_err-header.field-0.0 = search rules in
     rw is (search (key_none, found))

@@ -1,8 +1,14 @@
-use Rattle.age_commands.proofs.SalvageLemmas.{read_no_more}
+use Rattle.age_commands.proofs.SalvageLemmas.{come_no_more, read_no_more}
 use Rattle.std.specs.Io.Buffered.{reader_remaining}
 use Rattle.age_commands.proofs.skipping.SkippingSourceSource.read.Goals as goal
 
 pub returns-in_default-clause-gave : goal.returns-in_default-clause-gave
-returns-in_default-clause-gave g c past read =
-    read_no_more c.args.self.now.reached _ (reader_remaining (λ r. g.R.Read.remaining r.now))
-    c.args.self.now.reader past c.skip.ensures.reached c.in-Err.ensures.bytes c.skip.ensures.moved read
+returns-in_default-clause-gave g c =
+    let remaining = reader_remaining (λ r. g.R.Read.remaining r.now) in
+    let s = c.args.self.now in
+    record {
+      consumes = rw c.skip.ensures.stays.0
+          (come_no_more s.skips remaining s.reader c.in-Err.ensures.bytes c.skip.ensures.moved);
+      grew = λ past read. read_no_more s.reached s.skips _ remaining s.reader past c.skip.ensures.reached
+          c.in-Err.ensures.bytes c.skip.ensures.moved read;
+    }

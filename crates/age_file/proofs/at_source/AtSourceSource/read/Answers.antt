@@ -1,31 +1,20 @@
 use Rattle.age_file.proofs.Common.{rules, ◌≡◌, ◌∙◌, ◌+◌, ◌-◌, ◌^◌, ◌≤◌, length, min, sym, take}
-use Rattle.age_file.proofs.AtStateLemmas.{gives_on, grows_on, within_on}
+use Rattle.age_file.proofs.AtStateLemmas.{gives_on, within_on}
 use Rattle.age_stream.proofs.ReadAtLemmas.{has_at}
 use Rattle.age_file.proofs.at_source.AtSourceSource.read.Goals as goal
 
-pub returns-in-Ok-clause-bytes : goal.returns-in-Ok-clause-bytes
-returns-in-Ok-clause-bytes g c =
-    let told = g.D.ReadAt.bytes c.self.inside.dev.now in
-    let r = c.read_at-read.result in
-    let buf = c.read_at-read.new.buf in
-    let next = c.saturating_add-self-inside.result in
-    let le : c.in-Ok.n ≤ length buf = search rules in
-    let sum : next ≡ min (c.self.inside.at + c.in-Ok.n) (2 ^ 64 - 1) = search rules in
-    rw (sym c.self.view_is, c.read_at-read.ensures.stay)
-    (gives_on told (g.D.ReadAt.found c.self.inside.dev.now) c.self.inside.at next c.in-Ok.n buf r c.in-Ok.is
-    c.read_at-read.ensures.offsets c.self.invariant.2 le sum c.read_at-read.ensures.end (λ b is.
-    has_at b (take c.in-Ok.n buf) c.self.inside.at
-    (g.met.D.ReadAt.agrees c.read_at-read.new.self b (c.read_at-read.ensures.stay ∙ is))
-    (rw c.in-Ok.is at c.read_at-read.ensures.read)))
-
 pub returns-in-Ok-clause-gave : goal.returns-in-Ok-clause-gave
 returns-in-Ok-clause-gave g c =
-    let next = c.saturating_add-self-inside.result in
-    let le : c.in-Ok.n ≤ length c.read_at-read.new.buf = search rules in
-    let sum : next ≡ min (c.self.inside.at + c.in-Ok.n) (2 ^ 64 - 1) = search rules in
+    let buf = c.read_at-read.new.buf in
+    let le : c.in-Ok.n ≤ length buf = search rules in
+    let sum : c.saturating_add-self-inside.result ≡ min (c.self.inside.at + c.in-Ok.n) (2 ^ 64 - 1) = search rules in
     rw (sym c.self.view_is)
-    (grows_on g.D.ReadAt.bytes g.D.ReadAt.gave (record { dev = c.self.inside.dev.now; at = c.self.inside.at })
-    c.read_at-read.new.buf c.in-Ok.is le sum c.read_at-read.ensures.stays_given c.read_at-read.ensures.read)
+    (gives_on g.D.ReadAt.bytes g.D.ReadAt.gave (record { dev = c.self.inside.dev.now; at = c.self.inside.at })
+    _ c.read_at-read.ensures.stay c.read_at-read.ensures.stays_given (g.D.ReadAt.found c.self.inside.dev.now) buf
+    c.in-Ok.is c.read_at-read.ensures.offsets c.self.invariant.2 le sum c.read_at-read.ensures.end (λ b is.
+    has_at b (take c.in-Ok.n buf) c.self.inside.at
+    (g.met.D.ReadAt.agrees c.read_at-read.new.self b (c.read_at-read.ensures.stay ∙ is))
+    (rw c.in-Ok.is at c.read_at-read.ensures.read)) c.read_at-read.ensures.read)
 
 pub invariant_of-self : goal.invariant_of-self
 invariant_of-self g c =
