@@ -285,21 +285,26 @@ class Processors(unittest.TestCase):
     """Which build of the proved code agefile.c calls."""
 
     def passed(self, *flags):
-        """A program that prints which build agefile.c calls, and fails if it is passed a null pointer."""
+        """A program that prints which build agefile.c calls, and how many functions call that for x86-64-v4 if
+        they get 16 KiB, and fails if it is passed a null pointer."""
         return built("passed", *flags, f"-I{texts()}", "-Wno-unused-parameter", library=(ROOT / "bindings/c/agefile.c",))
+
+    def printed(self, level):
+        """What it prints. Nine functions get data: a chunk, a file or a plaintext."""
+        return f"{min(level, LEVELS[1])}, {9 * (level == LEVELS[2])}\n"
 
     def test_this_processor(self):
         """The build that fits the processor is called, never with a null pointer."""
         (work() / "older.h").write_text("#include <cpuid.h>\n#define __get_cpuid(leaf, a, b, c, d) (*(b) = 0)\n")
-        self.assertEqual(said(self.passed(*sanitizers())), f"{levels_here()[-1]}\n")
-        self.assertEqual(said(self.passed(f"-include{work()}/older.h")), "x86-64\n")
+        self.assertEqual(said(self.passed(*sanitizers())), self.printed(levels_here()[-1]))
+        self.assertEqual(said(self.passed(f"-include{work()}/older.h")), self.printed("x86-64"))
 
     def test_registers(self):
         """A build is called only if the system saves all registers of its level."""
         for saved in {*range(8), 0xE6, *(0xE6 & ~(1 << bit) for bit in range(8))}:
             flags = (*saving("x86-64")[:1], f"-DSAVED={saved}")
             fitting = [level for level in levels_here() if saved & SAVED[level] == SAVED[level]]
-            self.assertEqual(said(self.passed(*flags)), f"{fitting[-1]}\n", saved)
+            self.assertEqual(said(self.passed(*flags)), self.printed(fitting[-1]), saved)
 
     def test_parts(self):
         """The build for x86-64-v4 is called only if no part of that level is missing. No emulator has them."""
@@ -311,7 +316,7 @@ class Processors(unittest.TestCase):
         )
         for part in "F BW CD DQ VL".split():
             found = said(self.passed(f"-include{work()}/lacking.h", f"-DLACKED=bit_AVX512{part}"))
-            self.assertEqual(found, f"{levels_here()[:2][-1]}\n", part)
+            self.assertEqual(found, self.printed(levels_here()[:2][-1]), part)
 
     @needs("qemu-x86_64")
     def test_other_processors(self):
@@ -320,7 +325,7 @@ class Processors(unittest.TestCase):
         for processor in ("Haswell", "qemu64", "Nehalem", *(f"Haswell,-{part}" for part in parts.split())):
             with self.subTest(processor):
                 found = said("qemu-x86_64", "-cpu", processor, self.passed("-O2"))
-                self.assertEqual(found, "x86-64-v3\n" if processor == "Haswell" else "x86-64\n")
+                self.assertEqual(found, self.printed("x86-64-v3" if processor == "Haswell" else "x86-64"))
 
     @needs("qemu-x86_64")
     def test_files_of_others(self):

@@ -24,18 +24,19 @@ __attribute__((target("xsave"))) static int find_level(void)
     return (parts & wide) == wide && (_xgetbv(0) & 0xe6) == 0xe6 ? 4 : 3;
 }
 
-/* The same. The processor is asked once; threads that do so at the same time store the same
- * answer. */
-static int level(void)
+/* The level of the build to call for this many bytes of data: 4 only for 16 KiB or more, because the
+ * compiler of that build makes all but the loops for long data slower. The processor is asked once;
+ * threads that do so at the same time store the same answer. */
+static int level(size_t size)
 {
-    enum { UNKNOWN };
+    enum { UNKNOWN, LONG = 16384 };
     static int stored = UNKNOWN;
     int answer = __atomic_load_n(&stored, __ATOMIC_RELAXED);
     if (answer == UNKNOWN) {
         answer = find_level();
         __atomic_store_n(&stored, answer, __ATOMIC_RELAXED);
     }
-    return answer;
+    return answer == 4 && size < LONG ? 3 : answer;
 }
 
 /* Replaces a null pointer with the length 0. It is neither read nor written. */
@@ -48,14 +49,15 @@ static const agefile_stanza_summary nothing;
     if (pointer == NULL)                      \
         pointer = (void *)&nothing;
 
-/* A function: its checks, and then the call. share/build.sh gives the builds these names. */
-#define FUNCTION(result, name, parameters, checks, arguments)                   \
+/* A function, with the size of its data or 0: its checks, and then the call. share/build.sh gives
+ * the builds these names. */
+#define FUNCTION(result, name, size, parameters, checks, arguments)             \
     __typeof__(agefile_##name) x86_64_agefile_##name, x86_64_v3_agefile_##name, \
         x86_64_v4_agefile_##name;                                               \
     result agefile_##name parameters                                            \
     {                                                                           \
         checks                                                                  \
-        const int fits = level();                                               \
+        const int fits = level(size);                                           \
         return (fits == 4   ? x86_64_v4_agefile_##name                          \
                 : fits == 3 ? x86_64_v3_agefile_##name                          \
                             : x86_64_agefile_##name)arguments;                  \
@@ -69,68 +71,71 @@ static const agefile_stanza_summary nothing;
 #define REPORT agefile_report *report
 
 /* generated: functions */
-FUNCTION(uint64_t, sealed_len, (uint64_t plain_len),
+FUNCTION(uint64_t, sealed_len, 0, (uint64_t plain_len),
          {}, (plain_len))
-FUNCTION(uint64_t, plain_len_at_most, (uint64_t file_len),
+FUNCTION(uint64_t, plain_len_at_most, 0, (uint64_t file_len),
          {}, (file_len))
-FUNCTION(uint64_t, file_len, (uint64_t header_len, uint64_t plain_len),
+FUNCTION(uint64_t, file_len, 0, (uint64_t header_len, uint64_t plain_len),
          {}, (header_len, plain_len))
-FUNCTION(uint32_t, version, (void),
+FUNCTION(uint32_t, version, 0, (void),
          {}, ())
-FUNCTION(uint32_t, inspect, (IN(front), agefile_summary *summary, REPORT),
+FUNCTION(uint32_t, inspect, 0, (IN(front), agefile_summary *summary, REPORT),
          { CHECK(front) }, (front, front_len, summary, report))
-FUNCTION(uint32_t, stanzas, (IN(front), agefile_stanza_summary *stanzas, size_t stanzas_len,
+FUNCTION(uint32_t, stanzas, 0, (IN(front), agefile_stanza_summary *stanzas, size_t stanzas_len,
           OUT(text), REPORT),
          { CHECK(front) CHECK(stanzas) CHECK(text) }, (front, front_len, stanzas, stanzas_len, text,
           text_len, report))
-FUNCTION(uint32_t, unlock_passphrase, (IN(front), IN(pass), uint8_t max_work, uint8_t file_key[16],
-          REPORT),
+FUNCTION(uint32_t, unlock_passphrase, 0, (IN(front), IN(pass), uint8_t max_work,
+          uint8_t file_key[16], REPORT),
          { CHECK(front) CHECK(pass) }, (front, front_len, pass, pass_len, max_work, file_key,
           report))
-FUNCTION(uint32_t, unlock_key, (IN(front), const uint8_t key[32], uint8_t file_key[16], REPORT),
+FUNCTION(uint32_t, unlock_key, 0, (IN(front), const uint8_t key[32], uint8_t file_key[16], REPORT),
          { CHECK(front) }, (front, front_len, key, file_key, report))
-FUNCTION(uint32_t, wrap_passphrase, (const uint8_t file_key[16], IN(pass), uint8_t work,
+FUNCTION(uint32_t, wrap_passphrase, 0, (const uint8_t file_key[16], IN(pass), uint8_t work,
           const uint8_t salt[16], OUT(out), REPORT),
          { CHECK(pass) CHECK(out) }, (file_key, pass, pass_len, work, salt, out, out_len, report))
-FUNCTION(uint32_t, wrap_key, (const uint8_t file_key[16], const uint8_t key[32],
+FUNCTION(uint32_t, wrap_key, 0, (const uint8_t file_key[16], const uint8_t key[32],
           const uint8_t salt[16], OUT(out), REPORT),
          { CHECK(out) }, (file_key, key, salt, out, out_len, report))
-FUNCTION(uint32_t, wrap, (IN(args), IN(body), OUT(out), REPORT),
+FUNCTION(uint32_t, wrap, 0, (IN(args), IN(body), OUT(out), REPORT),
          { CHECK(args) CHECK(body) CHECK(out) }, (args, args_len, body, body_len, out, out_len,
           report))
-FUNCTION(uint32_t, header, (IN(stanzas), const uint8_t file_key[16], OUT(out), REPORT),
+FUNCTION(uint32_t, header, 0, (IN(stanzas), const uint8_t file_key[16], OUT(out), REPORT),
          { CHECK(stanzas) CHECK(out) }, (stanzas, stanzas_len, file_key, out, out_len, report))
-FUNCTION(uint32_t, begin, (IN(stanzas), const uint8_t file_key[16], const uint8_t nonce[16],
+FUNCTION(uint32_t, begin, 0, (IN(stanzas), const uint8_t file_key[16], const uint8_t nonce[16],
           OUT(out), agefile_payload *payload, REPORT),
          { CLOSE(payload) CHECK(stanzas) CHECK(out) }, (stanzas, stanzas_len, file_key, nonce, out,
           out_len, payload, report))
-FUNCTION(uint32_t, open, (IN(front), const uint8_t file_key[16], agefile_payload *payload, REPORT),
+FUNCTION(uint32_t, open, 0, (IN(front), const uint8_t file_key[16], agefile_payload *payload,
+          REPORT),
          { CLOSE(payload) CHECK(front) }, (front, front_len, file_key, payload, report))
-FUNCTION(uint32_t, open_next, (agefile_payload *payload, OUT(chunk), bool last, REPORT),
+FUNCTION(uint32_t, open_next, chunk_len, (agefile_payload *payload, OUT(chunk), bool last, REPORT),
          { CHECK(chunk) }, (payload, chunk, chunk_len, last, report))
-FUNCTION(uint32_t, seal_next, (agefile_payload *payload, OUT(chunk), bool last, REPORT),
+FUNCTION(uint32_t, seal_next, chunk_len, (agefile_payload *payload, OUT(chunk), bool last, REPORT),
          { CHECK(chunk) }, (payload, chunk, chunk_len, last, report))
-FUNCTION(uint32_t, take_part, (agefile_payload *payload, uint64_t count, agefile_part *part,
+FUNCTION(uint32_t, take_part, 0, (agefile_payload *payload, uint64_t count, agefile_part *part,
           REPORT),
          {}, (payload, count, part, report))
-FUNCTION(uint32_t, part_open_next, (agefile_part *part, OUT(chunk), REPORT),
+FUNCTION(uint32_t, part_open_next, chunk_len, (agefile_part *part, OUT(chunk), REPORT),
          { CHECK(chunk) }, (part, chunk, chunk_len, report))
-FUNCTION(uint32_t, part_seal_next, (agefile_part *part, OUT(chunk), REPORT),
+FUNCTION(uint32_t, part_seal_next, chunk_len, (agefile_part *part, OUT(chunk), REPORT),
          { CHECK(chunk) }, (part, chunk, chunk_len, report))
-FUNCTION(uint32_t, salvage_next, (agefile_payload *payload, OUT(chunk), bool last, REPORT),
+FUNCTION(uint32_t, salvage_next, chunk_len, (agefile_payload *payload, OUT(chunk), bool last,
+          REPORT),
          { CHECK(chunk) }, (payload, chunk, chunk_len, last, report))
-FUNCTION(uint32_t, ranges_open, (IN(front), uint64_t file_len, const uint8_t file_key[16],
+FUNCTION(uint32_t, ranges_open, 0, (IN(front), uint64_t file_len, const uint8_t file_key[16],
           agefile_ranges *ranges, REPORT),
          { CLOSE(ranges) CHECK(front) }, (front, front_len, file_len, file_key, ranges, report))
-FUNCTION(uint32_t, ranges_last, (agefile_ranges *ranges, OUT(chunk), REPORT),
+FUNCTION(uint32_t, ranges_last, chunk_len, (agefile_ranges *ranges, OUT(chunk), REPORT),
          { CHECK(chunk) }, (ranges, chunk, chunk_len, report))
-FUNCTION(uint32_t, ranges_locate, (const agefile_ranges *ranges, uint64_t at, REPORT),
+FUNCTION(uint32_t, ranges_locate, 0, (const agefile_ranges *ranges, uint64_t at, REPORT),
          {}, (ranges, at, report))
-FUNCTION(uint32_t, ranges_chunk, (const agefile_ranges *ranges, uint64_t at, OUT(chunk), REPORT),
+FUNCTION(uint32_t, ranges_chunk, chunk_len, (const agefile_ranges *ranges, uint64_t at, OUT(chunk),
+          REPORT),
          { CHECK(chunk) }, (ranges, at, chunk, chunk_len, report))
-FUNCTION(uint32_t, decrypt, (IN(file), const uint8_t file_key[16], OUT(out), REPORT),
+FUNCTION(uint32_t, decrypt, file_len, (IN(file), const uint8_t file_key[16], OUT(out), REPORT),
          { CHECK(file) CHECK(out) }, (file, file_len, file_key, out, out_len, report))
-FUNCTION(uint32_t, encrypt, (IN(plain), IN(stanzas), const uint8_t file_key[16],
+FUNCTION(uint32_t, encrypt, plain_len, (IN(plain), IN(stanzas), const uint8_t file_key[16],
           const uint8_t nonce[16], OUT(out), REPORT),
          { CHECK(plain) CHECK(stanzas) CHECK(out) }, (plain, plain_len, stanzas, stanzas_len,
           file_key, nonce, out, out_len, report))

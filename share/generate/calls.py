@@ -103,7 +103,8 @@ def _row(export, fields):
     if checks:
         checks = [f"CLOSE({name})" for name in _opened(export, fields)] + checks
     parameters = ", ".join(map(_parameter_in_c, export.parameters)) or "void"
-    first = f"FUNCTION({IN_C[export.result]}, {export.name}, ({parameters}),"
+    size = next((f"{v.name}_len" for v in export.parameters if v.name in ("chunk", "file", "plain")), "0")
+    first = f"FUNCTION({IN_C[export.result]}, {export.name}, {size}, ({parameters}),"
     second = f"{{ {' '.join(checks)} }}, ".replace("{  }", "{}") + f"({', '.join(_names(export.parameters))}))"
     lines = _lines(first.split(", "), "", " " * 10) + _lines(second.split(", "), " " * 9, " " * 10)
     return "\n".join(lines) + "\n"

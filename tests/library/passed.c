@@ -1,12 +1,12 @@
 // Replaces the builds of the proved code, and checks the arguments that agefile.c passes to
 // them: they must be those of the caller, except that null pointers, which the proved code does not
 // take, are replaced. A null pointer with a length must be refused without calling a build. Prints
-// what is wrong, and which build was called.
+// what is wrong, which build was called, and how many functions call that for x86-64-v4 for 16 KiB.
 #include <agefile.h>
 #include <stdio.h>
 #include <string.h>
 
-enum { most = 12, answer = 77, room = 64 };
+enum { most = 12, answer = 77, room = 64, much = 16384 };
 
 // A call, with a letter for each argument (_arguments in header.py), and the struct that it opens.
 typedef struct call {
@@ -42,11 +42,11 @@ static void check(bool holds, const call *call, const char *of)
 }
 
 // Gives each pointer its own memory, and each number another value.
-static void set_all(const call *call, uintptr_t *arguments)
+static void set_all(const call *call, uintptr_t *arguments, uintptr_t least)
 {
     memset(memory, 0xEE, sizeof memory);
     for (int i = 0; call->kinds[i] != 0; i++)
-        arguments[i] = strchr("pc", call->kinds[i]) ? (uintptr_t)memory[i] : call->kinds[i] == 'b' ? 1 : (uintptr_t)i + 2;
+        arguments[i] = strchr("pc", call->kinds[i]) ? (uintptr_t)memory[i] : call->kinds[i] == 'b' ? 1 : (uintptr_t)i + least;
 }
 
 static void passes(const call *call, const uintptr_t *arguments)
@@ -73,14 +73,14 @@ int main(void)
     uintptr_t arguments[most], none[most];
     for (size_t c = 0; c < sizeof calls / sizeof *calls; c++) {
         const call *call = &calls[c];
-        set_all(call, arguments);
+        set_all(call, arguments, 2);
         passes(call, arguments);
-        set_all(call, none);
+        set_all(call, none, 2);
         for (int i = 0; call->kinds[i] != 0; i++) {
             if (call->kinds[i] != 'c')
                 continue;
             none[i] = none[i + 1] = 0;
-            set_all(call, arguments);
+            set_all(call, arguments, 2);
             arguments[i] = 0;
             for (arguments[i + 1] = (uintptr_t)1 << 62; arguments[i + 1] > 0; arguments[i + 1] >>= 31)
                 refuses(call, arguments);
@@ -88,6 +88,15 @@ int main(void)
         }
         passes(call, none);
     }
-    puts(called);
+    const char *usual = called;
+    int wide = 0;
+    for (size_t c = 0; c < sizeof calls / sizeof *calls; c++) {
+        times = 0;
+        set_all(&calls[c], arguments, much);
+        calls[c].make(arguments);
+        wide += strcmp(called, usual) != 0 && strcmp(called, "x86-64-v4") == 0;
+        failed += strcmp(called, usual) != 0 && strcmp(called, "x86-64-v4") != 0;
+    }
+    printf("%s, %d\n", usual, wide);
     return failed != 0;
 }
