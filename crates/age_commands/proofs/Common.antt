@@ -25,7 +25,7 @@ pub use Rattle.age_stream.specs.Sizes.{chunk_size}
 pub use Rattle.age_stream.specs.declared.fault.StreamFault.{StreamFault}
 pub use Rattle.age_stream.specs.declared.layout.Layout.{Layout}
 pub use Rattle.std.proofs.Common.{Bool, Err, IfOk, List, None, Ok, OnOk, Option, Result, Some, [], ap, arith, cond, drop, false, get_or, inl, inr, length, map, min, refl, rules, slice_index, slice_index_or, subst, sym, take, take_all, true, ℕ, ◌%◌, ◌*◌, ◌++◌, ◌+◌, ◌-◌, ◌<◌, ◌^◌, ◌∙◌, ◌∷◌, ◌≡◌, ◌≤◌, ◌⊎◌}
-pub use Rattle.std.proofs.KnownBytes.{Appends-nil, Appends-trans, Consumes-nil, Consumes-whole, Keeps-refl, Consumes-kept}
+pub use Rattle.std.proofs.KnownBytes.{Appends-nil, Appends-trans, Consumes-kept, Consumes-nil, Consumes-trans, Consumes-whole, Keeps-refl}
 pub use Rattle.std.proofs.lemmas.List.{append-nil, append_assoc, get_or-append-add, get_or-take, get_or_append_left, get_or_default, length-append, length-take, length-take-le, map_push, take-append-le, take_more}
-pub use Rattle.std.specs.Io.KnownBytes.{Appends, Keeps}
+pub use Rattle.std.specs.Io.KnownBytes.{Appends, IsAtEnd, Keeps}
 pub use Rattle.std.specs.Prelude.{is_some}

@@ -1,11 +1,33 @@
 -- What salvaging comes to from a source that may skip what cannot be read.
-use Rattle.age_commands.proofs.Common.{arith, append-nil, ◌≡◌, ◌⊎◌, ◌∙◌, ◌++◌, [], ap, subst, cond, false, true, Bool, ℕ, Option, None, Result, Ok, Err, OnOk, IfOk, inl, inr, sym, refl, ◌&&◌, ⊤, IfSome, is_some, Consumes-whole, Bytes, CountsIf, Known, Moved, OfGiven, Seen, flow, KnownLosses, is_whole_to, losses_of, Fault, BadChunk, SalvagedFile, Bounds, IsQuiet, is_write, SalvagesFile, is_whole_file, Answering, SalvagesAll, if_whole, of_any, gave_none, of_all, reports_none, Consumes, Consumes-kept, Consumes-nil, Keeps}
+use Rattle.age_commands.proofs.Common.{arith, append-nil, ◌≡◌, ◌⊎◌, ◌∙◌, ◌++◌, [], ap, subst, cond, false, true, Bool, ℕ, Option, None, Result, Ok, Err, OnOk, IfOk, inl, inr, sym, refl, ◌&&◌, ⊤, IfSome, is_some, Consumes-whole, Bytes, CountsIf, Known, Moved, OfGiven, Seen, flow, KnownLosses, is_whole_to, losses_of, Fault, BadChunk, SalvagedFile, Bounds, IsQuiet, is_write, SalvagesFile, is_whole_file, Answering, SalvagesAll, if_whole, of_any, gave_none, of_all, reports_none, Consumes, Consumes-kept, Consumes-nil, Consumes-trans, IsAtEnd, Keeps}
 use Rattle.std.proofs.lemmas.Bool.Decides.{nat_tests}
 use Rattle.age_stream.specs.declared.salvaged.Saved.{Saved}
 use Rattle.age_stream.specs.declared.salvaged.Saved.TheVariants.{LastChunk}
 use Rattle.age_commands.specs.declared.skipping.Reached.{Reached}
 use Rattle.age_commands.specs.declared.skipping.Reached.TheVariants.{Place, End, Failure}
 use Rattle.age_commands.specs.Skipping.{HasRead, IsFirst, OfRead, come_by, is_end}
+
+-- what a read gave comes after what was returned before
+pub read_more : (reached next : Reached) (failed : Type 0) (start before after : Known) (past bytes : Bytes)
+    → Consumes before after bytes → (next ≡ End → IsAtEnd after) → (reached ≡ Failure → next ≡ Failure)
+    → HasRead reached failed start before past → HasRead next failed start after (past ++ bytes)
+read_more reached next failed start before after past bytes more end stays read = go reached next end stays read
+  where
+    both : Consumes start before past → Consumes start after (past ++ bytes)
+    both h = Consumes-trans start before after past bytes h more
+
+    go : (r n : Reached) → (n ≡ End → IsAtEnd after) → (r ≡ Failure → n ≡ Failure) → HasRead r failed start before past
+        → HasRead n failed start after (past ++ bytes)
+    go Place Place end stays h = both h
+    go Place End end stays h = (both h, end refl)
+    go Place Failure end stays h = inl (both h)
+    go End Place end stays h = both h.0
+    go End End end stays h = (both h.0, end refl)
+    go End Failure end stays h = inl (both h.0)
+    go Failure Failure end stays (inl h) = inl (both h)
+    go Failure Failure end stays (inr bad) = inr bad
+    go Failure Place end stays h = let is = stays refl in absurd (cc)
+    go Failure End end stays h = let is = stays refl in absurd (cc)
 
 -- after a failed read nothing more was returned, and the reader has what it had unless it counted a failure
 pub read_no_more : (reached : Reached) {next : Reached} {failed : Type 0} (skips : Bool) (start : Known) {R : Type 0}
