@@ -11,23 +11,8 @@ use Rattle.age_commands.specs.Skipping.{HasRead, IsFirst, OfRead, come_by, is_en
 pub read_more : (reached next : Reached) (failed : Type 0) (start before after : Known) (past bytes : Bytes)
     → Consumes before after bytes → (next ≡ End → IsAtEnd after) → (reached ≡ Failure → next ≡ Failure)
     → HasRead reached failed start before past → HasRead next failed start after (past ++ bytes)
-read_more reached next failed start before after past bytes more end stays read = go reached next end stays read
-  where
-    both : Consumes start before past → Consumes start after (past ++ bytes)
-    both h = Consumes-trans start before after past bytes h more
-
-    go : (r n : Reached) → (n ≡ End → IsAtEnd after) → (r ≡ Failure → n ≡ Failure) → HasRead r failed start before past
-        → HasRead n failed start after (past ++ bytes)
-    go Place Place end stays h = both h
-    go Place End end stays h = (both h, end refl)
-    go Place Failure end stays h = inl (both h)
-    go End Place end stays h = both h.0
-    go End End end stays h = (both h.0, end refl)
-    go End Failure end stays h = inl (both h.0)
-    go Failure Failure end stays (inl h) = inl (both h)
-    go Failure Failure end stays (inr bad) = inr bad
-    go Failure Place end stays h = let is = stays refl in absurd (cc)
-    go Failure End end stays h = let is = stays refl in absurd (cc)
+read_more reached next failed start before after past bytes more end stays read =
+    grind (arith, Consumes-trans)
 
 -- after a failed read nothing more was returned, and the reader has what it had unless it counted a failure
 pub read_no_more : (reached : Reached) {next : Reached} {failed : Type 0} (skips : Bool) (start : Known) {R : Type 0}
@@ -35,30 +20,13 @@ pub read_no_more : (reached : Reached) {next : Reached} {failed : Type 0} (skips
     → Keeps (remaining before) (remaining mid) → (after ≡ mid) ⊎ ((skips ≡ true) × failed)
     → HasRead reached failed start (remaining before) past → HasRead next failed start (remaining after) (past ++ [])
 read_no_more reached {next} {failed} skips start remaining before {mid} {after} past is keeps moved read =
-    subst (λ n. HasRead n failed start (remaining after) (past ++ [])) (sym is)
-    (subst (λ b. Consumes start (remaining after) b ⊎ failed) (sym (append-nil past)) (go moved (kept reached read)))
-  where
-    kept : (r : Reached) → HasRead r failed start (remaining before) past
-        → Consumes start (remaining before) past ⊎ failed
-    kept Place h = inl h
-    kept End h = inl h.0
-    kept Failure h = h
-
-    go : (after ≡ mid) ⊎ ((skips ≡ true) × failed) → Consumes start (remaining before) past ⊎ failed
-        → Consumes start (remaining after) past ⊎ failed
-    go (inr bad) h = inr bad.1
-    go (inl same) (inr bad) = inr bad
-    go (inl same) (inl h) =
-        inl (subst (λ k. Consumes start k past) (sym (ap remaining same)) (Consumes-kept start _ _ past h keeps))
+    grind (arith, Consumes-kept, append-nil)
 
 -- and it took none of the known bytes
 pub come_no_more : {failed : Type 0} (skips : Bool) {R : Type 0} (remaining : R → Known) (before : R) {mid after : R}
     → Keeps (remaining before) (remaining mid) → (after ≡ mid) ⊎ ((skips ≡ true) × failed)
     → Consumes (come_by skips (remaining before)) (come_by skips (remaining after)) []
-come_no_more true remaining before keeps moved = tt
-come_no_more false remaining before {mid} keeps (inl same) =
-    rw same (Consumes-kept (remaining before) _ (remaining mid) [] (Consumes-nil (remaining before)) keeps)
-come_no_more false remaining before keeps (inr (skips, bad)) = absurd (cc)
+come_no_more skips remaining before {mid} keeps moved = grind (arith, Consumes-kept, Consumes-nil)
 
 -- what holds of the bytes that a source returned holds of those that its reader had, if it skips none or has read all
 pub read_of : {A : Type 0} (input : Option A) (reached : Reached) {failed : Type 0} (start now : Known) {old new : Seen}

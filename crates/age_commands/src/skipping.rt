@@ -178,6 +178,7 @@ impl<'a, R: Input, K: Begun> Source for SkippingSource<'a, R, K> {
     ghost gave = { λ s past. HasRead s.reached (HasFailed R.failed K.failed) K.start
         (⟦<BufReader<&'a mut R> as Read>⟧.remaining s.reader) past };
 
+    #[tactic(auto, using(crate::proofs::SalvageLemmas::read_more))]
     fn read(&mut self, buf: &mut [u8]) -> Result<usize, DeviceFault> {
         if buf.len() > NONCE_SIZE {
             self.is_at_chunks = true;

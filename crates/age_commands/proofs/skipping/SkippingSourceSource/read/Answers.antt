@@ -23,13 +23,3 @@ returns-after-is_end-clause-gave g c = (
   },
   search rules,
 )
-
-pub returns-else-ne-clause-gave : goal.returns-else-ne-clause-gave
-returns-else-ne-clause-gave g c = (
-  record {
-    consumes = search rules;
-    grew = λ past read. read_more c.args.self.now.reached c.args.self.now.reached _ _ _ _ past _ c.in-Ok.ensures.bytes.0
-        (λ is. search (rules, is)) (λ is. is) read;
-  },
-  search rules,
-)
