@@ -581,7 +581,7 @@ pub fn one() -> u8
 #[cfg(test)]
 mod tests {
     #[test]
-    fn one_is_one(rt: HostRuntime) {
+    fn is_one_in_TREE(rt: HostRuntime) {
         assert_eq!(rt; super::one(), 1);
     }
 }
@@ -599,7 +599,7 @@ ANSWERS = {
 @unittest.skipUnless(shutil.which("rt"), "rt missing")
 class OneCrate(unittest.TestCase):
     def test_commands(self):
-        """Each command of the table does what the table says. They run at once, each in its own tree."""
+        """Each command of the table does what it says. Each has its own text, because `rt lib` takes what another tree built of the same."""
         page = text_of("CONTRIBUTING.md")
         self.assertEqual(re.findall(r"^\| `(rt .*?)` \|", page, re.MULTILINE), list(ANSWERS))
         with_jobs = re.findall("`(rt [^`]*)`", re.search("^.*take `--jobs N`", page, re.MULTILINE)[0])
@@ -608,7 +608,7 @@ class OneCrate(unittest.TestCase):
             tree = scratch()
             for name, text in CRATE.items():
                 os.makedirs(os.path.dirname(f"{tree}/{name}"), exist_ok=True)
-                write(f"{tree}/{name}", text.encode())
+                write(f"{tree}/{name}", text.replace("TREE", os.path.basename(tree)).encode())
             words = command.replace("CRATE::MODULE::FUNCTION", "one::one").replace("CRATE", "one").split()
             words += ["--jobs", "1"] * (command in with_jobs)
             running[command] = subprocess.Popen(words, cwd=tree + "/crates/one", stdout=subprocess.PIPE, stderr=subprocess.STDOUT, text=True)
