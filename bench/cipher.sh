@@ -9,19 +9,22 @@ cpu=${1:-$(processor)}
 cd "$root/crates/cipher_bench"
 
 # For each level its widest register, the shifts or rotations of ChaCha20 on such registers and the
-# most vectors that its loop stores on the stack, and the same for the multiplications of Poly1305.
-# Other numbers mean slower code: the compiler no longer sees that factors have 32 bits (three times
-# the multiplications), takes narrower registers, or works in an order for which these are too few.
-expected="x86-64 xmm 128 160 300 70
-x86-64-v2 xmm 64 170 300 70
-x86-64-v3 ymm 32 50 150 40
-x86-64-v4 zmm 32 4 75 16"
+# most vectors that its loop stores on the stack, the same for the multiplications of Poly1305, and
+# how many of the two functions must align the stack to such a register. Other numbers mean slower
+# code: the compiler no longer sees that factors have 32 bits (three times the multiplications),
+# takes narrower registers, works in an order for which these are too few, or stores vectors in two
+# lines of the cache. The system aligns the stack to 16 bytes, which is enough for xmm.
+expected="x86-64 xmm 128 160 300 70 0
+x86-64-v2 xmm 64 170 300 70 0
+x86-64-v3 ymm 32 50 150 40 2
+x86-64-v4 zmm 32 4 75 16 2"
 
 # The counts of a level's registers: counts REGISTER. ChaCha20's loop has all its shifts, and
 # Poly1305's the first two thirds of its multiplications; each is in one function.
 counts() {
     objdump -d --no-show-raw-insn out/cipher_bench | awk -v wide="%$1" '
         /^[0-9a-f]+ <.*>:$/ { name = $2 }
+        /and +\$0xf+(e0|c0),%rsp/ { aligned[name] = 1 }
         /mov[a-z0-9]* +%[xyz]mm[0-9]+,[^ ]*\(%r[sb]p/ { stores[name]++ }
         index($0, wide) && /pslld|prold/ { note("shifts") }
         index($0, wide) && /pmuludq/ { note("products") }
@@ -37,7 +40,8 @@ counts() {
         }
         END {
             print most["shifts"] + 0, stored("shifts", most["shifts"]),
-                most["products"] + 0, stored("products", int(most["products"] * 2 / 3))
+                most["products"] + 0, stored("products", int(most["products"] * 2 / 3)),
+                aligned[place["shifts"]] + aligned[place["products"]]
         }'
 }
 
@@ -50,11 +54,13 @@ if ! said=$(rt run $(target "$cpu") -- seal 65536 1 7 2>&1); then
     echo "$said" >&2
     exit 1
 fi
-read -r _ wide shifts stores products more_stores <<<"$row"
+read -r _ wide shifts stores products more_stores aligned <<<"$row"
 read -ra found < <(counts "$wide")
 echo "ChaCha20: ${found[0]} shifts, ${found[1]} stores"
 echo "Poly1305: ${found[2]} multiplications, ${found[3]} stores"
-if ((found[0] != shifts || found[1] > stores || found[2] != products || found[3] > more_stores)); then
-    echo "expected $shifts, at most $stores, $products, at most $more_stores: the code is slower" >&2
+echo "the stack is aligned in ${found[4]}"
+if ((found[0] != shifts || found[1] > stores || found[2] != products || found[3] > more_stores ||
+    found[4] < aligned)); then
+    echo "expected $shifts, at most $stores, $products, at most $more_stores, $aligned: slower" >&2
     exit 1
 fi

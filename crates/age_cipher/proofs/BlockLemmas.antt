@@ -54,9 +54,7 @@ pub xored_next : {at m next n : ℕ} (x y : Words) {old half new : Bytes} → 4 
     → IsXored at m (λ j. slice_index (bytes x) (j - at)) old half
     → IsXored next n (λ j. slice_index (bytes y) (j - next)) half new
     → IsXored at (m + n) (λ j. slice_index (bytes (x ++ y)) (j - at)) old new
-xored_next {at} {m} {next} {n} x y {old} {half} {new} long e first then =
-    let long_bytes : length (bytes x) ≡ m = length-bytes x ∙ long in
-    rw (flat_map-append (λ w. le_bytes 4 w) x y) (search (rules, cases_lt, get_or_append_left, get_or-append_right))
+xored_next {at} {m} {next} {n} x y {old} {half} {new} long e first then = grind (arith, length-bytes, flat_map-append, get_or_append_left, get_or-append_right)
 
 -- words i to i + 3 of lane k
 abbrev four_words : (words : List Words) (k i : ℕ) → Words
@@ -90,8 +88,4 @@ pub xored_as_part : (key nonce : Bytes) (counter : ℕ) {number at n : ℕ} {old
     → at % 64 ≡ 0 → number ≡ counter + at / 64
     → IsXored at n (λ j. stream_byte key nonce number (j - at)) old new
     → IsXored at n (stream_byte key nonce counter) old new
-xored_as_part key nonce counter {number} {at} {n} whole e xored =
-    xored_by (λ j low below.
-    let block_number : number + (j - at) / 64 ≡ counter + j / 64 = omega (arith, whole, e) in
-    let place : (j - at) % 64 ≡ j % 64 = omega (arith, whole) in
-    rw (block_number, place) refl) xored
+xored_as_part key nonce counter {number} {at} {n} whole e xored = grind (arith, xored_by)
