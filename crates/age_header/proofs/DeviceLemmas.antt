@@ -48,9 +48,7 @@ of_map h p = of_more h.gave (λ d end. p (h.given ++ d) (h.holds d end))
 -- what holds of the bytes that a source gave holds of its known bytes
 all_known : (P : Bytes → Type 0) (given : Bytes) (told left : Known) → Consumes told left given
     → ((d : Bytes) → (IsAtEnd left → d ≡ []) → P (given ++ d)) → IfSome told P
-all_known P given None left taken holds = tt
-all_known P given (Some all) None taken holds = absurd taken
-all_known P given (Some all) (Some d) taken holds = subst P (sym taken) (holds d (λ end. end))
+all_known a b c d e f = grind arith
 
 pub of_all : {source : Flow} {P : Bytes → Type 0} → OfGiven source P → IfSome source.before.to_come P
 of_all {source} {P} h = all_known P h.given source.before.to_come source.after.to_come h.gave.consumes h.holds

@@ -27,10 +27,7 @@ same_stanza s x y h k =
 
 same_stanzas : (ss : List StanzaParts) (x y : Bytes) → AreStanzas ss x → AreStanzas ss y → x ≡ y
 same_stanzas [] x y h k = h ∙ sym k
-same_stanzas (s ∷ ss) x y (front, back, h, hs, is) (other, others, k, ks, also) =
-    let one = same_stanza s front other h k in
-    let rest = same_stanzas ss back others hs ks in
-    cc
+same_stanzas (s ∷ ss) x y (front, back, h, hs, is) (other, others, k, ks, also) = grind (arith, same_stanza s front other h k, same_stanzas ss back others hs ks)
 
 pub one_text : (ss : List StanzaParts) (m h k : Bytes) → Head ss m h → Head ss m k → h ≡ k
 one_text ss m h k a b = search (rules, same_stanzas, IsBase64-only)
@@ -78,8 +75,7 @@ last_one : (ms : List Bytes) (f : Bytes) (ls : List Bytes) (e : Bytes) (more : L
     → ms ++ f ∷ [] ≡ (ls ++ e ∷ []) ++ more
     → ((more ≡ []) × (ms ≡ ls) × (f ≡ e)) ⊎ ((rest : List Bytes) × (ms ≡ ls ++ e ∷ rest))
 last_one [] f [] e more h = inl (cc, refl, cc)
-last_one [] f (l ∷ ls) e more h =
-    absurd (omega (arith, ap length h, length-append (ls ++ e ∷ []) more, length-append ls (e ∷ [])))
+last_one [] f (l ∷ ls) e more h = grind (arith, length-append (ls ++ e ∷ []) more, length-append ls (e ∷ []))
 last_one (m ∷ ms) f [] e more h = let head : m ≡ e = cc in inr (ms, cc)
 last_one (m ∷ ms) f (l ∷ ls) e more h =
     let head : m ≡ l = cc in

@@ -11,9 +11,7 @@ within {x} k n g h low = (x ++ h.0, gave_then g h.1, omega (arith, length-append
 -- a line that was read under a limit
 pub line_most : (end : LineEnd) (text : Bytes) (k n : ℕ) (left : Option Bytes) (source : Flow)
     → Gave source (line_bytes text end) → IsEnd end (length text) k left → k ≤ n → GaveAtMost n source
-line_most Lf text k n left source g is low = search (rules, length-append)
-line_most Input text k n left source g is low = (text, g, omega (arith, is.0, low))
-line_most Room text k n left source g is low = (text, g, omega (arith, is, low))
+line_most a b c d e f g h i = grind (arith, length-append)
 
 -- what follows a path, within the room that is left
 pub reached_within : {a mid : Seen} (new : Seen) {max room count : ℕ} {s : State}

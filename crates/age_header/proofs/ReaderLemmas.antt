@@ -1,11 +1,9 @@
 -- What a reader of headers returns, from the bytes that its source gave.
-use Rattle.age_header.proofs.Common.{ℕ, Err, Bytes, GaveSome, Seen, flow, HeaderFault, ReadsHeader, Read, Memory, IsOutside, Refuses}
+use Rattle.age_header.proofs.Common.{arith, ℕ, Err, Bytes, GaveSome, Seen, flow, HeaderFault, ReadsHeader, Read, Memory, IsOutside, Refuses}
 use Rattle.age_header.proofs.DeviceLemmas.{of_any}
 
 refused : (b : Bytes) (max : ℕ) (e : HeaderFault) → IsOutside e → Refuses b max e
-refused b max Read h = tt
-refused b max Memory h = tt
-refused b max e h = absurd assumption
+refused a b c d = grind arith
 
 -- what a line's own fault says
 pub outside : {a new : Seen} (max : ℕ) (e : HeaderFault) → IsOutside e → GaveSome (flow a new)

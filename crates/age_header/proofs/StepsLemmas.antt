@@ -60,10 +60,8 @@ Step-once (within ss args body) l (within ts brgs cody) (within us crgs dody) (a
     (b, f0, f1, m, also, f2) = let same : a ≡ b = IsBase64-injective a b l is also in cc
 Step-once (within ss args body) l (between ts) (between us) (a, n, is, e) (b, m, also, f) =
     let same : a ≡ b = IsBase64-injective a b l is also in cc
-Step-once (within ss args body) l (within ts brgs cody) (between us) h k =
-    absurd (omega (arith, h.3, k.1))
-Step-once (within ss args body) l (between us) (within ts brgs cody) h k =
-    absurd (omega (arith, h.1, k.3))
+Step-once (within ss args body) l (within ts brgs cody) (between us) h k = grind arith
+Step-once (within ss args body) l (between us) (within ts brgs cody) h k = grind arith
 Step-once s l t u h k = absurd assumption
 
 pub Leads-once : (s t u : State) (ls : List Bytes) → Leads s ls t → Leads s ls u → t ≡ u
@@ -187,15 +185,7 @@ full_size (f ∷ full) h = omega (arith, length-append f (concat full), h.0, ful
 pub step_spells : (s : State) (l : Bytes) (t : State) (text : Bytes) → Spells s text → Step s l t
     → Spells t (text ++ line l)
 unfolding IsBase64
-step_spells (between ss) l (within ts args body) text h (stanzas, none, arguments, is) = record {
-  whole = text;
-  full = [];
-  stanza_text = rw stanzas h;
-  arguments = arguments;
-  cut = tt;
-  body_text = rw none tt;
-  spelled = ap (text ++◌) is ∙ sym (append-nil (text ++ argument_line args));
-}
+step_spells (between ss) l (within ts args body) text h (stanzas, none, arguments, is) = grind (arith, append-nil)
 step_spells (within ss args body) l (within ts args' body') text h (more, stanzas, same, full, is, grows) = record {
   whole = h.whole;
   full = h.full ++ l ∷ [];
@@ -224,20 +214,4 @@ step_spells s l t text h k = absurd assumption
 -- what a state stands for is a prefix of a header
 pub spells_prefix : (s : State) (text : Bytes) → Spells s text → IsHeaderPrefix (version_line ++ text)
 spells_prefix (between ss) text h = search (rules, append-nil)
-spells_prefix (within ss args body) text h = record {
-  stanzas = ss;
-  whole = h.whole;
-  rest = argument_line args ++ flat_map line h.full;
-  stanza_text = h.stanza_text;
-  rest_text = inr (record {
-    args = args;
-    full = h.full;
-    bytes = body;
-    arguments = h.arguments;
-    cut = h.cut;
-    body = h.body_text;
-    spelled = refl;
-  });
-  spelled = ap (version_line ++◌) (h.spelled ∙ append_assoc h.whole (argument_line args) (flat_map line h.full))
-      ∙ sym (append_assoc version_line h.whole (argument_line args ++ flat_map line h.full));
-}
+spells_prefix (within ss args body) text h = grind (arith, append_assoc h.whole (argument_line args) (flat_map line h.full), append_assoc version_line h.whole (argument_line args ++ flat_map line h.full))

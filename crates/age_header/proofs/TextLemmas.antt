@@ -16,10 +16,7 @@ encoded_size_plain e n p = rw p.unpadded refl
 pub body_step : (b : Bytes) {piece after : Bytes} → piece ≡ take bytes_of_a_line b → after ≡ drop bytes_of_a_line b
     → bytes_of_a_line ≤ length b → body_text b ≡ base64_of piece ++ (10 ∷ body_text after)
 unfolding body_text body_lines
-body_step b p a low =
-    let n : length b / bytes_of_a_line ≡ suc (length (drop bytes_of_a_line b) / bytes_of_a_line) =
-    omega (arith, length-drop bytes_of_a_line b) in
-    rw (n, p, a) (search (append_assoc))
+body_step b p a low = grind (arith, length-drop bytes_of_a_line b, append_assoc)
 
 pub body_end : (b : Bytes) → length b < bytes_of_a_line → body_text b ≡ base64_of b ++ 10 ∷ []
 unfolding body_text body_lines
@@ -99,15 +96,7 @@ pub stanza_text_is : (s : StanzaParts) → IsWhole s → IsStanza s (stanza_text
 unfolding stanza_text body_text
 stanza_text_is s h =
     let c = cut (length s.body / bytes_of_a_line) s.body h.1 (omega arith) (omega arith) in
-    record {
-      full = c.full;
-      last = c.last;
-      arguments = h.0;
-      cut = (c.each, c.low);
-      body = c.text;
-      spelled = ap (argument_line s.args ++◌) c.spelled
-          ∙ sym (append_assoc (argument_line s.args) (flat_map line c.full) (line c.last));
-    }
+    grind (arith, append_assoc)
 
 stanzas_text_is : (ss : List StanzaParts) → AllByRecursion IsWhole ss → AreStanzas ss (flat_map stanza_text ss)
 stanzas_text_is [] h = refl

@@ -50,9 +50,7 @@ not_age first n max text low none age = search (rules, begins_version, prefix_te
 pub no_prefix : {a new : Seen} (first : Bytes) (end : LineEnd) (max : ℕ) → Gave (flow a new) (line_bytes first end)
     → IsLineText first → IsEnd end (length first) (min max version_size) new.to_come
     → ((x : Bytes) → version_text ≢ first ++ x) → ReadsHeader (flow a new) max (Err NotAge)
-no_prefix first Lf max took text low none = search (rules, of_more, append_assoc, not_age)
-no_prefix first Input max took text (low, _) none = of_more took (λ n _. not_age first n max text (omega arith) none)
-no_prefix first Room max took text full none = of_more took (λ n _. not_age first n max text (omega arith) none)
+no_prefix a b c d e f g = grind (arith, of_more, append_assoc, not_age)
 
 -- a line that ends too early
 pub short_line : {a new : Seen} (first : Bytes) {rest : Bytes} (max : ℕ) → Gave (flow a new) (line first)
@@ -85,11 +83,7 @@ short_input {first} rest {max} took text (low, end) is =
 
 pub short_room : {a new : Seen} {first : Bytes} (rest : Bytes) {max : ℕ} → Gave (flow a new) first → IsLineText first
     → length first ≡ min max version_size → version_text ≡ first ++ rest → ReadsHeader (flow a new) max (Err TooLarge)
-short_room {first} rest {max} took text full is = of_more took (λ n _.
-    let size = prefix_size first rest is in
-    let cap = take_at first n max (omega arith) in
-    let (age, open') = first_open first rest (take max (first ++ n)) cap text is in
-    (age, open', omega (arith, length-append first n)))
+short_room {first} rest {max} took text full is = grind (arith, of_more, prefix_size, take_at, first_open, length-append)
 
 -- the version line
 pub version_read : {a new : Seen} (first : Bytes) {rest : Bytes} {max : ℕ} → Gave (flow a new) (line first)

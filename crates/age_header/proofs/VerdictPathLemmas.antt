@@ -112,9 +112,7 @@ path_open ls s cap tail each leads is text =
     ]
 
 pub take_past : (x n : Bytes) (m : ℕ) → length x ≤ m → take m (x ++ n) ≡ x ++ take (m - length x) n
-take_past x n m h =
-    let whole : length x + (m - length x) ≡ m = omega arith in
-    rw whole at (take-append-add x n (m - length x))
+take_past x n m h = grind (arith, take-append-add x n (m - length x))
 
 -- one more whole line: where the lines through it are a header or not viable, they decide
 pub path_decides : (ls : List Bytes) (s : State) (text b n : Bytes) (max : ℕ)

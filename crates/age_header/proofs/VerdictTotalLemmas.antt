@@ -4,7 +4,7 @@ use Rattle.age_header.proofs.DeviceLemmas.{gave_told, of_known, of_told}
 use Rattle.age_header.proofs.ArgumentsLemmas.{Parsed, SpellsArguments, SpellsNone, no_arrow, parsed_none, parsed_more, parsed_all, parsed_nothing, stuck_space, stuck_empty}
 use Rattle.age_header.proofs.Base64Lemmas.{decoded_b64, b64_decoded, IsBase64-injective}
 use Rattle.age_header.proofs.VerdictPathLemmas.{version_text, Reached}
-use Rattle.age_header.proofs.StepsLemmas.{no_arguments, no_base64}
+use Rattle.age_header.proofs.StepsLemmas.{no_arguments, no_base64, too_long}
 use Rattle.age_header.proofs.VerdictFirstLineLemmas.{no_prefix, short_line, short_input, short_room, version_read}
 use Rattle.age_header.proofs.VerdictLaterLinesLemmas.{path_start, path_more, path_header, path_bad, path_truncated, path_too_large, IsEndLine}
 use Rattle.age_header.proofs.VerdictUniqueLemmas.{found_again, one_verdict}
@@ -18,13 +18,7 @@ nil_or_some (c ∷ x) = inr (λ e. cc)
 prefix_of : (f v : Bytes) → ((x : Bytes) × (v ≡ f ++ x)) ⊎ ((x : Bytes) → v ≢ f ++ x)
 prefix_of [] v = inl (v, refl)
 prefix_of (c ∷ f) [] = inr (λ x e. cc)
-prefix_of (c ∷ f) (d ∷ v) = elim (cases_eq d c) [
-  | inr other ↦ inr (λ x e. other cc)
-  | inl same ↦ elim (prefix_of f v) [
-    | inl (rest, is) ↦ inl (rest, cc)
-    | inr none ↦ inr (λ x e. none x cc)
-  ]
-]
+prefix_of (c ∷ f) (d ∷ v) = grind (arith, cases_eq d c, prefix_of f v)
 
 visible_or_not : (c : ℕ) → IsVisible c ⊎ (IsVisible c → ⊥)
 visible_or_not c = search (rules, cases_lt)
@@ -82,11 +76,6 @@ arguments_of l = elim (prefix_of (codes "->") l) [
 
 -- ---- one line
 
-too_long : (ss : List StanzaParts) (args : List Bytes) (body l : Bytes) → line_size < length l → (t : State)
-    → Step (within ss args body) l t → ⊥
-too_long ss args body l over (between ts) h = omega (arith, h.1)
-too_long ss args body l over (within ts brgs cody) h = omega (arith, h.3)
-
 step_of : (s : State) (l : Bytes) → ((t : State) × Step s l t) ⊎ ((t : State) → Step s l t → ⊥)
 step_of (between ss) l = elim (arguments_of l) [
   | inl (args, are, is) ↦ inl (within ss args [], (refl, refl, are, is))
@@ -97,7 +86,7 @@ step_of (within ss args body) l = elim (base64_or_none l) [
   | inl (more, is) ↦ elim (cases_order (length l) line_size) [
     | inl full ↦ inl (within ss args (body ++ more), (more, refl, refl, full, is, refl))
     | inr (inl short) ↦ inl (between (ss ++ record { args = args; body = body ++ more } ∷ []), (more, short, is, refl))
-    | inr (inr over) ↦ inr (too_long ss args body l over)
+    | inr (inr over) ↦ inr (λ t. too_long ss args body l t over)
   ]
 ]
 

@@ -25,25 +25,10 @@ same_found b max x y h k =
     parts
 
 header_fault : (b : Bytes) (max : ℕ) (x : Found) (f : HeaderFault) → Finds b max x → IsFault b max f → ⊥
-header_fault b max x NotAge h k = k h.begun
-header_fault b max x (BadLine n) h (age, (ls, size, decides, no_header)) = search (rules, decides_once)
-header_fault b max x Truncated h k = k.1 h.lines h.decides
-header_fault b max x TooLarge h k = k.1 h.lines h.decides
-header_fault b max x f h k = assumption
+header_fault a b c d e f = grind (arith, decides_once)
 
 same_fault : (b : Bytes) (max : ℕ) (f g : HeaderFault) → IsFault b max f → IsFault b max g → f ≡ g
-same_fault b max NotAge NotAge h k = refl
-same_fault b max (BadLine n) (BadLine m) (age, (ls, size, decides, _)) (_, (ks, other, decide, _)) =
-    let lines = decides_once (take max b) ls ks decides decide in cc
-same_fault b max (BadLine n) Truncated h k = absurd (k.1 h.1.0 h.1.2)
-same_fault b max (BadLine n) TooLarge h k = absurd (k.1 h.1.0 h.1.2)
-same_fault b max Truncated (BadLine n) h k = absurd (h.1 k.1.0 k.1.2)
-same_fault b max TooLarge (BadLine n) h k = absurd (h.1 k.1.0 k.1.2)
-same_fault b max Truncated Truncated h k = refl
-same_fault b max TooLarge TooLarge h k = refl
-same_fault b max Truncated TooLarge h k = absurd (omega (arith, h.2, k.2))
-same_fault b max TooLarge Truncated h k = absurd (omega (arith, h.2, k.2))
-same_fault b max f g h k = search
+same_fault a b c d e f = grind (arith, decides_once)
 
 pub one_verdict : (b : Bytes) (max : ℕ) (r q : Result Found HeaderFault) → HeaderVerdict b max r → HeaderVerdict b max q
     → r ≡ q
@@ -57,12 +42,7 @@ pub begins_found : (b : Bytes) (max : ℕ) (x : Found) → Finds b max x → Beg
 begins_found b max x h =
     let rest : Bytes = h.decides.lines.rest in
     let cap : take max b ≡ x.text ++ rest = rw h.is h.decides.lines.prefix in
-    record {
-      rest = rest ++ drop max b;
-      head = h.head;
-      prefix = sym (take-append-drop max b) ∙ rw (cap, append_assoc) refl;
-      fits = omega (arith, length-take max b, ap length cap, length-append x.text rest);
-    }
+    grind (arith, take-append-drop max b, append_assoc, length-take max b, length-append x.text rest)
 
 -- a header that begins the text within the limit is found
 pub found_begins : (b : Bytes) (max : ℕ) (x : Found) → BeginsWith b max x → Finds b max x
@@ -72,13 +52,7 @@ found_begins b max x h =
     let is : b ≡ (version_line ++ lines_text ls) ++ h.rest = h.prefix ∙ ap (λ (z : Bytes). z ++ h.rest) p.is in
     let (begun, decides) = path_decides p.lines (between x.stanzas) (end_text p.characters) b h.rest max p.each p.leads
     is (rw p.is at h.fits) (inl (x.stanzas, x.mac, rw p.is at h.head)) in
-    record {
-      lines = version_text ∷ ls;
-      begun = begun;
-      decides = decides;
-      is = p.is ∙ sym (whole_lines ls);
-      head = h.head;
-    }
+    grind (arith, version_text, whole_lines)
 
 -- a header that was found is found in every text that it begins
 pub found_again : (b : Bytes) (max : ℕ) (x : Found) → Finds b max x → (rest : Bytes) → Finds (x.text ++ rest) max x

@@ -1,12 +1,13 @@
 //! Reading one line.
 
-ghost use Rattle.std.specs.Prelude.{◌≡◌, length, IfOk, IfErr, OnErr};
-ghost use Rattle.age_header.specs.Device.{CountsIf, Gave, GaveSome, flow_by};
+ghost use Rattle.std.specs.Prelude.{◌≡◌, [], ◌∷◌, length, IfOk, IfErr, OnErr, IfSome, IfNone};
+ghost use Rattle.std.specs.Io.KnownBytes.{IsAtEnd};
+ghost use Rattle.age_header.specs.Device.{Counts, CountsIf, Gave, GaveSome, flow_by};
 ghost use Rattle.age_header.specs.Verdict.{IsLineText};
 ghost use Rattle.age_header.specs.Reader.{ReadAtMost, is_read};
 ghost use Rattle.age_header.specs.Lines.{line_bytes, IsEnd, IsOutside};
 
-use crate::device::Source;
+use crate::device::{DeviceFault, Source};
 use crate::fault::HeaderFault;
 use std::alloc::Global;
 
@@ -40,14 +41,11 @@ pub(crate) fn read_line<S: Source>(
 {
     let mut line = Vec::new(alloc);
     for _ in 0..max_len {
-        let mut byte = [0u8; 1];
-        let Ok(count) = input.read(&mut byte) else {
-            return Err(HeaderFault::Read);
+        let next = match next_byte(input) {
+            Ok(Some(next)) => next,
+            Ok(None) => return Ok((line, LineEnd::Input)),
+            Err(_) => return Err(HeaderFault::Read),
         };
-        if count == 0 {
-            return Ok((line, LineEnd::Input));
-        }
-        let [next] = byte;
         if next == b'\n' {
             return Ok((line, LineEnd::Lf));
         }
@@ -56,4 +54,21 @@ pub(crate) fn read_line<S: Source>(
         }
     }
     Ok((line, LineEnd::Room))
+}
+
+/// Reads one byte, or None at the end.
+fn next_byte<S: Source>(input: &mut S) -> Result<Option<u8>, DeviceFault>
+    ensures count { Counts (S.failed input.old) (S.failed input.new) result }
+    ensures some { IfOk result (λ next. IfSome next (λ byte.
+        Gave (flow_by S.to_come S.gave input.old input.new) (byte ∷ []))) }
+    ensures none { IfOk result (λ next. IfNone next (IsAtEnd (S.to_come input.new)
+        × Gave (flow_by S.to_come S.gave input.old input.new) [])) }
+    ensures lost { OnErr result (Gave (flow_by S.to_come S.gave input.old input.new) []) }
+{
+    let mut byte = [0u8; 1];
+    match input.read(&mut byte) {
+        Ok(0) => Ok(None),
+        Ok(_) => Ok(Some(byte[0])),
+        Err(fault) => Err(fault),
+    }
 }

@@ -1,5 +1,5 @@
 -- The rows of the table, and the row that the last block of X names.
-use Rattle.age_kdf.proofs.Common.{◌≡◌, ℕ, ◌+◌, ◌*◌, ◌-◌, ◌%◌, ◌^◌, ◌<◌, ◌≤◌, [], ◌∷◌, length, take, drop, get_or, bit_xor, refl, sym, ap, ◌∙◌, arith, add-one, zip2, get_or-chunk, take-put_mid, Words, put_mid, block_mix, v_at, romix_after, number_l, drop-take, drop_at, length-take-le, take-put_mid_below, add-mul-mod_self_left, mul_assoc, mul-le-mul_left, pow-add, mod_below, pow_pos, block, integerify, common_steps, rules}
+use Rattle.age_kdf.proofs.Common.{◌≡◌, ℕ, ◌+◌, ◌*◌, ◌-◌, ◌%◌, ◌^◌, ◌<◌, ◌≤◌, [], ◌∷◌, length, take, drop, get_or, bit_xor, refl, sym, ap, ◌∙◌, arith, add-one, zip2, get_or-chunk, take-put_mid, Words, put_mid, block_mix, v_at, romix_after, number_l, drop-take, drop_at, length-take-le, take-put_mid_below, add-mul-mod_self_left, mul_assoc, mul-le-mul_left, pow-add, mod_below, pow_pos, integerify, common_steps, rules}
 
 -- a row that was just written
 pub row_here : (at size k : ℕ) (xs ys : Words) → length ys ≡ size → at ≤ length xs

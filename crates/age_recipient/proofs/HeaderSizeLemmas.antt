@@ -1,5 +1,5 @@
 -- How long the headers of one stanza of this project's kinds are.
-use Rattle.age_recipient.proofs.Common.{◌≡◌, ℕ, ◌+◌, ◌*◌, ◌≤◌, List, [], ◌∷◌, length, arith, ◌∙◌, Bytes, StanzaParts, keyed_stanza, keyed_wrap_key, pass_wrap_key, pass_stanza, zero_nonce, ◌/◌, length-append, flat_map, decimal, length-decimal-le, length-sealed_text, IsBase64, base64_of, Head, argument_line, line, body_size, header_size, stanza_size, head_value, one_text, IsBase64-only, stanza_text, header_text_is, signs_size, FileKey, keyed_type, scrypt_type}
+use Rattle.age_recipient.proofs.Common.{◌≡◌, ℕ, ◌+◌, ◌*◌, ◌≤◌, List, [], ◌∷◌, length, arith, ◌∙◌, Bytes, StanzaParts, keyed_stanza, keyed_wrap_key, pass_wrap_key, pass_stanza, zero_nonce, ◌/◌, length-append, flat_map, decimal, length-decimal-le, length-sealed_text, IsBase64, base64_of, Head, argument_line, body_size, header_size, stanza_size, head_value, one_text, IsBase64-only, stanza_text, header_text_is, signs_size, FileKey, keyed_type, scrypt_type}
 
 pub b64_size : (bytes characters : Bytes) → IsBase64 bytes characters → length characters ≡ (4 * length bytes + 2) / 3
 unfolding base64_of

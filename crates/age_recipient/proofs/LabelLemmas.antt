@@ -21,10 +21,7 @@ any_bytes text [] = refl
 any_bytes text (k ∷ ks) = rw (is_eq-slice_cmp text (string_bytes k), any_bytes text ks) refl
 
 or_last : (a b : Bool) → cond a true b ≡ (b || a)
-or_last true true = refl
-or_last true false = refl
-or_last false true = refl
-or_last false false = refl
+or_last a b = grind arith
 
 bytes_eq_sym : (a b : Bytes) → bytes_eq a b ≡ bytes_eq b a
 bytes_eq_sym a b = (lists_equiv nat_eq_equiv).symm a b

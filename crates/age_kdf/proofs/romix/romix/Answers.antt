@@ -1,10 +1,6 @@
-use Rattle.age_kdf.proofs.Common.{◌≡◌, ◌*◌, ◌^◌, length, arith, ◌∙◌, refl, rules, romix_after, v_at}
+use Rattle.age_kdf.proofs.Common.{◌≡◌, ◌*◌, ◌^◌, length, arith, ◌∙◌, rules, romix_after}
 use Rattle.age_kdf.proofs.RoMixLemmas.{look_turn}
 use Rattle.age_kdf.proofs.romix.romix.Goals as goal
-
-pub fill-init : goal.fill-init
-unfolding v_at
-fill-init c = record { x = refl; table = λ j h. absurd (omega arith) }
 
 pub look-init : goal.look-init
 unfolding romix_after

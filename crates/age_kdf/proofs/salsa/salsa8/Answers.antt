@@ -1,4 +1,4 @@
-use Rattle.age_kdf.proofs.Common.{◌≡◌, arith, ◌∙◌, ap₂, add-one, zip2, salsa8, double_rounds, columns, add32}
+use Rattle.age_kdf.proofs.Common.{◌≡◌, arith, ◌∙◌, ap₂, add-one, zip2, salsa8, double_rounds, add32}
 use Rattle.age_kdf.proofs.salsa.salsa8.Goals as goal
 
 pub rounds-preserved : goal.rounds-preserved
