@@ -59,6 +59,4 @@ at_none none h = rw none at h
 -- what a vector has after its slice was written
 pub written_all : (new old : Bytes) (n : ℕ) → length new ≡ length old → n ≡ length old
     → take n (new ++ drop (length new) old) ≡ new
-written_all new old n e l =
-    ap (λ x. take n (new ++ x)) (drop_all (length new) old (omega arith)) ∙ ap (take n) (append-nil new)
-    ∙ take_all n new (omega arith)
+written_all new old n e l = grind (arith, drop_all, append-nil, take_all)

@@ -43,12 +43,7 @@ filled_cut size (c ∷ d ∷ more) pos h =
 -- the lists of a cut join to what was cut
 pub concat-cut_after : (size : ℕ) (held p : Bytes) → concat (cut_after size held p) ≡ held ++ p
 concat-cut_after size held [] = refl
-concat-cut_after size held (x ∷ xs) =
-    elim (nat_lt (length held) size) as (λ t. concat
-    (cond t (cut_after size (held ++ x ∷ []) xs) (held ∷ cut_after size (x ∷ []) xs)) ≡ held ++ x ∷ xs) [
-      | true ↦ concat-cut_after size (held ++ x ∷ []) xs ∙ append_assoc held (x ∷ []) xs
-      | false ↦ ap (λ t. held ++ t) (concat-cut_after size (x ∷ []) xs)
-    ]
+concat-cut_after size held (x ∷ xs) = grind (arith, nat_lt, cond, append_assoc, concat-cut_after size (held ++ x ∷ []) xs, concat-cut_after size (x ∷ []) xs)
 
 -- one more full list before a filled one
 filled_more : (size : ℕ) (c : Bytes) (cs : List Bytes) → length c ≡ size → IsFilled size cs → IsFilled size (c ∷ cs)
@@ -70,17 +65,10 @@ filled_cut_into size held (x ∷ xs) pos le some =
 -- the computed cut is one
 pub is_cut : (size : ℕ) (p : Bytes) → 0 < size → IsCut size p (cut size p)
 is_cut size [] pos = record { joined = refl; sizes = inl refl }
-is_cut size (x ∷ xs) pos = record {
-  joined = concat-cut_after size [] (x ∷ xs);
-  sizes =
-      inr (filled_cut_into size [] (x ∷ xs) pos (omega arith) (omega arith));
-}
+is_cut size (x ∷ xs) pos = grind (arith, concat-cut_after, filled_cut_into)
 
 pub cut_is_unique : (size : ℕ) (p : Bytes) (cs : List Bytes) → 0 < size → IsCut size p cs → cs ≡ cut size p
-cut_is_unique size p cs pos h = elim h.sizes [
-  | inl e ↦ e ∙ ap (cut size) (sym (ap concat e) ∙ h.joined)
-  | inr filled ↦ sym (filled_cut size cs pos filled) ∙ ap (cut size) h.joined
-]
+cut_is_unique size p cs pos h = grind (arith, filled_cut)
 
 pub one_cut_both : (size : ℕ) (p : Bytes) (cs : List Bytes) → 0 < size → IsCut size p cs ↔ (cs ≡ cut size p)
 one_cut_both size p cs pos = (cut_is_unique size p cs pos, λ e. subst (IsCut size p) (sym e) (is_cut size p pos))
@@ -97,7 +85,4 @@ filled_at_most size (c ∷ []) h = h.1
 filled_at_most size (c ∷ d ∷ more) h = (h.0, filled_at_most size (d ∷ more) h.1)
 
 pub cut_at_most : (size : ℕ) (p : Bytes) → 0 < size → AtMost size (cut size p)
-cut_at_most size p pos = elim (is_cut size p pos).sizes [
-  | inl e ↦ subst (AtMost size) (sym e) (omega arith)
-  | inr filled ↦ filled_at_most size (cut size p) filled
-]
+cut_at_most size p pos = grind (arith, is_cut, filled_at_most, is_cut size p pos)

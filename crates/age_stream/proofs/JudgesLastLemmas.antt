@@ -19,9 +19,7 @@ last_piece_is rest =
 -- what the last piece gives, its number and its offset written out
 pub last_is : (key : Bytes) (max : ℕ) (rest : Bytes) {n : ℕ} → length rest ≡ n
     → last_outcome key max rest ≡ outcome key max (last_index n) true (drop (sealed_chunk_size * last_index n) rest)
-last_is key max rest len = rw (← len)
-    (ap (λ k. outcome key max k true (last_piece rest)) (last_number rest)
-    ∙ ap (outcome key max (last_index (length rest)) true) (last_piece_is rest))
+last_is key max rest len = grind (arith, last_number, last_piece_is)
 
 outcome_many : (key : Bytes) (max i : ℕ) (last : Bool) (c : Bytes) → max ≤ i
     → outcome key max i last c ≡ Err TooManyChunks
@@ -50,20 +48,13 @@ pub judged : (gave : ℕ → ℕ → Type 0) (key : Bytes) (max first sealed las
     {r : Result Bytes StreamFault} → last ≡ last_index sealed → end ≡ sealed - sealed_chunk_size * last
     → length buf ≡ chunk_buf_size → GaveAt gave (first + sealed_chunk_size * last) (take end buf)
     → outcome key max last true (take end buf) ≡ r → JudgesLast gave key max first sealed r
-judged gave key max first sealed last end buf is len room read opens =
-    let size : length (take end buf) ≡ last_len sealed = length-take-le end buf (omega (arith, is)) ∙ rw is at len in
-    inr (take end buf, size, rw is at read, rw is at opens)
+judged gave key max first sealed last end buf is len room read opens = grind (arith, length-take-le)
 
 -- how long a last piece is that opens
 pub open_len : (key : Bytes) (max i : ℕ) {end n : ℕ} (buf after : Bytes) → length buf ≡ chunk_buf_size
     → end ≤ sealed_chunk_size → outcome key max i true (take end buf) ≡ Ok (take n after) → n ≤ length after
     → (n + 16 ≡ end) × (0 < i → 0 < n)
-open_len key max i {end} {n} buf after room le opens within =
-    let o = outcome_opens key max i true (take end buf) (take n after) opens in
-    let len = ap length o.sealed_so ∙ length-sealed_text key (chunk_nonce i true) [] (take n after) in
-    let a = length-take-le end buf (omega arith) in
-    let b = length-take-le n after within in
-    (omega arith, λ pos. omega (arith, o.some refl pos))
+open_len key max i {end} {n} buf after room le opens within = grind (arith, outcome_opens key max i true (take end buf) (take n after) opens, length-sealed_text key (chunk_nonce i true) [] (take n after), length-take-le end buf (omega arith), length-take-le n after within)
 
 -- a last piece that was read, and opens
 pub last_opens : {gave : ℕ → ℕ → Type 0} {layout : Layout} (max last end : ℕ) {n : ℕ} (buf after : Bytes)
@@ -76,13 +67,7 @@ last_opens {gave} {layout} max last end {n} buf after count read size opens len 
     let at : last ≡ layout.count - 1 = omega arith in
     let is_last : nat_eq (last + 1) layout.count ≡ true = eq-eqb (last + 1) layout.count (sym count) in
     let opens = opened_text-sealed_text layout.key (chunk_nonce last true) [] (take n after) in
-    rw (← at) (record {
-      within = omega (arith, count);
-      piece = take end buf;
-      read = read;
-      len = omega (arith, size, len);
-      opens = rw (is_last, o.sealed_so, opens, len);
-    })
+    grind arith
 
 plain_there : (layout : Layout) (rest : Bytes) → length rest ≡ layout.plain + 16 * layout.count
     → plain_len rest ≡ layout.plain
@@ -116,23 +101,14 @@ opened_there b k max at s agrees begins =
     let (size, key, opens) = begun_there b k max at _ agrees begins in
     let there : length (drop s.layout.first b) ≡ s.layout.plain + 16 * s.layout.count =
     omega (arith, size, length-drop s.layout.first b) in
-    record {
-      opens = opens;
-      key = key;
-      first = begins.after;
-      plain = sym (plain_there s.layout (drop s.layout.first b) there) ∙ ap (λ f. plain_len (drop f b)) begins.after;
-      there = record { known = refl; size = there };
-    }
+    grind (arith, plain_there s.layout (drop s.layout.first b) there)
 
 pub refused_there : (b : Bytes) {gave : ℕ → ℕ → Type 0} {found : Option ℕ} (k : FileKey) (max at : ℕ)
     (fault : StreamFault) → Agrees b gave found → OpensRanges k max at gave found (Err fault)
     → (fault ≡ Read) ⊎ ((fault ≡ Memory) ⊎ (range_outcome k max (drop at b) ≡ Err fault))
 refused_there b k max at fault agrees (inl e) = inl e
 refused_there b k max at fault agrees (inr (inl e)) = inr (inl e)
-refused_there b k max at fault agrees (inr (inr (inl (is, (n, size, short))))) =
-    let all : n ≡ length b = rw size at agrees.size in
-    let d : length (drop at b) ≡ length b - at = length-drop at b in
-    inr (inr (rw (lt-ltb (length (drop at b)) 16 (omega arith), is) refl))
+refused_there b k max at fault agrees (inr (inr (inl (is, (n, size, short))))) = grind (arith, length-drop, lt-ltb)
 refused_there b k max at fault agrees (inr (inr (inr (key, first, sealed, begins)))) =
     inr (inr (begun_there b k max at (Err fault) agrees begins).2)
 
@@ -144,6 +120,4 @@ probed (Some n) at unread le = omega arith
 
 -- a fault of a piece is one of opening
 pub piece_named : (max i : ℕ) (fault : StreamFault) → IsAtPiece max i fault → IsOpenFault fault
-piece_named max i Write h = absurd h
-piece_named max i Memory h = absurd h
-piece_named max i fault h = tt
+piece_named a b c d = grind arith

@@ -19,9 +19,7 @@ count_there layout n sealed = grind (arith, sealed, layout.some, layout.covers, 
 -- there are as many pieces as are counted
 there_count : (layout : Layout) (rest : Bytes) → length rest ≡ layout.plain + 16 * layout.count
     → length (pieces rest) ≡ layout.count
-there_count layout rest size =
-    let count = piece_count rest (layout.count - 1) (count_there layout (length rest) (sym size)) in
-    omega (arith, layout.some, count)
+there_count layout rest size = grind (arith, piece_count, count_there)
 
 pub tight_at : (layout : Layout) (i : ℕ) → i < layout.count → chunk_size * i ≤ layout.plain
 tight_at layout i lt = grind (arith, layout.tight, layout.covers, lt)
@@ -29,20 +27,6 @@ tight_at layout i lt = grind (arith, layout.tight, layout.covers, lt)
 there_last : (layout : Layout) (rest : Bytes) (i : ℕ) → length rest ≡ layout.plain + 16 * layout.count
     → i < layout.count → nat_eq (i + 1) layout.count ≡ nat_le (length rest) (sealed_chunk_size * (i + 1))
 there_last layout rest i size lt = grind (arith, nat_tests, layout.tight, layout.covers, size, lt)
-
--- a piece that was read, and what it opens to
-pub piece_opens : {gave : ℕ → ℕ → Type 0} {layout : Layout} {i : ℕ} (nonce buf : Bytes) (end : ℕ) (o : Known)
-    → i < layout.count → GaveAt gave (layout.first + sealed_chunk_size * i) (take end buf)
-    → end ≡ chunk_len layout.plain i + 16 → length buf ≡ chunk_buf_size
-    → nonce ≡ chunk_nonce i (nat_eq (i + 1) layout.count) → opened_text layout.key nonce [] (take end buf) ≡ o
-    → PieceOpens gave layout i o
-piece_opens nonce buf end o lt read len room at opens = record {
-  within = lt;
-  piece = take end buf;
-  read = read;
-  len = length-take-le end buf (omega arith) ∙ len;
-  opens = rw (← at) opens;
-}
 
 -- what a piece opens to is what it opens to in known contents
 pub opens_there : (b : Bytes) {gave : ℕ → ℕ → Type 0} {found : Option ℕ} (layout : Layout) (i : ℕ) (o : Known)

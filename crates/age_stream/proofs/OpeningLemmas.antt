@@ -5,10 +5,7 @@ use Rattle.age_stream.proofs.Common.{◌≡◌, ◌⊎◌, ◌∙◌, ◌+◌, �
 
 -- the front of n bytes
 pub take_most : (size n : ℕ) (l : Bytes) → take size (take n l) ≡ take (min n size) l
-take_most size n l = elim (cases_lt size n) [
-  | inl lt ↦ take-take size n l (omega arith) ∙ ap (λ k. take k l) (omega arith)
-  | inr le ↦ take_all size (take n l) (omega (arith, length-take n l)) ∙ ap (λ k. take k l) (omega arith)
-]
+take_most size n l = grind (arith, take-take, take_all, length-take)
 
 -- what is the same from an offset on is the same from a later one on
 pub drop_same : (n size : ℕ) (a b : Bytes) → n ≤ size → drop n a ≡ drop n b → drop size a ≡ drop size b
@@ -20,12 +17,7 @@ drop_same n size a b le same =
 rest_of : (size n : ℕ) (filled after : Bytes) → length filled ≡ size + 1 → n ≤ size + 1 → 16 ≤ size
     → drop (min n size - 16) after ≡ drop (min n size - 16) filled → held_of (not (nat_le n size)) (drop size after)
     ≡ cond (nat_le (length (take n filled)) size) None (Some (drop size (take n filled)))
-rest_of size n filled after full le some kept = elim (cases_lt size n) [
-  | inl lt ↦
-      rw (take_all n filled (omega arith), lt-leb n size lt, lt-leb (length filled) size (omega arith))
-      (ap Some (drop_same (min n size - 16) size after filled (omega arith) kept))
-  | inr le ↦ rw (length-take-le n filled (omega arith), le-leb n size le)
-]
+rest_of size n filled after full le some kept = grind (arith, take_all, lt-leb, drop_same, length-take-le, le-leb)
 
 ahead_has_len : (ahead : ℕ) (bytes : Bytes) → length bytes ≡ chunk_buf_size → ahead ≤ 1
     → length (take ahead (drop sealed_chunk_size bytes)) ≡ ahead
@@ -104,9 +96,7 @@ moved : {key : Bytes} {max i : ℕ}
     (ahead : ℕ) {slice old bytes items : Bytes} {source : Flow} {r : Result Piece StreamFault}
     → slice ≡ old → items ≡ bytes → ReadsPiece key max i (take ahead (drop sealed_chunk_size slice)) bytes source r
     → ReadsPiece key max i (take ahead (drop sealed_chunk_size old)) items source r
-moved {key} {max} {i} ahead {slice} {items} {source} {r} same all h =
-    subst (λ t. ReadsPiece key max i (take ahead (drop sealed_chunk_size t)) items source r) same
-    (subst (λ t. ReadsPiece key max i (take ahead (drop sealed_chunk_size slice)) t source r) (sym all) h)
+moved {key} {max} {i} ahead {slice} {items} {source} {r} same all h = grind arith
 
 -- a piece was opened
 pub advances_ok : {now : OpenerState} {from to : Seen} {key : Bytes} {max i : ℕ} (ahead len : ℕ) {more : Bool}
@@ -166,12 +156,6 @@ advances_err ahead len old items {kept} {fault} view is_more same size le small 
             })
       ]
     ]))
-
--- a fault is met only where a piece was left
-pub loses_held : {now : OpenerState} {from to : Seen} {key : Bytes} {max i : ℕ} (ahead len : ℕ) {more : Bool}
-    (old : Bytes) {kept : Option StreamFault} → parts key max i more ahead old len kept ≡ now → more ≡ true
-    → GaveSome (flow from to) → IfNone now.fault (Loses now.held (flow from to))
-loses_held ahead len old {kept} view is_more some = rw (← view, is_more) (when_none kept (λ _. some))
 
 -- after the last piece
 pub advances_none : {now : OpenerState} (from : Seen) {key : Bytes} {max i : ℕ} (ahead len : ℕ) {more : Bool}

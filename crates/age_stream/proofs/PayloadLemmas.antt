@@ -8,13 +8,6 @@ pub result_cases : {A F : Type 0} (r : Result A F) → ((t : A) × (r ≡ Ok t))
 result_cases (Ok t) = inl (t, refl)
 result_cases (Err f) = inr (f, refl)
 
--- what is none of three faults is an opening
-picked : {A F : Type 0} (b d e : Bool) (f g h k : F) (o : Option A) {t : A}
-    → cond b (Err f) (cond d (Err g) (cond e (Err h) (ok_or o k))) ≡ Ok t
-    → (b ≡ false) × (d ≡ false) × (e ≡ false) × (o ≡ Some t)
-picked false false false f g h k (Some x) is = (refl, refl, refl, cc)
-picked b d e f g h k o is = absurd (cc)
-
 -- piece i opens to t
 pub record Opens (key : Bytes) (max i : ℕ) (last : Bool) (c t : Bytes) : Type 0 where
   pub within : i < max
@@ -24,27 +17,12 @@ pub record Opens (key : Bytes) (max i : ℕ) (last : Bool) (c t : Bytes) : Type 
 pub outcome_opens : (key : Bytes) (max i : ℕ) (last : Bool) (c t : Bytes) → outcome key max i last c ≡ Ok t
     → Opens key max i last c t
 unfolding outcome
-outcome_opens key max i last c t h =
-    let (below, long, not_empty, opens) = picked (nat_le max i) (nat_lt (length c) 16)
-    (last && nat_lt 0 i && nat_eq (length c) 16) TooManyChunks (ChunkShort i) (EmptyFinal i) (BadChunk i)
-    (opened_text key (chunk_nonce i last) [] c) h in
-    let is : c ≡ sealed_text key (chunk_nonce i last) [] t =
-    sym ((opened_is key (chunk_nonce i last) [] c t).0 opens) in
-    let len = ap length is ∙ length-sealed_text key (chunk_nonce i last) [] t in
-    record {
-      within = leb-false max i below;
-      sealed_so = is;
-      some = λ l pos. grind (arith, nat_tests, not_empty, l, pos, len);
-    }
+outcome_opens key max i last c t h = grind (arith, nat_lt (length c) 16, nat_lt 0 i, opened_is key (chunk_nonce i last) [] c t, length-sealed_text key (chunk_nonce i last) [] t, nat_tests)
 
 pub opens_outcome : (key : Bytes) (max i : ℕ) (last : Bool) (c t : Bytes) → Opens key max i last c t
     → outcome key max i last c ≡ Ok t
 unfolding outcome
-opens_outcome key max i last c t h =
-    let len = ap length h.sealed_so ∙ length-sealed_text key (chunk_nonce i last) [] t in
-    let not_empty : (last && nat_lt 0 i && nat_eq (length c) 16) ≡ false = grind (arith, nat_tests, h.some, len) in
-    rw (lt-leb max i h.within, le-ltb (length c) 16 (omega arith), not_empty)
-    (ap (λ o. ok_or o (BadChunk i)) ((opened_is key (chunk_nonce i last) [] c t).1 (sym h.sealed_so)))
+opens_outcome key max i last c t h = grind (arith, length-sealed_text, nat_lt, nat_tests, lt-leb, le-ltb, opened_is)
 
 -- texts numbered from i on: all but the last are full, and the last is empty only if its number is 0
 abbrev pub Sized : ℕ → List Bytes → Type 0
@@ -55,9 +33,7 @@ sized_one i [] le h = inl (refl, grind arith)
 sized_one i (x ∷ t) le h = inr (omega arith, le)
 
 pub sized_more : (i : ℕ) (t : Bytes) (ts : List Bytes) → length t ≡ chunk_size → Sized (i + 1) ts → Sized i (t ∷ ts)
-sized_more i t ts len (inl e) = absurd (omega (arith, e.1))
-sized_more i t [] len (inr f) = absurd f
-sized_more i t (u ∷ ts) len (inr f) = inr (len, f)
+sized_more a b c d e = grind arith
 
 pub is_end_each : (key : Bytes) (i : ℕ) (ts : List Bytes) → is_end (sealed_chunks_from key i ts) ≡ is_end ts
 is_end_each key i [] = refl
@@ -75,10 +51,7 @@ pub record AllOpen (key : Bytes) (max i : ℕ) (cs : List Bytes) (p : Bytes) : T
 pub opens_first : (key : Bytes) (max i : ℕ) (c : Bytes) (cs : List Bytes)
     → first_fault (outcomes key max i (c ∷ cs)) ≡ None
     → (t : Bytes) × (outcome key max i (is_end cs) c ≡ Ok t) × (first_fault (outcomes key max (i + 1) cs) ≡ None)
-opens_first key max i c cs h = elim (result_cases (outcome key max i (is_end cs) c)) [
-  | inl (t, is) ↦ (t, is, rw is at h)
-  | inr (f, is) ↦ let fault = rw is at h in absurd (cc)
-]
+opens_first key max i c cs h = grind (arith, result_cases)
 
 -- pieces without a fault open
 no_fault_open : (key : Bytes) (max i : ℕ) (cs : List Bytes) → AtMost sealed_chunk_size cs
@@ -113,12 +86,7 @@ no_fault_open key max i (c ∷ d ∷ more) full h =
 pub each_opens : (key : Bytes) (max i : ℕ) (ts : List Bytes) → Sized i ts → length ts + i ≤ max
     → outcomes key max i (sealed_chunks_from key i ts) ≡ map Ok ts
 each_opens key max i [] s le = refl
-each_opens key max i (t ∷ []) s le =
-    ap (λ r. r ∷ []) (opens_outcome key max i true (sealed_text key (chunk_nonce i true) [] t) t (record {
-      within = omega arith;
-      sealed_so = refl;
-      some = λ end pos. elim s [ inl e ↦ absurd (omega (arith, e.1)) | inr f ↦ f.0 ];
-    }))
+each_opens key max i (t ∷ []) s le = grind (arith, opens_outcome)
 each_opens key max i (t ∷ u ∷ ts) s le =
     let rest : Sized (i + 1) (u ∷ ts) = elim s [ inl e ↦ let long = e.0 in absurd (cc) | inr f ↦ inr f.1 ] in
     ap (λ r. r ∷ outcomes key max (i + 1) (sealed_chunks_from key (i + 1) (u ∷ ts)))
@@ -141,8 +109,7 @@ each_filled : (key : Bytes) (i : ℕ) (ts : List Bytes) → AtMost chunk_size ts
     → IsFilled sealed_chunk_size (sealed_chunks_from key i ts)
 each_filled key i [] h = h
 each_filled key i (t ∷ []) h = omega (arith, h, length-sealed_text key (chunk_nonce i true) [] t)
-each_filled key i (t ∷ u ∷ ts) h =
-    (omega (arith, h.0, length-sealed_text key (chunk_nonce i false) [] t), each_filled key (i + 1) (u ∷ ts) h.1)
+each_filled key i (t ∷ u ∷ ts) h = grind (arith, length-sealed_text, each_filled key (i + 1) (u ∷ ts) h.1)
 
 pub pieces_each : (key : Bytes) (ts : List Bytes) → AtMost chunk_size ts
     → pieces (concat (sealed_chunks_from key 0 ts)) ≡ sealed_chunks_from key 0 ts
@@ -162,34 +129,12 @@ sized_cut ts (inr f) = record { joined = refl; sizes = inr f }
 
 all_open_payload : (k : FileKey) (b p : Bytes) (max : ℕ) → 16 ≤ length b
     → AllOpen (payload_key k (take 16 b)) max 0 (pieces (drop 16 b)) p → IsPayload k b p max
-all_open_payload k b p max le o =
-    let key : Bytes = payload_key k (take 16 b) in
-    let same : o.texts ≡ chunks p = cut_is_unique chunk_size (concat o.texts) o.texts (omega arith)
-    (sized_cut o.texts o.sizes) ∙ ap chunks o.joined in
-    let rest : drop 16 b ≡ concat (sealed_chunks_from key 0 (chunks p)) =
-    sym (is_cut sealed_chunk_size (drop 16 b) (omega arith)).joined ∙ ap concat (sym o.sealed_so)
-    ∙ ap (λ ts. concat (sealed_chunks_from key 0 ts)) same in
-    record {
-      nonce = take 16 b;
-      nonce_len = length-take-le 16 b le;
-      spelled = sym (take-append-drop 16 b) ∙ ap (λ x. take 16 b ++ x) rest;
-      count = omega (arith, o.count, ap length same);
-    }
+all_open_payload k b p max le o = grind (arith, cut_is_unique chunk_size (concat o.texts) o.texts (omega arith) (sized_cut o.texts o.sizes), sized_cut o.texts o.sizes, is_cut sealed_chunk_size (drop 16 b) (omega arith), length-take-le 16 b le, take-append-drop 16 b)
 
 pub ok_payload : (k : FileKey) (b p : Bytes) (max : ℕ) → payload_reading k max b
     ≡ record { plaintext = p; fault = None }
     → IsPayload k b p max
-ok_payload k b p max h = elim (cases_lt (length b) 16) [
-  | inl lt ↦ let fault = ap (λ (r : Reading StreamFault). r.fault) (rw (lt-ltb (length b) 16 lt) at h) in absurd (cc)
-  | inr ge ↦
-      let key : Bytes = payload_key k (take 16 b) in
-      let is : reading_from key max 0 (drop 16 b) ≡ record { plaintext = p; fault = None } =
-      rw (le-ltb (length b) 16 ge) at h in
-      let all = no_fault_open key max 0 (pieces (drop 16 b)) (cut_at_most sealed_chunk_size (drop 16 b) (omega arith))
-      (ap (λ (r : Reading StreamFault). r.fault) is) in
-      all_open_payload k b p max ge (subst (AllOpen key max 0 (pieces (drop 16 b)))
-      (ap (λ (r : Reading StreamFault). r.plaintext) is) all)
-]
+ok_payload k b p max h = grind (arith, lt-ltb, le-ltb, no_fault_open, cut_at_most, all_open_payload)
 
 pub at_most_chunks : (p : Bytes) → Sized 0 (chunks p)
 at_most_chunks p = elim (is_cut chunk_size p (omega arith)).sizes [ inl e ↦ inl (e, refl) | inr f ↦ inr f ]

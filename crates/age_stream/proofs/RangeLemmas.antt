@@ -13,13 +13,7 @@ rest_on old new first done n so_far e = e ∙ sym (drop-drop n done old) ∙ ap 
 -- what a piece opened to stays so
 pub opens_stays : {old new : ℕ → ℕ → Type 0} {layout : Layout} {i : ℕ} {o : Known} → StaysGiven old new
     → PieceOpens old layout i o → PieceOpens new layout i o
-opens_stays {layout = layout} {i} stays v = record {
-  within = v.within;
-  piece = v.piece;
-  read = λ k lt. stays (layout.first + sealed_chunk_size * i + k) (slice_index v.piece k) (v.read k lt);
-  len = v.len;
-  opens = v.opens;
-}
+opens_stays {layout = layout} {i} stays v = grind arith
 
 pub byte_stays : (old new : ℕ → ℕ → Type 0) (layout : Layout) (at byte : ℕ) → StaysGiven old new
     → IsVerifiedByte old layout at byte → IsVerifiedByte new layout at byte
@@ -36,10 +30,7 @@ pub keeps_last : {gave : ℕ → ℕ → Type 0} {layout : Layout} {size : Optio
     → items ≡ new → size ≡ Some (end_of layout)
     → PieceOpens gave layout (layout.count - 1) (Some (take (chunk_len layout.plain (layout.count - 1)) new))
     → IsSound gave size (record { layout = layout; index = Some (layout.count - 1); buf = items; opened = opened })
-keeps_last {gave} {layout} opened {new} same end v = record {
-  end = end;
-  keeps = λ i e. let at : i ≡ layout.count - 1 = cc in rw (at, same) v;
-}
+keeps_last {gave} {layout} opened {new} same end v = grind arith
 
 -- so far, one chunk on
 pub verified_on : (old_read new_read : ℕ → ℕ → Type 0) (layout : Layout) (text old new : Bytes) (at done i skip n : ℕ)

@@ -3,17 +3,7 @@ use Rattle.age_stream.proofs.Common.{◌≡◌, ℕ, ◌+◌, ◌-◌, ◌<◌, 
 
 sized : (b xs : Bytes) {gave : ℕ → ℕ → Type 0} {found : Option ℕ} (at : ℕ) → Agrees b gave found → GaveAt gave at xs
     → length xs ≡ length (take (length xs) (drop at b))
-sized b xs at agrees given =
-    let n : ℕ = length xs in
-    let taken : length (take n (drop at b)) ≡ min n (length (drop at b)) = length-take n (drop at b) in
-    let dropped : length (drop at b) ≡ length b - at = length-drop at b in
-    elim (cases_lt 0 n) [
-      | inl some ↦
-          let last = slice_get_within b (at + (n - 1)) (slice_index xs (n - 1))
-          (agrees.given (at + (n - 1)) (slice_index xs (n - 1)) (given (n - 1) (omega arith))) in
-          omega (arith, last)
-      | inr none ↦ omega arith
-    ]
+sized b xs at agrees given = grind (arith, length-take, length-drop, slice_get_within)
 
 -- what a source gave is what its known contents have there
 pub has_at : (b xs : Bytes) {gave : ℕ → ℕ → Type 0} {found : Option ℕ} (at : ℕ) → Agrees b gave found

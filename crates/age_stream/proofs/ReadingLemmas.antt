@@ -17,12 +17,7 @@ cut_step size p pos lt =
 -- a cut has a list
 pub is_end_cut : (size : ℕ) (held p : Bytes) → is_end (cut_after size held p) ≡ false
 is_end_cut size held [] = refl
-is_end_cut size held (x ∷ xs) =
-    elim (nat_lt (length held) size) as (λ t. is_end
-    (cond t (cut_after size (held ++ x ∷ []) xs) (held ∷ cut_after size (x ∷ []) xs)) ≡ false) [
-      | true ↦ is_end_cut size (held ++ x ∷ []) xs
-      | false ↦ refl
-    ]
+is_end_cut size held (x ∷ xs) = grind (arith, nat_lt, cond, is_end_cut size (held ++ x ∷ []) xs)
 
 pub cut_some : (size : ℕ) (held p : Bytes) → 0 < length (cut_after size held p)
 cut_some size held p = go (cut_after size held p) (is_end_cut size held p)
@@ -56,19 +51,12 @@ reading_first key max i c = elim (cases_lt sealed_chunk_size (length c)) [
 ]
 
 pub count_first : (c : Bytes) → length (pieces c) ≡ length (pieces_left (after_first c)) + 1
-count_first c = elim (cases_lt sealed_chunk_size (length c)) [
-  | inl lt ↦
-      rw (lt-leb (length c) sealed_chunk_size lt, cut_step sealed_chunk_size c (omega arith) lt) (omega arith)
-  | inr le ↦ rw (le-leb (length c) sealed_chunk_size le, cut_last sealed_chunk_size c le) (omega arith)
-]
+count_first c = grind (arith, lt-leb, cut_step, le-leb, cut_last, cases_lt sealed_chunk_size (length c))
 
 -- how many lists a cut has
 pub cut_count : (size n : ℕ) (p : Bytes) → 0 < size → (n ≡ 0) ⊎ (size * n < length p) → length p ≤ size * (n + 1)
     → length (cut size p) ≡ n + 1
-cut_count size zero p pos some le = ap length (cut_last size p (omega arith)) ∙ one
-  where
-    one : 1 ≡ 0 + 1
-    one = omega arith
+cut_count size zero p pos some le = grind (arith, cut_last)
 cut_count size (suc n) p pos (inl e) le = absurd (omega arith)
 cut_count size (suc n) p pos (inr lt) le =
     let more : size < length p = omega arith in

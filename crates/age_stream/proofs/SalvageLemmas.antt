@@ -25,22 +25,13 @@ pub part_cases : (key : Bytes) (i : ℕ) (last : Bool) (c : Bytes) → ((t : Byt
     ⊎ ((t : Bytes) × (piece_opening key i (not last) c ≡ Some t)
     × (part key i last c ≡ record { text = t; saved = out_of_place last }))
     ⊎ (part key i last c ≡ closed_part key i last c)
-part_cases key i last c = elim (cases_Option (piece_opening key i last c)) [
-  | inl (t, is) ↦ inl (t, is, part-opened key i last c t is)
-  | inr none ↦ elim (cases_Option (piece_opening key i (not last) c)) [
-    | inl (t, is) ↦ inr (inl (t, is, rw (none, is) refl))
-    | inr other ↦ inr (inr (rw (none, other) refl))
-  ]
-]
+part_cases key i last c = grind (arith, cases_Option, part-opened)
 
 -- a piece that has no chunk without its last k bytes does not open with more of them taken off
 pub padded_short : (key : Bytes) (i k n : ℕ) (c : Bytes) → length c < k + 16 → padded_part key i k n c ≡ lost_part c
 unfolding padded_part
 padded_short key i k zero c short = refl
-padded_short key i k (suc n) c short =
-    let none = opened_short key (chunk_nonce i true) (take (length c - k) c)
-    (omega (arith, short, length-take-le (length c - k) c (omega arith))) in
-    rw none (padded_short key i (k + 1) n c (omega (arith, short)))
+padded_short key i k (suc n) c short = grind (arith, opened_short, length-take-le, padded_short key i (k + 1) n c (omega (arith, short)))
 
 -- a shorter prefix of the first `end` bytes
 shorter : (k end : ℕ) (b : Bytes) → end ≤ length b → take (length (take end b) - k) (take end b) ≡ take (end - k) b
@@ -59,12 +50,7 @@ padded_step key i k n end b le is sum some =
 pub padded_end : (key : Bytes) (i k : ℕ) {end most : ℕ} (c : Bytes) → length c ≡ end
     → most ≡ min max_padding (end - 16) → most + 1 ≤ k → padded_part key i k (max_padding + 1 - k) c ≡ lost_part c
 unfolding padded_part
-padded_end key i k {end} {most} c len is past = elim (cases_lt end (k + 16)) [
-  | inl lt ↦ padded_short key i k (max_padding + 1 - k) c (omega (arith, len, lt))
-  | inr ge ↦
-      let none : max_padding + 1 - k ≡ 0 = omega (arith, is, past, ge) in
-      rw none refl
-]
+padded_end key i k {end} {most} c len is past = grind (arith, padded_short)
 
 closed_short : (key : Bytes) (i : ℕ) (last : Bool) (c : Bytes) → length c < 16 → closed_part key i last c ≡ lost_part c
 closed_short key i false c short = refl
@@ -72,17 +58,7 @@ closed_short key i true c short = padded_short key i 1 max_padding c (omega (ari
 
 pub part_short : (key : Bytes) (i : ℕ) (last : Bool) (c : Bytes) (end : ℕ) (bytes : Bytes) → length c ≡ end → end < 16
     → part key i last c ≡ record { text = take (end - 16 - 0) bytes; saved = Nothing }
-part_short key i last c end bytes len short =
-    let none : length c - 16 ≡ 0 = omega arith in
-    let nothing : end - 16 - 0 ≡ 0 = omega arith in
-    rw (
-      opened_short key (chunk_nonce i last) c (omega arith),
-      opened_short key (chunk_nonce i (not last)) c (omega arith),
-      closed_short key i last c (omega arith),
-      none,
-      le-leb (length c) 16 (omega arith),
-      nothing,
-    )
+part_short key i last c end bytes len short = grind (arith, opened_short, closed_short, le-leb)
 
 -- ---- the parts of what follows the nonce
 
@@ -111,16 +87,12 @@ parts_some key i c = omega (arith, length_each (part key) i (pieces c), cut_some
 -- ---- one part more
 
 pub salvaged_snoc : (xs : List Part) (y : Part) → salvaged_text (xs ++ y ∷ []) ≡ salvaged_text xs ++ y.text
-salvaged_snoc xs y =
-    let texts : List Bytes = map (λ p. p.text) xs in
-    rw (map-append (λ (p : Part). p.text) xs (y ∷ []), concat-append texts (y.text ∷ []), append-nil y.text)
+salvaged_snoc xs y = rw (map-append, concat-append, append-nil)
 
 losses_snoc : (i at j b : ℕ) (xs : List Part) (y : Part) → j ≡ i + length xs
     → b ≡ at + length (salvaged_text xs) → losses i at (xs ++ y ∷ [])
     ≡ losses i at xs ++ loss y.saved (record { chunk = j; start = b; len = length y.text })
-losses_snoc i at j b [] y e f =
-    let same : i ≡ j = omega arith in
-    let here : at ≡ b = omega arith in rw (same, here) (append-nil (loss y.saved _))
+losses_snoc i at j b [] y e f = grind (arith, append-nil)
 losses_snoc i at j b (x ∷ xs) y e f =
     let bytes = length-append x.text (salvaged_text xs) in
     rw (losses_snoc (i + 1) (at + length x.text) j b xs y (omega arith) (omega (arith, f, bytes)))
@@ -144,9 +116,7 @@ first_snoc (x ∷ xs) y = before_snoc Chunk x xs y
 pub early_snoc : (i : ℕ) (before : Option ℕ) (xs : List Part) (y : Part)
     → latest_early i before (xs ++ y ∷ []) ≡ early_after y.saved (i + length xs) (latest_early i before xs)
 early_snoc i before [] y = let none : i + 0 ≡ i = omega arith in rw none refl
-early_snoc i before (x ∷ xs) y =
-    let count : i + 1 + length xs ≡ i + length (x ∷ xs) = omega arith in
-    rw count at (early_snoc (i + 1) (early_after x.saved i before) xs y)
+early_snoc i before (x ∷ xs) y = grind (arith, early_snoc (i + 1) (early_after x.saved i before) xs y)
 
 -- ---- what was reported
 
@@ -416,23 +386,11 @@ payload_ends max to old new (Err Read) gave size h = tt
 payload_ends max to old new (Err NonceTruncated) gave size h = tt
 payload_ends max to old new (Err Memory) gave size h = tt
 payload_ends max to old new (Err fault) gave size (inl e) = absurd (cc)
-payload_ends max {nonce} {from} {mid} to old new (Err fault) gave size (inr e) =
-    let all = gave_more from mid to 16 (0 + (sealed_chunk_size * (e.piece + 1) + 1)) (nonce, gave, omega (arith, size))
-    e.gave in
-    record {
-      piece = e.piece;
-      text = e.text;
-      written = e.written;
-      at = e.at;
-      gave = (all.0, all.1, omega (arith, all.2));
-    }
+payload_ends max {nonce} {from} {mid} to old new (Err fault) gave size (inr e) = grind (arith, gave_more from mid to 16 (0 + (sealed_chunk_size * (e.piece + 1) + 1)) (nonce, gave, omega (arith, size)) e.gave)
 
 pub nonce_ends : (max : ℕ) (from mid : Seen) (old : Known) (fault : StreamFault)
     → GivesNonce (flow from mid) (Err fault) → EndsSaving max (flow from mid) (move_of old old) fault
-nonce_ends max from mid old Read h = tt
-nonce_ends max from mid old NonceTruncated h = tt
-nonce_ends max from mid old Memory h = tt
-nonce_ends max from mid old fault h = absurd (cc)
+nonce_ends a b c d e f = grind arith
 
 -- the nonce, then the pieces
 pub payload_salvages : (k : FileKey) (max : ℕ) {nonce key : Bytes} {from mid to : Seen} (old new : Known)

@@ -9,23 +9,10 @@ use Rattle.age_stream.proofs.SalvageLemmas.{part-opened, part_cases}
 abbrev text_part : Bool → Bytes → Part
 text_part last text = record { text = text; saved = cond last LastChunk Chunk }
 
--- a piece with a text, or the first, is in its place
-placed : (i : ℕ) (last : Bool) (len : ℕ) → (last ≡ true → 0 < i → 16 < len)
-    → in_place i last len ≡ cond last LastChunk Chunk
-placed i false len some = refl
-placed i true len some =
-    let not_empty : (nat_lt 0 i && nat_eq len 16) ≡ false = grind (arith, nat_tests, some refl) in
-    rw not_empty refl
-
 -- a piece that a reading opens is saved
 opened-part : (key : Bytes) (max i : ℕ) (last : Bool) (c t : Bytes) → outcome key max i last c ≡ Ok t
     → part key i last c ≡ text_part last t
-opened-part key max i last c t h =
-    let o = outcome_opens key max i last c t h in
-    let len = ap length o.sealed_so ∙ length-sealed_text key (chunk_nonce i last) [] t in
-    part-opened key i last c t ((opened_is key (chunk_nonce i last) [] c t).1 (sym o.sealed_so))
-    ∙ ap (λ s. record { text = t; saved = s })
-    (placed i last (length c) (λ l pos. omega (arith, len, o.some l pos)))
+opened-part key max i last c t h = grind (arith, outcome_opens key max i last c t h, length-sealed_text key (chunk_nonce i last) [] t, opened_is key (chunk_nonce i last) [] c t)
 
 -- what is saved begins with the text before the first fault
 pub plaintext_saved : (key : Bytes) (max i : ℕ) (cs : List Bytes)
@@ -85,10 +72,7 @@ zeros_lost : (i at : ℕ) (c : Bytes) (ps : List Part) → 16 < length c → los
 zeros_lost i at c ps lt e = let some = rw (lt-leb (length c) 16 lt) at e in cc
 
 some_text : (i len : ℕ) → in_place i true len ≡ LastChunk → 0 < i → 16 ≤ len → 16 < len
-some_text i len is pos ge = elim (cases_Bool (nat_lt 0 i && nat_eq len 16)) [
-  | inl e ↦ let early = rw e at is in absurd (cc)
-  | inr e ↦ grind (arith, nat_tests, e, pos, ge)
-]
+some_text i len is pos ge = grind (arith, cases_Bool, nat_lt, nat_tests)
 
 -- a piece in its place has no fault
 place_reads : (key : Bytes) (max i : ℕ) (last : Bool) (c t : Bytes) → i < max → piece_opening key i last c ≡ Some t
@@ -96,18 +80,10 @@ place_reads : (key : Bytes) (max i : ℕ) (last : Bool) (c t : Bytes) → i < ma
 place_reads key max i last c t within is place =
     let so : c ≡ _ = sym ((opened_is key (chunk_nonce i last) [] c t).0 is) in
     let len = ap length so ∙ length-sealed_text key (chunk_nonce i last) [] t in
-    opens_outcome key max i last c t (record {
-      within = within;
-      sealed_so = so;
-      some = λ l pos.
-          let text = some_text i (length c) (rw l at (place l)) pos (omega (arith, len)) in omega (arith, len, text);
-    })
+    grind (arith, opens_outcome, some_text)
 
 lost_last : (piece : Bytes) → (lost_part piece).saved ≡ LastChunk → ⊥
-lost_last piece e = elim (cases_Bool (nat_le (length piece) 16)) [
-  | inl is ↦ let no = rw is at e in cc
-  | inr is ↦ let no = rw is at e in cc
-]
+lost_last piece e = grind (arith, cases_Bool)
 
 padded_last : (key : Bytes) (i k n : ℕ) (c : Bytes) → (padded_part key i k n c).saved ≡ LastChunk → ⊥
 unfolding padded_part
@@ -121,13 +97,7 @@ all_read : (key : Bytes) (max i at : ℕ) (cs : List Bytes) → AtMost sealed_ch
     → losses i at (parts key i cs) ≡ [] → latest_early i None (parts key i cs) ≡ None
     → last_saved (parts key i cs) ≡ LastChunk → first_fault (outcomes key max i cs) ≡ None
 all_read key max i at [] full within none early ends = absurd full
-all_read key max i at (c ∷ []) full within none early ends = elim (part_cases key i true c) [
-  | inl (t, opens, is) ↦
-      rw (place_reads key max i true c t (omega (arith, within)) opens (λ l. rw is at ends)) refl
-  | inr (inl (t, opens, is)) ↦ let no = rw is at ends in absurd (cc)
-  | inr (inr is) ↦
-      absurd (padded_last key i 1 max_padding c (ap (λ (p : Part). p.saved) (sym is) ∙ ends))
-]
+all_read key max i at (c ∷ []) full within none early ends = grind (arith, part_cases, place_reads, padded_last)
 all_read key max i at (c ∷ d ∷ ds) full within none early ends = elim (part_cases key i false c) [
   | inl (t, opens, is) ↦
       let more = all_read key max (i + 1) (at + length t) (d ∷ ds) full.1 (omega (arith, within)) (rw is at none)
@@ -153,16 +123,7 @@ payload_plaintext k text max = elim (cases_lt (length text) 16) [
 
 pub payload_whole : (k : FileKey) (text plain : Bytes) (max : ℕ) → payload_reading k max text ≡ whole plain
     → AllSaved max 0 (payload_parts k text) plain
-payload_whole k text plain max is = elim (cases_lt (length text) 16) [
-  | inl lt ↦ let fault = ap (λ (r : Reading StreamFault). r.fault) (rw (lt-ltb (length text) 16 lt) at is) in absurd
-      (cc)
-  | inr ge ↦
-      let e : reading_from (payload_key k (take 16 text)) max 0 (drop 16 text) ≡ whole plain =
-      rw (le-ltb (length text) 16 ge) at is in
-      subst (AllSaved max 0 (payload_parts k text)) (ap (λ (r : Reading StreamFault). r.plaintext) e)
-      (all_saved (payload_key k (take 16 text)) max 0 (pieces (drop 16 text))
-      (cut_some sealed_chunk_size [] (drop 16 text)) (ap (λ (r : Reading StreamFault). r.fault) e))
-]
+payload_whole k text plain max is = grind (arith, lt-ltb, le-ltb, all_saved, cut_some)
 
 whole_to : (last : Saved) (lost : ℕ) (early : Option ℕ) → is_whole_to last lost early ≡ true
     → (last ≡ LastChunk) × (lost ≡ 0) × (early ≡ None)

@@ -6,19 +6,14 @@ use Rattle.age_stream.proofs.SliceLemmas.{slice_of}
 
 opened_len : (key : Bytes) (i : ℕ) (last : Bool) (c t : Bytes) → piece_opening key i last c ≡ Some t
     → length c ≡ length t + 16
-opened_len key i last c t is =
-    ap length (sym ((opened_is key (chunk_nonce i last) [] c t).0 is))
-    ∙ length-sealed_text key (chunk_nonce i last) [] t
+opened_len key i last c t is = grind (arith, opened_is key (chunk_nonce i last) [] c t, length-sealed_text key (chunk_nonce i last) [] t)
 
 -- with its padding, the text of a part has as many bytes as the piece, less the tag's
 abbrev Fills : (c : Bytes) (p : Part) → Type 0
 Fills c p = length p.text + padding p.saved ≡ length c - 16
 
 lost_full : (c : Bytes) → padding (lost_part c).saved ≡ 0
-lost_full c = elim (nat_le (length c) 16) as (λ b. padding (if b then Nothing else Zeros) ≡ 0) [
-  | true ↦ refl
-  | false ↦ refl
-]
+lost_full c = grind arith
 
 lost_fills : (c : Bytes) → Fills c (lost_part c)
 lost_fills c = omega (arith, lost_full c, length-replicate {A = ℕ} (length c - 16) 0)
@@ -38,11 +33,7 @@ closed_fills key i false c = lost_fills c
 closed_fills key i true c = padded_fills key i 1 max_padding c
 
 in_place_full : (i : ℕ) (last : Bool) (len : ℕ) → padding (in_place i last len) ≡ 0
-in_place_full i false len = refl
-in_place_full i true len = elim (nat_lt 0 i && nat_eq len 16) as (λ b. padding (if b then Early else LastChunk) ≡ 0) [
-  | true ↦ refl
-  | false ↦ refl
-]
+in_place_full a b c = grind (arith, nat_lt)
 
 out_full : (last : Bool) → padding (out_of_place last) ≡ 0
 out_full true = refl
@@ -57,11 +48,7 @@ part_fills key i last c = elim (part_cases key i last c) [
 
 -- only the last piece may be padded
 inner_full : (key : Bytes) (i : ℕ) (c : Bytes) → padding (part key i false c).saved ≡ 0
-inner_full key i c = elim (part_cases key i false c) [
-  | inl (t, opens, is) ↦ rw is refl
-  | inr (inl (t, opens, is)) ↦ rw is refl
-  | inr (inr is) ↦ rw is (lost_full c)
-]
+inner_full key i c = grind (arith, part_cases, lost_full)
 
 pub part_len : (key : Bytes) (i : ℕ) (c : Bytes) → length (part key i false c).text ≡ length c - 16
 part_len key i c = omega (arith, part_fills key i false c, inner_full key i c)
@@ -70,9 +57,7 @@ pub salvaged_len : (key : Bytes) (i : ℕ) (cs : List Bytes)
     → length (salvaged_text (parts key i cs)) + padding (last_saved (parts key i cs))
     ≡ sum_by (λ piece. length piece - 16) cs
 salvaged_len key i [] = refl
-salvaged_len key i (c ∷ []) =
-    let text = length-append (part key i true c).text [] in
-    omega (arith, text, sum_by-cons (λ piece. length piece - 16) c [], part_fills key i true c)
+salvaged_len key i (c ∷ []) = grind (arith, length-append (part key i true c).text [], part_fills key i true c)
 salvaged_len key i (c ∷ d ∷ cs) =
     let text = length-append (part key i false c).text (salvaged_text (parts key (i + 1) (d ∷ cs))) in
     let sum = sum_by-cons (λ piece. length piece - 16) c (d ∷ cs) in
@@ -87,28 +72,9 @@ saved_at : (key : Bytes) (i n r : ℕ) (cs : List Bytes) (text : Bytes) → AtMo
     → get_or (openings key i cs) n None ≡ Some text → r < length text
     → IsSavedAt (salvaged_text (parts key i cs)) text n r
 saved_at key i n r [] text full is lt = absurd (none-some text is)
-saved_at key i zero r (c ∷ cs) text full is lt =
-    let more : Bytes = salvaged_text (parts key (i + 1) cs) in
-    let l : length (text ++ more) ≡ length text + length more = length-append text more in
-    rw (part-opened key i (is_end cs) c text is) (record {
-      within = omega (arith, l);
-      is = ap (λ k. get_or (text ++ more) k 0) (zeroth r) ∙ get_or_append_left text more 0 r lt;
-    })
-  where
-    zeroth : (k : ℕ) → chunk_size * 0 + k ≡ k
-    zeroth k = omega arith
+saved_at key i zero r (c ∷ cs) text full is lt = grind (arith, length-append, part-opened, get_or_append_left)
 saved_at key i (suc n) r (c ∷ []) text full is lt = absurd (none-some text is)
-saved_at key i (suc n) r (c ∷ d ∷ ds) text full is lt =
-    let first : Bytes = (part key i false c).text in
-    let more : Bytes = salvaged_text (parts key (i + 1) (d ∷ ds)) in
-    let h = saved_at key (i + 1) n r (d ∷ ds) text full.1 is lt in
-    let size : length first ≡ chunk_size = omega (arith, part_len key i c, full.0) in
-    let l : length (first ++ more) ≡ length first + length more = length-append first more in
-    let at : chunk_size * suc n + r ≡ length first + (chunk_size * n + r) = omega arith in
-    record {
-      within = omega (arith, l, h.within);
-      is = ap (λ k. get_or (first ++ more) k 0) at ∙ get_or-append-add first more (chunk_size * n + r) 0 ∙ h.is;
-    }
+saved_at key i (suc n) r (c ∷ d ∷ ds) text full is lt = grind (arith, length-append, part_len, get_or-append-add, saved_at key (i + 1) n r (d ∷ ds) text full.1 is lt)
 
 byte_saved : (key rest text : Bytes) (x v : ℕ) → opening key rest (x / chunk_size) ≡ Some text
     → slice_get text (x % chunk_size) ≡ Some v → (x < length (salvaged_text (parts key 0 (pieces rest)))) × (v
@@ -118,11 +84,8 @@ byte_saved key rest text x v opens at =
     let n : ℕ = x / chunk_size in
     let h = saved_at key 0 n r (pieces rest) text (cut_at_most sealed_chunk_size rest (omega arith)) opens
     (slice_get_within text r v at) in
-    let sum : chunk_size * n + r ≡ x = omega arith in (
-      omega (arith, h.within, sum),
-      sym (get_or_from_slice_get text r v 0 at) ∙ sym h.is
-          ∙ ap (λ y. get_or (salvaged_text (parts key 0 (pieces rest))) y 0) sum,
-    )
+    let sum : chunk_size * n + r ≡ x = omega arith in
+    grind (arith, get_or_from_slice_get)
 
 pub slice_saved : (k : FileKey) (text xs : Bytes) (at : ℕ) → IsSlice (payload_key k (take 16 text)) (drop 16 text) at xs
     → xs ≡ take (length xs) (drop at (salvaged_text (payload_parts k text)))

@@ -1,5 +1,5 @@
 -- Full chunks that go out, one after another.
-use Rattle.age_stream.proofs.Common.{◌≡◌, ◌⊎◌, ◌∙◌, ◌++◌, ◌+◌, ◌-◌, ◌*◌, ◌<◌, ◌≤◌, ℕ, List, [], ◌∷◌, length, take, drop, ap, sym, arith, append-nil, append_assoc, length-append, refl, Bool, Option, Some, None, Result, Ok, Err, false, inl, inr, zero, suc, slice_set, slice_index_or, concat, Appends, IsAtEnd, Appends-trans, Appends-nil, take-add, length-take-le, take_at, length-drop, Bytes, sealed_text, Flow, Gave, GaveAtMost, GaveSome, Known, Seen, WritesPart, flow, move_of, Done as StreamDone, StreamFault, Read, Write, TooManyChunks, chunk_size, sealed_chunk_size, chunk_buf_size, length-sealed_text, Filled, gave_then, of_any, of_ended, of_more, of_then, done_part, cut_after, chunk_nonce, IfNone, FinishesBy, Fills, SealerState, SealsAll, StopsIn, TakesAll, Fed, IsFed, Stopped, WroteAtLeast, at_start, sealed_chunks_after, concat-append, at_none, when_none, sealed_chunk}
+use Rattle.age_stream.proofs.Common.{common_steps, ◌≡◌, ◌⊎◌, ◌∙◌, ◌++◌, ◌+◌, ◌-◌, ◌*◌, ◌<◌, ◌≤◌, ℕ, List, [], ◌∷◌, length, take, drop, ap, sym, arith, append-nil, append_assoc, length-append, refl, Bool, Option, Some, None, Result, Ok, Err, false, inl, inr, zero, suc, slice_set, slice_index_or, concat, Appends, IsAtEnd, Appends-trans, Appends-nil, take-add, length-take-le, take_at, length-drop, Bytes, sealed_text, Flow, Gave, GaveAtMost, GaveSome, Known, Seen, WritesPart, flow, move_of, Done as StreamDone, StreamFault, Read, Write, TooManyChunks, chunk_size, sealed_chunk_size, chunk_buf_size, length-sealed_text, Filled, gave_then, of_any, of_ended, of_more, of_then, done_part, cut_after, chunk_nonce, IfNone, FinishesBy, Fills, SealerState, SealsAll, StopsIn, TakesAll, Fed, IsFed, Stopped, WroteAtLeast, at_start, sealed_chunks_after, concat-append, at_none, when_none, sealed_chunk}
 use Rattle.age_header.proofs.DeviceLemmas.{Done}
 use Rattle.age_stream.proofs.CuttingLemmas.{cut_first, cut_fits}
 use Rattle.age_stream.proofs.PayloadLemmas.{length_each}
@@ -10,14 +10,7 @@ cut_held : (x more : Bytes) → length x ≤ chunk_size → cut_after chunk_size
 cut_held x more fits = cut_fits chunk_size [] x more (omega (arith, fits))
 
 pub fed_none : {key : Bytes} {i : ℕ} {held : Bytes} {a : Known} → Fed key i i held [] held (move_of a a)
-fed_none {a} = record {
-  gone = [];
-  count = omega arith;
-  size = refl;
-  bytes = omega arith;
-  written = Appends-nil a;
-  chunks = λ more. refl;
-}
+fed_none {a} = grind (arith, common_steps)
 
 module _ {key : Bytes} {i j : ℕ} {held text now : Bytes} {a b : Known}
     (f : Fed key i j held text now (move_of a b)) where
@@ -202,26 +195,6 @@ abbrev pub parts : Bytes → ℕ → ℕ → ℕ → Bytes → Option StreamFaul
 parts key max i len bytes fault = record
     { key = key; max_chunks = max; index = i; held = take len bytes; fault = fault }
 
--- all was taken
-pub takes_ok : {u : Unit {0}} {now : SealerState} {from to : Seen} {a b : Known} {key : Bytes} {max i j n : ℕ} (len : ℕ)
-    (old : Bytes) {slice bytes items : Bytes} {fault : Option StreamFault}
-    → parts key max i len old fault ≡ now → fault ≡ None → slice ≡ old → length bytes ≡ chunk_buf_size → items ≡ bytes
-    → n ≤ chunk_size → j < max
-    → IsFed key i j (take len slice) (take n bytes) (flow from to) (move_of a b) × IsAtEnd to.to_come
-    → IfNone now.fault (TakesAll {A = Unit {0}} now (parts key max j n items fault) (flow from to) (move_of a b) (Ok u))
-takes_ok {n} len old {bytes} {fault} view none same size all le within (fed, end) =
-    let fits = length-take-le n bytes (omega arith) in
-    rw (← view, all, ← same) (when_none fault (λ _. (refl, refl, (none, omega (arith, fits), within, fed, end))))
-
--- a fault was met
-pub takes_err : {now : SealerState} {from to : Seen} {a b : Known} {key : Bytes} {max i j : ℕ} (len : ℕ)
-    (old : Bytes) {slice : Bytes} (items : Bytes) {kept : Option StreamFault} {fault : StreamFault}
-    → parts key max i len old kept ≡ now → slice ≡ old
-    → Stopped key max i j (take len slice) (flow from to) (move_of a b) fault → IfNone now.fault
-    (TakesAll {A = Unit {0}} now (parts key max j len items (Some fault)) (flow from to) (move_of a b) (Err fault))
-takes_err len old items {kept} view same stopped =
-    rw (← view, ← same) (when_none kept (λ _. (refl, refl, (refl, stopped))))
-
 -- ---- a whole payload
 
 module _ (s t : SealerState) {u : Unit {0}} (source : Flow) (a b c : Known) (none : s.fault ≡ None)
@@ -264,11 +237,6 @@ module _ (s t : SealerState) {u : Unit {0}} (source : Flow) (a b c : Known) (non
       → SealsAll s source (move_of a c) r
   seals_finish (Ok done) finishes = seals_ok finishes
   seals_finish (Err fault) finishes = seals_last finishes
-
-pub seals_err : {s : SealerState} (t : SealerState) {from to : Seen} {a b : Known} {fault : StreamFault}
-    → s.fault ≡ None → IfNone s.fault (TakesAll {A = Unit {0}} s t (flow from to) (move_of a b) (Err fault))
-    → SealsAll s (flow from to) (move_of a b) (Err fault)
-seals_err t none takes = (t.index, (at_none none takes).2.1)
 
 -- ---- a payload whose first chunk was filled before anything was written
 

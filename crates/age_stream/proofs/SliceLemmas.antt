@@ -5,18 +5,8 @@ use Rattle.age_stream.proofs.ReadingLemmas.{cut_step, is_end_cut}
 
 -- list i of a cut, by its offset
 pub cut_at : (size i : ℕ) (p : Bytes) → 0 < size → get_or (cut size p) i [] ≡ take size (drop (size * i) p)
-cut_at size zero p pos =
-    let none : size * 0 ≡ 0 = omega arith in
-    elim (cases_lt size (length p)) [
-      | inl lt ↦ rw (none, cut_step size p pos lt)
-      | inr ge ↦ rw (none, cut_last size p ge) (sym (take_all size p ge))
-    ]
-cut_at size (suc i) p pos = elim (cases_lt size (length p)) [
-  | inl lt ↦
-      let more : size + size * i ≡ size * suc i = omega arith in
-      rw (cut_step size p pos lt, ← more, ← drop-drop (size * i) size p) (cut_at size i (drop size p) pos)
-  | inr ge ↦ rw (cut_last size p ge, drop_all (size * suc i) p (omega arith)) (sym (take_all size [] (omega arith)))
-]
+cut_at size zero p pos = grind (arith, cut_step, cut_last, take_all)
+cut_at size (suc i) p pos = grind (arith, cut_step, cut_last, take_all, drop-drop, drop_all, cut_at size i (drop size p) pos)
 
 -- the test of the last piece, one piece on
 shifted : (size n len : ℕ) → size < len → nat_le (len - size) (size * n) ≡ nat_le len (size * suc n)
@@ -25,44 +15,26 @@ shifted size n len lt = grind (arith, nat_tests, lt)
 -- whether list i of a cut is the last
 pub last_cut : (size i : ℕ) (p : Bytes) → 0 < size
     → is_end (drop (suc i) (cut size p)) ≡ nat_le (length p) (size * suc i)
-last_cut size zero p pos = elim (cases_lt size (length p)) [
-  | inl lt ↦ ap (λ cs. is_end (drop 1 cs)) (cut_step size p pos lt) ∙ is_end_cut size [] (drop size p)
-      ∙ sym (lt-leb (length p) (size * 1) (omega arith))
-  | inr ge ↦ ap (λ cs. is_end (drop 1 cs)) (cut_last size p ge) ∙ sym (le-leb (length p) (size * 1) (omega arith))
-]
-last_cut size (suc i) p pos = elim (cases_lt size (length p)) [
-  | inl lt ↦ ap (λ cs. is_end (drop (suc (suc i)) cs)) (cut_step size p pos lt) ∙ last_cut size i (drop size p) pos
-      ∙ ap (λ n. nat_le n (size * suc i)) (length-drop size p) ∙ shifted size (suc i) (length p) lt
-  | inr ge ↦ ap (λ cs. is_end (drop (suc (suc i)) cs)) (cut_last size p ge)
-      ∙ sym (le-leb (length p) (size * suc (suc i)) (omega arith))
-]
+last_cut size zero p pos = grind (arith, cut_step, is_end_cut, lt-leb, cut_last, le-leb)
+last_cut size (suc i) p pos = grind (arith, cut_step, cut_last, le-leb, length-drop, shifted, last_cut size i (drop size p) pos)
 
 openings_at : (key : Bytes) (j i : ℕ) (cs : List Bytes) → i < length cs
     → get_or (openings key j cs) i None ≡ piece_opening key (j + i) (is_end (drop (suc i) cs)) (get_or cs i [])
 openings_at key j i [] lt = absurd (omega arith)
 openings_at key j zero (c ∷ cs) lt = let here : j + 0 ≡ j = omega arith in rw here
-openings_at key j (suc i) (c ∷ cs) lt =
-    let next : j + suc i ≡ j + 1 + i = omega arith in rw next (openings_at key (j + 1) i cs (omega arith))
+openings_at key j (suc i) (c ∷ cs) lt = grind (arith, openings_at key (j + 1) i cs (omega arith))
 
 -- what piece i opens to, by its offset
 pub opening_at : (key rest : Bytes) (i : ℕ) → i < length (pieces rest)
     → opening key rest i ≡ piece_opening key i (nat_le (length rest) (sealed_chunk_size * (i + 1)))
     (take sealed_chunk_size (drop (sealed_chunk_size * i) rest))
-opening_at key rest i lt =
-    let none : 0 + i ≡ i = omega arith in
-    let one : suc i ≡ i + 1 = omega arith in
-    let last = last_cut sealed_chunk_size i rest (omega arith) in
-    rw (openings_at key 0 i (pieces rest) lt, none, last, one, cut_at sealed_chunk_size i rest (omega arith))
+opening_at key rest i lt = grind (arith, last_cut, openings_at, cut_at)
 
 -- how long the plaintext is, where the last piece has a tag
 pub plain_count : (n : ℕ) (rest : Bytes) → (n ≡ 0) ⊎ (sealed_chunk_size * n < length rest)
     → length rest ≤ sealed_chunk_size * (n + 1) → sealed_chunk_size * n + 16 ≤ length rest
     → plain_len rest + 16 * (n + 1) ≡ length rest
-plain_count zero rest some le tag =
-    let one : plain_len rest ≡ (length rest - 16) + 0 =
-    ap (sum_by (λ piece. length piece - 16)) (cut_last sealed_chunk_size rest (omega arith))
-    ∙ sum_by-cons (λ piece. length piece - 16) rest [] in
-    omega arith
+plain_count zero rest some le tag = grind (arith, cut_last, sum_by-cons)
 plain_count (suc n) rest (inl e) le tag = absurd (omega arith)
 plain_count (suc n) rest (inr lt) le tag =
     let first : Bytes = take sealed_chunk_size rest in

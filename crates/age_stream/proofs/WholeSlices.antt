@@ -8,20 +8,13 @@ use Rattle.age_stream.proofs.SalvageSlices.{salvaged_len, slice_saved}
 
 pub whole_len : (k : FileKey) (b p : Bytes) (max : ℕ) → payload_reading k max b ≡ whole p
     → plain_len (drop 16 b) ≡ length p
-whole_len k b p max h =
-    let saved = payload_whole k b p max h in
-    let full : padding (last_saved (payload_parts k b)) ≡ 0 = ap padding saved.ends in
-    let len : length (salvaged_text (payload_parts k b)) + padding (last_saved (payload_parts k b))
-    ≡ plain_len (drop 16 b) = salvaged_len (payload_key k (take 16 b)) 0 (pieces (drop 16 b)) in
-    omega (arith, len, full, ap length saved.is)
+whole_len k b p max h = grind (arith, payload_whole k b p max h, salvaged_len (payload_key k (take 16 b)) 0 (pieces (drop 16 b)))
 
 -- the last of some outcomes without a fault
 last_ok : (key : Bytes) (max i n : ℕ) (c : Bytes) (cs : List Bytes) → n ≡ i + length cs
     → first_fault (outcomes key max i (c ∷ cs)) ≡ None
     → (t : Bytes) × (outcome key max n true (get_or (c ∷ cs) (length cs) []) ≡ Ok t)
-last_ok key max i n c [] at e =
-    let (t, is, none) = opens_first key max i c [] e in
-    let here : n ≡ i = omega arith in (t, rw here is)
+last_ok key max i n c [] at e = grind (arith, opens_first key max i c [] e)
 last_ok key max i n c (d ∷ ds) at e =
     last_ok key max (i + 1) n d ds (omega arith) (opens_first key max i c (d ∷ ds) e).2
 
@@ -52,9 +45,7 @@ whole_slice k b p xs max at h s =
 
 openings_each : (key : Bytes) (i : ℕ) (ts : List Bytes) → openings key i (sealed_chunks_from key i ts) ≡ map Some ts
 openings_each key i [] = refl
-openings_each key i (t ∷ ts) =
-    rw (is_end_each key (i + 1) ts, opened_text-sealed_text key (chunk_nonce i (is_end ts)) [] t)
-    (ap (λ x. Some t ∷ x) (openings_each key (i + 1) ts))
+openings_each key i (t ∷ ts) = grind (arith, is_end_each, opened_text-sealed_text, openings_each key (i + 1) ts)
 
 -- each chunk opens to its part of the plaintext
 pub whole_chunk : (k : FileKey) (b p : Bytes) (max i : ℕ) → payload_reading k max b ≡ whole p

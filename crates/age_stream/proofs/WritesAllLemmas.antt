@@ -13,10 +13,7 @@ pub record IsFirst (key : Bytes) (max i : ℕ) (c text : Bytes) (left : Known) :
 
 pub first_ok : (key : Bytes) (max i : ℕ) (c text : Bytes) (left : Known) → first_outcome key max i c ≡ Ok text
     → left ≡ after_first c → IsFirst key max i c text left
-first_ok key max i c text left is rest = record {
-  reads = rw rest (rw is at (reading_first key max i c));
-  count = rw rest (count_first c);
-}
+first_ok key max i c text left is rest = grind (arith, reading_first, count_first)
 
 pub first_err : (key : Bytes) (max i : ℕ) (c : Bytes) (fault : StreamFault) → first_outcome key max i c ≡ Err fault
     → reading_from key max i c ≡ stop fault
@@ -236,9 +233,7 @@ writes_read {s} {t} {from} {now} {next} {a} {b} o lost = elim (cases_Option t.he
 -- a piece's fault
 stops_writes : (reading : Reading StreamFault) (n max i : ℕ) (a b : Known) (fault : StreamFault) → IsAtPiece max i fault
     → (reading.fault ≡ Some fault) × Appends a b reading.plaintext → WritesReading reading n (move_of a b) (Err fault)
-stops_writes reading n max i a b Read at stops = absurd at
-stops_writes reading n max i a b Write at stops = absurd at
-stops_writes reading n max i a b fault at stops = stops
+stops_writes a b c d e f g h i = grind arith
 
 module _ {s t u : OpenerState} {n : ℕ} {from now next : Seen} {a b : Known} {fault : StreamFault}
     (o : Opened s t n from now a b) (adv : Advances t u (flow now next) (Err fault)) where

@@ -56,7 +56,7 @@ StopsIn key max i held text sink TooManyChunks =
     × Took sink (concat (take (max - 1 - i) (sealed_chunks_after key i held text)))
 StopsIn key max i held text sink _ = ⊥
 
--- the source was read to its end
+-- the text that the source returned was taken after what the sealer held
 pub record IsFed (key : Key) (i j : ℕ) (held now : Bytes) (source : Flow)
     (sink : Moved) : Type 0 where
   pub text : Bytes

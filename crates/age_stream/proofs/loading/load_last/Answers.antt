@@ -6,16 +6,6 @@ pub returns-then-last-max-clause-fails : goal.returns-then-last-max-clause-fails
 returns-then-last-max-clause-fails g c =
     inr (inl (omega (arith, c.saturating_sub.ensures), refl))
 
-pub returns-in_err-len-clause-fails : goal.returns-in_err-len-clause-fails
-returns-in_err-len-clause-fails g c =
-    let is : c.from_residual.result ≡ Err c.in_err-len.field-0.0 = search rules in
-    let last = c.saturating_sub.result / sealed_chunk_size in
-    rw is (inr (judged (g.D.ReadAt.gave c.read_full.new.dev) c.args.key c.args.max c.args.first c.args.sealed last
-    (c.args.sealed - sealed_chunk_size * last) c.read_full.new.buf
-    (ap (λ n. n / sealed_chunk_size) c.saturating_sub.ensures) refl
-    (c.read_full.auto.buf ∙ c.requires.room) c.in-Ok.ensures.read
-    c.in_err-len.ensures.text))
-
 pub returns : goal.returns
 returns g c =
     let last = c.saturating_sub.result / sealed_chunk_size in

@@ -22,9 +22,3 @@ loop-got-preserved g c =
       given = omega (arith, c.in_ok-n.ensures.given, old.given);
       failed = c.in_ok-n.ensures.count ∙ old.failed;
     }
-
-pub loop-got-smaller : goal.loop-got-smaller
-loop-got-smaller g c =
-    let (size, found, within) = c.requires.within in
-    let some = rw (c.loop-got.invariant.found, found) at c.in_ok-n.ensures.some in
-    grind (arith, some, within, c.in_ok-n.ensures.within)

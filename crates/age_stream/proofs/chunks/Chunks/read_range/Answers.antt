@@ -1,4 +1,4 @@
-use Rattle.age_stream.proofs.Common.{arith, ◌≡◌, ◌+◌, ◌-◌, ◌*◌, ◌/◌, ◌<◌, ◌≤◌, ◌∙◌, ap, refl, inl, inr, length, Some, chunk_size, first_to_open, sealed_span}
+use Rattle.age_stream.proofs.Common.{arith, rules, ◌≡◌, ◌+◌, ◌-◌, ◌*◌, ◌/◌, ◌<◌, ◌≤◌, ◌∙◌, ap, refl, inl, inr, length, Some, chunk_size, first_to_open, sealed_span}
 use Rattle.age_stream.proofs.RangeLemmas.{byte_stays, kept_opens, rest_on, verified_on}
 use Rattle.age_stream.proofs.chunks.Chunks.read_range.Goals as goal
 
@@ -79,6 +79,27 @@ returns-in-Err g c =
         empty = λ none. absurd (omega (arith, more, is, none));
       };
     }
+
+pub loop-done-init : goal.loop-done-init
+loop-done-init g c = record {
+  stay = refl;
+  kept = λ at byte was. was;
+  layout = refl;
+  len = search rules;
+  within = omega arith;
+  skip = omega arith;
+  pos = λ lt. omega arith;
+  below = omega arith;
+  rest = search rules;
+  sound = c.requires.sound;
+  bytes = λ k lt. absurd (omega (arith, lt));
+  counts = omega arith;
+  rises = omega arith;
+  opened = omega arith;
+  given = omega arith;
+  failed = refl;
+  stage = inl (refl, refl, refl, refl, refl, refl, refl, refl);
+}
 
 pub loop-done-preserved : goal.loop-done-preserved
 loop-done-preserved g c =

@@ -1,5 +1,5 @@
 use Rattle.age_stream.proofs.Common.{rules, ◌∙◌, sym, with_items, seen_by, written_all}
-use Rattle.age_stream.proofs.OpeningLemmas.{advances_none, advances_ok, advances_err, loses_held}
+use Rattle.age_stream.proofs.OpeningLemmas.{advances_none, advances_ok, advances_err}
 use Rattle.age_stream.proofs.opening.ChunkOpener.advance.Goals as goal
 
 pub returns-in-Ok-clause-opens : goal.returns-in-Ok-clause-opens
@@ -18,11 +18,6 @@ returns-in-Err-clause-opens g c =
     advances_err o.ahead o.len o.buf.items (with_items o.buf c.next_piece.new.bytes).items c.self.view_is
     (search rules) c.as_mut_slice.ensures.value c.self.invariant.0 c.self.invariant.1 c.self.invariant.4
     c.in-Err.ensures.opens c.in-Err.ensures.at
-
-pub returns-in-Err-clause-lost : goal.returns-in-Err-clause-lost
-returns-in-Err-clause-lost g c =
-    let o = c.self.inside in
-    loses_held o.ahead o.len o.buf.items c.self.view_is (search rules) c.in-Err.ensures.lost
 
 pub returns-then-not-self-clause-opens : goal.returns-then-not-self-clause-opens
 returns-then-not-self-clause-opens g c =

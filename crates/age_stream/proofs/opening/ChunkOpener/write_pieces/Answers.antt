@@ -25,24 +25,6 @@ pub returns-in-Err-clause-ends : goal.returns-in-Err-clause-ends
 returns-in-Err-clause-ends g c =
     failed_ends c.advance.new.self c.in-Err.fault c.loop-done.invariant.opened c.in-Err.ensures.opens
 
-pub overflow_add-done : goal.overflow_add-done
-overflow_add-done g c =
-    let o = c.loop-done.invariant.opened in
-    let adv = advanced c.advance.new.self o c.in-Ok-true.field-0-test c.in-Ok-true.ensures.opens in
-    omega (arith, c.loop-done.invariant.count, adv.small, adv.keeps.2 refl)
-
-pub overflow_add-done-in-Ok : goal.overflow_add-done-in-Ok
-overflow_add-done-in-Ok g c =
-    let o = c.loop-done.invariant.opened in
-    opened_room o (advanced c.advance.new.self o c.in-Ok-true.field-0-test c.in-Ok-true.ensures.opens)
-    (length c.text-in-Ok.result.now) c.text-in-Ok.ensures.len
-
-pub loop-done-smaller : goal.loop-done-smaller
-loop-done-smaller g c =
-    let o = c.loop-done.invariant.opened in
-    let adv = advanced c.advance.new.self o c.in-Ok-true.field-0-test c.in-Ok-true.ensures.opens in
-    omega (arith, adv.max_chunks, adv.keeps.1, adv.keeps.2 refl)
-
 pub loop-done-preserved : goal.loop-done-preserved
 loop-done-preserved g c =
     let o = c.loop-done.invariant.opened in

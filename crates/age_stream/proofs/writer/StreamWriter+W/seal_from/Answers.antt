@@ -1,5 +1,5 @@
 use Rattle.age_stream.proofs.Common.{◌≡◌, Err, flow_by, rules, when_none}
-use Rattle.age_stream.proofs.SealingLemmas.{seals_err, seals_finish}
+use Rattle.age_stream.proofs.SealingLemmas.{seals_finish}
 use Rattle.age_stream.proofs.writer.StreamWriter+W.seal_from.Goals as goal
 
 pub returns-clause-seals : goal.returns-clause-seals
@@ -8,8 +8,3 @@ returns-clause-seals g c = when_none c.args.self.sealer.fault (λ none.
     (flow_by g.S.Source.to_come g.S.Source.gave c.args.plain.now c.write_from.new.plain)
     (g.W.Sink.taken c.args.self.out.now) (g.W.Sink.taken c.write_from.new.out) (g.W.Sink.taken c.finish.new.out)
     none c.in_ok-write_from.ensures.takes c.finish.result c.finish.ensures.text)
-
-pub returns-in_err-write_from-clause-seals : goal.returns-in_err-write_from-clause-seals
-returns-in_err-write_from-clause-seals g c = when_none c.args.self.sealer.fault (λ none.
-    let is : c.from_residual.result ≡ Err c.in_err-write_from.field-0.0 = search rules in
-    rw is (seals_err c.write_from.new.self none c.in_err-write_from.ensures.takes))
