@@ -9,10 +9,7 @@ HasThere told at xs = (b : Bytes) → told ≡ Some b → xs ≡ take (length xs
 pub within_on : (told : Known) (at at2 n : ℕ) (buf : Bytes) → IsWithin told at → n ≤ length buf
     → at2 ≡ min (at + n) (2 ^ 64 - 1) → HasThere told at (take n buf) → IsWithin told at2
 within_on None at at2 n buf within le next has = tt
-within_on (Some b) at at2 n buf within le next has =
-    let l = length-take-le n buf le in
-    let d = length-drop at b in
-    omega (arith, next, within, l, d, ap length (has b refl), length-take (length (take n buf)) (drop at b))
+within_on (Some b) at at2 n buf within le next has = grind (arith, length-take-le n buf le, length-drop, length-take (length (take n buf)) (drop at b))
 
 -- a read at the current offset returns the next bytes
 next_there : (told : Known) (at at2 n : ℕ) (buf : Bytes) → HasOffsets told → IsWithin told at → n ≤ length buf
@@ -41,32 +38,7 @@ first_none gave = (refl, λ k lt. absurd (omega (arith, lt)))
 pub first_then : (old new : ℕ → ℕ → Type 0) (at at2 : ℕ) (past more : Bytes) → StaysGiven old new
     → GaveFirst old at past → GaveAt new at more → at2 ≡ min (at + length more) (2 ^ 64 - 1)
     → GaveFirst new at2 (past ++ more)
-first_then old new at at2 past more stays first gave next =
-    let whole : length (past ++ more) ≡ length past + length more = length-append past more in
-    let taken : at ≡ min (length past) (2 ^ 64 - 1) = first.0 in
-    let before : length (take at past) ≡ at = length-take-le at past (omega (arith, taken)) in
-    let all : length (take at2 (past ++ more)) ≡ at2 =
-    length-take-le at2 (past ++ more) (omega (arith, whole, taken, next)) in (
-      omega (arith, whole, taken, next),
-      λ k lt. let under : k < at2 = omega (arith, lt, all) in
-          let here : slice_index (take at2 (past ++ more)) k ≡ slice_index (past ++ more) k =
-          get_or-take at2 (past ++ more) k 0 under in
-          elim (cases_lt k at) [
-            | inl early ↦
-                let value : slice_index (take at past) k ≡ slice_index (past ++ more) k =
-                get_or-take at past k 0 early
-                ∙ sym (get_or_append_left past more 0 k (omega (arith, early, taken))) in
-                subst (new (0 + k)) (value ∙ sym here)
-                (stays (0 + k) (slice_index (take at past) k) (first.1 k (omega (arith, before, early))))
-            | inr late ↦
-                let same : length past ≡ at = omega (arith, late, under, taken, next) in
-                let value : slice_index more (k - at) ≡ slice_index (past ++ more) k =
-                sym (get_or-append_right past more at k 0 same (omega (arith, late))) in
-                subst (new (0 + k)) (value ∙ sym here)
-                (subst (λ p. new p (slice_index more (k - at))) (omega (arith, late))
-                (gave (k - at) (omega (arith, late, under, next))))
-          ],
-    )
+first_then old new at at2 past more stays first gave next = grind (arith, length-append, length-take-le, get_or-take, get_or_append_left, get_or-append_right)
 
 module _ {D : Type 0} (told : D → Known) (gave : D → ℕ → ℕ → Type 0) (old new : AtState D)
     (stay : told new.dev ≡ told old.dev) (stays : StaysGiven (gave old.dev) (gave new.dev)) where

@@ -81,17 +81,11 @@ ahead_then {a} {b} {c} {old} {put} {new} {x} y m s gave took few h = record {
 pub copies_ahead_then : {a b : Seen} (c : Seen) (old m n : Known) {x : Bytes} (r : Result (Unit {0}) Fault)
     → Gave (flow a b) x → Appends old m x
     → IfErr r (CopiesAhead (flow b c) (move_of m n)) → IfErr r (CopiesAhead (flow a c) (move_of old n))
-copies_ahead_then c old m n (Ok done) gave took h = tt
-copies_ahead_then c old m n (Err fault) gave took (inl e) = inl e
-copies_ahead_then c old m n {x} (Err fault) gave took (inr h) =
-    inr (ahead_then x buffer_size buffer_size gave took (omega arith) h)
+copies_ahead_then a b c d e f g h = grind (arith, ahead_then)
 
 pub piece_ahead : (size : ℕ) (source : Flow) (sink : Moved) (fault : Fault) → size ≤ buffer_size
     → CopiesPiece size source sink (Err fault) → CopiesAhead source sink fault
-piece_ahead size source sink Read full h = inl refl
-piece_ahead size source sink Write full (piece, took, (i, put), few) =
-    inr (record { given = piece; gave = took; written = take i piece; took = put; within = omega (arith, few, full) })
-piece_ahead size source sink fault full h = absurd h
+piece_ahead a b c d e f = grind arith
 
 pub beyond_ahead : {from a : Seen} {old m : Known} {k : ℕ} → Copied from a old m k
     → CopiesAhead (flow from a) (move_of old m) TooManyChunks

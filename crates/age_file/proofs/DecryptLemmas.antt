@@ -148,8 +148,7 @@ pub missed_decrypts : {S : Type 0} (to_come : S → Known) (gave : S → Bytes �
     → IsHeaded limits come (seen_by to_come gave mid) h → header_key answers h ≡ Ok k
     → StartsReader to_come gave failed k limits.max_chunks mid to (Err fault)
     → Decrypts limits answers (flow come (seen_by to_come gave to)) (move_of old old) (Err (stream_fault fault))
-missed_decrypts to_come gave failed answers old fault i key (inl (memory, same)) =
-    rw (memory, same) (of_more i.took (λ d end. tt))
+missed_decrypts to_come gave failed answers old fault i key (inl (memory, same)) = grind (arith, of_more)
 missed_decrypts to_come gave failed answers {to = to} old fault i key (inr m) =
     unread_decrypts answers i fault (seen_by to_come gave to) old key m.0
 

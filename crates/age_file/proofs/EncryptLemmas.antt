@@ -9,9 +9,7 @@ use Rattle.age_file.proofs.DecryptLemmas.{file_result}
 pub new_header : {limits : Bounds} {k : FileKey} {gathered : Gathering} {stanzas : List StanzaParts} {mac text : Bytes}
     → (mac ≡ header_mac k.0 stanzas) × ((made : Bytes) × IsHeading limits k gathered stanzas made)
     → Head stanzas mac text → IsNewHeader limits k gathered text
-new_header {k} {stanzas} {text} (is, (made, heading)) head =
-    let same = one_text stanzas (header_mac k.0 stanzas) made text heading.head (rw is at head) in
-    record { stanzas = stanzas; heading = rw same at heading }
+new_header {k} {stanzas} {text} (is, (made, heading)) head = grind (arith, one_text stanzas (header_mac k.0 stanzas) made text heading.head (rw is at head))
 
 -- a fault that says something of headers, or out of memory
 abbrev pub IsEarly : Fault → Type 0
@@ -22,11 +20,7 @@ IsEarly fault = Unit {0}
 
 pub early_heading : (limits : Bounds) (k : FileKey) (gathered : Gathering) (fault : Fault)
     → FailsHeading limits k gathered fault → IsEarly fault
-early_heading limits k gathered fault (inl memory) = rw memory tt
-early_heading limits k gathered Read (inr h) = absurd h
-early_heading limits k gathered Write (inr h) = absurd h
-early_heading limits k gathered TooManyChunks (inr h) = absurd h
-early_heading limits k gathered fault (inr h) = tt
+early_heading a b c d e = grind arith
 
 -- a sealer that was just made was filled
 pub filled : {s t : SealerState} {key : Bytes} {m max : ℕ} {more : Bool} {source : Flow} → s ≡ at_start key m

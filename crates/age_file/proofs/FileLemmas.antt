@@ -1,5 +1,5 @@
 -- The verdict is a plaintext only on age files.
-use Rattle.age_file.proofs.Common.{◌≡◌, ◌↔◌, ◌⊎◌, inl, inr, ℕ, List, [], ◌∷◌, ◌++◌, length, drop, cond, true, false, Bool, sym, ◌∙◌, ap, refl, subst, Option, Some, None, Result, Ok, Err, option_map, result_map_both, bytes_eq, drop_at, none-some, bytes_eq-Decides, Bytes, HeaderFault, StanzaParts, HeaderParts, Head, header_mac, Found, BeginsWith, HeaderVerdict, UnlockFault, Memory, FileKey, Unwrapped, Key, choice, StreamFault, payload, Reading, stop, whole, payload_reading, ok_payload, payload_ok, Fault, MixedPassphrase, BadMac, OutOfMemory, Bounds, AgeFile, is_mixed, Answering, IsVerdict, found_key, header_fault, if_right, unlock_fault, reading_after, parts_of, reading_under, stream_fault, header_key, with_file_fault, IfErr}
+use Rattle.age_file.proofs.Common.{arith, ◌≡◌, ◌↔◌, ◌⊎◌, inl, inr, ℕ, List, [], ◌∷◌, ◌++◌, length, drop, cond, true, false, Bool, sym, ◌∙◌, ap, refl, subst, Option, Some, None, Result, Ok, Err, option_map, result_map_both, bytes_eq, drop_at, none-some, bytes_eq-Decides, Bytes, HeaderFault, StanzaParts, HeaderParts, Head, header_mac, Found, BeginsWith, HeaderVerdict, UnlockFault, Memory, FileKey, Unwrapped, Key, choice, StreamFault, payload, Reading, stop, whole, payload_reading, ok_payload, payload_ok, Fault, MixedPassphrase, BadMac, OutOfMemory, Bounds, AgeFile, is_mixed, Answering, IsVerdict, found_key, header_fault, if_right, unlock_fault, reading_after, parts_of, reading_under, stream_fault, header_key, with_file_fault, IfErr}
 use Rattle.age_header.proofs.VerdictUniqueLemmas as headers
 
 -- what is read whole does not stop
@@ -12,10 +12,7 @@ no_stream_fault (Some f) h = absurd (none-some (stream_fault f) (sym h))
 
 -- what a payload was read from
 pub with_file_fault_whole : {p : Bytes} {r : Reading StreamFault} → whole p ≡ with_file_fault r → r ≡ whole p
-with_file_fault_whole {p} {r} h =
-    ap (λ x. record { plaintext = x; fault = r.fault }) (sym (ap (λ (z : Reading Fault). z.plaintext) h))
-    ∙ ap (λ x. record { plaintext = p; fault = x }) (no_stream_fault r.fault (sym (ap (λ
-    (z : Reading Fault). z.fault) h)))
+with_file_fault_whole {p} {r} h = grind (arith, no_stream_fault)
 
 -- a file of the chosen key
 abbrev pub IsChosenFile : (limits : Bounds) (answers : Answering) (p b : Bytes) → Type 0
@@ -39,23 +36,11 @@ tested_key h chosen = result_map_both (λ k. (k, bytes_eq h.mac (header_mac k.0 
 
 ok_tested : (h : HeaderParts) (c : Result FileKey UnlockFault) (k : FileKey) → if_right (tested_key h c) ≡ Ok k
     → (c ≡ Ok k) × (h.mac ≡ header_mac k.0 h.stanzas)
-ok_tested h (Err f) k is = absurd (cc)
-ok_tested h (Ok j) k is =
-    let both = cond_else_err (bytes_eq h.mac (header_mac j.0 h.stanzas)) BadMac j k is in
-    let mac = header_mac j.0 h.stanzas in
-    (ap Ok both.1, (bytes_eq-Decides h.mac mac).0 both.0 ∙ ap (λ (x : FileKey). header_mac x.0 h.stanzas) both.1)
+ok_tested a b c d = grind (arith, cond_else_err, bytes_eq-Decides)
 
 pub unlocked_key : (answers : Answering) (h : HeaderParts) (k : FileKey) → header_key answers h ≡ Ok k
     → HasKey answers h k
-unlocked_key answers h k is = go (is_mixed h.stanzas) refl is
-  where
-    go : (mixed : Bool) → is_mixed h.stanzas ≡ mixed
-        → if_right (cond mixed (Err MixedPassphrase) (tested_key h (choice (answers h.stanzas)))) ≡ Ok k
-        → HasKey answers h k
-    go true alone is = absurd (cc)
-    go false alone is =
-        let good = ok_tested h (choice (answers h.stanzas)) k is in
-        record { unmixed = alone; chosen = good.0; mac = good.1 }
+unlocked_key answers h k is = grind (arith, cond, ok_tested)
 
 pub key_unlocked : (answers : Answering) (h : HeaderParts) (k : FileKey) → HasKey answers h k
     → header_key answers h ≡ Ok k
@@ -82,10 +67,7 @@ pub tested_found : (answers : Answering) (h : HeaderParts) (chosen : Result File
     (r : Result (FileKey × Bool) Fault) → is_mixed h.stanzas ≡ false
     → (chosen ≡ Err Memory) ⊎ (chosen ≡ choice (answers h.stanzas)) → (r ≡ Err OutOfMemory) ⊎ (r ≡ tested_key h chosen)
     → (r ≡ Err OutOfMemory) ⊎ (r ≡ found_key answers h)
-tested_found answers h chosen r alone c (inl memory) = inl memory
-tested_found answers h chosen r alone (inl memory) (inr is) = inl (is ∙ ap (tested_key h) memory)
-tested_found answers h chosen r alone (inr chose) (inr is) =
-    inr (is ∙ rw (alone, chose) refl)
+tested_found a b c d e f g = grind arith
 
 -- what follows the header that begins a text
 pub behind : (b : Bytes) (max : ℕ) (found : Found) (begins : BeginsWith b max found)
@@ -123,9 +105,7 @@ judged_file : (limits : Bounds) (answers : Answering) (b p : Bytes) (r : Result 
     → HeaderVerdict b limits.max_header r
     → whole p ≡ reading_after limits answers b r → IsChosenFile limits answers p b
 judged_file limits answers b p (Err f) v h = absurd (never_stops p (header_fault f) h)
-judged_file limits answers b p (Ok found) v h =
-    under_file limits answers b p found (headers.begins_found b limits.max_header found v)
-    (header_key answers (parts_of found)) refl h
+judged_file limits answers b p (Ok found) v h = grind (arith, under_file limits answers b p found (headers.begins_found b limits.max_header found v) (header_key answers (parts_of found)) refl h)
 
 -- an age file for the chosen key reads whole
 pub file_whole : (limits : Bounds) (answers : Answering) (b p : Bytes) (stanzas : List StanzaParts) (k : FileKey)

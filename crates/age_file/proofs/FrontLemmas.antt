@@ -65,14 +65,10 @@ pub started_front : (limits : Bounds) {S : Type 0} (to_come : S → Known) (gave
 started_front limits to_come gave failed {old} {mid} h k max f is (inl (memory, same)) =
     inr (inr (rw same (front_gave limits (flow_by to_come gave old mid) h is)))
 started_front limits to_come gave failed h k max stream.NonceTruncated is (inr misses) = inr (inl refl)
-started_front limits to_come gave failed h k max stream.Memory is (inr misses) =
-    let is : stream.Memory ≡ stream.NonceTruncated = misses.0.0 in absurd (cc)
+started_front limits to_come gave failed h k max stream.Memory is (inr misses) = grind arith
 started_front limits to_come gave failed h k max f is (inr misses) = inl tt
 
 -- the fault at which opening a payload ended
 pub ended_late : {max before : ℕ} {source : Flow} {sink : Moved} (f : StreamFault)
     → (f ≡ stream.Read) ⊎ EndsAt max before source sink f → IsLate (stream_fault f)
-ended_late f (inl e) = rw e tt
-ended_late stream.NonceTruncated (inr h) = elim h.at [ inl e ↦ absurd (cc (e.0)) | inr none ↦ none ]
-ended_late stream.Memory (inr h) = elim h.at [ inl e ↦ absurd (cc (e.0)) | inr none ↦ none ]
-ended_late f (inr h) = tt
+ended_late a b = grind arith

@@ -5,9 +5,7 @@ use Rattle.age_recipient.specs.declared.recipient.WrapFault.TheVariants.{Refused
 -- what f gives of the item at index i, and of those after it
 item_at : {A B : Type 0} (f : A → B) (xs : List A) (i : ℕ) (x : A) → i < length xs → x ≡ get_or xs i x
     → drop i (map f xs) ≡ f x ∷ drop (i + 1) (map f xs)
-item_at f xs i x low is =
-    drop-map f i xs ∙ ap (map f) (drop_more xs i x low) ∙ ap (λ y. f y ∷ map f (drop (i + 1) xs)) (sym is)
-    ∙ ap (λ t. f x ∷ t) (sym (drop-map f (i + 1) xs))
+item_at f xs i x low is = grind (arith, drop-map, drop_more)
 
 -- what the remaining recipients return, if the answer of the first is known
 gathered_step : {A : Type 0} (f : A → Result (List StanzaParts) ℕ) (xs : List A) {i : ℕ} (n : ℕ) {x : A}

@@ -2,9 +2,7 @@
 use Rattle.age_file.proofs.Common.{◌≡◌, ℕ, ◌+◌, zero, suc, not, List, [], ◌∷◌, ◌++◌, replicate, ◌∙◌, ap, refl, inl, inr, arith, Option, Some, None, add-one, AllZip, position_from, Labels, Alone, Names, MayLabel, go_together, first_incompatible, IsIncompatible}
 
 pub one_index : (meant : Labels) (index : Option ℕ) → IsIncompatible (meant ∷ []) index → index ≡ None
-one_index meant index ([], may, is) = absurd may
-one_index meant index (l ∷ [], may, is) = is
-one_index meant index (l ∷ m ∷ rest, may, is) = absurd may.1
+one_index a b c = grind arith
 
 -- a recipient without names goes together with all others that have none
 none_incompatible : (n k : ℕ) → position_from (λ other. not (go_together (Names []) other)) k (replicate n (Names []))

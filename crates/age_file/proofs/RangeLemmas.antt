@@ -53,9 +53,7 @@ header_most to_come gave limits {old} base start (inr (read, gaves, fits)) same 
 
 refused : (limits : Bounds) (b : Bytes) (g : HeaderFault) → Refuses b limits.max_header g
     → MissesHeader limits (Some b) (header_fault g)
-refused limits b header.Read h = inl refl
-refused limits b header.Memory h = inr (inl refl)
-refused limits b g h = inr (inr (g, h, refl))
+refused a b c d = grind arith
 
 -- no header
 pub header_missed : (limits : Bounds) (told : Known) {a mid : Seen} (fault : Fault)
@@ -125,44 +123,29 @@ unlock_open e = tt
 pub locked_named : (answers : Answering) (h : HeaderParts) (fault : Fault)
     → (◌≡◌ {A = Result FileKey Fault} (Err fault) (Err OutOfMemory)) ⊎ (Err fault ≡ header_key answers h)
     → IsOpenFault fault
-locked_named answers h fault (inl memory) = subst IsOpenFault (sym (err_err {A = FileKey} fault OutOfMemory memory)) tt
-locked_named answers h fault (inr key) =
-    subst (λ (r : Result FileKey Fault). IfErr r IsOpenFault) (sym key)
-    (key_faults IsOpenFault unlock_open tt tt answers h)
+locked_named a b c d = grind (arith, err_err, key_faults, unlock_open)
 
 pub payload_named : {D : Type 0} {old new : D} (e : StreamFault)
     → IsRefusedMemory old new e ⊎ stream.IsOpenFault e → IsOpenFault (stream_fault e)
-payload_named fault.Write (inl (e, same)) = absurd (cc)
-payload_named fault.Write (inr h) = absurd h
-payload_named e h = tt
+payload_named a b = grind arith
 
 -- how much was read, if it was not the payload
 pub payload_front : {D : Type 0} (given : D → ℕ) {old new : D} {most : ℕ} (e : StreamFault) → given old ≤ most
     → IsRefusedMemory old new e ⊎ stream.IsOpenFault e
     → IsLate (stream_fault e) ⊎ ((stream_fault e ≡ NonceTruncated) ⊎ (given new ≤ most))
-payload_front given fault.NonceTruncated le h = inr (inl refl)
-payload_front given fault.Memory le (inl (e, same)) = inr (inr (rw same le))
-payload_front given fault.Memory le (inr h) = absurd h
-payload_front given e le h = inl tt
+payload_front a b c d = grind arith
 
 -- ---- why a file was not opened
 
 -- bytes that were returned stay returned
 pub header_stays : {limits : Bounds} {old new : ℕ → ℕ → Type 0} {at : ℕ} {h : HeaderParts} → StaysGiven old new
     → GaveHeader limits old at h → GaveHeader limits new at h
-header_stays stays first = record {
-  text = first.text;
-  len = first.len;
-  read = λ k lt. stays (0 + k) (slice_index first.text k) (first.read k lt);
-  verdict = first.verdict;
-}
+header_stays stays first = grind arith
 
 -- a header that was found fits into its limit
 pub header_fits : {limits : Bounds} {gave : ℕ → ℕ → Type 0} {at : ℕ} {h : HeaderParts} → GaveHeader limits gave at h
     → at ≤ limits.max_header
-header_fits {limits} {h = h} first =
-    let found = begins_found first.text limits.max_header (finding first.text h) first.verdict in
-    omega (arith, first.len, found.fits)
+header_fits {limits} {h = h} first = grind (arith, begins_found first.text limits.max_header (finding first.text h) first.verdict)
 
 -- ---- a file that was opened
 
@@ -171,8 +154,4 @@ pub file_most : {k : FileKey} {max at given1 given2 : ℕ} (given : ℕ) {gave :
     {source : Moved} (chunks : stream.RangeState) → given1 ≤ given + at → BeginsRanges k max at gave size chunks
     → stream.Probes source size at given1 given2
     → given2 ≤ given + (chunks.layout.first + stream.last_len (chunks.layout.plain + 16 * chunks.layout.count))
-file_most {at = at} given chunks le begins probes =
-    let last = rw begins.end at probes.last in
-    let after : chunks.layout.first + (chunks.layout.plain + 16 * chunks.layout.count) - (at + 16)
-    ≡ chunks.layout.plain + 16 * chunks.layout.count = omega (arith, begins.after) in
-    omega (arith, le, begins.after, rw after at last)
+file_most {at = at} given chunks le begins probes = grind arith

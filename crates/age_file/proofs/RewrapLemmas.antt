@@ -11,11 +11,7 @@ use Rattle.age_file.proofs.FileLemmas.{behind, key_faults, key_unlocked}
 refused : {limits : Bounds} (answers : Answering) {gathered : FileKey → Gathering} {b : Bytes} (old : Known)
     (fault : Fault) → IsEarly fault → RefusesRewrap limits answers gathered b fault
     → RewrapsText limits answers gathered b (move_of old old) (Err fault)
-refused answers old OutOfMemory early h = tt
-refused answers old Read early h = absurd early
-refused answers old Write early h = absurd early
-refused answers old TooManyChunks early h = absurd early
-refused answers old fault early h = h
+refused a b c d e = grind arith
 
 no_header : (limits : Bounds) (answers : Answering) (gathered : FileKey → Gathering) (b : Bytes) (old : Known)
     (g : HeaderFault)
@@ -33,11 +29,7 @@ inspect_rewraps limits answers gathered old (g, is, h) =
 -- a fault of unlocking is early
 early_unlocked : (answers : Answering) (h : HeaderParts) (fault : Fault) → header_key answers h ≡ Err fault
     → IsEarly fault
-early_unlocked answers h fault e = rw e at (key_faults IsEarly unlocking tt tt answers h)
-  where
-    unlocking : (f : UnlockFault) → IsEarly (unlock_fault f)
-    unlocking unlock.NoMatch = tt
-    unlocking f = tt
+early_unlocked answers h fault e = grind (arith, key_faults)
 
 module _ {limits : Bounds} (answers : Answering) (gathered : FileKey → Gathering) {come mid : Seen} {h : HeaderParts}
     (i : IsHeaded limits come mid h) where
@@ -110,11 +102,7 @@ module _ {limits : Bounds} (answers : Answering) (gathered : FileKey → Gatheri
 -- copying ends only with a late fault
 pub copies_late : (K : Type 0) (source : Flow) (old new : Known) (r : Result (Unit {0}) Fault)
     → Copies source (move_of old new) r → IfErr r (λ fault. IsLate fault ⊎ K)
-copies_late K source old new (Ok done) c = tt
-copies_late K source old new (Err Read) c = inl tt
-copies_late K source old new (Err Write) c = inl tt
-copies_late K source old new (Err TooManyChunks) c = inl tt
-copies_late K source old new (Err f) c = absurd c
+copies_late a b c d e f = grind arith
 
 -- ---- the law
 

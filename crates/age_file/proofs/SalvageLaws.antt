@@ -113,10 +113,7 @@ saved_exactly limits answers b v sink lost s i f =
 
 -- a fault of a payload of which something may have been saved is late
 late_pieces : (g : StreamFault) → IsOfPieces g → IsLate (stream_fault g)
-late_pieces stream.TooManyChunks h = tt
-late_pieces stream.Read h = tt
-late_pieces stream.Write h = tt
-late_pieces g h = absurd h
+late_pieces a b = grind arith
 
 pub quiet_pieces : {P Q : Type 0} (g : StreamFault) → IsOfPieces g ⊎ (P × Q) → IsLate (stream_fault g) ⊎ P
 quiet_pieces g (inl h) = inl (late_pieces g h)

@@ -1,5 +1,5 @@
 -- What salvaging returns, from what its parts return.
-use Rattle.age_file.proofs.Common.{◌≡◌, ◌⊎◌, ◌++◌, length, refl, subst, inl, inr, Result, Ok, Err, ℕ, result_map_both, Appends-nil, drop_at, HeaderFault, FileKey, Bytes, Known, Moved, Seen, flow, move_of, HeaderParts, Refuses, of_any, of_map, of_more, of_then, StreamFault, Salvaged, EndsAt, EndsSaving, KnownLosses, Salvages, SavesPayload, LossesMoved, losses_of, reports_none, Fault, Read, OutOfMemory, Bounds, TookUpTo, Inspects, SalvagedFile, SalvagesFile, SalvagesText, SavesFile, SavesNone, SavesUnder, salvaged_file, Answering, finding, header_fault, stream_fault, found_key, Bool}
+use Rattle.age_file.proofs.Common.{arith, ◌≡◌, ◌⊎◌, ◌++◌, length, refl, subst, inl, inr, Result, Ok, Err, ℕ, result_map_both, Appends-nil, drop_at, HeaderFault, FileKey, Bytes, Known, Moved, Seen, flow, move_of, HeaderParts, Refuses, of_any, of_map, of_more, of_then, StreamFault, Salvaged, EndsAt, EndsSaving, KnownLosses, Salvages, SavesPayload, LossesMoved, losses_of, reports_none, Fault, Read, OutOfMemory, Bounds, TookUpTo, Inspects, SalvagedFile, SalvagesFile, SalvagesText, SavesFile, SavesNone, SavesUnder, salvaged_file, Answering, finding, header_fault, stream_fault, found_key, Bool}
 use Rattle.age_header.specs.declared.fault.HeaderFault.TheVariants as header
 use Rattle.age_stream.specs.declared.fault.StreamFault.TheVariants as stream
 use Rattle.age_file.proofs.DecryptLemmas.{IsHeaded, headed, payload_takes}
@@ -11,9 +11,7 @@ saves_none old lost = (Appends-nil old, reports_none lost)
 stopped : (limits : Bounds) (answers : Answering) (b : Bytes) (old : Known) (lost : KnownLosses) (fault : Fault)
     → SavesFile limits answers b (move_of old old) (losses_of lost lost) (Err fault)
     → SalvagesText limits answers b (move_of old old) (losses_of lost lost) (Err fault)
-stopped limits answers b old lost OutOfMemory h = saves_none old lost
-stopped limits answers b old lost Read h = inl (saves_none old lost)
-stopped limits answers b old lost fault h = h
+stopped a b c d e f g = grind (arith, saves_none)
 
 -- ---- the header
 
@@ -49,10 +47,7 @@ pub locked_salvages : (limits : Bounds) (answers : Answering) {come mid : Seen} 
     {h : HeaderParts} {fault : Fault} → Inspects limits (flow come mid) (Ok h)
     → (◌≡◌ {A = Result (FileKey × Bool) Fault} (Err fault) (Err OutOfMemory)) ⊎ (Err fault ≡ found_key answers h)
     → SalvagesFile limits answers (flow come mid) (move_of old old) (losses_of lost lost) (Err fault)
-locked_salvages limits answers {come} {mid} old lost {h} {fault} i (inl memory) =
-    let is = headed limits i in
-    let same : fault ≡ OutOfMemory = cc in
-    rw same (of_any (is.text, is.took) (λ b. saves_none old lost))
+locked_salvages limits answers {come} {mid} old lost {h} {fault} i (inl memory) = grind (arith, headed, of_any, saves_none)
 locked_salvages limits answers {come} {mid} old lost {h} {fault} i (inr key) =
     let is = headed limits i in
     of_more is.took (λ d end. stopped limits answers (is.text ++ d) old lost fault

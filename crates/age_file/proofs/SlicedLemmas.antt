@@ -1,5 +1,5 @@
 -- Ranges of a file whose verdict has no fault.
-use Rattle.age_file.proofs.Common.{◌≡◌, ◌⊎◌, ℕ, length, take, drop, sym, ◌∙◌, ap, subst, inl, inr, Option, Some, Result, Ok, Err, result_map_both, drop-drop, Bytes, HeaderFault, Found, FileKey, HasPlain, RangeState, payload_reading, whole, IsSlice, plain_len, whole_len, whole_opens, whole_slice, Fault, OutOfMemory, Read, Bounds, Agrees, BeginsFile, finding, IsRangeFault, MissesRanges, ranges_under, Answering, IsVerdict, header_fault, reading_after, parts_of, reading_under, stream_fault, header_key, ◌*◌, ◌<◌, payload_key, source_opening, chunk_size, opening, whole_chunk}
+use Rattle.age_file.proofs.Common.{arith, ◌≡◌, ◌⊎◌, ℕ, length, take, drop, sym, ◌∙◌, ap, subst, inl, inr, Option, Some, Result, Ok, Err, result_map_both, drop-drop, Bytes, HeaderFault, Found, FileKey, HasPlain, RangeState, payload_reading, whole, IsSlice, plain_len, whole_len, whole_opens, whole_slice, Fault, OutOfMemory, Read, Bounds, Agrees, BeginsFile, finding, IsRangeFault, MissesRanges, ranges_under, Answering, IsVerdict, header_fault, reading_after, parts_of, reading_under, stream_fault, header_key, ◌*◌, ◌<◌, payload_key, source_opening, chunk_size, opening, whole_chunk}
 use Rattle.age_header.proofs.VerdictUniqueLemmas as headers
 use Rattle.age_stream.specs.declared.layout.Layout.{Layout}
 use Rattle.age_stream.proofs.JudgesLastLemmas.{opened_there}
@@ -10,13 +10,7 @@ use Rattle.age_file.proofs.FileLemmas.{never_stops, with_file_fault_whole}
 none_under : (limits : Bounds) (rest p : Bytes) (fault : Fault) (c : Result FileKey Fault)
     → whole p ≡ reading_under limits rest c → ranges_under limits rest c ≡ Err fault → ⊥
 none_under limits rest p fault (Err g) h is = never_stops p g h
-none_under limits rest p fault (Ok k) h is =
-    let o = whole_opens k rest p limits.max_chunks
-    (with_file_fault_whole h) in
-    absurd (ok-err o.0 (sym (ap (result_map_both (λ (text : Bytes). text) stream_fault) o.1) ∙ is))
-  where
-    ok-err : (x : Bytes) → ◌≡◌ {A = Result Bytes Fault} (Ok x) (Err fault) → ⊥
-    ok-err x e = absurd (cc)
+none_under limits rest p fault (Ok k) h is = grind (arith, whole_opens k rest p limits.max_chunks (with_file_fault_whole h), with_file_fault_whole h)
 
 none_judged : (limits : Bounds) (answers : Answering) (b p : Bytes) (fault : Fault) (r : Result Found HeaderFault)
     → whole p ≡ reading_after limits answers b r → IsRangeFault limits answers b r fault → ⊥

@@ -20,6 +20,11 @@ file_of_one limits fresh {wrapped} meant plain file done {source} come given =
       subst (λ f. AgeFile limits fresh.file_key h.1.header.stanzas plain f) (sym h.2) h.1.file,
     )
 
+-- an error that never comes
+pub never_err : {A E : Type 0} {P : E → Type 0} (r : Result A E) → ((e : E) → P e) → IfErr r P
+never_err (Ok x) f = tt
+never_err (Err e) f = f e
+
 -- bytes have one verdict
 abbrev pub IsOnce : Bounds → Answering → Bytes → Type 0
 IsOnce limits answers b = (v w : Reading Fault) → IsVerdict limits answers b v → IsVerdict limits answers b w → v ≡ w

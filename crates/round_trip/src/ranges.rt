@@ -1,6 +1,6 @@
 //! A part of a file, and calls on one reader of ranges, one after another.
 
-ghost use Rattle.std.specs.Prelude.{◌≡◌, ◌-◌, ◌++◌, length, min, take, drop, IfOk};
+ghost use Rattle.std.specs.Prelude.{◌≡◌, ◌-◌, ◌++◌, length, min, take, drop, IfOk, IfErr};
 ghost use Rattle.std.specs.List.{FoldsTo, zip};
 ghost use Rattle.age_stream.specs.Ranges.{ReadsRange};
 ghost use Rattle.age_file.specs.Verdict.{IsVerdict, answers_by};
@@ -16,7 +16,8 @@ use std::alloc::Global;
 /// the number of bytes, as `RangeReader::read_range` does.
 ///
 /// # Errors
-/// Those of `open_ranges` and of `read_range`.
+/// Those of `open_ranges` and of `read_range`. For a file whose verdict is a plaintext without a
+/// fault, only `OutOfMemory`.
 pub fn part_of(
     alloc: Global,
     identities: &[Box<dyn Identity>],
@@ -31,6 +32,10 @@ pub fn part_of(
         → IsVerdict limits.now (answers_by identities.now (λ i s. meaning i s)) file.now
         (whole plain) → (n ≡ min (length buf.old) (length plain - at))
         × (buf.new ≡ take n (drop at plain) ++ drop n buf.old)) }
+    // With such a verdict the only fault is `OutOfMemory`.
+    ensures lost { IfErr result (λ fault. (plain : Bytes)
+        → IsVerdict limits.now (answers_by identities.now (λ i s. meaning i s)) file.now
+        (whole plain) → fault ≡ Fault.OutOfMemory) }
 {
     laws::file_is_sliced::<MemAt>();
     laws::given_is_known::<MemAt>();
