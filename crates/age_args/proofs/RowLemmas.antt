@@ -27,8 +27,7 @@ pub number_read : {E : Type 0} (G : List ℕ → Result ℕ E → Type 0) {o : O
     → unwrap_or r d ≡ option_map_or number_of o d
 number_read G {o = None} d none value only h = ap (λ x. unwrap_or x d) (none refl)
 number_read G {o = Some t} {r = Some n} d none value only h = (only t (Ok n) (value t refl)).1
-number_read G {o = Some t} {r = None} d none value only h =
-    let e = value t refl in absurd (only t (Err e.0) e.1 (h.2.0, h.2.1))
+number_read G {o = Some t} {r = None} d none value only h = grind arith
 
 pub flag_read : (E : Type 0) {o : Option Text} {r : Option Bool}
     → (o ≡ None → r ≡ None) → ((t : List ℕ) → o ≡ Some t → ReadsOne (ParsesBool {E = E}) t r)
@@ -36,11 +35,7 @@ pub flag_read : (E : Type 0) {o : Option Text} {r : Option Bool}
 flag_read E {o = None} none value = ap (λ x. unwrap_or x false) (none refl)
 flag_read E {o = Some t} {r = Some true} none value = sym ((bytes_eq-Decides t (codes "true")).1 (value t refl))
 flag_read E {o = Some t} {r = Some false} none value = sym (ap (λ x. bytes_eq x (codes "true")) (value t refl))
-flag_read E {o = Some t} {r = None} none value = go refl
-  where
-    go : {b : Bool} → bytes_eq t (codes "true") ≡ b → false ≡ b
-    go {b = false} e = refl
-    go {b = true} e = absurd ((value t refl).1.0 ((bytes_eq-Decides t (codes "true")).0 e))
+flag_read E {o = Some t} {r = None} none value = grind (arith, bytes_eq-Decides)
 
 pub has_number : (least most : ℕ) (o : Option Text) → IfSome o (IsUnsignedIn least most)
     → IfSome o (λ t. (least : ℕ) × (most : ℕ) × IsUnsignedIn least most t)
@@ -57,6 +52,4 @@ nows xs = map (λ t. t.now) xs
 
 pub names_input : {A : Type 0} (f : A → Text) (command : Command) (o : Option A) {v : Option Text} → option_map f o ≡ v
     → NamesInput command v → NamesInput command o
-names_input f Range None e h = ap is_some e ∙ h
-names_input f Range (Some x) e h = refl
-names_input f command o e h = tt
+names_input a b c d e = grind arith

@@ -17,7 +17,8 @@ use Rattle.clap.specs.declared.builder.value_parser.ValueParser.TheVariants as v
 use Rattle.clap.specs.declared.parser.matches.ValueSource.{ValueSource}
 use Rattle.clap.specs.declared.parser.matches.ValueSource.TheVariants.{DefaultValue, CommandLine}
 use Rattle.age_job.specs.declared.ranges.TheConstants.{MIN_HEADER_SIZE, MIN_WORK_FACTOR, MAX_HEADER_SIZE, MAX_OFFSET, MAX_WORK_FACTOR}
-use Rattle.age_args.proofs.ValueLemmas.{both, neither, not_false, not_true, same_number}
+use Rattle.std.proofs.lemmas.Bool.{and_parts, or_parts, not-false, not-true}
+use Rattle.age_args.proofs.ValueLemmas.{same_number}
 use Rattle.age_args.proofs.LevelLemmas.{DefaultsWell, Each, UsesWell, both_none, level_ok, test_fails}
 
 -- what the values of an option have to pass
@@ -70,12 +71,7 @@ at_row_passes : (id : Text) (change : Row → List Row) (missing rows : List Row
     → ((r : Row) → bytes_eq r.id id ≡ true → RowPasses r → Each RowPasses (change r)) → Each RowPasses missing
     → Each RowPasses rows → Each RowPasses (at_row id change missing rows)
 at_row_passes id change missing [] c m q = m
-at_row_passes id change missing (r ∷ rs) c m q = go (at_row_passes id change missing rs c m q.1) refl
-  where
-    go : Each RowPasses (at_row id change missing rs) → {b : Bool} → bytes_eq r.id id ≡ b
-        → Each RowPasses (cond b (change r ++ rs) (r ∷ at_row id change missing rs))
-    go rest {b = true} e = each_append RowPasses (change r) rs (c r e q.0) q.1
-    go rest {b = false} e = (q.0, rest)
+at_row_passes id change missing (r ∷ rs) c m q = grind (arith, cond, each_append, at_row_passes id change missing rs c m q.1)
 
 without_passes : (id : Text) (rows : List Row) → Each RowPasses rows → Each RowPasses (without id rows)
 without_passes id rows q = at_row_passes id (λ _. []) [] rows (λ r e p. tt) tt q
@@ -84,29 +80,12 @@ with_values_passes : (id : Text) {how : Reading} (s : ValueSource) (values : Lis
     → how ≡ AsWritten
     → 0 < length values → Each (Passes id) values → Each RowPasses rows
     → Each RowPasses (with_values id how s values rows)
-with_values_passes id s values rows written some pass q = search (at_row_passes, more)
-  where
-    more : (r : Row) → bytes_eq r.id id ≡ true → RowPasses r → Each RowPasses (more_values s values r)
-    more r e p =
-        let same : id ≡ r.id = sym ((bytes_eq-Decides r.id id).0 e) in (
-          (
-            p.0,
-            omega (arith, p.1, length-append r.values values),
-            each_append (Passes r.id) r.values values p.2 (rw same at pass),
-          ),
-          tt,
-        )
+with_values_passes id s values rows written some pass q = grind (arith, at_row_passes, bytes_eq-Decides, length-append, each_append)
 
 -- ---- one use
 
 accepts_too : (p q : ValueParser) (v : Text) → covers p q ≡ true → accepts false q v ≡ true → accepts false p v ≡ true
-accepts_too vp.String q v f h = refl
-accepts_too (vp.Unsigned a b) (vp.Unsigned x y) v f h =
-    let same = both f in
-    let first : a ≡ x = same_number same.0 in
-    let second : b ≡ y = same_number same.1 in
-    rw (first, second) h
-accepts_too p q v f h = absurd (true≢false (sym f))
+accepts_too a b c d e = grind (arith, and_parts, same_number, true≢false)
 
 test_passes : {b : Bool} (k : ErrorKind) → cond b [] (k ∷ []) ≡ [] → b ≡ true
 test_passes k f = grind arith
@@ -154,12 +133,9 @@ stored : (again : Bool) {a : Rule} → IsGood a → (x : ArgAction) → is_count
     → (is_request x || nat_lt 0 (length values)) ≡ true
     → action_fault x again a values rows ≡ [] → Each RowPasses rows
     → Each RowPasses (used_as x a.id (reading_by a) values rows)
-stored again {a} g Set c values rows some e q =
-    given_passes g CommandLine values (without a.id rows) some (both_none e).1 (without_passes a.id rows q)
-stored again {a} g SetTrue c values rows some e q =
-    given_passes g CommandLine values (without a.id rows) some (both_none e).1 (without_passes a.id rows q)
-stored again {a} g SetFalse c values rows some e q =
-    given_passes g CommandLine values (without a.id rows) some (both_none e).1 (without_passes a.id rows q)
+stored again {a} g Set c values rows some e q = grind (arith, given_passes, both_none, without_passes)
+stored again {a} g SetTrue c values rows some e q = grind (arith, given_passes, both_none, without_passes)
+stored again {a} g SetFalse c values rows some e q = grind (arith, given_passes, both_none, without_passes)
 stored again g Append c values rows some e q = given_passes g CommandLine values rows some e q
 stored again g Count c values rows some e q = absurd (true≢false c)
 stored again g x c values rows some e q = q
@@ -182,11 +158,7 @@ some_value a values true h e = refl
 some_value a values false h e = one_value a values h e
 
 used_well : (again : Bool) (a : Rule) → is_good a ≡ true → UsesWell again RowPasses a
-used_well again a good values rows e q =
-    let g = good_of a good in
-    let n = both_none e in
-    stored again g (action_of a) g.no_count (values_or_missing a values) rows
-    (some_value a values (is_request (action_of a)) g.value n.0) n.1 q
+used_well again a good values rows e q = grind (arith, good_of, both_none, stored, some_value)
 
 defaults_well : (again : Bool) (a : Rule) → is_good a ≡ true → DefaultsWell again RowPasses a
 defaults_well again a good rows e q = go (has_row a.id rows) e
@@ -212,12 +184,7 @@ defaults_well again a good rows e q = go (has_row a.id rows) e
 found_where : {X : Type 0} (U : X → Type 0) (p : X → Bool) (xs : List X) → Each U xs
     → IfSome (find p xs) (λ x. (p x ≡ true) × U x)
 found_where U p [] h = tt
-found_where U p (x ∷ xs) h = go refl (found_where U p xs h.1)
-  where
-    go : {b : Bool} → p x ≡ b → IfSome (find p xs) (λ x. (p x ≡ true) × U x)
-        → IfSome (cond b (Some x) (find p xs)) (λ x. (p x ≡ true) × U x)
-    go {b = true} e i = (e, h.0)
-    go {b = false} e i = i
+found_where U p (x ∷ xs) h = grind (arith, found_where U p xs h.1)
 
 has_number : {least most : ℕ} (id : Text) (rows : List Row) → parser_for id ≡ vp.Unsigned least most
     → Each RowPasses rows → HasNumber least most id rows
@@ -244,17 +211,7 @@ wanted_given : (id : Text) (rules : List Rule) (rows : List Row)
     → list_any (λ a. a.required && not (is_given a.id rows)) rules ≡ false
     → list_any (λ a. a.required && bytes_eq a.id id) rules ≡ true → is_given id rows ≡ true
 wanted_given id [] rows none some = absurd (true≢false (sym some))
-wanted_given id (a ∷ rest) rows none some = go (wanted_given id rest rows) a.required refl none some
-  where
-    go : (list_any (λ a. a.required && not (is_given a.id rows)) rest ≡ false
-        → list_any (λ a. a.required && bytes_eq a.id id) rest ≡ true → is_given id rows ≡ true)
-        → (r : Bool) {b : Bool} → bytes_eq a.id id ≡ b
-        → (r && not (is_given a.id rows) || list_any (λ a. a.required && not (is_given a.id rows)) rest) ≡ false
-        → (r && b || list_any (λ a. a.required && bytes_eq a.id id) rest) ≡ true → is_given id rows ≡ true
-    go ih true {b = true} e n f = ap (λ (i : Text). is_given i rows) (sym ((bytes_eq-Decides a.id id).0 e))
-        ∙ not_false (neither n).0
-    go ih true {b = false} e n f = ih (neither n).1 f
-    go ih false e n f = ih n f
+wanted_given id (a ∷ rest) rows none some = grind (arith, bytes_eq-Decides, not-false, or_parts, wanted_given id rest rows)
 
 given_first : (id : Text) (rows : List Row) → Each RowPasses rows → is_given id rows ≡ true
     → is_some (first_of id rows) ≡ true
@@ -288,25 +245,7 @@ abbrev Makes : Shape → Type 0
 Makes s = (s.name ≡ codes "help") ⊎ ((command : Command) × (s.name ≡ name_of command) × (is_good_for command s ≡ true))
 
 all_make : Each (λ s. Makes s × (s.aliases ≡ [])) (built agep).subs
-all_make = (
-  (inr (Encrypt, refl, refl), refl),
-  (
-    (inr (Decrypt, refl, refl), refl),
-    (
-      (inr (Inspect, refl, refl), refl),
-      (
-        (inr (Range, refl, refl), refl),
-        (
-          (inr (Rewrap, refl, refl), refl),
-          (
-            (inr (Salvage, refl, refl), refl),
-            ((inl refl, refl), tt),
-          ),
-        ),
-      ),
-    ),
-  ),
-)
+all_make = grind arith
 
 each_of : {X : Type 0} {P : X → Type 0} (xs : List X) → ((x : X) → P x) → Each P xs
 each_of [] p = tt
@@ -315,7 +254,7 @@ each_of (x ∷ xs) p = (p x, each_of xs p)
 each_good : {P : Rule → Type 0} (rules : List Rule) → ((a : Rule) → is_good a ≡ true → P a)
     → list_all is_good rules ≡ true → Each P rules
 each_good [] p e = tt
-each_good (a ∷ rest) p e = let h = both e in (p a h.0, each_good rest p h.1)
+each_good (a ∷ rest) p e = let h = and_parts _ _ e in (p a h.0, each_good rest p h.1)
 
 names_input : (command : Command) (s : Shape) (rows : List Row) → wants command s ≡ true → Each RowPasses rows
     → list_any (λ a. a.required && not (is_given a.id rows)) s.rules ≡ false
@@ -327,12 +266,12 @@ level_taken : {command : Command} (s : Shape) (words : List Text) → is_good_fo
     → level_fault s [] nothing_held words false [] ≡ []
     → IsTaken command (rows_after s.rules [] words)
 level_taken {command} s words good e =
-    let g = both good in
-    let h = both g.1 in
+    let g = and_parts _ _ good in
+    let h = and_parts _ _ g.1 in
     let rows = rows_after s.rules [] words in
     let level = level_ok s [] RowPasses (λ _. ⊤) (each_good s.rules (used_well s.args_override_self) h.0)
     (each_good s.rules (defaults_well s.args_override_self) h.0) (λ _ _. tt) words false [] e in
-    let none = negated (not_true g.0) (wanted_kind level.2).2 in
+    let none = negated (not-true _ g.0) (wanted_kind level.2).2 in
     record {
       work = has_number (codes "work") rows refl level.0;
       max_work = has_number (codes "max-work") rows refl level.0;
@@ -369,18 +308,11 @@ no_help words has below none =
 -- `help` is entered only by its name
 is_help : (s : Shape) (word : Text) → s.name ≡ codes "help" → s.aliases ≡ [] → answers_to word (label_of s) ≡ true
     → bytes_eq word (codes "help") ≡ true
-is_help s word name none e =
-    (bytes_eq-Decides word (codes "help")).1
-    (sym ((bytes_eq-Decides (codes "help") word).0 (one (rw (name, none) at e))))
-  where
-    one : {b : Bool} → (b || false) ≡ true → b ≡ true
-    one e = grind arith
+is_help s word name none e = grind (arith, bytes_eq-Decides)
 
 pub pair_same : {a b : Text} {x y : List Row} → ◌≡◌ {A = Option (Text × List Row)} (Some (a, x)) (Some (b, y)) → (a ≡ b)
     × (x ≡ y)
-pair_same {a} {b} {x} {y} e =
-    let same : ◌≡◌ {A = Text × List Row} (a, x) (b, y) = cc in
-    (ap (λ (p : Text × List Row). p.0) same, ap (λ (p : Text × List Row). p.1) same)
+pair_same {a} {b} {x} {y} e = grind arith
 
 at_shape : {name : Text} {rows : List Row} (p : Text × List Text) → bytes_eq p.0 (codes "help") ≡ false
     → (o : Option Shape)

@@ -11,17 +11,5 @@ pub mapped_or : {T U : Type 0} (f : T → U) (o : Option T) (d : T) {t : T} {v :
 mapped_or f None d is e = ap f is ∙ ap (λ v. unwrap_or v (f d)) e
 mapped_or f (Some x) d is e = ap f is ∙ ap (λ v. unwrap_or v (f d)) e
 
-pub both : {a b : Bool} → (a && b) ≡ true → (a ≡ true) × (b ≡ true)
-both e = grind arith
-
-pub neither : {a b : Bool} → (a || b) ≡ false → (a ≡ false) × (b ≡ false)
-neither e = grind arith
-
-pub not_true : {b : Bool} → not b ≡ true → b ≡ false
-not_true e = grind arith
-
-pub not_false : {b : Bool} → not b ≡ false → b ≡ true
-not_false e = grind arith
-
 pub same_number : {a b : ℕ} → (a == b) ≡ true → a ≡ b
 same_number {a} {b} e = eqb-true a b e

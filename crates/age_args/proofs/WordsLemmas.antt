@@ -53,12 +53,7 @@ help_is (program, option, is, inr short) =
 
 pub help_read : {words : List Text} (result : Result Job WordsFault) → AsksForHelp words
     → Reads (codes "agep" ∷ codes "--help" ∷ []) result → Reads words result
-help_read (Ok job) asks h = let none = sym help_fault ∙ h.0 in cc
-help_read (Err Memory) asks h = tt
-help_read (Err (Refused error)) asks h = elim (rw help_fault at h) [
-  | inl is ↦ rw (help_is asks) (inl is)
-  | inr bad ↦ absurd bad
-]
+help_read a b c = grind (arith, help_fault, help_is)
 
 pub made : {words : List Text} {name : Text} {rows : List Row} {job : Job} → Named words name rows
     → name ≡ name_of job.command → JobOf rows job
@@ -86,10 +81,5 @@ pub asks : (words : List (Bor Text)) (d e : Bor Text) {option : Text} → length
 asks [] d e n help same is = absurd (omega arith)
 asks (p ∷ []) d e n help same is = absurd (omega arith)
 asks (p ∷ h ∷ []) d e n help same is = absurd (omega arith)
-asks (p ∷ h ∷ o ∷ []) d e {option} n help same is = (
-  p.now,
-  o.now,
-  ap (λ (t : Text). p.now ∷ t ∷ o.now ∷ []) ((bytes_eq-Decides h.now (codes "help")).0 help),
-  subst (λ (t : Text). (t ≡ codes "--help") ⊎ (t ≡ codes "-h")) (sym ((bytes_eq-Decides o.now option).0 same)) is,
-)
+asks (p ∷ h ∷ o ∷ []) d e {option} n help same is = grind (arith, bytes_eq-Decides)
 asks (p ∷ h ∷ o ∷ x ∷ xs) d e n help same is = absurd (omega arith)

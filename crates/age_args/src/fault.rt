@@ -8,7 +8,7 @@ use clap::error::ErrorKind;
 use std::alloc::AllocError;
 
 /// Why the arguments are not a job.
-#[derive(Drop)]
+#[derive(Debug, Drop)]
 pub enum WordsFault {
     /// `clap` refused the arguments, or has the help or the version to show.
     Refused(Error),

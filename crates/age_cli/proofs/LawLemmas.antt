@@ -1,5 +1,6 @@
 -- What a finished job has written, if input and output are known.
 use Rattle.age_cli.proofs.Common.{◌≡◌, ◌≤◌, ◌⊎◌, ◌∙◌, ◌++◌, ℕ, ap, arith, cond, false, inl, inr, length, refl, subst, sym, true, List, None, Some, Result, Ok, Err, ⊤, ◌↔◌, ◌&&◌, Bool, Option, Bytes, Known, move_of, LossesMoved, Fault, Job, Ends, IsPiped, Makes, Moved, Runs, RunsOn, word_limits, OfKnown, Performs, SalvagesAll, without_counts}
+use Rattle.std.proofs.lemmas.Bool.{and_parts}
 use Rattle.std.specs.Io.KnownBytes.{Appends, Keeps}
 use Rattle.age_header.specs.Header.{HeaderParts, StanzaParts}
 use Rattle.age_header.specs.Verdict.{HeaderVerdict}
@@ -67,10 +68,6 @@ if_ok : (b : Bool) (fault : Fault) → ◌≡◌ {A = Result ⊤ Fault} (cond b 
 if_ok true fault e = refl
 if_ok false fault e = absurd (cc)
 
-both_true : (a b : Bool) → (a && b) ≡ true → (a ≡ true) × (b ≡ true)
-both_true true b h = (refl, h)
-both_true false b h = absurd (cc)
-
 saved_all : OkIsAgeFile → SomeVerdict → (limits : Bounds) (answers : Answering) (b xs : Bytes) (taken new : Known)
     (lost : LossesMoved) (s : SalvagedFile) → is_whole_file s ≡ true
     → SavesFile limits answers b (move_of (Some xs) taken) lost (Ok s) → Keeps taken new → Gained limits b xs new
@@ -90,7 +87,7 @@ salvaged : OkIsAgeFile → SomeVerdict → (limits : Bounds) (answers : Answerin
 salvaged law some limits answers b xs taken new input lost work (Err fault, is_read, is, d) ends =
     absurd (cc (is, (ended taken new ends).0))
 salvaged law some limits answers b xs taken new input lost work (Ok s, is_read, is, d) ends =
-    let all = both_true (is_whole_file s) is_read
+    let all = and_parts (is_whole_file s) is_read
     (if_ok (is_whole_file s && is_read) (BadChunk s.payload.chunks) (sym is ∙ (ended taken new ends).0)) in
     saved_all law some limits answers b xs taken new lost s all.0 (d.3 (inr all.1)) (ended taken new ends).1
 

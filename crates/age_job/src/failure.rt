@@ -49,6 +49,8 @@ pub enum Operation {
     Truncating,
     Syncing,
     Replacing,
+    /// Syncing the folder in which OUT was replaced.
+    SyncingReplaced,
 }
 
 impl<'a> Failure<'a> {
@@ -121,6 +123,7 @@ impl fmt::Display for Operation {
             Operation::Truncating => "truncating",
             Operation::Syncing => "syncing",
             Operation::Replacing => "replacing",
+            Operation::SyncingReplaced => "OUT was replaced; syncing its folder",
         })
     }
 }

@@ -12,10 +12,10 @@
 //!
 //! `job` has the job, and `ranges` the ranges of its numbers. `files` opens the files to read,
 //! `inode` identifies them, and `small_files` reads the secrets, each of which is a `secret`.
-//! `output` is the file to write, `target` a new file that takes the place of OUT, and `system_file`
-//! locks it and gives it away. `watched` counts failed reads and keeps the reason of the last one,
-//! and `progress` shows at a terminal how much was read. `fault` and `file_names` have the texts of
-//! errors, `failure` those of `--verbose`.
+//! `output` is the file to write; `target` says which one: OUT in place, or a new file that takes its
+//! place. `system_file` locks a file and changes its owner. `watched` counts failed reads and keeps
+//! the reason of the last one, and `progress` shows at a terminal how much was read. `fault` and
+//! `file_names` have the texts of errors, `failure` those of `--verbose`.
 //!
 //! *What a contract sees.* A `Job` is the record of its fields, and a secret is a passphrase's
 //! bytes or a list of keys. A file is the bytes that its reader will return (`remaining`) and those

@@ -11,6 +11,10 @@ use std::{fmt, io};
 /// The number of bytes after which the clock is read again.
 const STRIDE: u64 = 65_536;
 
+/// The number of looks at the clock that start it again, because scrypt comes before the first read
+/// or after that of a header.
+const FIRST_LOOKS: u32 = 2;
+
 /// The least number of milliseconds between two drawings of the line.
 const PAUSE: u128 = 500;
 
@@ -67,9 +71,12 @@ pub struct Line<'a, C: Clock, T: Write + Drop> {
     clock: &'a C,
     terminal: T,
     portion: Portion,
+    looks: u32,
     /// The times of the start and of the last drawing, in milliseconds.
     started: u128,
     drawn: u128,
+    /// The number of bytes read before the start.
+    before: u64,
     /// Whether something is drawn.
     is_drawn: bool,
     /// The number of bytes after which the clock is read.
@@ -94,8 +101,10 @@ impl<'a, F: Files + Clock> Line<'a, F, F::File> {
             clock: rt,
             terminal: terminal(rt).ok()?,
             portion: Portion { done, size, rate },
+            looks: 0,
             started,
             drawn: started,
+            before: 0,
             is_drawn: false,
             next: STRIDE,
         };
@@ -116,11 +125,14 @@ impl<C: Clock, T: Write + Drop> Line<'_, C, T> {
         self.next = self.portion.done.saturating_add(STRIDE);
         if let Ok(now) = self.clock.monotonic() {
             let now = now.as_millis();
-            if now.saturating_sub(self.drawn) >= PAUSE {
+            self.looks = self.looks.saturating_add(1);
+            if self.looks <= FIRST_LOOKS {
+                (self.started, self.drawn, self.before) = (now, now, self.portion.done);
+            } else if now.saturating_sub(self.drawn) >= PAUSE {
                 self.drawn = now;
                 let took = now.saturating_sub(self.started);
-                let all = (self.portion.done as u128).saturating_mul(1000);
-                self.portion.rate = all.checked_div(took).unwrap_or(0);
+                let read = self.portion.done.saturating_sub(self.before) as u128;
+                self.portion.rate = read.saturating_mul(1000).checked_div(took).unwrap_or(0);
                 let portion = self.portion;
                 self.draw(&portion);
             }
@@ -149,8 +161,10 @@ impl<C: Clock, T: Write + Drop> Drop for Line<'_, C, T> {
             clock: _,
             terminal: _,
             portion: _,
+            looks: _,
             started: _,
             drawn: _,
+            before: _,
             is_drawn: _,
             next: _,
         } = self;

@@ -55,7 +55,15 @@ impl Target {
             → result ≢ Target.InPlace }
     {
         match &job.output {
-            Some(name) if job.atomic => Target::Replaced(Replacement::of(rt, name.as_str())),
+            Some(name) if job.atomic => {
+                let replacement = Replacement::of(rt, name.as_str());
+                if job.no_clobber
+                    && let Ok(replacement) = &replacement
+                {
+                    replacement.remove_second_name(rt);
+                }
+                Target::Replaced(replacement)
+            }
             _ => Target::InPlace,
         }
     }
@@ -133,7 +141,8 @@ impl Target {
 
     /// Gives a new file the name of OUT. Returns its folder, if there is a new file and the folder
     /// may be read. With `--no-clobber` the name is a link, because a rename would replace an OUT
-    /// that was created meanwhile; some file systems have no links.
+    /// that was created meanwhile; some file systems have no links. Once OUT is the new file, a name
+    /// that cannot be removed or looked up is no error.
     fn replace<'a, F: Files>(
         &'a self,
         rt: &F,
@@ -143,25 +152,29 @@ impl Target {
     ) -> Result<Option<Folder<'a, F::File>>, Failure<'a>>
         ensures { IfErr result (λ failure. MayEnd job.now failure.fault) }
     {
-        let Target::Replaced(Ok(Replacement { old, new })) = self else {
+        let Target::Replaced(Ok(replacement)) = self else {
             return Ok(None);
         };
-        let (old, new) = (old.as_str(), new.as_str());
+        let (old, new) = (replacement.old.as_str(), replacement.new.as_str());
         let folder = Folder::of(rt, old)?;
         if let Err(reason) = Inode::check_name(rt, file, new) {
             return Err(failed_write(Operation::Replacing, name, reason));
         }
         let is_linked = job.no_clobber && fs::hard_link(rt, new, old).is_ok();
-        let replaced = if is_linked {
-            fs::remove_file(rt, new)
+        if is_linked {
+            let _ = replacement.remove(rt, file);
         } else {
             refuse_output(rt, job)?;
-            fs::rename(rt, new, old)
-        };
+            if let Err(reason) = fs::rename(rt, new, old) {
+                return Err(failed_write(Operation::Replacing, name, reason));
+            }
+        }
         // A name that was changed right before the rename was renamed instead.
-        match replaced.and(Inode::check_name(rt, file, old)) {
-            Ok(()) => Ok(folder),
-            Err(reason) => Err(failed_write(Operation::Replacing, name, reason)),
+        match Inode::check_name(rt, file, old) {
+            Err(reason) if reason.kind() == ErrorKind::NotFound => {
+                Err(failed_write(Operation::Replacing, name, reason))
+            }
+            _ => Ok(folder),
         }
     }
 
@@ -203,7 +216,7 @@ impl<'a, F: OpenFile> Folder<'a, F> {
     {
         match self.file.sync_all() {
             Err(reason) if reason.kind() != ErrorKind::InvalidInput => {
-                Err(failed_write(Operation::Syncing, self.name, reason))
+                Err(failed_write(Operation::SyncingReplaced, self.name, reason))
             }
             _ => Ok(()),
         }
@@ -286,8 +299,9 @@ impl Replacement {
         }
     }
 
-    /// Removes the new file that a killed run left, which can be locked: a run has locked the file
-    /// that it writes. What is no regular file, or is read, stays.
+    /// Removes the new file that a killed run left: a regular file that can be locked, because a run
+    /// has locked the file that it writes, and that this job does not read. It has no other name, or
+    /// is OUT itself, which keeps its own.
     fn remove_left<'a, F: Files>(
         &'a self,
         rt: &F,
@@ -301,8 +315,12 @@ impl Replacement {
         let new = self.new.as_str();
         let stays = Err(Fault::NewFileExists(Name(new)));
         match fs::symlink_metadata(rt, new) {
-            Ok(found) if found.is_file() && read.refuse(&Inode::of(&found), name).is_ok() => {}
+            Ok(found)
+                if found.is_file()
+                    && found.nlink() == 1
+                    && read.refuse(&Inode::of(&found), name).is_ok() => {}
             Err(reason) if reason.kind() == ErrorKind::NotFound => return Ok(()),
+            _ if self.remove_second_name(rt) => return Ok(()),
             _ => return stays,
         }
         let file = match OpenOptions::new().write(true).open(rt, new) {
@@ -320,6 +338,18 @@ impl Replacement {
         }
     }
 
+    /// Removes the new file's name, if it is a second one of OUT, which a run with `--no-clobber`
+    /// leaves if it is killed. Returns whether it has.
+    fn remove_second_name<F: Files>(&self, rt: &F) -> bool {
+        let (old, new) = (self.old.as_str(), self.new.as_str());
+        match (fs::symlink_metadata(rt, old), fs::symlink_metadata(rt, new)) {
+            (Ok(old), Ok(found)) if Inode::of(&old).is(&Inode::of(&found)) => {
+                fs::remove_file(rt, new).is_ok()
+            }
+            _ => false,
+        }
+    }
+
     /// Removes the new file, if this open file still has its name.
     fn remove<F: Files>(&self, rt: &F, file: &F::File) -> io::Result<()> {
         let new = self.new.as_str();
@@ -328,7 +358,8 @@ impl Replacement {
     }
 
     /// What is known of the file to replace, if there is one. It must be regular, none that is read
-    /// and must stay, and one that may be written, as without `--atomic`.
+    /// and must stay, and one that may be written, as without `--atomic`, and that nobody has locked:
+    /// the library for Python locks the file that it writes.
     fn found<'a, F: Files>(
         &self,
         rt: &F,
@@ -336,6 +367,8 @@ impl Replacement {
         read: &ReadFiles<'a>,
         name: &'a str,
     ) -> Result<Option<Metadata>, Failure<'a>>
+    where
+        F::File: SystemFile,
         ensures { IfErr result (λ failure. IsReplacedFault name.now failure.fault) }
     {
         let found = match fs::metadata(rt, self.old.as_str()) {
@@ -349,6 +382,9 @@ impl Replacement {
         }
         read.refuse_replaced(job.command, &inode, name)?;
         match OpenOptions::new().write(true).open(rt, self.old.as_str()) {
+            Ok(file) if matches!(file.lock_alone(), Ok(false)) => {
+                Err(Fault::OutputIsBusy(Name(name)).into())
+            }
             Ok(_) => Ok(Some(found)),
             Err(reason) => Err(cannot_create(name, name, reason)),
         }

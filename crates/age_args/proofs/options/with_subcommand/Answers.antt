@@ -1,13 +1,13 @@
-use Rattle.age_args.proofs.Common.{ap, ap₂, true, false, ◌≡◌, ◌∙◌, App, Shape, IfOk, Result, Ok, Err, app_of, shape_of, with_subcommand}
+use Rattle.age_args.proofs.Common.{ap, ap₂, arith, true, false, ◌≡◌, ◌∙◌, App, Shape, IfOk, Result, Ok, Err, app_of, shape_of, with_subcommand}
 use Rattle.clap.specs.Words.{AddsSubcommand}
 use Rattle.clap.specs.declared.builder.command.Command.{Command}
 use Rattle.clap.specs.declared.builder.command.Command.TheViews.{out-Command}
-use Rattle.age_args.proofs.ValueLemmas.{both, not_true}
+use Rattle.std.proofs.lemmas.Bool.{and_parts, not-true}
 use Rattle.age_args.proofs.options.with_subcommand.Goals as goal
 
 -- a plain command has no global argument
 no_globals : (c : Command) {s : Shape} → s.is_plain ≡ true → shape_of c ≡ s → (out-Command c).has_globals ≡ false
-no_globals c plain is = not_true (both (both (both (ap (λ (x : Shape). x.is_plain) is ∙ plain)).1).1).0
+no_globals c plain is = grind (arith, and_parts, not-true, ap (λ (x : Shape). x.is_plain) is ∙ plain)
 
 added : {E : Type 0} (r : Result Command E) (old sub : Command) {app : App} {shape : Shape} → shape.is_plain ≡ true
     → app_of old ≡ app → shape_of sub ≡ shape → IfOk r (AddsSubcommand old sub)
