@@ -129,19 +129,7 @@ reading_fits : {reading : Reading StreamFault} (v : Reading Fault) (old new : By
     → GivesReading reading old new len fault → length new ≡ length old
     → report ≡ report_of len (option_map stream_fault fault) → code ≡ code_of (option_map stream_fault fault)
     → Fits v.plaintext v.fault old new report code
-reading_fits {reading} v old new report code len fault is gives size reported returned =
-    rw is (record {
-      fits = omega (
-        arith,
-        size,
-        ap length gives.buffer,
-        length-append reading.plaintext (drop (length reading.plaintext) old),
-        length-drop (length reading.plaintext) old,
-      );
-      returned = rw gives.fault_so at returned;
-      reported = rw (gives.length_so, gives.fault_so) at reported;
-      buffer = gives.buffer;
-    })
+reading_fits {reading} v old new report code len fault is gives size reported returned = grind (arith, length-append, length-drop)
 
 pub decrypts_opened : (answers : Answering) {b : Bytes} (old new : Bytes) {report : Report} {code : ℕ} (len : ℕ)
     (start : Start) (fault : Option StreamFault) → FindsStart answers b (Ok start)

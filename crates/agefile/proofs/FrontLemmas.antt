@@ -25,9 +25,7 @@ start_in len m rest (Ok k) le = elim (cases_lt (length rest) 16) [
 -- the same for a beginning of a file
 start_behind : (len n : ℕ) (b : Bytes) (key : Result FileKey Fault) → len + 16 ≤ n
     → start_under len (drop len (take n b)) key ≡ start_under len (drop len b) key
-start_behind len n b key le =
-    let split : n ≡ len + (n - len) = omega arith in
-    rw (split, drop-take len (n - len) b) (start_in len (n - len) (drop len b) key (omega arith))
+start_behind len n b key le = grind (arith, drop-take len (n - len) b, start_in len (n - len) (drop len b) key (omega arith))
 
 -- ---- a beginning that holds header and nonce
 
@@ -84,21 +82,13 @@ one_start answers b (h, first, is) (k, second, so) =
 pub gave : (answers : Answering) (b : Bytes) {s : Start} {p q : Payload} {report r : Report} {code : ℕ}
     {start : Result Start Fault} → StartsAt (Ok s) p report 0 → IsStart answers b (Ok s)
     → IsStart answers b start → StartsAt start q r code → (code ≡ 0) × ((q ≡ p) × (r ≡ report))
-gave answers b (zero, place, payload) is there second =
-    let (code_is, place_is, payload_is) = rw (one_start answers b there is) at second in
-    (code_is, (payload_is ∙ sym payload, place_is ∙ sym place))
+gave answers b (zero, place, payload) is there second = grind (arith, one_start answers b there is)
 
 -- ---- a beginning of a header
 
 -- what begins with the version line begins so wherever it is cut
 begun : (n : ℕ) (x : Bytes) → BeginsAsAge (take n (version_line ++ x))
-begun n x =
-    let low : min n version_size ≤ length version_line = omega (arith, length-version_line) in
-    let same : take version_size (take n (version_line ++ x)) ≡ take (min n version_size) version_line =
-    cap_prefix (version_line ++ x) n ∙ take-append-le (min n version_size) version_line x low in
-    let size : length (take version_size (take n (version_line ++ x))) ≡ min n version_size = ap length same
-    ∙ length-take (min n version_size) version_line ∙ omega (arith, length-version_line) in
-    ap (λ (k : ℕ). take k version_line) size ∙ sym same
+begun n x = grind (arith, length-version_line, cap_prefix, take-append-le, length-take)
 
 -- fewer bytes than whole lines have are fewer lines
 fewer_lines : (ks ls : List Bytes) (p b : Bytes) (d : AreLines ks p) (e : AreLines ls b) (rest : Bytes)

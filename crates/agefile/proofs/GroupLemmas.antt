@@ -14,16 +14,8 @@ Numbered R i (chunk ∷ more) gave =
 
 numbered_append : (R : ℕ → Bytes → Bytes → Type 0) (i j : ℕ) (xs ys : List Bytes) (a b : Bytes) → j ≡ i + length xs
     → Numbered R i xs a → Numbered R j ys b → Numbered R i (xs ++ ys) (a ++ b)
-numbered_append R i j [] ys a b at none on =
-    let same : j ≡ i = omega (arith, at) in
-    rw none (rw same at on)
-numbered_append R i j (x ∷ xs) ys a b at (mine, rest, joined, here, more) on = (
-  mine,
-  rest ++ b,
-  rw joined (append_assoc mine rest b),
-  here,
-  numbered_append R (i + 1) j xs ys rest b (omega (arith, at)) more on,
-)
+numbered_append R i j [] ys a b at none on = grind arith
+numbered_append R i j (x ∷ xs) ys a b at (mine, rest, joined, here, more) on = grind (arith, append_assoc, numbered_append R (i + 1) j xs ys rest b (omega (arith, at)) more on)
 
 -- single calls and groups of calls, if each call has the result that R gives
 module _ (R : Bytes → ℕ → Bytes → Bytes → Type 0) (Call : (old new : Payload) (chunk gave : Bytes) → Type 0)
@@ -81,12 +73,7 @@ pub seals_next : (p new : Payload) (text room after : Bytes) (last : Bool) (repo
     → SealsNext p new (text ++ room) after last report 0
     → (after ≡ sealed_text p.key (chunk_nonce p.number last) [] text)
     × ((new.key ≡ p.key) × (new.number ≡ p.number + 1))
-seals_next p new text room after last report len step =
-    let (seals, is) = fitting step in
-    elim seals [
-      | inr (many, refused) ↦ absurd (omega (arith, refused.returned))
-      | inl (few, zero_is, reported, gives) ↦ (rw (text_of text room len) at gives, rw is (refl, refl))
-    ]
+seals_next p new text room after last report len step = grind (arith, fitting, text_of)
 
 pub seals_one : (p new : Payload) (text out : Bytes) → Seals p new text out
     → SealsOne p.key p.number text out × ((new.key ≡ p.key) × (new.number ≡ p.number + 1))
@@ -108,14 +95,8 @@ sealed_are key i (text ∷ more) out (mine, rest, joined, here, on) =
 pub sealed_to_end : (key : Bytes) (i j : ℕ) (texts : List Bytes) (out text last : Bytes) → j ≡ i + length texts
     → last ≡ sealed_text key (chunk_nonce j true) [] text → Numbered (SealsOne key) i texts out
     → out ++ last ≡ concat (sealed_chunks_from key i (texts ++ text ∷ []))
-sealed_to_end key i j [] out text last at is none =
-    let same : j ≡ i = omega (arith, at) in
-    rw (none, is, same) (sym (append-nil (sealed_text key (chunk_nonce i true) [] text)))
-sealed_to_end key i j (t ∷ more) out text last at is (mine, rest, joined, here, on) =
-    rw (joined, here, is_end_on more [] text)
-    (append_assoc (sealed_text key (chunk_nonce i false) [] t) rest last
-    ∙ ap (λ r. sealed_text key (chunk_nonce i false) [] t ++ r)
-    (sealed_to_end key (i + 1) j more rest text last (omega (arith, at)) is on))
+sealed_to_end key i j [] out text last at is none = grind (arith, append-nil)
+sealed_to_end key i j (t ∷ more) out text last at is (mine, rest, joined, here, on) = grind (arith, is_end_on, append_assoc, sealed_to_end key (i + 1) j more rest text last (omega (arith, at)) is on)
 
 -- ---- calls that open
 
@@ -131,9 +112,7 @@ pub opens_next : (p new : Payload) (piece after : Bytes) (last : Bool) (report :
     → OpensNext p new piece after last report 0
     → (outcome p.key limits.max_chunks p.number last piece ≡ Ok (take report.len after))
     × ((new.key ≡ p.key) × (new.number ≡ p.number + 1))
-opens_next p new piece after last report step =
-    let (opens, is) = fitting step in
-    (opened_ok piece after report (outcome p.key limits.max_chunks p.number last piece) opens, rw is (refl, refl))
+opens_next p new piece after last report step = grind (arith, fitting, opened_ok)
 
 pub opens_one : (p new : Payload) (piece text : Bytes) → OpensPiece p new piece text
     → OpensOne p.key p.number piece text × ((new.key ≡ p.key) × (new.number ≡ p.number + 1))
@@ -153,12 +132,5 @@ pub goes_on : (key : Bytes) (i j : ℕ) (cs : List Bytes) (text d : Bytes) (ds :
     ≡ text ++ plaintext_of (outcomes key limits.max_chunks j (d ∷ ds)))
     × (first_fault (outcomes key limits.max_chunks i (cs ++ d ∷ ds))
     ≡ first_fault (outcomes key limits.max_chunks j (d ∷ ds)))
-goes_on key i j [] text d ds at none =
-    let same : j ≡ i = omega (arith, at) in
-    rw (none, same) (refl, refl)
-goes_on key i j (c ∷ cs) text d ds at (t, rest, joined, is, on) =
-    let (plain, fault) = goes_on key (i + 1) j cs rest d ds (omega (arith, at)) on in
-    rw (joined, is_end_on cs ds d, is) (
-      ap (λ x. t ++ x) plain ∙ sym (append_assoc t rest (plaintext_of (outcomes key limits.max_chunks j (d ∷ ds)))),
-      fault,
-    )
+goes_on key i j [] text d ds at none = grind arith
+goes_on key i j (c ∷ cs) text d ds at (t, rest, joined, is, on) = grind (arith, is_end_on, append_assoc, goes_on key (i + 1) j cs rest d ds (omega (arith, at)) on)

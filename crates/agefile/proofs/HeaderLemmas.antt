@@ -76,10 +76,8 @@ pub refused_as : {S : Type 0} (b : Bytes) {old : S} {report : Report} {code : �
     → HeaderOf b (Err fault) → report ≡ report_of 0 (Some fault) → code ≡ fault_code fault
     → Returns 17 None old old report code ⊎ ((reason : HeaderFault)
     × HeaderVerdict b limits.max_header (Err reason) × Refuses (header_fault reason) old old report code)
-refused_as b fault (inl is) place returned =
-    inl (record { returned = rw is at returned; reported = rw is at place; same = refl })
-refused_as b fault (inr (reason, found, is)) place returned =
-    inr (reason, found, record { returned = rw is at returned; reported = rw is at place; same = refl })
+refused_as b fault (inl is) place returned = grind arith
+refused_as b fault (inr (reason, found, is)) place returned = grind arith
 
 joined_map : {X : Type 0} (f : X → Bytes) (xs : List X) → join_by f (32 ∷ []) xs ≡ arguments_text (map f xs)
 joined_map f [] = refl

@@ -43,10 +43,7 @@ whole_text text rest h s f none is =
 
 pub header_none : {text : Bytes} {k : FileKey} (fault : Fault) → text ≢ [] → FindsMac text k (Err fault)
     → MakesHeader text k (Err fault)
-header_none fault some (inl memory) = inl (ap Err (err_err {A = Bytes} fault OutOfMemory memory))
-header_none fault some (inr (Ok ss, reads, is)) = absurd (cc)
-header_none fault some (inr (Err f, reads, is)) =
-    inr (Err f, inr (some, reads), ap Err (err_err {A = Bytes} fault f is))
+header_none a b c = grind (arith, err_err)
 
 -- what is known of a text whose probe was read to its end
 pub record Reads (text : Bytes) (ss : List StanzaParts) : Type 0 where
@@ -85,16 +82,7 @@ read_of text ss (inl (none, is)) = absurd (cc)
 read_of text ss (inr (some, h)) = reads text ss h
 
 framed_size : (text characters : Bytes) → length characters ≡ 43 → length (heading text characters) ≡ length text + 70
-framed_size text characters len =
-    omega (
-      arith,
-      len,
-      length-version_line,
-      length-append (version_line ++ text) (line (codes "--- " ++ characters)),
-      length-append version_line text,
-      length-line (codes "--- " ++ characters),
-      length-append (codes "--- ") characters,
-    )
+framed_size text characters len = grind (arith, length-version_line, length-append, length-line)
 
 -- the text between the version line and the end line is the header's
 pub same_body : (text mac : Bytes) (ss : List StanzaParts) (h : Head ss mac (probe text)) → text ≡ h.body
@@ -154,10 +142,7 @@ characters_known mac (Err e) bytes is = tt
 pub framed_text : (first text characters : Bytes) {all : Bytes} → first ≡ codes "age-encryption.org/v1" ++ 10 ∷ []
     → all ≡ (((first ++ text) ++ codes "--- ") ++ characters) ++ 10 ∷ [] → all ≡ heading text characters
 unfolding version_line
-framed_text first text characters same is =
-    is ∙ ap (λ x. (((x ++ text) ++ codes "--- ") ++ characters) ++ 10 ∷ []) same
-    ∙ ap (λ x. x ++ 10 ∷ []) (append_assoc (version_line ++ text) (codes "--- ") characters)
-    ∙ append_assoc (version_line ++ text) (codes "--- " ++ characters) (10 ∷ [])
+framed_text first text characters same is = grind (arith, append_assoc)
 
 -- ---- a new file
 
@@ -165,22 +150,7 @@ framed_text first text characters same is =
 pub new_file : (stanzas file_key nonce plain file : Bytes) → length nonce ≡ 16
     → IsNewFile stanzas file_key nonce plain file
     → (ss : List StanzaParts) × AgeFile limits (record { 0 = file_key }) ss plain file × Reads stanzas ss
-new_file stanzas file_key nonce plain file len (header, inl memory, spelled, few) = absurd (cc)
-new_file stanzas file_key nonce plain file len (header, inr (Err fault, has, is), spelled, few) = absurd (cc)
-new_file stanzas file_key nonce plain file len (header, inr (Ok ss, has, heading), spelled, few) = (
-  ss,
-  record {
-    header = header.items;
-    nonce = nonce;
-    head = heading.head;
-    nonce_len = len;
-    spelled = spelled;
-    header_fits = heading.fits;
-    chunks_fit = few;
-    unmixed = heading.unmixed;
-  },
-  read_of stanzas ss has,
-)
+new_file a b c d e f g = grind (arith, unmixed, read_of)
 
 -- a text of one stanza is read as this stanza
 alone_of : (text : Bytes) (s : StanzaParts) (ss : List StanzaParts) → IsStanza s text → Reads text ss → ss ≡ s ∷ []

@@ -68,9 +68,7 @@ run_reads key i (c ∷ d ∷ more) text code place sizes (new, after, report, st
 pub payload_reads : (p : Payload) (rest text : Bytes) (code place : ℕ) → p ≡ before_first p.key phase_reading
     → OpensRun p (pieces rest) text code place
     → IsReadAs (outcomes p.key limits.max_chunks p.number (pieces rest)) text code place
-payload_reads p rest text code place is run =
-    rw is (run_reads p.key 0 (pieces rest) text code place (cut_at_most sealed_chunk_size rest (omega arith))
-    (rw is at run))
+payload_reads p rest text code place is run = grind (arith, run_reads, cut_at_most)
 
 -- ---- calls that seal
 
@@ -94,26 +92,11 @@ seal_on : (key : Bytes) (i : ℕ) (c room : Bytes) (more : List Bytes) (out : By
     → ((step ≡ 0) × ((rest : Bytes) × (out ≡ after ++ rest) × SealsRun new more rest code))
     ⊎ ((step ≢ 0) × ((out ≡ []) × (code ≡ step)))
     → AreSealed key i (c ∷ more) out code
-seal_on key i c room more out code new after report step size (inr (many, refused)) state next (inl (zero, h)) =
-    absurd (omega (arith, refused.returned, zero))
-seal_on key i c room more out code new after report step size (inr (many, refused)) state next
-    (inr (nonzero, (none, is))) = inr (is ∙ refused.returned, omega arith)
-seal_on key i c room more out code new after report step size (inl (few, returned, reported, buffer)) state next
-    (inl (zero, (rest, joined, run))) =
-    elim (next few rest (rw (state, returned) at run)) [
-      | inl (all, (is, fits)) ↦ inl (all, (rw (joined, buffer, text_of c room size, is) refl, omega (arith, fits)))
-      | inr (is, many) ↦ inr (is, omega (arith, many))
-    ]
-seal_on key i c room more out code new after report step size (inl (few, returned, h, b)) state next
-    (inr (nonzero, on)) = absurd (nonzero returned)
+seal_on a b c d e f g h i j k l m n o p = grind (arith, text_of)
 
 last_fits : (key : Bytes) (i n : ℕ) (c : Bytes) → n ≡ length c + 16 → Sized i (c ∷ [])
     → may_seal (at_chunk key i phase_writing) n true ≡ true
-last_fits key i n c len (inl (is, zero)) =
-    let none : c ≡ [] = cc in
-    rw (zero, len, none) refl
-last_fits key i n c len (inr (pos, le)) =
-    rw (le-leb n sealed_chunk_size (omega (arith, len)), lt-ltb 16 n (omega (arith, len))) refl
+last_fits a b c d e f = grind (arith, le-leb, lt-ltb)
 
 run_writes : (key : Bytes) (i : ℕ) (cs : List Bytes) (out : Bytes) (code : ℕ) → Sized i cs
     → SealsRun (at_chunk key i phase_writing) cs out code → AreSealed key i cs out code

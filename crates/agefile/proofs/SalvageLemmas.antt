@@ -17,15 +17,11 @@ noting key i damaged before = record (at_chunk key i phase_reading) { damaged = 
 one_saved : (p new : Payload) (last : Bool) (c after : Bytes) (report : Report) → SavesAs p new last c after report 0
     → ◌≡◌ {A = Given} (record { text = take report.len after; number = report.place })
     (given_of (part p.key p.number last c))
-one_saved p new last c after report (inl (within, (returned, reported, buffer), state)) =
-    rw (reported, buffer, take-append_seam) refl
-one_saved p new last c after report (inr (many, refused, state)) = absurd (omega (arith, refused.returned))
+one_saved a b c d e f g = grind (arith, take-append_seam)
 
 saved_detail : (p new : Payload) (last : Bool) (c after : Bytes) (report : Report)
     → SavesAs p new last c after report 0 → report.detail ≡ detail_of p last (part p.key p.number last c).saved
-saved_detail p new last c after report (inl (within, (returned, reported, buffer), state)) =
-    ap (λ (r : Report). r.detail) reported
-saved_detail p new last c after report (inr (many, refused, state)) = absurd (omega (arith, refused.returned))
+saved_detail a b c d e f g = grind arith
 
 saved_state : (p new : Payload) (last : Bool) (c after : Bytes) (report : Report)
     → SavesAs p new last c after report 0 → new ≡ after_chunk (noted p (part p.key p.number last c).saved) last 0
@@ -37,11 +33,7 @@ damage_same : (saved : Saved) (damaged n i : ℕ) (early : Option ℕ) (x : Lost
     → nat_eq damaged 0 ≡ is_whole_to LastChunk n early
     → nat_eq (damage damaged saved) 0
     ≡ is_whole_to LastChunk (n + length (loss saved x)) (early_after saved i early)
-damage_same Zeros damaged n i None x same = sym (ne_eqb (n + 1) 0 (λ e. omega (arith, e)))
-damage_same Zeros damaged n i (Some j) x same = refl
-damage_same Early damaged n i early x same = refl
-damage_same saved damaged n i early x same =
-    same ∙ ap (λ (m : ℕ). is_whole_to LastChunk m early) (omega arith)
+damage_same a b c d e f g = grind (arith, ne_eqb)
 
 next_seen : (saved : Saved) → nat_le (saved_number saved) 1 ≡ is_cut_to Nothing saved
 next_seen Chunk = refl
@@ -55,20 +47,13 @@ told i n at early b ps =
 last_told : (saved b : Saved) (damaged before i n : ℕ) (early : Option ℕ) (x : LostChunk)
     → nat_eq damaged 0 ≡ is_whole_to LastChunk n early → nat_le before 1 ≡ is_cut_to Nothing b
     → judged saved damaged before ≡ verdict_to (n + length (loss saved x ++ [])) (early_after saved i early) b saved
-last_told LastChunk b damaged before i n early x same seen =
-    let none : n + 0 ≡ n = omega arith in rw (none, same) refl
-last_told Nothing b damaged before i n early x same seen = rw seen refl
-last_told saved b damaged before i n early x same seen = refl
+last_told a b c d e f g h i j = grind arith
 
 next_told : (q r : Part) (i n at : ℕ) (early : Option ℕ) (b : Saved) (more : List Part)
     → told (i + 1) (n + length (loss q.saved (record { chunk = i; start = at; len = length q.text })))
     (at + length q.text) (early_after q.saved i early) q.saved (r ∷ more)
     ≡ told i n at early b (q ∷ r ∷ more)
-next_told q r i n at early b more =
-    let x : List LostChunk = loss q.saved (record { chunk = i; start = at; len = length q.text }) in
-    let rest : List LostChunk = losses (i + 1) (at + length q.text) (r ∷ more) in
-    ap (λ (m : ℕ). verdict_to m (latest_early (i + 1) (early_after q.saved i early) (r ∷ more))
-    (saved_before q.saved (r ∷ more)) (last_saved (r ∷ more))) (omega (arith, length-append x rest))
+next_told q r i n at early b more = grind (arith, length-append)
 
 run_judges : (key : Bytes) (i damaged before n at : ℕ) (early : Option ℕ) (b : Saved) (c : Bytes) (more : List Bytes)
     (given : List Given) (detail : ℕ) → nat_eq damaged 0 ≡ is_whole_to LastChunk n early
@@ -105,12 +90,7 @@ all_saved : (key : Bytes) (cs : List Bytes) (given : List Given) (detail : ℕ) 
     → SavesRun (before_first key phase_reading) cs given detail
     → (given ≡ map given_of (parts key 0 cs)) × (detail ≡ verdict_of (summary (parts key 0 cs)))
 all_saved key [] given detail some run = absurd (cc)
-all_saved key (c ∷ more) given detail some run =
-    let ps : List Part = parts key 0 (c ∷ more) in (
-      run_saves key 0 0 0 (c ∷ more) given detail run,
-      run_judges key 0 0 0 0 0 None Chunk c more given detail refl refl run
-          ∙ ap (λ (m : ℕ). verdict_to m (latest_early 0 None ps) (saved_before Chunk ps) (last_saved ps)) (omega arith),
-    )
+all_saved key (c ∷ more) given detail some run = grind (arith, run_saves key 0 0 0 (c ∷ more) given detail run, run_judges key 0 0 0 0 0 None Chunk c more given detail refl refl run)
 
 pub steps_save : (key rest : Bytes) (given : List Given) (detail : ℕ)
     → SavesRun (before_first key phase_reading) (pieces rest) given detail

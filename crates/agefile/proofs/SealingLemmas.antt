@@ -18,10 +18,7 @@ pub first_sealed : (key : Bytes) (number size : ℕ) (left : Bytes) {text : Byte
     → chunk ≡ sealed_text key (chunk_nonce number (nat_le (length left) chunk_size)) []
     (take (length (front ++ back) - 16) (front ++ back)) → rest ≡ drop (size + 16) room
     → SealsFirst key number left room (chunk ++ rest)
-first_sealed key number size left front back room sized is copied tag sealed_so behind =
-    let same : take (length (front ++ back) - 16) (front ++ back) ≡ take chunk_size left =
-    text_of front back tag ∙ copied ∙ is ∙ first_cut chunk_size size left sized in
-    rw (sealed_so, same, behind, sized) refl
+first_sealed key number size left front back room sized is copied tag sealed_so behind = grind (arith, text_of front back tag, first_cut chunk_size size left sized)
 
 -- ---- one chunk after another
 
@@ -40,12 +37,7 @@ pub record IsSealedTo (key plain out : Bytes) (at done number : ℕ) : Type 0 wh
 last_fills : (key plain out : Bytes) (at done number : ℕ) → IsSealedTo key plain out at done number
     → length out ≡ length plain + 16 * chunk_count (length plain) → length (drop at plain) ≤ chunk_size
     → length out ≡ done + (length (drop at plain) + 16)
-last_fills key plain out at done number r size last =
-    let left : length (drop at plain) ≡ length plain - at = length-drop at plain in
-    elim r.some [
-      | inl zero ↦ omega (arith, zero, left, r.place, r.sealed_so, size, last)
-      | inr lt ↦ omega (arith, lt, left, r.place, r.sealed_so, size, last)
-    ]
+last_fills key plain out at done number r size last = grind (arith, length-drop)
 
 pub seals_end : {key plain left room : Bytes} (out mid : Bytes) {new : Bytes} (at done number : ℕ)
     → IsSealedTo key plain out at done number → length out ≡ length plain + 16 * chunk_count (length plain)
@@ -106,15 +98,7 @@ pub encrypts_exceeds : {stanzas file_key nonce plain old : Bytes} (header : Vec 
     → length plain < 2 ^ 63 → size ≡ length (header.items ++ payload (record { 0 = file_key }) nonce plain)
     → report ≡ report_of size None → length old < size
     → Encrypts stanzas file_key nonce plain old old report 21
-encrypts_exceeds {plain} header size made low is reported more =
-    inr (
-      Ok header,
-      made,
-      (
-        omega (arith, low, chunks_size plain),
-        inr (record { exceeds = rw is at more; returned = refl; reported = rw is at reported; buffer = refl }),
-      ),
-    )
+encrypts_exceeds {plain} header size made low is reported more = grind (arith, chunks_size)
 
 pub encrypts_whole : {stanzas file_key nonce plain old : Bytes} (file : Bytes) {rest : Bytes} (header : Vec ℕ Global)
     {report : Report} (size : ℕ) → MakesHeader stanzas (record { 0 = file_key }) (Ok header)
@@ -122,16 +106,4 @@ pub encrypts_whole : {stanzas file_key nonce plain old : Bytes} (file : Bytes) {
     → report ≡ report_of size None → size ≤ length old
     → file ≡ header.items ++ payload (record { 0 = file_key }) nonce plain → rest ≡ drop size old
     → Encrypts stanzas file_key nonce plain old (file ++ rest) report 0
-encrypts_whole {plain} file header size made low is reported fits written behind = inr (
-  Ok header,
-  made,
-  (
-    omega (arith, low, chunks_size plain),
-    inl (record {
-      fits = rw is at fits;
-      returned = refl;
-      reported = rw is at reported;
-      buffer = rw (written, behind, is) refl;
-    }),
-  ),
-)
+encrypts_whole {plain} file header size made low is reported fits written behind = grind (arith, chunks_size)

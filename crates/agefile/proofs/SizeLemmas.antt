@@ -4,9 +4,7 @@ use Rattle.age_stream.specs.declared.fault.StreamFault.TheVariants.{NonceTruncat
 
 -- the first of the pieces of this size, by as many bytes as it has
 pub first_cut : (most size : ℕ) (left : Bytes) → size ≡ min (length left) most → take size left ≡ take most left
-first_cut most size left sized =
-    let same : size ≡ min most (length left) = omega arith in
-    rw same (take_min most left)
+first_cut most size left sized = grind (arith, take_min most left)
 
 -- the number of chunks
 pub chunks_size : (plain : Bytes) → length (chunks plain) ≡ chunk_count (length plain)
@@ -16,23 +14,11 @@ chunks_size plain = cut_count chunk_size ((length plain - 1) / chunk_size) plain
 sealed_size : (key : Bytes) (i : ℕ) (cs : List Bytes)
     → length (concat (sealed_chunks_from key i cs)) ≡ length (concat cs) + 16 * length cs
 sealed_size key i [] = refl
-sealed_size key i (c ∷ more) =
-    let one = length-sealed_text key (chunk_nonce i (is_end more)) [] c in
-    let rest = sealed_size key (i + 1) more in
-    omega (
-      arith,
-      length-append (sealed_text key (chunk_nonce i (is_end more)) [] c) (concat (sealed_chunks_from key (i + 1) more)),
-      length-append c (concat more),
-    )
+sealed_size key i (c ∷ more) = grind (arith, length-sealed_text, length-append, sealed_size key (i + 1) more)
 
 pub payload_size : (k : FileKey) (nonce plain : Bytes)
     → length (payload k nonce plain) ≡ length nonce + (length plain + 16 * chunk_count (length plain))
-payload_size k nonce plain =
-    let sealed_text = sealed_size (payload_key k nonce) 0 (chunks plain) in
-    let join : length (concat (chunks plain)) ≡ length plain =
-    ap length (is_cut chunk_size plain (omega arith)).joined in
-    let count = chunks_size plain in
-    omega (arith, length-append nonce (concat (sealed_chunks_from (payload_key k nonce) 0 (chunks plain))))
+payload_size k nonce plain = grind (arith, sealed_size, is_cut, chunks_size, length-append)
 
 -- ---- the plaintext of a verdict
 
@@ -63,10 +49,7 @@ front_comes key max i (c ∷ more) all = elim (result_cases (outcome key max i (
 ]
 
 comes_at_most : {n : ℕ} (r most : ℕ) → Comes n r → r ≤ most → n ≤ opened_len most
-comes_at_most r most (m, low, high) le = elim (cases_lt (most / sealed_chunk_size) m) [
-  | inl above ↦ omega arith
-  | inr within ↦ omega arith
-]
+comes_at_most r most (m, low, high) le = grind arith
 
 -- the plaintext of what follows a header
 payload_at_most : (k : FileKey) (max most : ℕ) (text : Bytes) → length text - 16 ≤ most

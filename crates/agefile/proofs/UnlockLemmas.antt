@@ -44,11 +44,7 @@ pub record IsFound (answers : Answering) (b : Bytes) (found : Unlocked) : Type 0
 
 pub found_key : (answers : Answering) (b : Bytes) (found : Unlocked) → FindsKey answers b (Ok found)
     → IsFound answers b found
-found_key answers b found (inl memory) = absurd (cc)
-found_key answers b found (inr (Err e, verdict, is)) = absurd (cc)
-found_key answers b found (inr (Ok head, verdict, is)) =
-    let (key, len) = key_with (length head.text) is in
-    record { head = head; verdict = verdict; key = key; len = len }
+found_key a b c d = grind (arith, key_with)
 
 -- no header was read
 pub key_none : (answers : Answering) (b : Bytes) (fault : Fault) → HeaderOf b (Err fault)
@@ -75,9 +71,7 @@ key_found answers {b} rest {h} k f (inr is) =
 pub whole_unlocks : (answers : Answering) (b : Bytes) {front old new : Bytes} {report : Report} {code : ℕ}
     (key : Result Unlocked Fault) → IsFront front b
     → FindsKey answers front key → GivesKey key old new report code → Unlocks answers b old new report code
-whole_unlocks answers b key near (inl memory) gives = (key, inl memory, gives)
-whole_unlocks answers b key near (inr (header, verdict, is)) gives =
-    (key, inr (header, front_verdict b header near verdict, is), gives)
+whole_unlocks a b c d e f = grind (arith, front_verdict)
 
 -- ---- the verdict, by the file key
 
@@ -106,9 +100,7 @@ pub unlocking_refused : (answers : Answering) (b old new : Bytes) (report : Repo
     → Unlocks answers b old new report code → IsVerdict limits answers b v → code ≢ 0 → code ≢ 17
     → (v.plaintext ≡ []) × (code_of v.fault ≡ code) × (report ≡ report_of 0 v.fault)
 unlocking_refused answers b old new report code v (Ok found, is, gives) h some other = absurd (some gives.0)
-unlocking_refused answers b old new report code v (Err fault, inl memory, gives) h some other =
-    let is : fault ≡ OutOfMemory = cc in
-    absurd (other (rw is at gives.returned))
+unlocking_refused answers b old new report code v (Err fault, inl memory, gives) h some other = grind arith
 unlocking_refused answers b old new report code v (Err fault, inr is, gives) h some other =
     refusal fault v gives (key_stops answers b fault v is h)
 
@@ -122,14 +114,7 @@ same_key false j k e = absurd (cc)
 -- if a key was chosen and its MAC verified, this holds for this key
 key_again : (answers : Answering) (p : HeaderParts) (k : FileKey) → header_key answers p ≡ Ok k
     → header_key (by_file_key k.0) p ≡ Ok k
-key_again answers p k e = go (is_mixed p.stanzas) (choice (answers p.stanzas)) e
-  where
-    go : (t : Bool) (chosen : Result FileKey UnlockFault)
-        → if_right (cond t (Err MixedPassphrase) (tested_key p chosen)) ≡ Ok k
-        → if_right (cond t (Err MixedPassphrase) (tested_key p (Ok k))) ≡ Ok k
-    go true chosen e = absurd (cc)
-    go false (Err fault) e = absurd (cc)
-    go false (Ok j) e = rw (same_key (bytes_eq p.mac (header_mac j.0 p.stanzas)) j k e) at e
+key_again answers p k e = grind (arith, cond, tested_key, same_key)
 
 pub opens_unlocked : (answers : Answering) (b old new : Bytes) (report : Report) (v : Reading Fault)
     → Unlocks answers b old new report 0 → IsVerdict limits answers b v → IsVerdict limits (by_file_key new) b v
@@ -159,9 +144,7 @@ start_failed answers fault (inr (Ok head, verdict, is)) =
 start_after : (answers : Answering) (b : Bytes) (found : Unlocked) (start : Result Start Fault)
     → FindsKey answers b (Ok found)
     → start ≡ start_under found.header_len (drop found.header_len b) (Ok found.key) → FindsStart answers b start
-start_after answers b found start finds is =
-    let f = found_key answers b found finds in
-    inr (Ok f.head, f.verdict, rw (f.key, ← f.len) is)
+start_after answers b found start finds is = grind (arith, found_key)
 
 pub key_in_front : (answers : Answering) (b : Bytes) (found : Unlocked) → FindsKey answers b (Ok found)
     → found.header_len ≤ length b
@@ -197,16 +180,7 @@ pub record StartsUnder (len : ℕ) (rest : Bytes) (key : Result FileKey Fault) (
 
 pub under : (len : ℕ) (rest : Bytes) (key : Result FileKey Fault) (s : Start) → Ok s ≡ start_under len rest key
     → StartsUnder len rest key s
-under len rest (Err fault) s is = absurd (cc)
-under len rest (Ok k) s is = elim (cases_lt (length rest) 16) [
-  | inl lt ↦ absurd (cc (rw (lt-ltb (length rest) 16 lt) at is))
-  | inr ge ↦ record {
-    k = k;
-    unlocks = refl;
-    long = ge;
-    first = rw (ok_ok (rw (le-ltb (length rest) 16 ge) at is)) refl;
-  }
-]
+under a b c d e = grind (arith, lt-ltb, ok_ok, le-ltb)
 
 pub start_within : (answers : Answering) (b : Bytes) (start : Start) → FindsStart answers b (Ok start)
     → start.first ≤ length b
@@ -221,15 +195,10 @@ start_within answers b start (inr (Ok found, verdict, is)) =
 -- a payload was opened: there is a start
 pub opened_start : (answers : Answering) (b : Bytes) (p : Payload) (report : Report) → Opens answers b p report 0
     → (s : Start) × IsStart answers b (Ok s) × StartsAt (Ok s) p report 0
-opened_start answers b p report (Err fault, is, opens) = absurd (some_code fault (sym opens.returned))
-opened_start answers b p report (Ok s, inl memory, opens) = absurd (cc)
-opened_start answers b p report (Ok s, inr is, opens) = (s, is, opens)
+opened_start a b c d e = grind (arith, some_code)
 
 -- there is a start, or its fault, unless an allocation was refused
 pub found_start : (answers : Answering) (b : Bytes) (p : Payload) (report : Report) (code : ℕ)
     → Opens answers b p report code → code ≢ 17
     → (start : Result Start Fault) × IsStart answers b start × StartsAt start p report code
-found_start answers b p report code (start, inr is, opens) other = (start, is, opens)
-found_start answers b p report code (start, inl memory, opens) other =
-    let refused : StartsAt (Err OutOfMemory) p report code = rw memory at opens in
-    absurd (other refused.returned)
+found_start a b c d e f g = grind arith

@@ -80,9 +80,7 @@ opened_range answers b r report (Ok start, inr is, inr (le, returned, new, place
 pub refused_range : (answers : Answering) (b : Bytes) (r : Ranges) (report : Report) (code : ℕ) (v : Reading Fault)
     → OpensRanges answers (take front_size b) (length b) r report code → IsVerdict limits answers b v → code ≢ 0
     → code ≢ 17 → (v.plaintext ≡ []) × (code_of v.fault ≡ code) × (report ≡ report_of 0 v.fault)
-refused_range answers b r report code v (Err fault, inl memory, opens) h some other =
-    let is : fault ≡ OutOfMemory = cc in
-    absurd (other (rw is at opens.returned))
+refused_range answers b r report code v (Err fault, inl memory, opens) h some other = grind arith
 refused_range answers b r report code v (Err fault, inr is, opens) h some other =
     refusal fault v opens (verdict_from answers b (Err fault) v (whole_start answers b (Err fault) is) h)
 refused_range answers b r report code v (Ok start, inl memory, opens) h some other = absurd (cc)

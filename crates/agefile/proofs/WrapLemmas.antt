@@ -12,14 +12,7 @@ spelled ss = append_assoc version_line (flat_map stanza_text ss) (codes "---")
 
 -- the header through `---` has at least 25 bytes
 pub signed_least : (ss : List StanzaParts) → 25 ≤ length (signed_text ss)
-signed_least ss =
-    omega (
-      arith,
-      ap length (spelled ss),
-      length-version_line,
-      length-append version_line (flat_map stanza_text ss ++ codes "---"),
-      length-append (flat_map stanza_text ss) (codes "---"),
-    )
+signed_least ss = grind (arith, spelled, length-version_line, length-append)
 
 -- the text between the version line and `---`
 between : (ss : List StanzaParts) → drop 22 (take (length (signed_text ss) - 3) (signed_text ss))
@@ -46,9 +39,7 @@ text_given s ss text {part} {old} {new} {report} {code} one whole is cut gives =
 
 pub own_given : {s : StanzaParts} {args body old new : Bytes} {report : Report} {code : ℕ} → IsUtf8 args
     → s.args ≡ words args → s.body ≡ body → GivesText s old new report code → GivesOwn args body old new report code
-own_given utf8 same_args same_body (inl up) = inl up
-own_given utf8 same_args same_body (inr (text, is, gives)) =
-    rw (← same_args, ← same_body) (inr (inr ((utf8, is.arguments), inr (text, is, gives))))
+own_given a b c d = grind arith
 
 at_index : (xs : List Bytes) (i : ℕ) (d : Bytes) → AllByRecursion IsArgument xs → i < length xs
     → IsArgument (get_or xs i d)
@@ -59,9 +50,4 @@ at_index (x ∷ xs) (suc i) d all low = at_index xs i d all.1 (omega (arith, low
 pub own_refused : {args body old new : Bytes} {report : Report} {code : ℕ} (error : StanzaError)
     → IsStanzaError (words args) error → Returns (refusal_code error) None old new report code
     → GivesOwn args body old new report code
-own_refused NoArgs h up = inr (inl (λ are. are.1.0 h, up))
-own_refused {args} (EmptyArg i) h up =
-    inr (inl (λ are. (rw h.2 at (at_index (words args) i [] are.1.1 h.0)).0 refl, up))
-own_refused {args} (BadByte i) (a, some, bad, h) up =
-    inr (inl (λ are. bad (rw h.2 at (at_index (words args) i a are.1.1 h.0)), up))
-own_refused Memory h up = inl up
+own_refused a b c = grind (arith, at_index)
