@@ -5,7 +5,6 @@ from __future__ import annotations
 import contextlib
 import errno
 import fcntl
-import functools
 import io
 import operator
 import os
@@ -17,8 +16,7 @@ from typing import TYPE_CHECKING, Any, BinaryIO
 from ._errors import AgeError
 
 _ACL = "system.posix_acl_access"
-# The end of the name of a new file until it takes the place of an old one. That of agep is the
-# same, so each respects the other's lock.
+# The end of a new file's name until it takes the place of an old one. It is that of agep, too.
 NEW = ".agep-new"
 
 if TYPE_CHECKING:
@@ -59,8 +57,7 @@ def name_of(file: Any) -> Any:
 
 
 def opened(file: Any, mode: str = "rb", closefd: bool = True) -> Any:
-    """Opens a path, a descriptor or an opener: a function without arguments, or an object with a
-    method `open`, such as those of fsspec."""
+    """Opens a path, a descriptor or an opener: a function, or an object with `open`, as in fsspec."""
     if is_path(file):
         return io.FileIO(os.fspath(file), mode)
     if isinstance(file, int):
@@ -77,8 +74,7 @@ def opener_of(file: Any) -> Any:
 
 
 def _stat_of(file: Any) -> os.stat_result | None:
-    """What the system says of a path or of an open file, or None. Does not call `fileno` of a
-    SpooledTemporaryFile, which would write the file to the disk."""
+    """What the system says of a path or an open file, or None. Keeps a spooled file in memory."""
     with contextlib.suppress(AttributeError, NotImplementedError, TypeError, ValueError, OSError):
         if is_path(file):
             return os.stat(file)
@@ -100,28 +96,32 @@ def _refuse_source(sink: Any, source: Any) -> None:
         raise ValueError(f"{name_of(sink)!r} is the source, and cannot be the sink too")
 
 
+def _is_same(name: Any, other: Any) -> bool:
+    """Whether this name, not followed if it is a link, is one of the other file."""
+    with contextlib.suppress(FileNotFoundError):
+        return os.path.samestat(os.lstat(name), os.stat(other))
+    return False
+
+
 class Locked(io.FileIO):
     """A file with one writer at a time, because two would destroy each other's chunks."""
 
     name: Any
     _process = 0
 
-    def lock(self) -> bool:
-        """Refuses a file that another writer has locked. Returns False if there are no locks."""
+    def lock(self, beside: str = "") -> bool:
+        """Refuses a file if another writer has locked it or the one beside it. False: no locks."""
         self._process = os.getpid()
         try:
             fcntl.flock(self.fileno(), fcntl.LOCK_EX | fcntl.LOCK_NB)
-        except BlockingIOError:
+            if beside and not _is_same(beside, self.fileno()):
+                _refuse_busy(beside)
+        except BlockingIOError as error:
             self.close()
-            raise _busy(self.name) from None
+            raise _busy(error.filename or self.name) from None
         except OSError:
             return False
         return True
-
-    def has_name(self) -> bool:
-        with contextlib.suppress(FileNotFoundError):
-            return os.path.samestat(os.lstat(self.name), os.fstat(self.fileno()))
-        return False
 
     def close(self) -> None:
         if not self.closed and self._process == os.getpid():
@@ -135,6 +135,21 @@ def _busy(name: Any) -> BlockingIOError:
     return BlockingIOError(errno.EAGAIN, "another run is writing this file", name)
 
 
+def _refuse_busy(name: str, target: str = "") -> None:
+    """Refuses a file that another writer has locked. Given its target, removes what a killed writer
+    left: a regular file with one name, or the target itself, if the writer had linked it already."""
+    flags = os.O_RDWR | os.O_NOFOLLOW | os.O_NONBLOCK | os.O_CLOEXEC
+    try:
+        with Locked(name, "rb+", opener=lambda name, _: os.open(name, flags)) as file:
+            is_dead, found = file.lock(), os.fstat(file.fileno())
+            is_ours = stat.S_ISREG(found.st_mode) and (found.st_nlink == 1 or _is_same(name, target))
+            if target and is_dead and is_ours and _is_same(name, file.fileno()):
+                os.unlink(name)
+    except OSError as error:
+        if isinstance(error, BlockingIOError) or target and not isinstance(error, FileNotFoundError):
+            raise
+
+
 class Output(Locked):
     """The file of a path, which keeps its contents until the first byte is written."""
 
@@ -142,10 +157,14 @@ class Output(Locked):
         def without_truncation(path: Any, flags: int) -> int:
             return os.open(path, flags & ~os.O_TRUNC, permissions)
 
+        # A writer with `atomic` has locked this one.
+        new = os.path.realpath(os.fsdecode(path)) + NEW
+        if not os.path.exists(path):
+            _refuse_busy(new)
         super().__init__(os.fspath(path), mode, opener=without_truncation)
         self._is_kept = stat.S_ISREG(os.fstat(self.fileno()).st_mode)
         if self._is_kept:
-            self.lock()
+            self.lock(new)
 
     def replace_old(self) -> None:
         """Empties the file, if nothing was written."""
@@ -166,31 +185,35 @@ class Replacement(Locked):
 
     def __init__(self, path: Any, mode: str, permissions: int, end: str = NEW) -> None:
         self._target, self._is_new = os.path.realpath(os.fsdecode(path)), "x" in mode
-        found = os.stat(self._target) if os.path.lexists(self._target) else None
-        if found is not None and self._is_new:
+        name = self._target + end
+        if self._is_new and os.path.lexists(path):
+            with contextlib.suppress(OSError):
+                if _is_same(name, self._target):
+                    _refuse_busy(name, self._target)
             raise FileExistsError(errno.EEXIST, os.strerror(errno.EEXIST), path)
+        # Fails for a link that leads nowhere.
+        found = os.stat(path) if os.path.lexists(path) else None
         if found is not None and not stat.S_ISREG(found.st_mode):
             raise ValueError(f"only a regular file is replaced, which {path!r} is not")
         if found is not None and end == NEW:
             # As without `atomic`, it must be one that may be written, and has no other writer.
             Output(path, "ab").close()
-        self._create(self._target + end, permissions if found is None else 0o600)
-        if found is not None:
-            self._take_permissions(found)
-
-    def _create(self, name: str, permissions: int) -> None:
-        """Creates the new file, which must not exist, and locks it."""
-        _remove_dead(name)
+        _refuse_busy(name, self._target)
         try:
-            super().__init__(name, "xb", opener=functools.partial(os.open, mode=permissions))
+            access = permissions if found is None else 0o600
+            super().__init__(name, "xb", opener=lambda name, flags: os.open(name, flags, access))
         except FileExistsError:
             raise _busy(name) from None
         # Another writer may have locked this file first, to remove it as that of a killed one.
         self.lock()
-        if not self.has_name():
+        if not _is_same(name, self.fileno()):
             self.close()
             raise _busy(name)
         self._is_beside = True
+        if end == NEW:
+            self.lock(self._target)
+        if found is not None:
+            self._take_permissions(found)
 
     def _take_permissions(self, found: os.stat_result) -> None:
         """Takes over owner, group, mode and ACL, or less where the system does not let them be kept:
@@ -213,38 +236,39 @@ class Replacement(Locked):
         os.fchmod(new, found.st_mode & kept)
 
     def replace_old(self) -> None:
-        """Syncs the file, moves it to the path, and syncs the directory."""
-        folder = os.open(os.path.dirname(self._target), os.O_RDONLY)
+        """Syncs the file, moves it to the path, and syncs the folder, unless that may not be read."""
+        folder = None
+        with contextlib.suppress(PermissionError):
+            folder = os.open(os.path.dirname(self._target), os.O_RDONLY)
         try:
             os.fsync(self.fileno())
-            if not self.has_name():
+            if not _is_same(self.name, self.fileno()):
                 raise FileNotFoundError(errno.ENOENT, "the new file was removed", self.name)
             if self._is_new:
                 os.link(self.name, self._target)
+                with contextlib.suppress(OSError):
+                    os.unlink(self.name)
             else:
                 os.replace(self.name, self._target)
-                self._is_beside = False
-            os.fsync(folder)
+            self._is_beside = False
+            if folder is not None:
+                os.fsync(folder)
+        except OSError as error:
+            if not self._is_beside:
+                error.strerror = f"replaced, but the folder was not synced: {error.strerror}"
+            raise
         finally:
-            os.close(folder)
+            if folder is not None:
+                os.close(folder)
 
     def close(self) -> None:
         try:
             # A forked child must not remove its parent's file.
-            if self._is_beside and self._process == os.getpid() and self.has_name():
+            if self._is_beside and self._process == os.getpid() and _is_same(self.name, self.fileno()):
                 os.unlink(self.name)
         finally:
             self._is_beside = False
             super().close()
-
-
-def _remove_dead(name: str) -> None:
-    """Removes the new file that a killed writer left, whose lock is free."""
-    flags = os.O_RDWR | os.O_NOFOLLOW | os.O_NONBLOCK | os.O_CLOEXEC
-    with contextlib.suppress(FileNotFoundError):
-        with Locked(name, "rb+", opener=lambda name, _: os.open(name, flags)) as dead:
-            if dead.lock() and dead.has_name():
-                os.unlink(name)
 
 
 def created(
@@ -289,12 +313,15 @@ def check_atomic(file: Any, atomic: bool) -> None:
 def writing(
     file: Any, source: BinaryIO, permissions: int = 0o666, atomic: bool = False, in_place: bool = True
 ) -> Iterator[Any]:
-    """Does the same for a file to write, which must not be the source, unless it is replaced by what
-    is complete."""
+    """Does the same for a file to write. It may be the source only if it is replaced at the end."""
     if is_open(file, "write"):
         _refuse_source(file, source)
         yield file
+        getattr(file, "flush", bool)()
         return
+    if atomic and not _is_same(new := os.path.realpath(os.fsdecode(file)) + NEW, file):
+        # As the new file of a killed run, it would be removed.
+        _refuse_source(new, source)
     if atomic and not in_place:
         _refuse_source(file, source)
     elif not is_path(file) and not isinstance(file, int):

@@ -108,9 +108,9 @@ def copy(
     and up to `threads` threads. Returns the length of the plaintext.
 
     After an error in the payload the sink has the plaintext of the chunks before it. An existing
-    file at the sink's path keeps its contents until the first byte is written. With `atomic` it
-    keeps them until the new file, which is written beside it, is complete: after any error nothing
-    has changed. A new file with a plaintext can be read only by its owner.
+    file at the sink's path keeps its contents until the first byte is written or, with `atomic`,
+    until the new file beside it is complete: after an error nothing has changed, unless it says
+    `replaced`. A new file with a plaintext can be read only by its owner.
 
     `progress` is called with the number of bytes read from the source and with the number of all,
     or None if that is not known, as of pipes. An exception that it raises ends the copy.

@@ -2,6 +2,7 @@
 
 from __future__ import annotations
 
+import atexit
 import io
 import operator
 import os
@@ -9,7 +10,7 @@ import sys
 import threading
 import warnings
 import weakref
-from typing import Any
+from typing import Any, NamedTuple
 
 from . import _library as lib
 from ._paths import BinaryBase, created, is_open, is_path, name_of, opener_of
@@ -39,10 +40,9 @@ class _Sealer(io.RawIOBase):
             self._sink, self._opener = self._opener(), None
         write_all(self._sink, b"".join((self._front, data)) if self._front else data)
         self._front = b""
-        sink: Any = self._sink
-        if self._owned and hasattr(sink, "flush"):
+        if self._owned:
             # The finalizer of a forked child would write what is left in a buffer.
-            sink.flush()
+            getattr(self._sink, "flush", bool)()
         self._failed = False
 
     def _seal(self, is_last: bool) -> None:
@@ -105,9 +105,8 @@ class _Sealer(io.RawIOBase):
         with self._lock:
             if self._front and not self._failed:
                 self._put(b"")
-            sink: Any = self._sink
-            if hasattr(sink, "flush") and not getattr(sink, "closed", False):
-                sink.flush()
+            if not getattr(self._sink, "closed", False):
+                getattr(self._sink, "flush", bool)()
 
     def truncate(self, _: Any = None, /) -> int:
         """Ends the text: this is what a BufferedWriter calls under its own lock, after it has passed
@@ -133,8 +132,9 @@ class _Sealer(io.RawIOBase):
                 if is_whole:
                     self._check_usable()
                     self._seal(True)
-                    if hasattr(self._sink, "replace_old"):
-                        self._sink.replace_old()
+                    # A caller's file may have a buffer, whose finalizer drops errors.
+                    self.send()
+                    getattr(self._sink, "replace_old", bool)()
             finally:
                 self.is_finished = self._failed = True
                 if self._owned and self._sink is not None:
@@ -159,16 +159,16 @@ class Writer(BinaryBase):
     _is_decided_later = False
     # The TextWriter above, if there is one: what it has not passed on belongs to the file.
     _text: Any = staticmethod(lambda: None)
-    # Set by agefile.fsspec: its users call only `close`, so it commits, unless an exception is
-    # being handled in this thread.
+    # Set by agefile.fsspec, whose users call only `close`: it commits, unless it sees an exception.
     _commits_at_close = False
 
     def __init__(self, file: Any, mode: str, recipients: Recipients, atomic: bool) -> None:
         self._sealer = _Sealer(file, mode, recipients, atomic)
-        self.name, self.mode, self._thread = self._sealer.name, mode, threading.get_ident()
+        self.name, self.mode = self._sealer.name, mode
         # This has a BufferedWriter and is none, because numpy asks such for a descriptor.
         self._buffer = io.BufferedWriter(self._sealer, lib.TEXT_CHUNK)
         self._write = self._buffer.write
+        _unended.add(self)
 
     def __repr__(self) -> str:
         return f"<agefile.Writer name={self.name!r} mode={self.mode!r}>"
@@ -184,8 +184,7 @@ class Writer(BinaryBase):
         return self._buffer.writable()
 
     def flush(self) -> None:
-        """Writes the header, and flushes the sealed chunks. The bytes of a chunk that is not full
-        stay in the buffer."""
+        """Writes the header, and flushes the sealed chunks. What fills no chunk stays in memory."""
         # fsspec flushes what an exception has broken, too: the old file would be lost.
         is_broken = self._commits_at_close and self._gives_up()
         if self._sealer.writable() and self._sealer.is_parent() and not is_broken:
@@ -225,26 +224,24 @@ class Writer(BinaryBase):
         return not (self._is_decided_later or is_complete)
 
     def close(self) -> None:
-        """Ends writing in a `with` block, whose end decides. Elsewhere this is `abort` and raises a
-        ValueError, or, while another exception is being handled, warns."""
+        """Ends writing in a `with` block, whose end decides. Elsewhere this is `abort`, and warns and,
+        unless another exception is being handled, raises a ValueError."""
         if self.closed or not self._sealer.is_parent():
             self._sealer.close()
         elif not self._gives_up():
             self._end() if self._is_decided_later else self.commit()
         else:
+            # In a pool nobody may ask for an error, and `logging` drops it.
+            self._warn()
             self.abort()
-            is_handling = sys.exc_info()[0] is not None
-            if is_handling or threading.get_ident() != self._thread:
-                # In a pool nobody may ask for the error.
-                self._warn()
-            if not is_handling:
+            if sys.exc_info()[0] is None:
                 raise ValueError(self._loss())
 
     def _loss(self) -> str:
         return f"{self!r} is not whole: only commit or the clean end of a with block completes it"
 
     def _warn(self) -> None:
-        warnings.warn(self._loss(), RuntimeWarning, 3, self)
+        warnings.warn(self._loss(), RuntimeWarning, 3)
 
     def __enter__(self) -> Writer:
         self._sealer.writable()
@@ -268,9 +265,26 @@ class Writer(BinaryBase):
             raise ValueError(self._loss())
 
     def _dealloc_warn(self, _: Any) -> None:
-        """What the finalizers of wrappers call before `close`, whose error they drop: so the file is
-        left to its own finalizer, whose error is printed."""
+        """Finalizers of wrappers call this, then `close`, whose error they drop: ours prints it."""
         self._is_decided_later = True
+
+
+_unended: weakref.WeakSet[Writer] = weakref.WeakSet()
+
+
+class _Last(NamedTuple):
+    """Gives a file up once Python frees its modules, and says so. No finalizer runs of what `logging`
+    or `sys` holds, and functions of `atexit` that run after ours may still commit it."""
+
+    writer: Writer
+
+    def __del__(self) -> None:
+        # A daemon thread may hold the lock for ever.
+        if self.writer._sealer._lock.acquire(blocking=False):
+            self.writer.__del__()
+
+
+atexit.register(lambda: sys.modules.update(agefile_last=[*map(_Last, _unended)]))  # type: ignore
 
 
 _write_text = io.TextIOWrapper.write

@@ -36,7 +36,6 @@ from ._files import open as open_file
 from ._paths import NEW, Replacement, is_path
 from ._reader import Reader, open_reader, reopened
 from ._secrets import Identities, Key, Recipients, as_list
-from ._sources import write_all
 
 # How a file that does not exist is reported.
 _ABSENT = FileNotFoundError, NotADirectoryError, IsADirectoryError

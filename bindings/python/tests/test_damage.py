@@ -114,22 +114,25 @@ class Positions(unittest.TestCase):
         return next(file, b"") if kind == "next" else getattr(file, kind)(size)
 
     def test_calls_in_random_order(self):
-        """A call raises only for the bytes that it was asked for, and then keeps the position."""
-        choose, file = random.Random(48), agefile.open(io.BytesIO(self.file), identities=KEY)
-        raised = 0
+        """A call raises only for the bytes that it was asked for, and then keeps the position. What may be short ends
+        before the damage. `raw` shares the chunks and has a position of its own."""
+        choose, whole = random.Random(48), agefile.open(io.BytesIO(self.file), identities=KEY)
+        places, raised = {whole: 0, whole.raw: 0}, 0
         for number in range(6000):
-            at = max(choose.choice((file.tell(), choose.randrange(len(self.PLAIN) + 9), choose.randrange(9) * TEXT + choose.randrange(-9, 9))), 0)
-            kind = choose.choice(("read", "readline", "readinto", "next", "peek", "read1", "readinto1"))
+            kind = choose.choice(("read", "readline", "readinto", "next", "peek", "read1", "readinto1", "raw.read", "raw.readinto"))
+            file, call = (whole.raw if kind.startswith("raw.") else whole), kind.removeprefix("raw.")
+            at = max(choose.choice((places[file], choose.randrange(len(self.PLAIN) + 9), choose.randrange(9) * TEXT + choose.randrange(-9, 9))), 0)
             size = choose.choice((0, 1, 5, 9, 1000, 65535, 65536, 65537, 200000) + ((-1, None) if kind in ("read", "readline") else ()))
             size = -1 if kind == "next" else size
-            if at != file.tell():
-                self.assertEqual(file.seek(at), at)
             with self.subTest(f"call {number}: {kind}({size}) at {at}"):
-                raised += self.check(file, kind, size, at)
+                self.assertEqual(file.tell(), places[file])
+                if at != places[file]:
+                    self.assertEqual(file.seek(at), at)
+                raised += self.check(file, call, size, at, file is whole.raw or kind in ("peek", "read1", "readinto1"))
+            places[file] = file.tell()
         self.assertGreater(raised, 1000)
 
-    def check(self, file, kind, size, at):
-        is_short = kind in ("peek", "read1", "readinto1")
+    def check(self, file, kind, size, at, is_short):
         if is_short:
             # These may choose how much they return; for peek, size is a hint.
             end = at + (at < len(self.PLAIN) and (kind == "peek" or size > 0))
@@ -139,7 +142,7 @@ class Positions(unittest.TestCase):
         if bad is None:
             found = self.call(file, kind, size)
             if is_short:
-                self.assertTrue(found or end == at)
+                self.assertTrue((found or end == at) and (kind == "peek" or len(found) <= size))
                 end = at + len(found)
             self.assertEqual(found, self.PLAIN[at:end])
             self.assertEqual(file.tell(), at if kind == "peek" else end)
@@ -156,35 +159,6 @@ class Positions(unittest.TestCase):
             self.assertRaises(AgeError, file.readlines, hint)
             self.assertEqual(file.tell(), 7)
         self.assertEqual(b"".join(file.readlines(1000)), self.PLAIN[7 : self.PLAIN.index(b"\n", 1006) + 1])
-
-    def test_what_can_be_saved(self):
-        """Calls whose results may be short return the bytes before the damage, and then raise."""
-        for name, read in {
-            "read1": lambda file: file.read1(),
-            "read1(100)": lambda file: file.read1(100),
-            "readinto1": lambda file: (room := bytearray(70000))[: file.readinto1(room)],
-            "raw.readinto": lambda file: (room := bytearray(70000))[: file.raw.readinto(room)],
-            "raw.read(n)": lambda file: file.raw.read(70000),
-        }.items():
-            with self.subTest(name), agefile.open(io.BytesIO(self.file), identities=KEY) as file:
-                for first, last in ((0, 2), (4, 6), (7, 9)):
-                    each = file.raw if name.startswith("raw") else file
-                    each.seek(first * TEXT)
-                    found = b""
-                    while last < 9 or len(found) < len(self.PLAIN) - first * TEXT:
-                        try:
-                            found += read(file)
-                        except AgeError as error:
-                            self.assertEqual(error.place, last)
-                            break
-                    self.assertEqual(found, self.PLAIN[first * TEXT : last * TEXT])
-                    self.assertEqual(each.tell(), first * TEXT + len(found))
-
-    def test_after_a_failed_read_by_raw(self):
-        file = agefile.open(io.BytesIO(self.file), identities=KEY)
-        self.assertRaises(AgeError, file.read)
-        room = bytearray(TEXT)
-        self.assertEqual((file.raw.readinto(room), bytes(room)), (TEXT, self.PLAIN[:TEXT]))
 
     def test_an_error_between_two_chunks(self):
         """For example one in a signal handler: a short result is then not taken for the end of the
@@ -221,40 +195,19 @@ class Positions(unittest.TestCase):
 
 
 class EachChunk(unittest.TestCase):
-    """Damage in each chunk in turn of a file of 50."""
-
-    @classmethod
-    def setUpClass(cls):
-        cls.plain = text(49 * TEXT + 77)
-        cls.file = agefile.encrypt(cls.plain, recipients=KEY)
+    """A file of 50 chunks, damaged in each in turn, or cut at its end, or in the last one."""
 
     def test_whole_and_streamed(self):
+        plain = text(49 * TEXT + 77)
+        whole = agefile.encrypt(plain, recipients=KEY)
+        first = agefile.inspect(whole).length + 16
         for chunk in range(50):
-            file = damaged(self.file, chunk)
-            for threads in (1, 2, 4):
-                with self.subTest(f"chunk {chunk}, {threads} threads"), mock.patch("os.cpu_count", return_value=4):
+            for file, threads in itertools.product((damaged(whole, chunk), whole[:-1][: first + (chunk + 1) * SEALED]), (1, 2, 4)):
+                with self.subTest(f"{len(file)} bytes, chunk {chunk}, {threads} threads"), mock.patch("os.cpu_count", return_value=4):
                     self.assertEqual(fault_of(lambda: agefile.decrypt(file, identities=KEY, threads=threads)), (Code.BAD_CHUNK, chunk))
                     out = io.BytesIO()
                     self.assertEqual(fault_of(lambda: agefile.copy(io.BytesIO(file), out, identities=KEY, threads=threads)), (Code.BAD_CHUNK, chunk))
-                    self.assertEqual(out.getvalue() == self.plain[: chunk * TEXT], True)
-
-    def test_by_ranges(self):
-        """Forwards and backwards; after each fault the chunk read before is read again."""
-        for bad in range(49):
-            file = agefile.open(io.BytesIO(damaged(self.file, bad)), identities=KEY)
-            for order in (range(50), range(49, -1, -1)):
-                before = None
-                for chunk in order:
-                    file.seek(chunk * TEXT)
-                    if chunk != bad:
-                        self.assertEqual(file.read(100), self.plain[chunk * TEXT :][:100])
-                        before = chunk
-                        continue
-                    self.assertEqual(error_of(lambda: file.read(100)).place, bad)
-                    if before is not None:
-                        for each in (file, file.raw):
-                            each.seek(before * TEXT + 200)
-                            self.assertEqual(each.read(1000), self.plain[before * TEXT + 200 :][:1000])
+                    self.assertEqual(out.getvalue() == plain[: chunk * TEXT], True)
 
 
 class Below(InFolder):

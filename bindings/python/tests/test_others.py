@@ -1,5 +1,5 @@
-"""Files exchanged in both directions with tests/reference.py, agep and age; and the parts of a new
-file that must be fresh or secret."""
+"""Files exchanged in both directions with tests/reference.py and agep; and the parts of a new file that must be
+fresh or secret."""
 
 import base64
 import errno
@@ -7,7 +7,6 @@ import io
 import itertools
 import os
 import pickle
-import shutil
 import subprocess
 import sys
 import unittest
@@ -15,9 +14,10 @@ from unittest import mock
 
 import agefile
 from agefile import AgeError, Key, Passphrase, Stanza
-from support import AGEP, KEY, ROOT, InFolder, copied, message, pattern, text
+from support import AGEP, KEY, InFolder, copied, message, pattern, text
 
 import reference
+from parts import parts
 
 SIZES = (0, 1, 65536, 65537, 150000)
 # sizes for the reference, which takes a second for a few chunks
@@ -71,41 +71,27 @@ class Noting:
 class Reference(unittest.TestCase):
     """tests/reference.py has the definitions of the RFCs, and nothing of the library."""
 
-    def stanzas(self):
-        salt = SEED[32:]
-        return (
-            (KEY, reference.key_stanza(bytes(range(32)), salt)),
-            (Passphrase(PASSPHRASE), reference.passphrase_stanza(PASSPHRASE, 3, salt)),
-            (Passphrase(""), reference.passphrase_stanza(b"", 3, salt)),
-        )
+    KEYED = bytes(range(32)), KEY, lambda salt: reference.key_stanza(bytes(range(32)), salt)
+    LOCKED = PASSPHRASE, Passphrase(PASSPHRASE, work=3), lambda salt: reference.passphrase_stanza(PASSPHRASE, 3, salt)
+    EMPTY = b"", Passphrase(""), lambda salt: reference.passphrase_stanza(b"", 3, salt)
 
     def test_files_of_the_reference(self):
         for size in FEW:
-            for secret, stanza in self.stanzas():
-                file = reference.age_file(SEED, [stanza], text(size))
+            for _, secret, stanza in self.KEYED, self.LOCKED, self.EMPTY:
+                file = reference.age_file(SEED, [stanza(SEED[32:])], text(size))
                 for number, opened in enumerate(ways_to_open(secret)):
                     with self.subTest(f"{size} bytes, {secret}, way {number}"):
                         self.assertEqual(opened(file), text(size))
 
     def test_files_for_the_reference(self):
-        """A file made here equals that of the reference with the same file key, nonce and stanzas,
-        byte by byte."""
+        """A file made here equals that of the reference with the same file key, nonce and salt, byte by byte."""
         for size in FEW:
-            noting = Noting()
-            for number, make in enumerate(ways_to_make([KEY, noting])):
-                with self.subTest(f"{size} bytes, way {number}"):
-                    self.assert_reference(make(text(size)), noting.keys[-1], size)
-
-    def assert_reference(self, file, file_key, size):
-        header = agefile.inspect(file)
-        salt = base64.b64decode(header.stanzas[0].args[1] + "==")
-        arguments, wrap_key = reference.key_stanza(bytes(range(32)), salt)
-        self.assertEqual(header.stanzas[0].args, tuple(argument.decode() for argument in arguments))
-        self.assertEqual(header.stanzas[0].body, reference.sealed(wrap_key, bytes(12), file_key))
-        out = io.BytesIO()
-        nonce = file[header.length : header.length + 16]
-        reference.write_payload(out, file_key, nonce, reference.chunks_of(text(size)))
-        self.assertEqual(file[header.length :] == out.getvalue(), True)
+            for given, secret, stanza in self.KEYED, self.LOCKED:
+                for number, make in enumerate(ways_to_make(secret)):
+                    with self.subTest(f"{size} bytes, {secret}, way {number}"):
+                        file = make(text(size))
+                        seed = parts(file, given)
+                        self.assertEqual(file == reference.age_file(seed, [stanza(seed[32:])], text(size)), True)
 
     def test_passphrases(self):
         for given in (b"x", "über".encode(), "über", "字", b"\x00\xff\n", b"x" * 70000):
@@ -198,15 +184,10 @@ class Fresh(unittest.TestCase):
 
 
 class Programs(InFolder):
-    """Files exchanged with agep and age."""
+    """Files exchanged with agep."""
 
     def run_on(self, data, *words):
         return subprocess.run(words, input=data, capture_output=True, check=True).stdout
-
-    def typed(self, *words):
-        """Runs age, and types the passphrase at its prompts."""
-        script = os.path.join(ROOT, "tests/type_passphrase.py")
-        subprocess.run([sys.executable, script, "pass", "age", *words], stdin=subprocess.DEVNULL, check=True, timeout=60)
 
     def setUp(self):
         super().setUp()
@@ -272,21 +253,3 @@ class Programs(InFolder):
         self.assertRaises(FileNotFoundError, Key.from_file, "absent")
         for text in ("00" * 32, ""):
             self.assertRaisesRegex(TypeError, "bytes.fromhex.*Key.from_file", Key, text)
-
-    @unittest.skipUnless(shutil.which("age"), "age is missing")
-    def test_age(self):
-        secret = Passphrase(PASSPHRASE, work=10)
-        for size in (1, 70000):
-            self.put(text(size), "plain")
-            self.typed("-p", "-o", "made", "plain")
-            # Only one way, because a passphrase of age takes a second.
-            for number, opened in enumerate(list(ways_to_open(secret))[-1:]):
-                with self.subTest(f"{size} bytes, read in way {number}"):
-                    self.assertEqual(opened(self.got("made")), text(size))
-            for number, make in enumerate(ways_to_make(secret)):
-                with self.subTest(f"{size} bytes, made in way {number}"):
-                    self.put(make(text(size)), "made")
-                    self.typed("-d", "-o", "back", "made")
-                    self.assertEqual(self.got("back"), text(size))
-                    os.remove("back")
-            os.remove("made")

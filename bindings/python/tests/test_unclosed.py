@@ -2,15 +2,18 @@
 
 import concurrent.futures
 import contextlib
+import errno
 import io
 import itertools
 import os
+import subprocess
+import sys
 import threading
 from unittest import mock
 
 import agefile
 from agefile._writer import _Sealer
-from support import KEY, InFolder, in_child, text
+from support import KEY, InFolder, error_of, in_child, text
 
 
 class Unclosed(InFolder):
@@ -85,3 +88,49 @@ class Unclosed(InFolder):
             file.commit()
             self.assertRaisesRegex(ValueError, "closed file", file.commit)
             self.assertEqual(self.read("w.age"), b"")
+
+    def test_the_end_of_a_program(self):
+        """Each file that something holds to the end is given up and told, whatever the filters of warnings, and nobody waits
+        for a thread in a write."""
+        begin = "import agefile, concurrent.futures, os, sys, threading; key = agefile.Key(bytes(32))\ndef new(*file, **words): return agefile.open(*file, recipients=key, **words)\n"
+        for code, names in (
+            ("sys.a, sys.b = new('a.age', 'w'), new('b.age', 'wb', atomic=True)", ("a.age", "b.age")),
+            ("concurrent.futures.ThreadPoolExecutor(1).submit(lambda: new('p.age', 'wb').close())", ("p.age",)),
+            ("file = new(os.pipe()[1], 'wb'); threading.Thread(target=file.write, args=[bytes(10**6)], daemon=True).start()\n"
+             "while file._sealer._lock.acquire(blocking=False): file._sealer._lock.release()", ()),
+        ):
+            for action in ("default", "error"):
+                done = subprocess.run([sys.executable, "-W", action, "-c", begin + code], capture_output=True, text=True, timeout=60)
+                self.assertEqual((done.returncode, [name for name in names if f"name='{name}' mode='wb'> is not whole" not in done.stderr]), (0, []))
+                self.assertNotIn("tracemalloc", done.stderr)
+        self.assertNotIn("b.age.agep-new", os.listdir())
+
+    def test_a_sink_that_fails_to_close(self):
+        """The user is told, even if the caller drops that error as `logging` does."""
+        file = agefile.open(lambda: mock.Mock(write=len, close=mock.Mock(side_effect=OSError)), "wb", recipients=KEY)
+        file.flush()
+        with self.assertWarns(RuntimeWarning):
+            self.assertRaises(OSError, file.close)
+
+    def test_writers_that_begin_together(self):
+        """Each first locks its own file, then looks for the other's, so one of them is refused even if both had looked before."""
+        os_open, begun = os.open, []
+
+        def begin(name, flags, *mode):
+            if flags & os.O_CREAT and bool(flags & os.O_EXCL) == atomic and not begun:
+                begun.append(None)
+                begun[0] = agefile.open("o.age", "wb", recipients=KEY, atomic=not atomic)
+            return os_open(name, flags, *mode)
+
+        for atomic in (False, True):
+            with mock.patch("os.open", begin):
+                self.assertRaises(BlockingIOError, agefile.open, "o.age", "wb", recipients=KEY, atomic=atomic)
+            begun.pop().commit()
+            self.assertEqual((self.read("o.age"), os.listdir()), (b"", ["o.age"]))
+
+    def test_what_a_failed_sync_says(self):
+        """That of the folder comes last, and says that the file was replaced; no other does."""
+        for number in (0, 1):
+            with mock.patch("os.fsync", side_effect=[*[None] * number, OSError(errno.EIO, "failed")]):
+                error = error_of(lambda: self.written(b"text", "o.age", atomic=True), OSError)
+            self.assertEqual(("replaced" in str(error), os.path.exists("o.age")), (number == 1, number == 1))

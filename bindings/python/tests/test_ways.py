@@ -17,7 +17,9 @@ from support import InFolder
 
 # Each cell is a forked child, which ends as a program does.
 HEAD = """
-import atexit, contextlib, gc, io, json, os, resource, signal, sys, threading, weakref
+import atexit, contextlib, gc, io, json, logging, os, resource, signal, sys, threading, weakref
+early = []
+atexit.register(lambda: [each() for each in early])
 import agefile
 cells, KEY, opened = json.load(sys.stdin), agefile.Key(bytes(range(32))), []
 if cells[0][0] == "fsspec": import fsspec, agefile.fsspec
@@ -146,13 +148,16 @@ ENDS = {
     "a thread": ("in_thread(in_with)", completes),
     "a thread, commit": ("file = new(); in_thread(lambda: (body(file), file.commit()))", completes),
     "a thread, close": ("file = new(); in_thread(lambda: (body(file), file.close()))", gives_up),
-    "a daemon thread": ("it = threading.Event(); threading.Thread(target=held, args=[it], daemon=True).start(); it.wait()", says_nothing),
+    "a daemon thread": ("it = threading.Event(); thread = threading.Thread(target=held, args=[it], daemon=True); thread.start(); it.wait(); state == 'midway' and thread.join()", gives_up),
+    "multiprocessing": ("import multiprocessing\ndef work(): global it; it = new(); body(it)\nit = multiprocessing.get_context('fork').Process(target=work); it.start(); it.join()", says_nothing),
+    "a pool, opened there": ("import concurrent.futures\ndef work(): file = new(); body(file); file.close()\nconcurrent.futures.ThreadPoolExecutor(1).submit(work)", gives_up),
     "SIGTERM, commit": ("file = new(); on_term(file.commit); body(file); signal.raise_signal(signal.SIGTERM)", completes),
     "SIGTERM, close": ("file = new(); on_term(file.close); part(file); state == 'midway' or rest(file); signal.raise_signal(signal.SIGTERM)", gives_up),
     "SIGTERM in with": ("on_term(int)\nwith new() as file: body(file); signal.raise_signal(signal.SIGTERM)", gives_up),
     "addCleanup": ("import unittest\nclass Test(unittest.TestCase):\n    def test(self): file = new(); self.addCleanup(file.close); body(file)\nunittest.main(testRunner=unittest.TextTestRunner(io.StringIO()))", gives_up),
     "__del__": ("it = Closer(); body(it.file); del it", gives_up),
     "atexit": ("file = new(); atexit.register(file.close); body(file)", gives_up),
+    "atexit, before the import": ("file = new(); early.append(lambda: state == 'midway' or file.commit()); body(file)", completes),
     "weakref.finalize": ("it, file = Owner(), new(); weakref.finalize(it, file.close); body(file)", gives_up),
     "a dropped generator": ("it = rows(); next(it); del it", gives_up),
     "a generator that is closed": ("sent(sink())", gives_up),
@@ -161,7 +166,11 @@ ENDS = {
     "tarfile, with": ("import tarfile\nwith new() as file: tar(file)", completes),
     "gzip": ("import gzip\nwith new() as file, gzip.GzipFile(fileobj=file, mode='wb', compresslevel=0) as lines: body(lines)", completes),
     "zipfile": ("import zipfile\nwith new() as file, zipfile.ZipFile(file, 'w') as archive, archive.open('a', 'w') as lines: body(lines)", completes),
-    "logging": ("import logging\nwith new('w') as file: log(file)", completes),
+    "logging": ("with new('w') as file: log(file)", completes),
+    "logging, never closed": ("it = logging.StreamHandler(new('w')); logging.getLogger().addHandler(it); body(it.stream)", gives_up),
+    "logging, its own close": ("class It(logging.FileHandler):\n    def _open(self): return new('w')\nit = It('s'); logging.getLogger().addHandler(it); body(it.stream)", gives_up),
+    "logging, a close that commits": ("class It(logging.StreamHandler):\n    def close(self): state in ('midway', 'failed') or self.stream.commit()\nit = It(new('w')); body(it.stream)", completes),
+    "sys": ("sys.out = new(); body(sys.out)", gives_up),
     "json": ("with new('w') as file: dump(file)", completes),
     "print": ("with new('w') as file: print('x' * 100000, file=file, flush=True); rest(file)", completes),
     "a wrapper in with": ("with new() as file:\n    with io.TextIOWrapper(file) as lines: body(lines)", completes),
@@ -182,7 +191,7 @@ ENDS = {
     "kill -9": ("file = new(); body(file); os.kill(os.getpid(), 9)", says_nothing),
 }
 # Users of fsspec call only `close`, which sees no exception that another thread or task handles, or that is handled no more.
-HALF = {"AsyncExitStack", "SIGTERM, close", "a pool", "addCleanup", "__del__", "atexit", "weakref.finalize", *(end for end in ENDS if end[:9] == "asyncio, " and end != "asyncio, cleanup()")}
+HALF = {"AsyncExitStack", "SIGTERM, close", "a pool", "addCleanup", "__del__", "logging, its own close", "atexit", "weakref.finalize", *(end for end in ENDS if end[:9] == "asyncio, " and end != "asyncio, cleanup()")}
 
 
 def other_pythons():
@@ -234,7 +243,7 @@ class Ways(InFolder):
         for (_, end, state), found, told, _ in self.cells(sys.executable, ("fsspec",)):
             if found == "half":
                 half.add((end, state))
-            elif ENDS[end][1] is not says_nothing and "pool" not in end:
+            elif ENDS[end][1] is not says_nothing and "pool" not in end and "its own close" not in end:
                 with self.subTest(f"{end}, {state}: {told}"):
                     self.assertEqual(bool(told), found == "refused")
         self.assertLessEqual(half, {(end, "midway") for end in HALF})

@@ -1,6 +1,5 @@
-//! What is left of damaged files, and of files whose reads fail. The expected results follow by
-//! arithmetic. The packages' tests compare the same calls with a model, for all kinds of small
-//! files.
+//! What is left of files whose reads fail. The expected results follow by arithmetic. The packages'
+//! tests compare the same calls with a model, for damaged, cut and long files of all kinds.
 
 mod common;
 
@@ -10,7 +9,7 @@ use std::ops::Range;
 use std::os::unix::io::OwnedFd;
 use std::os::unix::net::UnixStream;
 
-use agefile::{encrypt, salvage, Key, Salvaged};
+use agefile::{salvage, Key, Salvaged};
 use common::{fault, key, sealed, text, Call, Device, SEALED, TEXT};
 
 const CHUNKS: usize = 5;
@@ -51,48 +50,16 @@ fn disk(file: &[u8], bad: &[(usize, usize)]) -> Device {
 }
 
 #[test]
-fn damaged_and_whole_files() {
+fn file_from_its_position_on() {
     let (_, file, front) = file();
-    assert_lost(Cursor::new(&file), &[]);
     let mut damaged = file.clone();
     for chunk in [0, 2, 3] {
         damaged[front + chunk * SEALED + 99] ^= 1;
     }
-    assert_lost(Cursor::new(&damaged), &[(0..1, false), (2..4, false)]);
-    // From a file object's position on.
     let bad = 1000 + front + 4 * SEALED - 9;
     let mut later = disk(&[vec![1; 1000], damaged].concat(), &[(bad, bad + 1)]);
     later.file.set_position(1000);
     assert_lost(later, &[(0..1, false), (2..3, false), (3..4, true)]);
-}
-
-#[test]
-fn cut_and_too_long_files() {
-    let (plain, file, front) = file();
-    let facts = |file: Vec<u8>| {
-        saved(Cursor::new(file)).map(|(out, it)| (out.len(), it.early, it.trailing, it.is_cut, it.is_whole)).unwrap()
-    };
-    assert_eq!(facts(file[..front + 2 * SEALED].to_vec()), (2 * TEXT, None, 0, true, false));
-    assert_eq!(facts(file[..front + 2 * SEALED + 9].to_vec()), (2 * TEXT, None, 0, true, false));
-    assert_eq!(facts(file[..file.len() - 1].to_vec()), (plain.len() - 1, None, 0, false, false));
-    assert_eq!(facts([&file[..], &[0; 512]].concat()), (plain.len(), None, 512, false, false));
-    let full = encrypt(&plain[..TEXT], &[&key()]).unwrap();
-    assert_eq!(facts([&full[..], b"\n"].concat()), (TEXT, Some(0), 1, false, false));
-    // What follows a lost chunk may follow the end; what follows a chunk that is not the last may not.
-    for tail in 1..17 {
-        let end = front + 3 * SEALED;
-        for (lost, is_cut) in [(0, true), (1, true), (2, false)] {
-            let mut file = [&file[..end], &[0; 16][..tail]].concat();
-            file[front + lost * SEALED] ^= 1;
-            assert_eq!(facts(file), (3 * TEXT, None, 0, is_cut, false), "{tail} bytes, chunk {lost}");
-        }
-    }
-    assert_eq!(
-        facts([&full[..], &file[front + SEALED..]].concat()),
-        (plain.len(), Some(0), (file.len() - front - SEALED) as u64, false, false)
-    );
-    assert_eq!(facts(full), (TEXT, None, 0, false, true));
-    assert_eq!(facts(encrypt(b"", &[&key()]).unwrap()), (0, None, 0, false, true));
 }
 
 #[test]
