@@ -3,8 +3,9 @@
 // for a write to standard error, or any. NUMBER is its number among the calls of its kind, from 1, or
 // 0 for all of them. DO says what happens: the call transfers "one" byte, "half" of the bytes or
 // "none", or fails with this error number, or the process is killed by signal 9 before it, or a
-// command of the shell is run. If KEPT is set, each unlink fails too. The call creates the empty file
-// "met". The file that TRACE names gets a line for each call: its kind, the file, and the result. A
+// command of the shell is run. If AFTER names a kind, only what comes after a call of that kind counts.
+// If KEPT is set, each unlink fails too. The file "met" gets the kind and the file of the first such call. The file
+// that TRACE names gets a line for each call: its kind, the file, and the result. A
 // read of the character device /dev/urandom returns the bytes of the file that URANDOM names. If
 // CLOCK is set, these milliseconds pass between two looks at the clock. If INODE is set, the number
 // of each file is its size times this. If BAD is set, to two offsets, no
@@ -38,11 +39,39 @@ static int opened(const char *name, int flags, mode_t mode)
     return next(name, flags, mode);
 }
 
+// A file of a call: its name or, if that is NULL, its descriptor.
+struct file {
+    const char *name;
+    int number;
+};
+
+// The last part of the name of a file.
+static const char *name_of(struct file file)
+{
+    static char buffer[4096];
+    char link[32];
+    int error = errno;
+    const char *name = file.name;
+    if (name == NULL) {
+        snprintf(link, sizeof link, "/proc/self/fd/%d", file.number);
+        ssize_t length = readlink(link, buffer, sizeof buffer - 1);
+        buffer[length < 0 ? 0 : length] = 0;
+        name = length < 0 ? "nothing" : buffer;
+    }
+    errno = error;
+    return strrchr(name, '/') ? strrchr(name, '/') + 1 : name;
+}
+
 // How much of a size the next call of this kind may transfer; -1, with errno set, if it must fail.
-static ssize_t allowed(const char *kind, long *calls, size_t size)
+static ssize_t allowed(const char *kind, struct file file, long *calls, size_t size)
 {
     static long all;
-    const char *call = getenv("CALL");
+    static int is_after, is_met;
+    const char *call = getenv("CALL"), *after = getenv("AFTER");
+    if (after != NULL && !is_after) {
+        is_after = strcmp(after, kind) == 0;
+        return (ssize_t)size;
+    }
     if (call != NULL && strcmp(call, "any") == 0)
         calls = &all;
     else if (call == NULL || strcmp(call, kind) != 0)
@@ -50,7 +79,12 @@ static ssize_t allowed(const char *kind, long *calls, size_t size)
     long number = atol(getenv("NUMBER"));
     if (++*calls != number && number != 0)
         return (ssize_t)size;
-    close(opened("met", O_CREAT | O_WRONLY, 0600));
+    if (!is_met) {
+        is_met = 1;
+        int met = opened("met", O_CREAT | O_WRONLY, 0600);
+        dprintf(met, "%s %s\n", kind, name_of(file));
+        close(met);
+    }
     const char *what = getenv("DO");
     if (strcmp(what, "none") == 0)
         return 0;
@@ -70,27 +104,16 @@ static ssize_t allowed(const char *kind, long *calls, size_t size)
     return -1;
 }
 
-static void trace_name(const char *kind, const char *name, long result)
+static void trace(const char *kind, struct file file, long result)
 {
     const char *to = getenv("TRACE");
     int error = errno;
     if (to == NULL)
         return;
     int out = opened(to, O_CREAT | O_WRONLY | O_APPEND, 0600);
-    dprintf(out, "%s %s %ld\n", kind, strrchr(name, '/') ? strrchr(name, '/') + 1 : name, result);
+    dprintf(out, "%s %s %ld\n", kind, name_of(file), result);
     close(out);
     errno = error;
-}
-
-static void trace(const char *kind, int file, long result)
-{
-    char link[32], name[4096] = "";
-    int error = errno;
-    snprintf(link, sizeof link, "/proc/self/fd/%d", file);
-    if (readlink(link, name, sizeof name - 1) < 0)
-        strcpy(name, "nothing");
-    errno = error;
-    trace_name(kind, name, result);
 }
 
 ssize_t write(int to, const void *bytes, size_t size)
@@ -99,10 +122,12 @@ ssize_t write(int to, const void *bytes, size_t size)
     ssize_t (*next)(int, const void *, size_t) =
         (ssize_t (*)(int, const void *, size_t))real("write");
     int is_message = to == STDERR_FILENO;
-    ssize_t count = allowed(is_message ? "message" : "write", is_message ? &messages : &writes, size);
+    const char *kind = is_message ? "message" : "write";
+    struct file file = {NULL, to};
+    ssize_t count = allowed(kind, file, is_message ? &messages : &writes, size);
     if (count > 0 || size == 0)
         count = next(to, bytes, count < 0 ? 0 : (size_t)count);
-    trace(is_message ? "message" : "write", to, count);
+    trace(kind, file, count);
     return count;
 }
 
@@ -121,13 +146,11 @@ static ssize_t read_known(const char *name, void *bytes, size_t size)
 static ssize_t readable(int from, size_t size)
 {
     const char *bad = getenv("BAD");
-    char link[32], name[4096] = "";
     struct stat file;
     long long first, last;
     off_t at = (off_t)syscall(SYS_lseek, from, 0, SEEK_CUR);
-    snprintf(link, sizeof link, "/proc/self/fd/%d", from);
     if (bad == NULL || sscanf(bad, "%lld %lld", &first, &last) != 2 || at < 0 ||
-        readlink(link, name, sizeof name - 1) < 0 || strcmp(strrchr(name, '/'), "/IN.age") != 0 ||
+        strcmp(name_of((struct file){NULL, from}), "IN.age") != 0 ||
         fstat(from, &file) != 0 || at >= last || at >= file.st_size)
         return (ssize_t)size;
     if (at < first)
@@ -141,55 +164,52 @@ ssize_t read(int from, void *bytes, size_t size)
     static long reads;
     ssize_t (*next)(int, void *, size_t) = (ssize_t (*)(int, void *, size_t))real("read");
     const char *known = getenv("URANDOM");
-    struct stat file;
-    ssize_t count = allowed("read", &reads, size);
+    struct file file = {NULL, from};
+    struct stat found;
+    ssize_t count = allowed("read", file, &reads, size);
     if (count > 0)
         count = readable(from, (size_t)count);
-    if (count > 0 && known != NULL && fstat(from, &file) == 0 && S_ISCHR(file.st_mode) &&
-        file.st_rdev == makedev(1, 9))
+    if (count > 0 && known != NULL && fstat(from, &found) == 0 && S_ISCHR(found.st_mode) &&
+        found.st_rdev == makedev(1, 9))
         count = read_known(known, bytes, (size_t)count);
     else if (count > 0)
         count = next(from, bytes, (size_t)count);
-    trace("read", from, count);
+    trace("read", file, count);
     return count;
 }
 
-int ftruncate(int file, off_t size)
-{
-    static long calls;
-    int (*next)(int, off_t) = (int (*)(int, off_t))real("ftruncate");
-    int result = allowed("ftruncate", &calls, 0) < 0 ? -1 : next(file, size);
-    trace("ftruncate", file, result < 0 ? result : (long)size);
-    return result;
-}
+// A call that transfers nothing, of a file with this name or descriptor.
+#define CALL(type, kind, name, number, parameters, arguments) \
+    type kind parameters \
+    { \
+        static long calls; \
+        struct file its = {name, number}; \
+        type(*next) parameters = (type(*) parameters)real(#kind); \
+        type result = allowed(#kind, its, &calls, 0) < 0 ? -1 : next arguments; \
+        trace(#kind, its, (long)result); \
+        return result; \
+    }
 
-int fsync(int file)
-{
-    static long calls;
-    int (*next)(int) = (int (*)(int))real("fsync");
-    int result = allowed("fsync", &calls, 0) < 0 ? -1 : next(file);
-    trace("fsync", file, result);
-    return result;
-}
+CALL(int, ftruncate, NULL, file, (int file, off_t size), (file, size))
+CALL(int, fsync, NULL, file, (int file), (file))
+CALL(int, flock, NULL, file, (int file, int how), (file, how))
+CALL(int, fchmod, NULL, file, (int file, mode_t mode), (file, mode))
+CALL(int, fchown, NULL, file, (int file, uid_t owner, gid_t group), (file, owner, group))
+CALL(off_t, lseek, NULL, file, (int file, off_t to, int from), (file, to, from))
+CALL(int, rename, from, 0, (const char *from, const char *to), (from, to))
+CALL(int, link, from, 0, (const char *from, const char *to), (from, to))
 
 int statx(int at, const char *path, int flags, unsigned mask, struct statx *found)
 {
     static long calls;
     int (*next)(int, const char *, int, unsigned, struct statx *) =
         (int (*)(int, const char *, int, unsigned, struct statx *))real("statx");
-    int result = allowed("statx", &calls, 0) < 0 ? -1 : next(at, path, flags, mask, found);
     const char *factor = getenv("INODE");
+    struct file file = {*path ? path : NULL, at};
+    int result = allowed("statx", file, &calls, 0) < 0 ? -1 : next(at, path, flags, mask, found);
+    trace("statx", file, result);
     if (result == 0 && factor != NULL)
         found->stx_ino = found->stx_size * strtoull(factor, NULL, 10);
-    return result;
-}
-
-off_t lseek(int file, off_t to, int from)
-{
-    static long calls;
-    off_t (*next)(int, off_t, int) = (off_t (*)(int, off_t, int))real("lseek");
-    off_t result = allowed("lseek", &calls, 0) < 0 ? -1 : next(file, to, from);
-    trace("lseek", file, (long)result);
     return result;
 }
 
@@ -200,16 +220,9 @@ int open(const char *name, int flags, ...)
     va_start(rest, flags);
     mode_t mode = va_arg(rest, mode_t);
     va_end(rest);
-    return allowed("open", &calls, 0) < 0 ? -1 : opened(name, flags, mode);
-}
-
-int rename(const char *from, const char *to)
-{
-    static long calls;
-    int (*next)(const char *, const char *) =
-        (int (*)(const char *, const char *))real("rename");
-    int result = allowed("rename", &calls, 0) < 0 ? -1 : next(from, to);
-    trace_name("rename", from, result);
+    struct file file = {name, 0};
+    int result = allowed("open", file, &calls, 0) < 0 ? -1 : opened(name, flags, mode);
+    trace("open", file, result < 0 ? result : 0);
     return result;
 }
 
@@ -221,16 +234,7 @@ int unlink(const char *name)
         errno = EIO;
         return -1;
     }
-    return allowed("unlink", &calls, 0) < 0 ? -1 : next(name);
-}
-
-int fchmod(int file, mode_t mode)
-{
-    static long calls;
-    int (*next)(int, mode_t) = (int (*)(int, mode_t))real("fchmod");
-    int result = allowed("fchmod", &calls, 0) < 0 ? -1 : next(file, mode);
-    trace("fchmod", file, result);
-    return result;
+    return allowed("unlink", (struct file){name, 0}, &calls, 0) < 0 ? -1 : next(name);
 }
 
 int clock_gettime(clockid_t clock, struct timespec *now)
@@ -244,27 +248,4 @@ int clock_gettime(clockid_t clock, struct timespec *now)
     now->tv_sec = passed / 1000;
     now->tv_nsec = passed % 1000 * 1000000;
     return 0;
-}
-
-int fchown(int file, uid_t owner, gid_t group)
-{
-    static long calls;
-    int (*next)(int, uid_t, gid_t) = (int (*)(int, uid_t, gid_t))real("fchown");
-    int result = allowed("fchown", &calls, 0) < 0 ? -1 : next(file, owner, group);
-    trace("fchown", file, result);
-    return result;
-}
-
-int flock(int file, int how)
-{
-    static long calls;
-    int (*next)(int, int) = (int (*)(int, int))real("flock");
-    return allowed("flock", &calls, 0) < 0 ? -1 : next(file, how);
-}
-
-int link(const char *from, const char *to)
-{
-    static long calls;
-    int (*next)(const char *, const char *) = (int (*)(const char *, const char *))real("link");
-    return allowed("link", &calls, 0) < 0 ? -1 : next(from, to);
 }

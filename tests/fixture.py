@@ -3,6 +3,7 @@
 Nothing in it comes from the program: reference.py makes the age files.
 """
 
+import hashlib
 import os
 
 import reference
@@ -25,6 +26,13 @@ def for_keys(plain, *keys, **more):
 
 def for_passphrase(plain, passphrase=PASSPHRASE, work=10):
     return reference.age_file(SEED, [reference.passphrase_stanza(passphrase, work, SALT)], plain)
+
+
+def for_public_keys(count):
+    """A file as age makes it for so many public keys, which are nobody's."""
+    shares = [hashlib.sha256(b"%d" % number).digest() for number in range(2 * count)]
+    stanzas = [reference.stanza_text([b"X25519", reference.signs(one)], other) for one, other in zip(shares[::2], shares[1::2])]
+    return reference.ended(reference.VERSION + b"".join(stanzas), SEED[:16]) + for_keys(HELLO, KEY)[156:]
 
 
 def changed(file, at):
@@ -75,6 +83,7 @@ def files():
         "plain.age": for_keys(PLAIN, KEY),
         "plain_pass.age": for_passphrase(PLAIN),
         "two_keys.age": for_keys(two_chunks, KEY, OTHER_KEY),
+        "recipients_668.age": for_public_keys(668),
         "no_pass.age": for_passphrase(HELLO, b"", 1),
         "empty_final.age": for_keys(PLAIN[:65536], KEY, empty_final=True),
         "cut.age": key_age[:120],

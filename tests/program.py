@@ -8,6 +8,7 @@ import shutil
 import subprocess
 import sys
 import tempfile
+import time
 import unittest
 
 sys.dont_write_bytecode = True
@@ -24,6 +25,8 @@ BY_PASSPHRASE = ("decrypt -p pass", "range -p pass 0 1", "rewrap -p pass -K key"
 # The levels of processor for which the packages contain builds, lowest first.
 LEVELS = ("x86-64", "x86-64-v3", "x86-64-v4")
 IO_ERROR, NO_SPACE, INTERRUPTED = "5", "28", "4"
+# Gives up after so many seconds without progress.
+PATIENCE = 600
 # How many programs run at a time, since other scripts run at the same time as most of these.
 AT_A_TIME = int(os.environ.get("AT_A_TIME", max(1, (os.cpu_count() or 1) // 2)))
 
@@ -119,6 +122,14 @@ def usage_error(text, usage=None):
     """What a refused command line prints on standard error."""
     usage = f"Usage: agep {usage}\n\n" if usage else ""
     return f"error: {text}\n\n{usage}For more information, try '--help'.\n"
+
+
+def wait_for(is_met):
+    ends = time.monotonic() + PATIENCE
+    while not is_met():
+        if time.monotonic() > ends:
+            raise AssertionError(f"it did not come in {PATIENCE} seconds")
+        time.sleep(0.01)
 
 
 def shown(data):

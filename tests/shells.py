@@ -1,13 +1,12 @@
 """The completions that bash, zsh and fish offer for the last word of a line of agep; the first two run at a
 terminal."""
 
-import contextlib
 import itertools
 import os
-import pty
 import subprocess
 
 from program import ROOT, scratch, write
+from terminal import Terminal
 
 FOLDER = ROOT + "/share/completions"
 # How each shell reads its completions, and makes control-T replace the last word by all that it
@@ -23,24 +22,17 @@ STARTS = {
 def at_terminal(shell, lines, folder):
     """The arguments of each line after the shell has completed and run it; agep is a function that prints them."""
     read, tell = os.pipe()
-    terminal, other = pty.openpty()
-    os.set_blocking(terminal, False)
     script = scratch() + "/script"
     write(script, f'{STARTS[shell]}\nagep() {{ printf "%s\\n" "$@" . >/dev/fd/{tell}; }}\n'.encode())
     words = ["timeout", "--foreground", "600", *shell.split(), "-i"]
-    environment = {**os.environ, "TERM": "dumb", "INPUTRC": "/dev/null"}
-    with open(read) as answers, subprocess.Popen(
-        words, stdin=other, stdout=other, stderr=other, cwd=folder, env=environment, pass_fds=[tell], start_new_session=True
-    ):
-        os.close(tell)
-        os.close(other)
+    terminal = Terminal(*words, cwd=folder, env={**os.environ, "TERM": "dumb", "INPUTRC": "/dev/null"}, pass_fds=[tell])
+    os.close(tell)
+    with open(read) as answers:
         for line in [f". {script}; agep", *(f"{line}\x14" for line in lines)]:
-            os.write(terminal, f"{line}\n".encode())
+            terminal.type(line.encode())
             yield [word.rstrip("\n") for word in itertools.takewhile(lambda word: word != ".\n", answers)]
-            with contextlib.suppress(BlockingIOError):
-                os.read(terminal, 65536)
-        os.write(terminal, b"exit\n")
-    os.close(terminal)
+    terminal.type(b"exit")
+    terminal.status()
 
 
 def by_fish(lines, folder):

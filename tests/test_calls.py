@@ -2,6 +2,7 @@
 turn. A short call changes nothing. A failing call ends with its message, status 1 and a prefix of the right
 output, and never with status 0 and an incomplete file."""
 
+import copy
 import errno
 import functools
 import itertools
@@ -10,13 +11,15 @@ import resource
 
 import fixture
 import reference
-from fixture import KEY, PLAIN, SALT, SEED, with_other_mac
-from messages import message
-from program import INTERRUPTED, IO_ERROR, NO_SPACE, ProgramCase, fault, preload, read, write
+from fixture import HELLO, KEY, PLAIN, SALT, SEED, with_other_mac
+from messages import filled, message
+from program import INTERRUPTED, IO_ERROR, ProgramCase, fault, preload, read, write
+from test_files import ROLES
 from test_headers import table
 from test_salvage import lost_lines
 from testkit import SEALED
 
+ATOMIC, NEW = "--atomic -o", "made.agep-new"
 # Takes more than one read.
 LONG_PASSPHRASE = b"".join(b"%d\n" % i for i in range(1, 1001))
 LONG_PLAIN = PLAIN[:131173]
@@ -65,6 +68,8 @@ def jobs():
 
 
 class CallCase(ProgramCase):
+    TRACE = {"TRACE": "trace"}
+
     @classmethod
     def setUpClass(cls):
         super().setUpClass()
@@ -80,7 +85,7 @@ class CallCase(ProgramCase):
         for name in ("met", "trace"):
             if os.path.exists(name):
                 os.remove(name)
-        env = {"LD_PRELOAD": preload("calls"), "TRACE": "trace", **{key.upper(): str(value) for key, value in call.items()}}
+        env = {"LD_PRELOAD": preload("calls"), **self.TRACE, **{key.upper(): str(value) for key, value in call.items()}}
         if form.endswith("-o"):
             write("made", YESTERDAY)
             ran = self.run_agep(*job.words, *form.split(), "made", job.name, env=env)
@@ -95,6 +100,11 @@ class CallCase(ProgramCase):
             self.made = ran.out
         self.met = os.path.exists("met")
         return ran
+
+    def changes(self, trace="trace"):
+        """The calls that changed files: the kind, the file and the result of each."""
+        rows = [line.split() for line in read(trace).decode().splitlines()]
+        return [(kind, name, int(result)) for kind, name, result in rows if kind not in ("statx", "open", "flock", "read", "lseek")]
 
     def is_whole(self, ran, job, form):
         self.assert_ended(ran, 0, "", None)
@@ -127,9 +137,8 @@ class CallCase(ProgramCase):
 
 class Order(CallCase):
     def calls(self):
-        """The calls on OUT."""
-        rows = [line.split() for line in read("trace").decode().splitlines()]
-        return [(kind, int(result)) for kind, name, result in rows if name == "made"]
+        """The calls that change OUT."""
+        return [(kind, result) for kind, name, result in self.changes() if name == "made"]
 
     def test_order(self):
         """OUT is truncated, then written, then synced; the writes add up to the whole output. Those of `rewrap`
@@ -158,6 +167,8 @@ class Order(CallCase):
 
 
 class ShortCalls(CallCase):
+    TRACE = {}
+
     def test_in_turn(self):
         """A short read or write is followed by another one, and so if all are short."""
         for job in self.jobs:
@@ -285,17 +296,105 @@ class UnreadChunks(CallCase):
         self.each_call("read", IO_ERROR, whole, "", self.has_failed(message("Read")))
 
 
-class FailingCalls(CallCase):
-    def test_reads(self):
-        """A failed read is not taken for the end of the file, and does not truncate an existing OUT."""
-        def judge(ran, job, form):
-            self.has_failed(message("Read"))(ran, job, form)
-            self.assertTrue(form != "-o" or self.made, "OUT is empty")
+# What ends a run if a call fails, by its kind and the role of its file: the fault, and what the second line of -v begins
+# with. After any other call the run goes on.
+ENDS = {
+    **{(kind, role): ("CannotOpen: {name}", "opening {name}") for kind, role in (("open", "secret"), ("open", "IN"), ("lseek", "IN"))},
+    **{("statx", role): ("Unidentified: {name}", "identifying {name}") for role in ("secret", "IN", "OUT")},
+    ("read", "secret"): ("Read", "reading {secret} {name}"), ("read", "IN"): ("Read", "reading {source}"), ("open", "OUT"): ("CannotCreate: made", "creating made"),
+    **{(kind, "NEW"): ("CannotCreate: made", f"creating {NEW}") for kind in ("statx", "open", "fchmod")},
+    **{(kind, role): ("Write", "writing {out}") for kind in ("write", "ftruncate") for role in ("OUT", "NEW")},
+    **{("fsync", role): ("Write", "syncing made") for role in ("OUT", "NEW")}, ("rename", "NEW"): ("Write", "replacing made"),
+    ("open", "folder"): ("Write", "syncing ."), ("fsync", "folder"): ("Write", "OUT was replaced; syncing its folder ."),
+}
+# Endings of their own: a new file may exist, not every folder can be read or synced, and the name or the folder of OUT may
+# be wrong.
+OWN = {
+    **dict.fromkeys((("open", "NEW", errno.EEXIST), ("open", "folder", errno.EPERM), ("open", "folder", errno.EACCES), ("fsync", "folder", errno.EINVAL))),
+    ("statx", "OUT", errno.ENOENT): None, ("statx", "NEW", errno.ENOENT): ("OutputIsBusy: made", None), ("read", "secret", errno.ENOMEM): ("OutOfMemory", None),
+    **{("first statx", "OUT", it): ("CannotCreate: made", f"creating made: {os.strerror(it)}") for it in (errno.EPERM, errno.EACCES, errno.ENOTDIR, errno.ENAMETOOLONG, errno.ELOOP)},
+    ("first statx", "OUT", errno.ENOMEM): ("OutOfMemory", None), ("flock", "OUT", errno.EAGAIN): ("OutputIsBusy: made", None),
+}
 
+
+class FailingCalls(CallCase):
+    def role(self, job, name):
+        if name in ("made", NEW):
+            return "OUT" if name == "made" else "NEW"
+        if name in (".", os.path.basename(self.folder)):
+            return "folder"
+        return "IN" if name == job.name else "secret" if name in job.words else "OUT" if name.startswith("pipe:") else "stream"
+
+    def ending(self, job, form, error):
+        """The fault of the run of which a call failed, and the second line of -v; or None if it goes on."""
+        kind, name = read("met").decode().split()
+        role, why = self.role(job, name), os.strerror(error)
+        before = read("trace").decode().partition(f"\n{kind} {name} -1\n")[0]
+        looks = before.count(f"\n{kind} {name} ") + 1
+        if kind == "statx" and "\nrename " in before and error != errno.ENOENT:
+            return None
+        if kind == "statx" and role in ("OUT", "NEW") and "\nftruncate " in before:
+            is_gone = error == errno.ENOENT and looks % 2 == 0
+            return "Write", f"replacing made: {'its new file was removed' if is_gone else why}"
+        # A file must be told from an existing OUT, once it is open; but OUT may be IN with --atomic, except for salvage.
+        is_asked = f"\nopen {name} 0" in before and form and (role == "secret" or form == "-o" or job.words[0] == "salvage")
+        if kind == "statx" and role in ("secret", "IN") and not is_asked:
+            return None
+        for own in (f"first {kind}" if looks == 1 else kind, role, error), (kind, role, error):
+            if own in OWN:
+                return OWN[own]
+        if kind == "lseek" and looks > 1:
+            kind = "read"
+        shown = {"name": name, "source": job.name if form or job.words[0] == "range" else "standard input", "out": "made" if form else "standard output"}
+        if role == "secret":
+            shown["secret"] = message(ROLES[job.words[job.words.index(name) - 1]])
+        fault, more = ENDS.get((kind, role), (None, ""))
+        return fault and (fault.format(**shown), f"{more.format(**shown)}: {why}")
+
+    def judge(self, ran, job, form, error=int(IO_ERROR)):
+        """It goes on, or ends with its fault; OUT is the old or the new file or, without --atomic, the start of that, and
+        there is no new file."""
+        (kind, name), trace = read("met").decode().split(), read("trace").decode()
+        if (kind, name, error) == ("flock", NEW, errno.EAGAIN):
+            os.remove(NEW)  # it is another run's
+            return
+        self.assertFalse(os.path.exists(NEW), "the new file was left")
+        if job.words[0] == "salvage" and form and (kind, name) == ("read", job.name):
+            return  # see UnreadChunks
+        ending = self.ending(job, form, error)
+        if ending is None or error == errno.EINTR and ran.status == 0:
+            self.is_whole(ran, job, form)
+            return
+        lines = [filled(f"agep: <{ending[0]}>"), *[f"agep: {ending[1]}"] * bool(ending[1]), ""]
+        self.assert_ended(ran, 1, "\n".join(lines), None)
+        if kind == "fsync" or f"rename {NEW} 0" in trace:
+            self.assert_bytes(self.made, job.expected if form == "-o" or f"rename {NEW} 0" in trace else YESTERDAY, "OUT")
+        elif form == ATOMIC or kind not in ("read", "write", "lseek"):
+            self.assert_bytes(self.made, YESTERDAY if form else b"", "OUT")
+        elif form != "-o" or self.made != YESTERDAY:
+            self.assertTrue(self.made or kind == "write" or not form, "OUT is empty")
+            self.assert_bytes(self.made, job.expected[: len(self.made)], "the start of the output")
+
+    def test_each(self):
+        """Each call fails in turn, in each form of each command."""
+        for job in self.jobs:
+            for form in (*job.forms(), *[ATOMIC] * job.has_out):
+                verbose = copy.copy(job)
+                verbose.words = [*job.words, "-v"]
+                self.each_call("any", IO_ERROR, verbose, form, self.judge)
+
+    def test_each_error(self):
+        """Each call of a run fails with each error."""
+        write("small.age", fixture.for_keys(HELLO, KEY))
+        job = Job("decrypt -v -k key", "small.age", HELLO, 4, 1)
+        for error in ERRORS:
+            self.each_call("any", error, job, ATOMIC, lambda *ran: self.judge(*ran, error))
+
+    def test_no_byte(self):
+        """A write that writes nothing."""
         for job in self.jobs:
             for form in job.forms():
-                if (job.words[0], form) != ("salvage", "-o"):
-                    self.each_call("read", IO_ERROR, job, form, judge)
+                self.each_call("write", "none", job, form, self.has_failed(message("Write")))
 
     def test_first_chunk(self):
         """Before the first chunk is complete, a failed read leaves OUT alone."""
@@ -306,46 +405,6 @@ class FailingCalls(CallCase):
         write("start", PLAIN[:65535])
         job = Job("encrypt -k key -s seed", "start", fixture.for_keys(PLAIN[:65535], KEY), 5, 2)
         self.each_call("read", IO_ERROR, job, "-o", is_old)
-
-    def test_writes(self):
-        """A write that fails, or writes nothing."""
-        for job in self.jobs:
-            for form in job.forms():
-                for what in (IO_ERROR, NO_SPACE, "none"):
-                    self.each_call("write", what, job, form, self.has_failed(message("Write")))
-
-    def test_files(self):
-        """An OUT that cannot be truncated stays as it was. If OUT cannot be synced, the command fails."""
-        def is_untouched(ran, job, form):
-            self.assert_ended(ran, 1, fault(message("Write")))
-            self.assert_bytes(self.made, YESTERDAY, "OUT")
-
-        def is_unsynced(ran, job, form):
-            self.assert_ended(ran, 1, fault(message("Write")))
-            self.assert_bytes(self.made, job.expected, "OUT")
-
-        for job in self.jobs:
-            if job.has_out:
-                self.each_call("ftruncate", IO_ERROR, job, "-o", is_untouched)
-                self.each_call("fsync", IO_ERROR, job, "-o", is_unsynced)
-                self.each_call("fsync", NO_SPACE, job, "-o", is_unsynced)
-
-    def test_metadata(self):
-        """If the system does not tell which file is which, an existing OUT stays as it was."""
-        names = ["pass", "key", "other.key", "seed", "plain", "key.age", "made", "standard input"]
-        lines = [fault(message("Unidentified", name)).encode() for name in names]
-
-        def judge(ran, job, form):
-            if ran.status == 0:
-                self.is_whole(ran, job, form)
-                return
-            self.assertIn(ran.err, lines)
-            self.assert_ended(ran, 1, ran.err, None)
-            self.assert_bytes(self.made, YESTERDAY, "OUT")
-
-        for job in self.jobs:
-            if job.has_out:
-                self.each_call("statx", IO_ERROR, job, "-o", judge)
 
     def test_metadata_of_one_file(self):
         """An OUT that is also read stays as it was, whichever question about files fails."""
@@ -372,21 +431,6 @@ class FailingCalls(CallCase):
                 if not os.path.exists("met"):
                     break
             self.assertGreaterEqual(number, 3)
-
-    def test_seeks(self):
-        """Only range seeks."""
-        job = self.jobs[3]
-
-        def judge(ran, job, form):
-            cannot_open = message("CannotOpen", "key.age")
-            opens = ran.err == fault(cannot_open).encode()
-            self.has_failed(cannot_open if opens else message("Read"))(ran, job, form)
-
-        for form in job.forms():
-            self.each_call("lseek", IO_ERROR, job, form, judge)
-            with self.subTest(f"the first seek shows whether IN can be read at offsets {form}"):
-                ran = self.run_job(job, form, call="lseek", number=1, do=IO_ERROR)
-                self.assert_ended(ran, 1, fault(message("CannotOpen", "key.age")), None)
 
     def test_explained(self):
         """With -v the second line says that OUT could not be emptied."""

@@ -3,7 +3,6 @@
 import glob
 import itertools
 import os
-import pty
 import re
 import shutil
 import signal
@@ -15,7 +14,8 @@ import fixture
 from fixture import HELLO, KEY, PLAIN
 from messages import message
 from program import AGEP, ProgramCase, fault, preload, read, write
-from test_progress import ERASE, drained
+from terminal import Terminal
+from test_progress import ERASE
 
 
 def tool(name):
@@ -28,31 +28,28 @@ def tool(name):
 
 class Terminals(ProgramCase):
     def on_terminal(self, *words):
-        """Runs the program with a terminal as standard output; returns its status, the output there, and its
-        standard error."""
-        line = " ".join(map(subprocess.list2cmdline, [[AGEP], words]))
-        script = [tool("script"), "-qec", f"{line} 2>err; echo $? >status", "/dev/null"]
-        done = subprocess.run(script, stdin=subprocess.DEVNULL, stdout=subprocess.PIPE, timeout=600)
-        return int(read("status")), done.stdout.replace(b"\r", b""), read("err").decode()
+        """Runs the program with a terminal as standard output; returns its status, its standard error, and the output
+        there."""
+        return Terminal(AGEP, *words, streams=["stdout"], stdin=subprocess.DEVNULL, stderr=subprocess.PIPE).ended()
 
     def test_refused(self):
         """An encrypted file is not printed on a terminal."""
-        line = fault(message("OutputIsTerminal"))
+        line = fault(message("OutputIsTerminal")).encode()
         for words in (
             "encrypt -k key hello", "rewrap -k key -K other.key key.age", "encrypt -k absent -s absent nowhere",
             "rewrap -p absent -P absent nowhere",
         ):
             with self.subTest(words):
-                self.assertEqual(self.on_terminal(*words.split()), (1, b"", line))
+                self.assertEqual(self.on_terminal(*words.split()), (1, line, ""))
         for words, name in (("encrypt", "KeyChoice"), ("rewrap -p pass", "NewKeyChoice")):
             with self.subTest(words):
-                self.assertEqual(self.on_terminal(*words.split()), (1, b"", fault(message(name))))
+                self.assertEqual(self.on_terminal(*words.split()), (1, fault(message(name)).encode(), ""))
 
     def test_taken(self):
         """encrypt at a terminal to a file, and decrypt to a terminal."""
         self.assertEqual(self.on_terminal("encrypt", "-k", "key", "-s", "seed", "-o", "made", "hello"), (0, b"", ""))
         self.assert_file("made", read("key.age"))
-        self.assertEqual(self.on_terminal("decrypt", "-k", "key", "key.age"), (0, HELLO, ""))
+        self.assertEqual(self.on_terminal("decrypt", "-k", "key", "key.age"), (0, b"", HELLO.decode()))
 
 
 class ClosedPipes(ProgramCase):
@@ -99,14 +96,11 @@ class ClosedStreams(ProgramCase):
     def run_closed(self, words, closed, is_terminal):
         """Runs the program with these streams closed and a terminal or a pipe as standard error. Returns its
         status, its output and its standard error."""
-        controller, terminal = pty.openpty() if is_terminal else os.pipe()
-        line = " ".join(f"{number}{'<' if number == 0 else '>'}&-" for number in closed)
-        with open("key.age", "rb") as stdin:
-            done = subprocess.run(
-                ["bash", "-c", f'exec "$0" {words} {line}', AGEP], stdin=stdin, stdout=subprocess.PIPE, stderr=terminal, timeout=600
-            )
-        os.close(terminal)
-        return done.returncode, done.stdout, drained(controller).decode().replace("\r\n", "\n")
+        line = " ".join([words, "<key.age", *(f"{number}{'<' if number == 0 else '>'}&-" for number in closed)])
+        if is_terminal:
+            return Terminal("bash", "-c", f'exec "$0" {line}', AGEP, streams=["stderr"], stdout=subprocess.PIPE).ended()
+        ran = self.run_line(line)
+        return ran.status, ran.out, ran.err.decode()
 
     def test_each(self):
         """All eight combinations, with and without -v and a terminal."""
@@ -163,16 +157,16 @@ class ClosedStreams(ProgramCase):
             os.chmod("root/" + name, 0o644)
         os.chmod("root/d", 0o777)
         os.chmod(self.folder, 0o755)
-        for mode, line, status, made in (
-            (0o755, "2>&-", 1, bytes(6)), (0o711, "2>&-", 1, None), (0o711, ">&- 2>&-", 1, None), (0o711, "", 1, bytes(6)),
-            (0o711, "<&-", 1, bytes(6)),
+        for mode, folder, line, made in (
+            (0o755, "/", "2>&-", bytes(6)), (0o711, "/", "2>&-", None), (0o711, "/", ">&- 2>&-", None), (0o711, "/", "", bytes(6)),
+            (0o711, "/", "<&-", bytes(6)), (0o711, "/d", "2>&-", bytes(6)),
         ):
-            with self.subTest(f"mode {mode:o}, {line}"):
+            with self.subTest(f"mode {mode:o}, in {folder}, {line}"):
                 os.chmod("root", mode)
-                words = f"/agep salvage -k key -o d/out damaged.age {line}"
-                script = f"import os; os.chroot('root'); os.chdir('/'); os.setgid(65534); os.setuid(65534); os.execv('/agep', {words.split(' ')[:7]!r})"
+                words = f"/agep salvage -k /key -o /d/out /damaged.age {line}"
+                script = f"import os; os.chroot('root'); os.chdir('{folder}'); os.setgid(65534); os.setuid(65534); os.execv('/agep', {words.split(' ')[:7]!r})"
                 ran = subprocess.run(["bash", "-c", f'exec python3 -c "$0" {line}', script], capture_output=True, timeout=600)
-                self.assertEqual(ran.returncode, status, ran.stderr)
+                self.assertEqual(ran.returncode, 1, ran.stderr)
                 self.assertEqual(read("root/d/out") if os.path.exists("root/d/out") else None, made)
                 if made:
                     os.remove("root/d/out")
@@ -296,7 +290,7 @@ class SystemCalls(ProgramCase):
     def test_inspect(self):
         """A header of 65,534 bytes takes at most two reads and two writes."""
         for options in ((), ("-r",)):
-            with self.subTest(f"inspect {' '.join(options)}"), open("data/recipients_668.age", "rb") as stdin:
+            with self.subTest(f"inspect {' '.join(options)}"), open("recipients_668.age", "rb") as stdin:
                 sizes = self.trace("inspect", *options, input=stdin)
                 self.assertTrue(1 <= len(sizes["read0"]) <= 2 and 1 <= len(sizes["write1"]) <= 2, sizes)
 

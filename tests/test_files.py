@@ -1,7 +1,7 @@
 """What protects a user's files, for each command: existing OUTs, files that are read, modes."""
 
 import os
-import subprocess
+import unittest
 
 from fixture import HELLO
 from messages import message
@@ -29,8 +29,8 @@ def roles(line):
 
 class Files(ProgramCase):
     def files(self):
-        """The bytes and the time of each file in the folder."""
-        return {entry.name: (read(entry.path), entry.stat().st_mtime_ns) for entry in os.scandir(".") if entry.is_file()}
+        """The bytes and the time of each file in the folder but that of calls.c."""
+        return {entry.name: (read(entry.path), entry.stat().st_mtime_ns) for entry in os.scandir(".") if entry.is_file() and entry.name != "met"}
 
     def changes_nothing(self, name, line, **how):
         """Runs a line, which must end with the fault of this name, and create and change no file."""
@@ -146,16 +146,24 @@ class Out(Files):
                 self.assertEqual(f"{os.stat('made').st_mode & 0o777:03o}", "640")
                 os.remove("made")
 
-    def test_named_pipe(self):
-        """A pipe as OUT gets what standard output would."""
-        os.mkfifo("pipe")
+    def test_standard_output(self):
+        """OUT may be a name of standard output."""
         for options in ("decrypt -k key", "range -k key 0 9", "salvage -k key"):
-            reader = subprocess.Popen(["cat", "pipe"], stdout=subprocess.PIPE)
-            self.addCleanup(reader.kill)
             with self.subTest(options):
-                self.assert_ended(self.run_line(f"{options} -o pipe key.age"))
-                self.assert_bytes(reader.communicate(timeout=600)[0], HELLO)
                 self.assert_ended(self.run_line(f"{options} -o /dev/stdout key.age"), out=HELLO)
+
+    @unittest.skipUnless(os.geteuid() == 0, "needs another user")
+    def test_write_only(self):
+        """An OUT that may be written, but not read, is written or replaced."""
+        os.chmod(self.folder, 0o777)
+        for options in "-o made", "--atomic -o made":
+            write("made", b"old")
+            os.chown("made", 65534, 65534)
+            os.chmod("made", 0o200)
+            with self.subTest(options):
+                self.assert_ended(self.run_line(f"decrypt -k key {options} key.age", user=65534, group=65534, extra_groups=[]))
+                self.assert_file("made", HELLO)
+        os.remove("made")
 
 
 class OutIsRead(Files):

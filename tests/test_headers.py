@@ -52,7 +52,7 @@ class Tables(ProgramCase):
 
     def test_files_of_age(self):
         """The headers of files made by age."""
-        for name in ("one_recipient", "three_recipients", "recipients_668", "ssh_recipients", "passphrase"):
+        for name in ("one_recipient", "three_recipients", "ssh_recipients", "passphrase"):
             with self.subTest(name):
                 file = f"data/{name}.age"
                 header = header_in(read(file))

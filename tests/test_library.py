@@ -1,5 +1,5 @@
 """Builds and installs the library for C, and runs it from C under sanitizers: its names, its codes, its
-calls, refused allocations, threads, memory, and files exchanged with the program and with `age`.
+calls, refused allocations, threads, memory, and files exchanged with the program.
 tests/test_packages.py runs the packages for Python and Rust over it."""
 
 import functools
@@ -18,7 +18,9 @@ import header
 import model
 
 import fixture
+import stand_in
 import test_damaged_files
+import test_new_file
 import test_vectors
 import testkit
 from messages import message
@@ -126,8 +128,12 @@ def archive():
 
 
 def saving(level):
-    """The flags of a C compiler for a system that saves the registers of this level alone."""
-    (work() / "saving.h").write_text("#include <immintrin.h>\n#define _xgetbv(number) (0 * (number) + SAVED)\n")
+    """The flags of a C compiler for a system that saves the registers of this level alone. With only the first flag,
+    a program asks the variable SAVED."""
+    (work() / "saving.h").write_text(
+        '#include <immintrin.h>\n#include <stdlib.h>\n#ifndef SAVED\n#define SAVED strtoul(getenv("SAVED"), NULL, 10)\n#endif\n'
+        "#define _xgetbv(number) (0 * (number) + SAVED)\n"
+    )
     return f"-include{work()}/saving.h", f"-DSAVED={SAVED[level]}"
 
 
@@ -159,7 +165,7 @@ def files_of(folder):
 
 @functools.cache
 def sanitizers():
-    words = ("-fsanitize=address,undefined", "-fno-sanitize-recover=all")
+    words = ("-fsanitize=address,undefined", "-fno-sanitize-recover=all", "-DSANITIZED")
     done = run("cc", *words, "-x", "c", "-o", work() / "empty_sanitized", "-", input=b"int main(void) { return 0; }")
     if done.returncode != 0:
         print("skipped: sanitizers: this C compiler lacks them")
@@ -301,22 +307,24 @@ class Processors(unittest.TestCase):
 
     def test_registers(self):
         """A build is called only if the system saves all registers of its level."""
+        program = self.passed(saving("x86-64")[0])
         for saved in {*range(8), 0xE6, *(0xE6 & ~(1 << bit) for bit in range(8))}:
-            flags = (*saving("x86-64")[:1], f"-DSAVED={saved}")
             fitting = [level for level in levels_here() if saved & SAVED[level] == SAVED[level]]
-            self.assertEqual(said(self.passed(*flags)), self.printed(fitting[-1]), saved)
+            self.assertEqual(said(program, env=os.environ | {"SAVED": str(saved)}), self.printed(fitting[-1]), saved)
 
     def test_parts(self):
         """The build for x86-64-v4 is called only if no part of that level is missing. No emulator has them."""
+        parts = "F BW CD DQ VL".split()
         (work() / "lacking.h").write_text(
-            "#include <cpuid.h>\n"
+            "#include <cpuid.h>\n#include <stdlib.h>\n"
+            f"static const unsigned parts_of_v4[] = {{{', '.join(f'bit_AVX512{part}' for part in parts)}}};\n"
             "static inline int lacking(unsigned leaf, unsigned part, unsigned *a, unsigned *b, unsigned *c, unsigned *d)\n"
-            "{ int known = __get_cpuid_count(leaf, part, a, b, c, d); *b &= ~LACKED; return known; }\n"
+            '{ int known = __get_cpuid_count(leaf, part, a, b, c, d); *b &= ~parts_of_v4[atoi(getenv("LACKED"))]; return known; }\n'
             "#define __get_cpuid_count lacking\n"
         )
-        for part in "F BW CD DQ VL".split():
-            found = said(self.passed(f"-include{work()}/lacking.h", f"-DLACKED=bit_AVX512{part}"))
-            self.assertEqual(found, self.printed(levels_here()[:2][-1]), part)
+        program = self.passed(f"-include{work()}/lacking.h")
+        for number, part in enumerate(parts):
+            self.assertEqual(said(program, env=os.environ | {"LACKED": str(number)}), self.printed(levels_here()[:2][-1]), part)
 
     @needs("qemu-x86_64")
     def test_other_processors(self):
@@ -478,40 +486,27 @@ class Constants(unittest.TestCase):
 
 
 class Calls(unittest.TestCase):
-    """The tests in C, with pages that fault right after or right before each buffer."""
+    """Calls from C, with pages that fault right after or right before each buffer, agree with a model in Python: see
+    random_calls.py."""
 
-    def each_test(self, program, title="", emulator=()):
-        for name in said(program).splitlines():
-            for placing in ({},) if emulator else ({}, {"AT_START": "1"}):
-                with self.subTest(f"{title or program.name}: {name}{', at the start of pages' if placing else ''}"):
-                    done = run(*emulator, program, name, env=os.environ | placing)
-                    self.assertEqual((done.returncode, done.stderr), (0, b""), done.stdout.decode() + done.stderr.decode())
+    def agree(self, count, *drivers):
+        done = run(sys.executable, TESTS / "random_calls.py", count, 1, *drivers)
+        self.assertEqual((done.returncode, done.stderr), (0, b""), done.stdout.decode() + done.stderr.decode())
+        self.assertGreater(int(done.stdout.split()[0]), count)
 
-    def by_each_build(self, name, *flags):
-        for level, library in each_build().items():
-            self.each_test(built(name, *sanitizers(), *flags, library=library), f"{name} {level}")
+    def driver(self, *flags, library=None):
+        return built("driver", *flags, *REFUSING, f"-I{texts()}", library=library)
 
-    def test_buffers(self):
-        self.by_each_build("buffers")
-
-    def test_steps(self):
-        self.by_each_build("steps")
-
-    def test_headers(self):
-        self.by_each_build("headers")
+    def test_random_calls(self):
+        """By each build, under sanitizers and on small stacks."""
+        libraries = each_build().values()
+        self.agree(RANDOM_CALLS, *(self.driver(*flags, library=library) for flags in {sanitizers(), ("-O2",)} for library in libraries))
 
     @needs("qemu-x86_64")
     def test_older_processors(self):
-        """The same tests where an instruction of x86-64-v3 ends the program."""
-        for name in ("buffers", "steps"):
-            self.each_test(built(name, "-O1"), f"{name} by qemu", ("qemu-x86_64", "-cpu", "Nehalem"))
-
-    def test_headers_of_age(self):
-        """The stanzas of files of age are listed as the lines of their headers."""
-        for path in sorted((ROOT / "tests/data").glob("*.age")):
-            with self.subTest(path.name):
-                header = re.match(rb"age-encryption.org/v1\n((?:.*\n)*?)--- ", path.read_bytes())[1]
-                self.assertEqual(run(built("headers", *sanitizers()), "stanzas", input=path.read_bytes(), status=0).stdout, header)
+        """Where an instruction of x86-64-v3 ends the program."""
+        stand_in.tool(work() / "emulated", f"exec qemu-x86_64 -cpu Nehalem {self.driver('-O1')}")
+        self.agree(100, work() / "emulated")
 
     def test_second_compiler(self):
         """The archive as Rattle's own compiler makes it, so that a bug in one of the two compilers shows."""
@@ -525,18 +520,7 @@ class Calls(unittest.TestCase):
         finally:
             shutil.copy2(kept, made)
         run("sh", "-c", 'root=$0; . "$root/share/build.sh"; crate=$1; link_library "$crate"', ROOT, second, status=0)
-        for name in ("buffers", "steps", "headers"):
-            self.each_test(built(name, "-O1", library=(second / "libagefile.a",)), f"{name}, second compiler")
-
-    def test_random_calls(self):
-        """Calls with each pointer null or each allocation refused, and random calls, agree with a model of the
-        library in Python."""
-        for level, library in each_build().items():
-            with self.subTest(level):
-                driver = built("driver", *sanitizers(), *REFUSING, f"-I{texts()}", library=library)
-                done = run(sys.executable, TESTS / "random_calls.py", driver, RANDOM_CALLS)
-                self.assertEqual((done.returncode, done.stderr), (0, b""), done.stdout.decode() + done.stderr.decode())
-                self.assertGreater(int(done.stdout.split()[0]), RANDOM_CALLS)
+        self.agree(100, self.driver("-O1", library=(second / "libagefile.a",)))
 
     def test_a_wrong_library_is_found(self):
         """Random calls find a library that reads, writes, reports or returns something else."""
@@ -553,15 +537,9 @@ class Calls(unittest.TestCase):
                 folder = work() / f"wrong_{name}"
                 folder.mkdir()
                 (folder / "driver_calls.h").write_text(text.replace(f"return {call};", wrong))
-                done = run(sys.executable, TESTS / "random_calls.py", built("driver", *REFUSING, f"-I{folder}"), 400)
+                done = run(sys.executable, TESTS / "random_calls.py", 0, 1, built("driver", *REFUSING, f"-I{folder}"))
                 self.assertEqual((done.returncode, done.stderr), (1, b""))
                 self.assertIn(": wrap_key, flags ", done.stdout.decode())
-
-    def test_threads(self):
-        """Eight threads at once and a forked child, at most 24 of 32 KiB of stack, and no changed signal
-        handler."""
-        for library in each_build().values():
-            self.assertGreater(int(said(built("threads", "-O2", library=library))), 0)
 
 
 class WithTheProgram(unittest.TestCase):
@@ -672,23 +650,11 @@ class WithTheProgram(unittest.TestCase):
         self.assertEqual((done.returncode, done.stderr), (1, b"stream: read failed\n"))
         self.assertNotEqual(self.agep("decrypt", "-k", "key", input=done.stdout).returncode, 0)
 
-    @needs("age")
     def test_age(self):
-        """Files of age open, and age opens those of the library."""
-        typing = ("timeout", "600", ROOT / "tests/type_passphrase.py", "pass", "age")
-        for size in (1, 65537):
-            with self.subTest(f"{size} bytes"):
-                plain = os.urandom(size)
-                (work() / "plain").write_bytes(plain)
-                (work() / "made").unlink(missing_ok=True)
-                run(*typing, "-p", "-o", "made", "plain", cwd=work(), status=0)
-                for kind in ("whole", "steps", "ranges"):
-                    self.assertEqual(self.convert(kind, "decrypt", "-p", "pass", input=(work() / "made").read_bytes(), status=0).stdout, plain)
-                for kind in ("whole", "steps"):
-                    (work() / "made").write_bytes(self.convert(kind, "encrypt", "-p", "pass", "10", input=plain, status=0).stdout)
-                    (work() / "back").unlink(missing_ok=True)
-                    run(*typing, "-d", "-o", "back", "made", cwd=work(), status=0)
-                    self.assertEqual((work() / "back").read_bytes(), plain)
+        """A file of age opens. The library makes the files of agep, which age opens (test_interop)."""
+        file = (ROOT / "tests/data/passphrase.age").read_bytes()
+        for kind in ("whole", "steps", "ranges"):
+            self.assertEqual(self.convert(kind, "decrypt", "-p", "pass", input=file, status=0).stdout, fixture.HELLO)
 
     def test_memory(self):
         """1 GiB through the example and back takes at most 4 MiB of memory."""
@@ -709,6 +675,13 @@ class Vectors(unittest.TestCase):
             with self.subTest(way.name):
                 self.assertEqual(test_vectors.differences(way), {})
                 self.assertEqual(test_vectors.differences(way, test_damaged_files.cases()), {})
+
+
+class NewFiles(test_new_file.Cells):
+    by = "python"
+
+    def setUp(self):
+        os.environ["AGEFILE_LIBRARY"] = str(prefix() / "lib" / SONAME)
 
 
 class Document(unittest.TestCase):
@@ -745,7 +718,7 @@ class Document(unittest.TestCase):
                 run("bash", "-c", line, cwd=work(), env=environment, status=0)
                 for name in ("pass", "pass.line"):
                     self.assertEqual(run("./program", name, input=file, cwd=work(), env=environment, status=0).stdout, plain)
-                for cut, said_of in ((150, message("NonceTruncated")), (len(file) - 1, "chunk is damaged")):
+                for cut, said_of in ((150, message("NonceTruncated") + " (0)"), (len(file) - 1, "chunk is damaged (30)")):
                     done = run("./program", "pass", input=file[:cut], cwd=work(), env=environment, status=1)
                     self.assertEqual((done.stdout, done.stderr.decode()), (b"", f"{said_of}\n"))
                 self.assertEqual(run("./program", "nowhere", input=file, cwd=work(), env=environment, status=2).stdout, b"")

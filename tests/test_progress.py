@@ -1,17 +1,14 @@
 """The line by which -v shows at a terminal how much was read. The clock of tests/calls.c moves on at each look."""
 
-import fcntl
 import os
-import pty
 import re
 import subprocess
-import termios
-import threading
 
 import fixture
 from fixture import HELLO, KEY
 from messages import message
 from program import AGEP, ProgramCase, fault, preload, read, write
+from terminal import Terminal
 
 ERASE, CUT, WRAP = "\r\x1b[K", "\x1b[?7l", "\x1b[?7h"
 MANY = b"".join(b"%d\n" % i for i in range(1, 100001))[:450000]
@@ -23,18 +20,6 @@ PIPE = r"agep: (\d+) KiB, (\d+) KiB/s"
 FILE = rf"agep: (\d+) KiB of {SIZE} KiB, (\d+) KiB/s, (\d+) s left"
 
 
-def drained(controller):
-    """All that a terminal or a pipe receives until its last writer has closed it."""
-    said = b""
-    try:
-        while more := os.read(controller, 65536):
-            said += more
-    except OSError:
-        pass
-    os.close(controller)
-    return said
-
-
 class Progress(ProgramCase):
     def setUp(self):
         super().setUp()
@@ -44,26 +29,18 @@ class Progress(ProgramCase):
     def at_terminal(self, line, input=b"", term="xterm", look=500):
         """Runs a line with a terminal as standard error; at each look at the clock these milliseconds have passed.
         Returns its status, its output, and the text on the terminal."""
-        controller, terminal = pty.openpty()
         env = {**os.environ, "TERM": term, "LD_PRELOAD": preload("calls"), "CLOCK": str(look)}
-        said = []
-        reader = threading.Thread(target=lambda: said.append(drained(controller)))
-        reader.start()
-        done = subprocess.run(
-            [AGEP, *line.split()], input=input, stdout=subprocess.PIPE, stderr=terminal, timeout=600,
-            start_new_session=True, preexec_fn=lambda: fcntl.ioctl(2, termios.TIOCSCTTY, 0), env=env,
-        )
-        os.close(terminal)
-        reader.join()
-        return done.returncode, done.stdout, said[0].decode().replace("\r\n", "\n")
+        pipe = subprocess.PIPE
+        return Terminal(AGEP, *line.split(), streams=["stderr"], stdin=pipe, stdout=pipe, env=env).ended(input)
 
     def assert_drawn(self, said, line, look=500, last=""):
-        """Whether the line was drawn, at most twice a second, and erased before the last output."""
+        """Whether the line was drawn, at most twice a second, and erased before the last output. The clock starts
+        at its second look, after 128 to 255 KiB."""
         self.assertEqual(said[len(said) - len(ERASE + last) :], ERASE + last)
         first, *drawn = said[: len(said) - len(ERASE + last)].split(ERASE)
         self.assertEqual(first, "")
         every = -(-500 // look)
-        self.assertIn(len(drawn), range(6 // every, 8 // every + 1), drawn)
+        self.assertIn(len(drawn), range(4 // every, 6 // every + 1), drawn)
         before = 0
         for count, each in enumerate(drawn, 1):
             found = re.fullmatch(re.escape(CUT) + line + re.escape(WRAP), each)
@@ -71,7 +48,7 @@ class Progress(ProgramCase):
             done, rate, *left = map(int, found.groups())
             self.assertTrue(before + 64 * every - 1 <= done <= SIZE, each)
             took = count * every * look / 1000
-            self.assertTrue(int(done / took) <= rate <= (done + 1) / took, (each, took))
+            self.assertTrue(int((done - 255) / took) <= rate <= (done - 127) / took, (each, took))
             for seconds in left:
                 self.assertTrue((SIZE - done - 1) // (rate + 1) <= seconds <= (SIZE - done + 1) // rate, each)
             before = done
@@ -124,18 +101,14 @@ class Progress(ProgramCase):
 
     def test_closed_output(self):
         """If standard output is closed, the terminal does not get the output."""
-        last = fault(message("Write"), "writing standard output: Bad file descriptor").replace("\n", "\r\n")
+        last = fault(message("Write"), "writing standard output: Bad file descriptor")
         for words, name in (
             ("decrypt -v -k key", "key.age"), ("decrypt -v -k key key.age", "/dev/null"), ("encrypt -v -k key", "hello"),
             ("salvage -v -k key", "key.age"), ("decrypt -v -k key key.age <&-", "/dev/null"),
         ):
-            with self.subTest(words):
-                controller, terminal = pty.openpty()
-                with open(name, "rb") as file:
-                    line = ["bash", "-c", f'"$0" {words} >&-', AGEP]
-                    status = subprocess.run(line, stdin=file, stderr=terminal, timeout=600).returncode
-                os.close(terminal)
-                self.assertEqual((status, drained(controller).decode()), (1, last))
+            with self.subTest(words), open(name, "rb") as file:
+                ran = Terminal("bash", "-c", f'"$0" {words} >&-', AGEP, streams=["stderr"], stdin=file)
+                self.assertEqual(ran.ended(), (1, last))
 
     def test_passphrase(self):
         """While scrypt runs, it says so."""

@@ -222,7 +222,7 @@ class Typed(ProgramCase):
     def at_prompt(self, *lines):
         """Types the lines at the prompt of a shell, and returns what the terminal shows."""
         trace = ("strace", "-f", "-qq", "-v", "-s", "9999", "-e", "trace=execve", "-o", "trace")
-        terminal = Terminal(*trace, "bash", "--norc", "--noprofile", "-i", environment=self.environment)
+        terminal = Terminal(*trace, "bash", "--norc", "--noprofile", "-i", env=self.environment)
         start = 0
         for line in (*lines, "exit"):
             while not terminal.said[start:].endswith(b"ready> "):
@@ -240,7 +240,7 @@ class Typed(ProgramCase):
     def in_script(self, *lines):
         """Runs the lines in a script at a terminal."""
         write("script", "\n".join(lines).encode())
-        terminal = Terminal("bash", "script", environment=self.environment)
+        terminal = Terminal("bash", "script", env=self.environment)
         start = 0
         while terminal.reads():
             start = self.answer(terminal, start)
@@ -302,7 +302,7 @@ class Typed(ProgramCase):
             with self.subTest(line):
                 self.setUp()
                 before = sorted(os.listdir(".")), read("a.age")
-                terminal = Terminal("bash", "-c", "\n".join([define, define_new, line]), environment=self.environment)
+                terminal = Terminal("bash", "-c", "\n".join([define, define_new, line]), env=self.environment)
                 typed = 0
                 while terminal.reads():
                     if terminal.said.count(b": ") > typed:

@@ -24,10 +24,6 @@ AUTHOR = ("-c", "user.name=Name", "-c", "user.email=name@host")
 RELEASED, UNRELEASED = "# Changes\n\n## 0.7.1 (2026-12-24)\n\n- This.\n", "# Changes\n\n## Unreleased\n\n- That.\n"
 
 
-def setUpModule():
-    subprocess.run([ROOT / "package", "--build"], check=True, stderr=subprocess.DEVNULL)
-
-
 class PastReleases(unittest.TestCase):
     def test_commits(self):
         """Each release in CHANGELOG.md has a commit, that of its heading or the one in CONTRIBUTING.md,
@@ -68,6 +64,10 @@ class Case(unittest.TestCase):
     time."""
 
     HIDDEN = ("dpkg-buildpackage",)
+
+    @classmethod
+    def setUpClass(cls):
+        subprocess.run([ROOT / "package", "--build"], check=True, stderr=subprocess.DEVNULL)
 
     def setUp(self):
         self.work = Path(tempfile.mkdtemp())
@@ -200,6 +200,13 @@ class Folder(Case):
         (self.dist / "SHA256SUMS").unlink()
         self.refused(f"package: {self.dist} already has a {made}, which no earlier run made", "./package", self.dist)
         self.assertEqual(self.names(), {*others, made})
+
+    def test_nothing_made(self):
+        """If the tools for each package are missing, that is an error."""
+        (self.work / "tools/xz").unlink()
+        done = self.run_here("./package", self.dist)
+        said = done.stderr.splitlines()[-1]
+        self.assertEqual((done.returncode, said, self.names()), (1, "package: no package was made", set()))
 
     def test_sums_of_others(self):
         """Nothing is removed if SHA256SUMS names a file that is not a package, or is signed."""

@@ -81,14 +81,14 @@ class Builds(unittest.TestCase):
         write("kit/KIT-ID", b"kit one\n")
         self.environment = {**os.environ, "AGEP_CPU": "x86-64-v9", "PATH": f"{self.folder}/kit/bin:{os.environ['PATH']}"}
 
-    def asked(self, script, commit="", **environment):
-        """What the toolchain is asked to build for a processor. This text follows the version."""
+    def asked(self, script, name=version(), **environment):
+        """What the toolchain is asked to build for a processor. ./agep prints this version."""
         write("asked", b"")
         environment = {**self.environment, **environment}
         done = subprocess.run(f"tree/{script}".split(), env=environment, stdin=subprocess.DEVNULL, capture_output=True)
         self.said = done.stderr.decode()
         if script == "agep --version":
-            self.assertEqual((done.returncode, done.stdout.decode()), (0, f"agep {version()}{commit}\n"), self.said)
+            self.assertEqual((done.returncode, done.stdout.decode()), (0, f"agep {name}\n"), self.said)
         return sorted(line for line in read("asked").decode().splitlines() if "--cpu" in line)
 
     def test_sources(self):
@@ -219,28 +219,17 @@ class Builds(unittest.TestCase):
         self.asked("package --build")
         self.assertFalse(os.path.exists("tree/crates/agep/out/agep-x86-64.o"), "an object of an earlier build")
 
-    def test_commit(self):
-        """A build in a git repository names the commit, and says whether the crates have changed since; one in
-        an archive names the commit in share/commit."""
+    def test_version(self):
+        """./agep has the version of the packages, in a repository and in an archive that has its commit."""
         git = ["git", "-C", "tree", "-c", "user.name=Name", "-c", "user.email=name@host"]
         for words in (["init", "-q"], ["add", "-A"], ["commit", "-qm", "All"]):
             subprocess.run([*git, *words], check=True)
-        name = subprocess.check_output([*git, "rev-parse", "HEAD"], text=True)[:10]
-        write("tree/README.md", b"text")
-        every = SCRIPTS["agep --version"]
-        self.assertEqual(self.asked("agep --version", commit=f" (commit {name})"), every)
-        subprocess.run([*git, "commit", "-qm", "Empty", "--allow-empty"], check=True)
-        self.assertEqual(self.asked("agep --version", commit=f" (commit {name})"), [], "no crate has changed")
-        for words, commit in (["-V"], f" (commit {name})"), (["--version", "word"], ""), (["inspect", "-V"], ""):
-            said = subprocess.check_output(["tree/agep", *words], env=self.environment, text=True)
-            self.assertEqual(said, f"agep {version()}{commit}\n", words)
-        write("tree/crates.txt", b"text")
-        name = subprocess.check_output([*git, "rev-parse", "HEAD"], text=True)[:10]
-        self.assertEqual(self.asked("agep --version", commit=f" (commit {name}, changed)"), every)
-        shutil.rmtree("tree/.git")
-        write("tree/share/commit", b"0123456789abcdef 1 HEAD -> main\n")
-        write("tree/crates.txt", b"")
-        self.assertEqual(self.asked("agep --version", commit=" (commit 0123456789)"), every)
+        for change in (":", "echo text >tree/README.md", "rm -r tree/.git && echo '0123456789abcdef 1 HEAD -> main' >tree/share/commit"):
+            subprocess.run(change, shell=True, check=True)
+            name = subprocess.check_output(["tree/package", "--version"], text=True).strip()
+            self.asked("agep --version", name=f"{name} (x86-64-v9)")
+            for words, said in (["-V"], f"{name} (x86-64-v9)"), (["--version", "word"], version()), (["inspect", "-V"], version()):
+                self.assertEqual(subprocess.check_output(["tree/agep", *words], env=self.environment, text=True), f"agep {said}\n", words)
 
     def test_words(self):
         """./agep passes its arguments, standard input and working directory to the program, and becomes it."""

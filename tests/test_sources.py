@@ -1,5 +1,5 @@
 """Rules for the texts of the repository: blocks of code and links in documents, the sentence of each clause, the
-clause and the text of each planted bug, programs that the compiler must refuse."""
+clause of each planted bug, programs that the compiler must refuse."""
 
 import concurrent.futures
 import glob
@@ -178,26 +178,6 @@ def planted_bugs():
         yield name.split("/")[-3], os.path.basename(name)[:-5], text_of(name).rstrip("\n").split("\n")
 
 
-def changes(lines):
-    """The changes of a planted bug, in order: file, old text and new text, each of one or more lines."""
-    found, file, part = [], None, None
-    for line in lines:
-        word, _, rest = line.partition(": ")
-        if word == "file":
-            file, part = rest, None
-        elif word == "old":
-            found.append([file, rest, ""])
-            part = 1
-        elif word == "new":
-            found[-1][2] = rest
-            part = 2
-        elif word in ("# clause", "script"):
-            part = None
-        elif part:
-            found[-1][part] += "\n" + line
-    return found
-
-
 class PlantedBugs(unittest.TestCase):
     """The planted bugs that the prover must refuse."""
 
@@ -235,17 +215,6 @@ class PlantedBugs(unittest.TestCase):
                 found = re.fullmatch(r"# clause: ([\w:]+)(?: \[(\w+)\])?", lines[0])
                 self.assertTrue(found, lines[0])
                 self.assertTrue(self.has_clause(crate, found[1], found[2] or ""), lines[0])
-
-    def test_texts(self):
-        """The text that each change replaces occurs once in its file, after the changes before it."""
-        for crate, name, lines in self.bugs:
-            folder, texts = f"{ROOT}/crates/{crate}/", {}
-            with self.subTest(f"{crate}: {name}"):
-                self.assertTrue(changes(lines))
-                for file, old, new in changes(lines):
-                    text = texts.get(file) or text_of(folder + file)
-                    self.assertEqual(text.count(old), 1, old)
-                    texts[file] = text.replace(old, new)
 
 
 def code_of(text):

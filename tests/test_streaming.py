@@ -1,8 +1,10 @@
 """The program works chunk by chunk: its output while the input is still fed, and its memory."""
 
+import contextlib
 import fcntl
 import os
 import re
+import select
 import subprocess
 import sys
 import termios
@@ -12,7 +14,7 @@ import fixture
 import reference
 from fixture import KEY, NEW_KEY, SALT, SEED
 from messages import message
-from program import AGEP, TESTS, ProgramCase, fault, read, write
+from program import AGEP, PATIENCE, TESTS, ProgramCase, fault, read, write
 from test_options import skip_unless_holes
 
 # The header of a keyed file with the nonce, and without it.
@@ -21,53 +23,67 @@ CHUNK, SEALED = 65536, 65552
 MANY = b"".join(b"%d\n" % i for i in range(1, 100001))[:450000]
 
 
-class FeedCase(ProgramCase):
-    def feed(self, *words):
-        """Runs feed.py with these arguments, which end with a command line of the program."""
-        words = [sys.executable, TESTS + "/feed.py", *map(str, words)]
-        return subprocess.run(words, capture_output=True, timeout=600)
+class Lockstep(ProgramCase):
+    FILES = {"many": MANY, "many.age": fixture.for_keys(MANY, KEY), "new.age": fixture.for_keys(MANY, NEW_KEY)}
 
-    def assert_small(self, most, *words):
-        """A run must succeed with at most so many KiB resident."""
-        done = self.feed(*words)
-        self.assertEqual((done.returncode, done.stderr), (0, b""))
-        self.assertTrue(0 < int(done.stdout) <= most, f"{int(done.stdout)} KiB resident, and not {most}")
+    def start(self, line):
+        """Starts the program; its pipes hold all of these files, so nobody waits to write."""
+        pipes = {name: subprocess.PIPE for name in ("stdin", "stdout", "stderr")}
+        running = subprocess.Popen([AGEP, *line.split()], bufsize=0, pipesize=1 << 20, **pipes)
+        self.addCleanup(running.kill)
+        return running
 
+    def expect(self, running, expected):
+        """The next bytes of the output must come and be these."""
+        came = b""
+        while len(came) < len(expected):
+            self.assertTrue(select.select([running.stdout], [], [], PATIENCE)[0], f"only {len(came)} bytes of {len(expected)} came")
+            piece = running.stdout.read(len(expected) - len(came))
+            self.assertTrue(piece, f"the output ended after {len(came)} bytes of {len(expected)}")
+            came += piece
+        self.assert_bytes(came, expected)
 
-class Lockstep(FeedCase):
-    def setUp(self):
-        super().setUp()
-        write("many", MANY)
-        write("many.age", fixture.for_keys(MANY, KEY))
-        write("new.age", fixture.for_keys(MANY, NEW_KEY))
-
-    def assert_lockstep(self, *words):
-        done = self.feed("lockstep", *words)
-        self.assertEqual((done.returncode, done.stdout, done.stderr), (0, b"", b""))
+    def assert_lockstep(self, line, name, made, front, piece, made_front, made_piece):
+        """Feeds a file: its front and a piece, and then a piece at a time. Before the next one, all but the newest piece
+        must have come out: the front of what is made, and so many bytes for each piece."""
+        data, expected = self.FILES[name], self.FILES[made]
+        with self.start(line) as running:
+            running.stdin.write(data[: front + piece])
+            came = 0
+            for count, at in enumerate(range(front + piece, len(data), piece), 1):
+                running.stdin.write(data[at : at + piece])
+                self.expect(running, expected[came : made_front + count * made_piece])
+                came = made_front + count * made_piece
+            out, err = running.communicate(timeout=PATIENCE)
+        self.assertEqual((running.returncode, err), (0, b""))
+        self.assert_bytes(out, expected[came:])
 
     def test_decrypt(self):
-        """decrypt: chunk i is written before chunk i + 2 is fed."""
-        self.assert_lockstep(KEY_FRONT, SEALED, 0, CHUNK, "many.age", "many", AGEP, "decrypt", "-k", "key")
-
-    def test_salvage(self):
-        """salvage: chunk i is written before chunk i + 2 is fed."""
-        self.assert_lockstep(KEY_FRONT, SEALED, 0, CHUNK, "many.age", "many", AGEP, "salvage", "-k", "key")
+        """decrypt and salvage: chunk i is written before chunk i + 2 is fed."""
+        for line in "decrypt -k key", "salvage -k key":
+            with self.subTest(line):
+                self.assert_lockstep(line, "many.age", "many", KEY_FRONT, SEALED, 0, CHUNK)
 
     def test_encrypt(self):
         """encrypt: sealed chunk i is written before chunk i + 2 is fed."""
-        self.assert_lockstep(0, CHUNK, KEY_FRONT, SEALED, "many", "many.age", AGEP, "encrypt", "-k", "key", "-s", "seed")
+        self.assert_lockstep("encrypt -k key -s seed", "many", "many.age", 0, CHUNK, KEY_FRONT, SEALED)
 
     def test_rewrap(self):
         """rewrap: everything except the newest 128 KiB is written before more is fed."""
-        words = [AGEP, "rewrap", "-k", "key", "-K", "new.key", "-s", "seed"]
-        self.assert_lockstep(KEY_HEADER + CHUNK, CHUNK, KEY_HEADER, CHUNK, "many.age", "new.age", *words)
+        self.assert_lockstep("rewrap -k key -K new.key -s seed", "many.age", "new.age", KEY_HEADER + CHUNK, CHUNK, KEY_HEADER, CHUNK)
 
     def test_leaving(self):
-        """A reader that leaves after a chunk and a half."""
-        for name, words in (("many.age", "decrypt -k key"), ("many", "encrypt -k key -s seed")):
-            with self.subTest(words):
-                done = self.feed("leave", 100000, name, AGEP, *words.split())
-                self.assertEqual((done.returncode, done.stderr), (1, fault(message("Write")).encode()))
+        """A reader that leaves after a chunk and a half, when half of the input is fed."""
+        for name, made, line in ("many.age", "many", "decrypt -k key"), ("many", "many.age", "encrypt -k key -s seed"):
+            with self.subTest(line), self.start(line) as running:
+                data = self.FILES[name]
+                running.stdin.write(data[: len(data) // 2])
+                self.expect(running, self.FILES[made][:100000])
+                running.stdout.close()
+                with contextlib.suppress(BrokenPipeError):
+                    running.stdin.write(data[len(data) // 2 :])
+                _, err = running.communicate(timeout=PATIENCE)
+                self.assertEqual((running.returncode, err), (1, fault(message("Write")).encode()))
 
 
 class NonBlocking(ProgramCase):
@@ -103,47 +119,49 @@ class NonBlocking(ProgramCase):
         self.assertEqual(self.run_full(f"{helps}; agep decrypt -k key many.age", False), (0, b"", MANY))
 
 
-class Memory(FeedCase):
+class Memory(ProgramCase):
+    def setUp(self):
+        super().setUp()
+        subprocess.run(["cc", "-O2", "-o", "peak", TESTS + "/library/peak.c"], check=True)
+
+    def assert_small(self, most, line, status=0, err=""):
+        """In a line of a shell, agep must end with this status, and have at most so many KiB resident."""
+        script = f'set -o pipefail; agep() {{ ./peak kib {AGEP} "$@"; }}; {line}'
+        self.assert_ended(self.run_agep("-c", script, program="bash"), status, err)
+        self.assertIn(int(read("kib")), range(1, most + 1), "KiB resident")
+        os.remove("kib")
+
+    def write_great(self, chunks):
+        """A file with so many chunks that are holes before the last one."""
+        with open("great.age", "wb") as out:
+            out.write(reference.header(SEED[:16], [reference.key_stanza(KEY, SALT)]))
+            reference.write_payload(out, SEED[:16], SEED[16:32], [b"hello\n"], chunks)
+        skip_unless_holes("great.age")
+
     def test_peak(self):
-        """256 MiB with at most 4 MiB resident."""
+        """256 MiB with at most 4 MiB resident, through pipes and from file to file."""
         os.truncate("empty", 2**28)
-        with self.subTest("encrypt through pipes"):
-            self.assert_small(4096, "peak-piped", "empty", AGEP, "encrypt", "-k", "key", "-s", "seed")
-        with self.subTest("encrypt from file to file"):
-            self.assert_small(4096, "peak", AGEP, "encrypt", "-k", "key", "-s", "seed", "-o", "great.age", "empty")
-        with self.subTest("decrypt through pipes"):
-            self.assert_small(4096, "peak-piped", "great.age", AGEP, "decrypt", "-k", "key")
-        with self.subTest("decrypt from file to file"):
-            self.assert_small(4096, "peak", AGEP, "decrypt", "-k", "key", "-o", "back", "great.age")
-            subprocess.run(["cmp", "empty", "back"], check=True)
+        for line in (
+            "cat empty | agep encrypt -k key | cat >/dev/null", "agep encrypt -k key -o great.age empty",
+            "cat great.age | agep decrypt -k key | cmp - empty", "agep decrypt -k key -o back great.age",
+        ):
+            with self.subTest(line):
+                self.assert_small(4096, line)
+        subprocess.run(["cmp", "empty", "back"], check=True)
 
     def test_rewrap(self):
         """rewrap: 1 GiB through pipes, with at most 8 MiB resident; the payload is unchanged."""
-        with open("great.age", "wb") as out:
-            out.write(reference.header(SEED[:16], [reference.key_stanza(KEY, SALT)]))
-            reference.write_payload(out, SEED[:16], SEED[16:32], [b"hello\n"], 16384)
-        skip_unless_holes("great.age")
-        with self.subTest("memory"):
-            self.assert_small(8192, "peak-piped", "great.age", AGEP, "rewrap", "-k", "key", "-K", "new.key")
-        with self.subTest("the payload"):
-            script = f"""
-                set -o pipefail
-                cat great.age | {AGEP} rewrap -k key -P new.pass -w 10 | tail -c +{PASSPHRASE_HEADER + 1} |
-                    cmp - <(tail -c +{KEY_HEADER + 1} great.age)"""
-            done = subprocess.run(["bash", "-c", script], stdin=subprocess.DEVNULL, capture_output=True, timeout=600)
-            self.assertEqual((done.returncode, done.stdout, done.stderr), (0, b"", b""))
-
+        self.write_great(16384)
+        for words, header in ("-K new.key", KEY_HEADER), ("-P new.pass -w 10", PASSPHRASE_HEADER):
+            with self.subTest(words):
+                payload = f"tail -c +{header + 1} | cmp - <(tail -c +{KEY_HEADER + 1} great.age)"
+                self.assert_small(8192, f"cat great.age | agep rewrap -k key {words} | {payload}")
 
     def test_salvage(self):
         """salvage: 256 MiB of lost chunks through pipes, with at most 4 MiB resident, give one line."""
-        with open("great.age", "wb") as out:
-            out.write(reference.header(SEED[:16], [reference.key_stanza(KEY, SALT)]))
-            reference.write_payload(out, SEED[:16], SEED[16:32], [b"hello\n"], 4096)
-        skip_unless_holes("great.age")
-        done = self.feed("peak-piped", "great.age", AGEP, "salvage", "-k", "key")
+        self.write_great(4096)
         line = "chunks 0 to 4095 are lost: bytes 0 to 268435455 of the plaintext"
-        self.assertEqual((done.returncode, done.stderr), (1, fault(line).encode()))
-        self.assertTrue(0 < int(done.stdout) <= 4096, f"{int(done.stdout)} KiB resident")
+        self.assert_small(4096, "cat great.age | agep salvage -k key | cat >/dev/null", 1, fault(line))
 
 
 class DamagedFile(ProgramCase):

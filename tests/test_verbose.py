@@ -6,7 +6,7 @@ import shlex
 import signal
 
 from fixture import PLAIN, changed, with_other_mac
-from program import BY_PASSPHRASE, OPENING, ProgramCase, read, write
+from program import BY_PASSPHRASE, OPENING, ProgramCase, preload, read, write
 
 # The commands that read the header of IN, which must follow.
 READING = ("inspect", *OPENING)
@@ -16,6 +16,9 @@ SHORT_SEED = "a seed file holds at least 48 bytes"
 # Unicode Standard Annex 9, section 2
 DIRECTING = "\u061c\u200e\u200f\u202a\u202b\u202c\u202d\u202e\u2066\u2067\u2068\u2069"
 MARK = b"\xef\xbb\xbf"
+# The first bytes of OpenPGP's encrypted session keys (RFC 9580, section 4.2): tags 1 and 3, in the old form with a length
+# of 1, 2 or 4 bytes, and in the new one.
+PACKETS = [*(0x80 | tag << 2 | kind for tag in (1, 3) for kind in range(3)), 0xC1, 0xC3]
 
 
 def no_growth():
@@ -139,12 +142,15 @@ class Faults(Verbose):
         for at, (front, why) in enumerate((
             (b"-----BEGIN AGE ENCRYPTED FILE-----\n", "it begins with ASCII armor; age decrypts such a file"),
             *((front, mark) for front in (MARK + b"age-encryption.org/v1\n", "age-encryption.org/v1\n".encode("utf-16"))),
-            *((front, gpg) for front in (b"-----BEGIN PGP MESSAGE-----\n", b"\x85\x01\x0c\x03", b"\x84\x5e\x03", b"\x8c\x0d\x04\x09", b"\xc3\x2e\x04", b"\xc1\xc0\x4c\x03")),
+            (b"-----BEGIN PGP MESSAGE-----\n", gpg), *((bytes([front]), gpg) for front in PACKETS),
             (b"Salted__", openssl),
         )):
             write(f"other.{at}", front + PLAIN[:100])
             self.explains("NotAge", f"other.{at}: {why}", *(f"{command} other.{at}" for command in READING))
             self.explains("NotAge", f"standard input: {why}", f"decrypt -k key <other.{at}")
+            if len(front) == 1:
+                one_byte = {"LD_PRELOAD": preload("calls"), "CALL": "read", "NUMBER": "0", "DO": "one"}
+                self.explains("NotAge", f"other.{at}: {why}", f"decrypt -k key other.{at}", env=one_byte)
         for name in ("empty", "/dev/null"):
             self.explains("HeaderTruncated", f"{name}: the file is empty", *(f"{command} {name}" for command in ("inspect -r", *READING)))
 

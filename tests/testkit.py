@@ -14,6 +14,7 @@ import hashlib
 import io
 import os
 import re
+import shutil
 import subprocess
 import sys
 import zlib
@@ -152,8 +153,8 @@ def found_of(code, place, part, text):
     return Found(fault, part if fault == "Malformed" else str(place) if (fault, 1) in messages.TEXTS else None, text)
 
 
-# A way to open files has `releases`, whether it releases the chunks before a fault, and `is_exact`,
-# whether it returns the first fault of docs/FORMAT.md, as ranges need not do.
+# A way to open files has `releases`, whether it releases the chunks before a fault, and `opens_last`,
+# whether it opens the last chunk first, as ranges do.
 class InTurn:
     """A program that takes one secret per run: the first secret that fits, or finds a fault, decides."""
 
@@ -179,8 +180,8 @@ def secret_file(value):
 class Agep(InTurn):
     """agep, or another program with the same options and messages; `words` start it."""
 
-    def __init__(self, name="agep", words=(program.AGEP, "decrypt"), releases=True, is_exact=True):
-        self.name, self.words, self.releases, self.is_exact = name, words, releases, is_exact
+    def __init__(self, name="agep", words=(program.AGEP, "decrypt"), releases=True, opens_last=False):
+        self.name, self.words, self.releases, self.opens_last = name, words, releases, opens_last
 
     def open_with(self, options, file):
         done = subprocess.run([*self.words, *options], input=file, capture_output=True, timeout=600)
@@ -196,7 +197,7 @@ class Agep(InTurn):
 
 def in_rust(path, kind):
     """A kind of call of tests/library/convert.rs, given the path of the program."""
-    return Agep(f"rust {kind}", (path, kind, "decrypt"), kind == "stream", kind != "ranges")
+    return Agep(f"rust {kind}", (path, kind, "decrypt"), kind in ("stream", "ranges"), kind == "ranges")
 
 
 class InC(InTurn):
@@ -204,7 +205,7 @@ class InC(InTurn):
 
     def __init__(self, path, kind):
         self.path, self.kind, self.name = path, kind, f"c {kind}"
-        self.releases = self.is_exact = kind != "ranges"
+        self.releases, self.opens_last = True, kind == "ranges"
 
     def open_with(self, options, file):
         done = subprocess.run([self.path, self.kind, "decrypt", *options], input=file, capture_output=True, timeout=600)
@@ -215,8 +216,8 @@ class InC(InTurn):
 class InPython:
     """A call of the package, which takes all secrets at once."""
 
-    def __init__(self, name, call, releases, is_exact):
-        self.name, self.call, self.releases, self.is_exact = f"python {name}", call, releases, is_exact
+    def __init__(self, name, call, releases=True, opens_last=False):
+        self.name, self.call, self.releases, self.opens_last = f"python {name}", call, releases, opens_last
         self.kinds = {"passphrase": agefile().Passphrase, KEY: agefile().Key}
         if x25519():
             self.kinds[X25519] = lambda value: x25519().X25519Identity(value.decode())
@@ -229,7 +230,9 @@ class InPython:
         try:
             self.call(vector.file, out, [self.kinds[secret.kind](secret.value) for secret in vector.tried])
         except agefile().AgeError as error:
-            return found_of(error.code, error.place, PARTS.get(error.detail), out.getvalue())
+            found = found_of(error.code, error.place, PARTS.get(error.detail), out.getvalue())
+            said = messages.message(found.fault, *filter(None, [found.word]))
+            return found if str(error) == said else found._replace(fault=f"{found.fault}, {error}")
         except ValueError:
             # of the example for X25519
             return Found("Malformed", None, out.getvalue())
@@ -256,9 +259,10 @@ def x25519():
 
 
 def calls_in_python():
-    yield InPython("copy", lambda file, out, secrets: agefile().copy(io.BytesIO(file), out, identities=secrets), True, True)
-    yield InPython("decrypt", lambda file, out, secrets: out.write(agefile().decrypt(file, identities=secrets)), False, True)
-    yield InPython("open", lambda file, out, secrets: out.write(agefile().open(io.BytesIO(file), identities=secrets).read()), False, False)
+    for n in 1, 2:
+        yield InPython(f"copy, {n} threads", lambda file, out, secrets, n=n: agefile().copy(io.BytesIO(file), out, identities=secrets, threads=n))
+        yield InPython(f"decrypt, {n} threads", lambda file, out, secrets, n=n: out.write(agefile().decrypt(file, identities=secrets, threads=n)), releases=False)
+    yield InPython("open", lambda file, out, secrets: shutil.copyfileobj(agefile().open(io.BytesIO(file), identities=secrets), out), opens_last=True)
 
 
 def why_skipped(vector, way):
@@ -287,7 +291,7 @@ def differs(vector, found, way):
     expect = "header failure" if vector.is_armored else vector.expect
     if EXPECT.get(found.fault) != expect or (vector.is_armored and found.fault != "NotAge"):
         return f"{'not an age file' if vector.is_armored else expect} was expected, not {found.fault or 'success'} {found.word or ''}"
-    if expect == "success" or (expect == "payload failure" and vector.payload and way.releases):
+    if expect == "success" or (expect == "payload failure" and vector.payload and way.releases and not way.opens_last):
         texts = [found.text] if expect == "success" else [found.text, found.text + next_chunk(vector, len(found.text))]
         sums = [hashlib.sha256(text).hexdigest() for text in texts]
         return None if vector.payload in sums else f"the SHA-256 of what was released, {len(found.text)} bytes, is {sums[0]}"

@@ -4,16 +4,15 @@
 usage: tests/unit.py [NAME..]     test_FILE, test_FILE.Class or test_FILE.Class.test_name; or all
        tests/unit.py --list       the names of all classes
 
-Each subtest is a check, and so is a test without subtests. With no name or several, the files, classes or
-tests run in parallel, each in its own process. The last line is 'N passed, M failed'.
+Each subtest is a check, and so is a test without subtests. The classes run in parallel, each in its own process; but
+the classes of a file that builds something first run in one. The last line is 'N passed, M failed'.
 """
 
-import concurrent.futures
 import os
-import re
+import shutil
 import signal
-import subprocess
 import sys
+import tempfile
 import traceback
 import unittest
 
@@ -85,32 +84,65 @@ def modules():
     return [name for name in names if name not in ALONE]
 
 
-def classes(suite):
+def classes(suite, found):
+    """The tests of each class."""
     for test in suite:
         if isinstance(test, unittest.TestSuite):
-            yield from classes(test)
+            classes(test, found)
         else:
-            yield name_of(test)
+            found.setdefault(name_of(test), unittest.TestSuite()).addTest(test)
+    return found
 
 
-def run_apart(name):
-    """The output of the tests of this name, which run in their own process."""
-    done = subprocess.run([sys.executable, __file__, name], stdin=subprocess.DEVNULL, stdout=subprocess.PIPE, stderr=subprocess.STDOUT)
-    return done.stdout.decode("utf-8", "backslashreplace")
+class Apart:
+    """A class of tests that runs in a process of its own."""
+
+    def __init__(self, name, tests):
+        self.name, self.folder = name, tempfile.mkdtemp()
+        os.chmod(self.folder, 0o755)  # some tests run the program as another user
+        self.process = os.fork()
+        if self.process == 0:
+            tempfile.tempdir = self.folder
+            self.run(tests)
+
+    def run(self, tests):
+        """Ends the process, with all that it says in a file."""
+        status, said = 1, os.open(self.folder + "/said", os.O_CREAT | os.O_WRONLY)
+        for file, number in (os.open(os.devnull, os.O_RDONLY), 0), (said, 1), (said, 2):
+            os.dup2(file, number)
+        try:
+            result = Result()
+            tests.run(result)
+            print(f"{result.passed} {result.failed}", flush=True)
+            status = 0
+        except BaseException:
+            traceback.print_exc()
+        os._exit(status)
+
+    def counts(self, status):
+        """Prints what it said, and returns how many checks passed and failed."""
+        *lines, last = program.read(self.folder + "/said").decode("utf-8", "backslashreplace").rstrip("\n").split("\n")
+        shutil.rmtree(self.folder, ignore_errors=True)
+        print(*lines, sep="\n", flush=True)
+        if status == 0:
+            return map(int, last.split())
+        print(f"FAILED: {self.name} ended early: {last}", flush=True)
+        return 0, 1
 
 
-def run_all(names):
-    """Runs the tests of these names in parallel, and adds up their last lines."""
+def run_all(found):
+    """Runs the classes in parallel, and adds up their checks."""
     passed = failed = 0
     program.fixture_folder()
-    with concurrent.futures.ThreadPoolExecutor(program.AT_A_TIME) as pool:
-        for name, text in zip(names, pool.map(run_apart, names)):
-            *lines, last = text.rstrip("\n").split("\n")
-            counts = re.fullmatch(r"(\d+) passed, (\d+) failed", last)
-            print(*lines, sep="\n", flush=True)
-            if counts is None:
-                print(f"FAILED: {name} ended early: {last}", flush=True)
-            passed, failed = passed + int(counts[1] if counts else 0), failed + int(counts[2] if counts else 1)
+    waiting, running = list(found.items()), {}
+    while waiting or running:
+        if waiting and len(running) < program.AT_A_TIME:
+            started = Apart(*waiting.pop(0))
+            running[started.process] = started
+            continue
+        process, status = os.wait()
+        more, wrong = running.pop(process).counts(status)
+        passed, failed = passed + more, failed + wrong
     return passed, failed
 
 
@@ -120,17 +152,15 @@ def main():
     os.chdir(program.TESTS)
     sys.path.insert(0, program.TESTS)
     names = [name for name in sys.argv[1:] if name != "--list"] or modules()
-    suite = unittest.TestLoader().loadTestsFromNames(names)
+    found = {}
+    for name in names:
+        tests = unittest.TestLoader().loadTestsFromName(name)
+        found |= {name: tests} if name in ALONE and "--list" not in sys.argv[1:] else classes(tests, found)
     if "--list" in sys.argv[1:]:
-        print(*dict.fromkeys(classes(suite)), sep="\n")
+        print(*found, sep="\n")
         return 0
     program.build()
-    if len(names) == 1:
-        result = Result()
-        suite.run(result)
-        passed, failed = result.passed, result.failed
-    else:
-        passed, failed = run_all(names)
+    passed, failed = run_all(found)
     print(f"{passed} passed, {failed} failed")
     return failed > 0
 

@@ -4,17 +4,33 @@
 //   convert messages
 // The status is the code of the call, whose message it prints on standard error. messages prints
 // the code and the message of each code, and the detail and the text of each detail.
-#include "check.h"
+#include <agefile.h>
+#include <stdio.h>
+#include <stdlib.h>
+#include <string.h>
 #include <sys/random.h>
 
-enum { most = 1 << 24 };
+enum { most = 1 << 24, tag = 16 };
 
+static agefile_report report;
 static uint8_t input[most], output[most];
 static size_t input_len, output_len;
 static uint8_t secret[1024], fresh[48];
 static size_t secret_len;
 static uint8_t factor = 18;
 static bool is_keyed;
+
+static size_t front_of(size_t file_len)
+{
+    return file_len < AGEFILE_FRONT ? file_len : AGEFILE_FRONT;
+}
+
+static bool are_zeros(const uint8_t *bytes, size_t len)
+{
+    while (len > 0 && bytes[len - 1] == 0)
+        len--;
+    return len == 0;
+}
 
 static size_t read_file(const char *name, uint8_t *bytes, size_t room)
 {
@@ -138,7 +154,7 @@ int main(int argc, char **argv)
                     : strcmp(argv[1], "steps") == 0 ? is_encrypting ? encrypt_steps() : decrypt_steps()
                                                     : decrypt_ranges();
     // no unverified byte may be left in the caller's buffer
-    if (!is_encrypting && output_len < input_len && !are_all(output + output_len, input_len - output_len, 0))
+    if (!is_encrypting && output_len < input_len && !are_zeros(output + output_len, input_len - output_len))
         return 95;
     if (fwrite(output, 1, output_len, stdout) != output_len || fflush(stdout) != 0)
         return 96;

@@ -12,8 +12,8 @@ use std::{env, fs, process};
 
 use agefile::{Identity, Key, Passphrase, RangeReader, Reader, Recipient, Salvaged, Writer};
 
-/// In pieces of this length, so that a chunk takes several.
-const PIECE: usize = 50_000;
+/// The lengths of the pieces that are read and written, so that a chunk takes several, and one has several.
+const PIECES: [usize; 3] = [7_000, 100_000, 50_000];
 
 fn encrypted(way: &str, plain: &[u8], recipient: &dyn Recipient) -> io::Result<Vec<u8>> {
     match way {
@@ -21,18 +21,36 @@ fn encrypted(way: &str, plain: &[u8], recipient: &dyn Recipient) -> io::Result<V
         "threads" => agefile::parallel::encrypt(plain, &[recipient], 3),
         _ => {
             let mut writer = Writer::new(Vec::new(), &[recipient])?;
-            plain.chunks(PIECE).try_for_each(|piece| writer.write_all(piece))?;
+            plain.chunks(PIECES[2]).try_for_each(|piece| writer.write_all(piece))?;
             Ok(writer.finish()?)
         }
     }
+}
+
+/// Reads to the end or to the first error, which must then come with every read that asks for a byte.
+fn read_on(mut reader: impl Read, plain: &mut Vec<u8>) -> io::Result<()> {
+    let mut room = [0; 100_000];
+    for len in PIECES.into_iter().cycle() {
+        match reader.read(&mut room[..len]) {
+            Ok(0) => break,
+            Ok(count) => plain.extend_from_slice(&room[..count]),
+            Err(error) => {
+                assert_eq!(reader.read(&mut []).unwrap(), 0);
+                assert_eq!(reader.read(&mut room).unwrap_err().to_string(), error.to_string());
+                return Err(error);
+            }
+        }
+    }
+    assert_eq!(reader.read(&mut room)?, 0);
+    Ok(())
 }
 
 fn decrypt_to(plain: &mut Vec<u8>, way: &str, file: &[u8], identity: &dyn Identity) -> io::Result<()> {
     match way {
         "whole" => *plain = agefile::decrypt(file, &[identity])?,
         "threads" => *plain = agefile::parallel::decrypt(file, &[identity], 3)?,
-        "ranges" => drop(RangeReader::new(Cursor::new(file), &[identity])?.read_to_end(plain)?),
-        _ => drop(Reader::new(file, &[identity])?.read_to_end(plain)?),
+        "ranges" => read_on(RangeReader::new(Cursor::new(file), &[identity])?, plain)?,
+        _ => read_on(Reader::new(file, &[identity])?, plain)?,
     }
     Ok(())
 }

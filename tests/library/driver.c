@@ -1,7 +1,8 @@
 // Makes the calls that random_calls.py requests, one after another, and reports what they returned
-// and wrote. Each pointer's memory lies between two pages without access. A marked call is first
-// made with each allocation refused in turn, and on eight threads at once. Must be linked with
-// --wrap=malloc, --wrap=realloc and --wrap=free.
+// and wrote. Each pointer's memory lies between two pages without access, and no block of memory may
+// be left allocated. A marked call is then made with each allocation refused in turn, or on eight
+// threads at once, each with a small stack, and in a forked child. No call may change a signal
+// handler. Must be linked with --wrap=malloc, --wrap=realloc and --wrap=free.
 //
 // A request, in the byte order of the machine: the index of the call in Header.functions of
 // header.py, flags, and the number of arguments, one byte each; then for each argument its kind and
@@ -11,15 +12,25 @@
 // report; the bytes of all buffers.
 #include <agefile.h>
 #include <pthread.h>
+#include <signal.h>
 #include <stdio.h>
 #include <stdlib.h>
 #include <string.h>
 #include <sys/mman.h>
+#include <sys/wait.h>
+#include <unistd.h>
 
 enum { most_arguments = 16, thread_count = 8, canary = 0xC7, unset = 0xEE };
 enum kind { NUMBER, BUFFER, NULL_POINTER };
 enum flag { AT_START = 1, REFUSING = 2, THREADS = 4 };
 static const size_t page = 4096;
+// The stack of a thread, as small as the system allows. A sanitizer takes more, and a child that is
+// forked beside threads may wait for its locks for ever.
+#ifdef SANITIZED
+enum { stack_size = 1 << 20, can_fork = false };
+#else
+enum { stack_size = 16 * 1024, can_fork = true };
+#endif
 
 // An argument: a number, or a buffer with its initial bytes.
 struct argument {
@@ -168,12 +179,14 @@ struct turn {
     bool is_well;
 };
 
-static void *on_a_thread(void *argument)
+static void *take(void *argument)
 {
     struct turn *turn = argument;
     map_all(&turn->memory, turn->call);
+    allocations = live = 0, is_counting = true;
     turn->result = make(turn->call, &turn->memory);
-    turn->is_well = are_surroundings_kept(&turn->memory, turn->call);
+    is_counting = false;
+    turn->is_well = live == 0 && are_surroundings_kept(&turn->memory, turn->call);
     return NULL;
 }
 
@@ -191,41 +204,55 @@ static bool is_same_turn(const struct turn *a, const struct turn *b)
 // out of memory, or managed with less memory and gave the usual result.
 static bool refuses_each(struct turn *usual)
 {
-    const struct call *call = usual->call;
-    for (long number = 1;; number++) {
-        struct turn turn = {.call = call};
-        map_all(&turn.memory, call);
-        refused = number, allocations = live = 0, is_counting = true;
-        turn.result = make(call, &turn.memory);
-        is_counting = false;
-        bool was_refused = allocations >= number;
-        bool is_out = was_refused && turn.result == AGEFILE_OUT_OF_MEMORY && is_kept(&turn.memory, call);
-        bool is_well = live == 0 && are_surroundings_kept(&turn.memory, call) && (is_out || is_same_turn(usual, &turn));
-        unmap_all(&turn.memory, call);
+    bool is_well = true, was_refused = true;
+    for (refused = 1; is_well && was_refused; refused++) {
+        struct turn turn = {.call = usual->call};
+        take(&turn);
+        was_refused = allocations >= refused;
+        bool is_out = was_refused && turn.result == AGEFILE_OUT_OF_MEMORY && is_kept(&turn.memory, turn.call);
+        is_well = turn.is_well && (is_out || is_same_turn(usual, &turn));
+        unmap_all(&turn.memory, turn.call);
         if (!is_well)
-            fprintf(stderr, "driver: allocation %ld of call %d: code %d, %ld blocks left\n", number, call->index, (int)turn.result, live);
-        if (!is_well || !was_refused)
-            return is_well;
-        usual->refusals++;
+            fprintf(stderr, "driver: allocation %ld: code %d, %ld blocks left\n", refused, (int)turn.result, live);
+        usual->refusals += was_refused;
         usual->out_of_memory += is_out;
     }
+    refused = 0;
+    return is_well;
 }
 
-// Makes the call on eight threads at once. Returns whether all gave the same result as this one.
-static bool agrees_on_threads(const struct turn *first)
+// Whether a forked child gets the same result.
+static bool agrees_in_a_child(const struct turn *first)
+{
+    int status;
+    pid_t child = fork();
+    if (child == 0) {
+        struct turn turn = {.call = first->call};
+        take(&turn);
+        _exit(!turn.is_well || !is_same_turn(first, &turn));
+    }
+    return child > 0 && waitpid(child, &status, 0) == child && status == 0;
+}
+
+// Makes a call on eight threads at once, another one on every second of them if there is one, and in
+// a child while they do. Returns whether all gave the same result as the first time.
+static bool agrees_on_threads(const struct turn *first, const struct turn *other)
 {
     pthread_t ids[thread_count];
     struct turn turns[thread_count];
-    bool is_well = true;
+    pthread_attr_t attributes;
+    if (pthread_attr_init(&attributes) != 0 || pthread_attr_setstacksize(&attributes, stack_size) != 0)
+        give_up("no such stack");
     for (int i = 0; i < thread_count; i++) {
-        turns[i].call = first->call;
-        if (pthread_create(&ids[i], NULL, on_a_thread, &turns[i]) != 0)
+        turns[i] = (struct turn){.call = i % 2 && other->call ? other->call : first->call};
+        if (pthread_create(&ids[i], &attributes, take, &turns[i]) != 0)
             give_up("no thread");
     }
+    bool is_well = !can_fork || agrees_in_a_child(first);
     for (int i = 0; i < thread_count; i++) {
         pthread_join(ids[i], NULL);
-        is_well &= turns[i].is_well && is_same_turn(first, &turns[i]);
-        unmap_all(&turns[i].memory, first->call);
+        is_well &= turns[i].is_well && is_same_turn(turns[i].call == first->call ? first : other, &turns[i]);
+        unmap_all(&turns[i].memory, turns[i].call);
     }
     return is_well;
 }
@@ -267,25 +294,48 @@ static bool get_call(struct call *call)
     return true;
 }
 
+static void answer(const struct turn *turn, uint8_t is_well)
+{
+    const struct call *call = turn->call;
+    put(&turn->result, sizeof turn->result);
+    put(&is_well, 1);
+    put(&turn->refusals, sizeof turn->refusals);
+    put(&turn->out_of_memory, sizeof turn->out_of_memory);
+    put(turn->memory.pointers[call->count], sizeof(agefile_report));
+    for (int i = 0; i < call->count; i++)
+        if (call->arguments[i].kind == BUFFER)
+            put(turn->memory.pointers[i], call->arguments[i].number);
+    fflush(stdout);
+}
+
+static void let_go(struct turn *turn)
+{
+    if (turn->call == NULL)
+        return;
+    for (int i = 0; i < turn->call->count; i++)
+        __real_free(turn->call->arguments[i].first);
+    unmap_all(&turn->memory, turn->call);
+    turn->call = NULL;
+}
+
 int main(void)
 {
-    struct call call;
-    while (get_call(&call)) {
-        struct turn turn = {.call = &call};
-        on_a_thread(&turn);
-        uint8_t is_well = turn.is_well && (!(call.flags & REFUSING) || refuses_each(&turn)) && (!(call.flags & THREADS) || agrees_on_threads(&turn));
-        put(&turn.result, sizeof turn.result);
-        put(&is_well, 1);
-        put(&turn.refusals, sizeof turn.refusals);
-        put(&turn.out_of_memory, sizeof turn.out_of_memory);
-        put(turn.memory.pointers[call.count], sizeof(agefile_report));
-        for (int i = 0; i < call.count; i++) {
-            if (call.arguments[i].kind == BUFFER)
-                put(turn.memory.pointers[i], call.arguments[i].number);
-            __real_free(call.arguments[i].first);
-        }
-        fflush(stdout);
-        unmap_all(&turn.memory, &call);
+    // The call at hand, and the last one that was made on threads.
+    static struct call calls[2];
+    static struct turn turns[2];
+    struct sigaction before[65], after;
+    for (int i = 1; i < 65; i++)
+        sigaction(i, NULL, &before[i]);
+    for (int now = 0; get_call(&calls[now]); let_go(&turns[now])) {
+        const uint8_t flags = calls[now].flags;
+        struct turn *turn = &turns[now];
+        *turn = (struct turn){.call = &calls[now]};
+        take(turn);
+        answer(turn, turn->is_well && (!(flags & REFUSING) || refuses_each(turn)) && (!(flags & THREADS) || agrees_on_threads(turn, &turns[1 - now])));
+        now ^= flags & THREADS ? 1 : 0;
     }
+    for (int i = 1; i < 65; i++)
+        if (sigaction(i, NULL, &after) == 0 && after.sa_handler != before[i].sa_handler)
+            give_up("a signal handler was changed");
     return 0;
 }

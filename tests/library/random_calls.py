@@ -1,25 +1,28 @@
 #!/usr/bin/env python3
 """Makes random calls of the library for C, and compares everything that they return and write with model.py.
 
-usage: tests/library/random_calls.py DRIVER [COUNT [SEED]]
+usage: tests/library/random_calls.py COUNT SEED DRIVER..
 
-DRIVER is tests/library/driver.c, built with the library and the calls of header.py. First, each pointer that
-a length follows is null, with length 0 and with another length. Then last chunks of each kind are salvaged.
-Then files, headers, structs, lengths and numbers are right or wrong in many ways; structs come from earlier
-calls, or are random. Each buffer lies at the end or at the start of its pages, shifted by up to 15 bytes.
-Some calls are made on eight threads at once, some with each allocation refused in turn, and last so a
-successful call of each function. Prints how many calls returned each code. If the results differ, it prints
-the call, and the status is 1.
+Each DRIVER is tests/library/driver.c, built with a library and the calls of header.py; all make the same calls.
+First, each pointer that a length follows is null, with length 0 and with another length. Then last chunks of
+each kind are salvaged, and structs in each state get chunks of each length. Then files of several chunks are made
+and opened in every way, whole, damaged, cut and longer, and each place of a header is cut and changed. Then
+files, headers, structs, lengths and numbers are right or wrong in many ways; structs come from earlier calls, or
+are random. Each buffer lies at the end or at the start of its pages, shifted by up to 15 bytes. Some calls are
+made on eight threads at once, some with each allocation refused in turn, and last so a successful call of each
+function. Prints how many calls returned each code. If the results differ, it prints the call, and the status is 1.
 """
 
 import collections
 import itertools
 import os
+import queue
 import random
 import re
 import struct
 import subprocess
 import sys
+import threading
 
 sys.dont_write_bytecode = True
 sys.path.insert(0, os.path.join(os.path.dirname(os.path.abspath(__file__)), ".."))
@@ -27,7 +30,8 @@ sys.path.insert(0, os.path.join(os.path.dirname(os.path.abspath(__file__)), ".."
 import header
 import model
 import reference
-from model import MOST, NULL, SEALED, TAG, TEXT
+from fixture import KEY, PASSPHRASE, SEED, changed
+from model import MAX_HEADER, MOST, NULL, SEALED, TAG, TEXT
 from program import version
 
 AT_START, REFUSING, THREADS = 1, 2, 4
@@ -50,23 +54,24 @@ INDEX = {name: index for index, name in enumerate(CALLS)}
 CHUNKS = ("open_next", "seal_next", "take_part", "part_open_next", "part_seal_next", "salvage_next", "ranges_last", "ranges_locate", "ranges_chunk")
 # The calls without a report.
 NUMBERS = [e.name for e in HEADER.functions if not any(value.kind == "report" for value in e.parameters)]
+# The states of payloads, parts and ranges, and numbers that are none.
+STATES = (0, 1, 2, 3, 4, 5, 2**32 + 1, MOST)
 # The calls that open a struct, with the index of that argument.
 OPENING = {name: len(CALLS[name]) - 1 for name in header.OPENING}
 
 
 class Driver:
+    """A program that makes calls. A thread compares what it answers, so that it need not wait for the next call."""
+
     def __init__(self, program):
-        self.process = subprocess.Popen([program], stdin=subprocess.PIPE, stdout=subprocess.PIPE)
+        self.program, self.process = program, subprocess.Popen([program], stdin=subprocess.PIPE, stdout=subprocess.PIPE)
+        self.asked = queue.Queue(200)
+        threading.Thread(target=self.compare_all, daemon=True).start()
 
-    def read(self, count):
-        data = self.process.stdout.read(count)
-        if len(data) != count:
-            raise SystemExit(f"the driver ended with status {self.process.wait()}")
-        return data
-
-    def call(self, name, flags, arguments, shifts):
-        """The result, whether the driver found no error, the report, the buffers after the call, and how many
-        allocations were refused and made the call be out of memory."""
+    def ask(self, call, wanted):
+        """Sends a call, with the result, the report or None, and the buffers that it must leave."""
+        name, flags, arguments, shifts = call
+        self.asked.put((call, wanted))
         parts = [bytes((INDEX[name], flags, len(arguments)))]
         for argument, shift in zip(arguments, shifts):
             if isinstance(argument, int):
@@ -77,9 +82,50 @@ class Driver:
                 parts += [struct.pack("<BBQ", 1, shift, len(argument)), bytes(argument)]
         self.process.stdin.write(b"".join(parts))
         self.process.stdin.flush()
+
+    def compare_all(self):
+        while True:
+            call, wanted = self.asked.get()
+            self.compare(*call[:3], *wanted)
+            self.asked.task_done()
+
+    def compare(self, name, flags, arguments, *wanted):
         result, is_well, refusals, out_of_memory, *report = struct.unpack("<QB5Q", self.read(49))
         after = [self.read(len(a)) if isinstance(a, bytearray) else None for a in arguments]
-        return result, is_well, tuple(report), after, refusals, out_of_memory
+        is_silent = name in CHUNKS or name in NUMBERS
+        if flags & REFUSING and (refusals if is_silent else result == 0 and out_of_memory < 1 + ("passphrase" in name)):
+            is_well = 0
+        found = result, tuple(report) if wanted[1] is not None else None, after
+        if found != wanted or not is_well:
+            different = [i for i, (one, other) in enumerate(zip(after, wanted[2])) if one != other]
+            print(f"{self.program}: {name}, flags {flags}: code {result}, not {wanted[0]}; report {report}, not {wanted[1]}; well {is_well};")
+            print(f"arguments that differ: {different}; arguments:")
+            for argument in arguments:
+                print(argument.hex() if isinstance(argument, bytearray) else getattr(argument, "length", argument))
+            self.give_up()
+
+    def read(self, count):
+        data = self.process.stdout.read(count)
+        if len(data) != count:
+            print(f"{self.program} ended with status {self.process.wait()}")
+            self.give_up()
+        return data
+
+    def give_up(self):
+        """Ends this process, whatever its other threads do."""
+        sys.stdout.flush()
+        os._exit(1)
+
+    def end(self):
+        self.asked.join()
+        self.process.stdin.close()
+        if self.process.wait() != 0:
+            sys.exit(f"{self.program} ended with an error")
+
+
+def call_of(name, *arguments, flags=0):
+    """A call in the form of Maker.call, with buffers that are not shifted."""
+    return name, flags, [a if isinstance(a, (int, NULL)) else bytearray(a) for a in arguments], [0] * len(arguments)
 
 
 class Maker:
@@ -361,21 +407,48 @@ class Maker:
         return [a if isinstance(a, int) else bytearray(a) for a in made]
 
     def null_calls(self):
-        """Each call with each pointer that a length follows null, in the form of `call`."""
+        """Each call with each pointer that a length follows null."""
         for name, kinds in CALLS.items():
             for at in (i for i, kind in enumerate(kinds) if kind in ("b", "o", "s")):
                 for length in (0, 24, 2**62 // 24 * 24):
                     arguments = self.arguments_of(name)
                     arguments[at] = NULL(length)
-                    yield name, 0, arguments, [0] * len(kinds)
+                    yield call_of(name, *arguments)
 
     def salvaging_calls(self):
-        """Last chunks of each kind after chunks of each kind, in the form of `call`."""
+        """Last chunks of each kind after chunks of each kind."""
         for number, damaged, before in itertools.product((0, 1, 3), (0, 1), range(7)):
             payload = struct.pack("<32s2Q2IQ", self.keys[0], number, model.READING, damaged, before, 0)
             sealed = [reference.sealed_chunk(self.keys[0], number, is_last, text) for is_last in (False, True) for text in (b"", b"text")]
             for chunk in (*sealed, sealed[3] + b"\n", bytes(17), bytes(16), b""):
-                yield "salvage_next", 0, [bytearray(payload), bytearray(chunk), 1], [0, 0, 0]
+                yield call_of("salvage_next", payload, chunk, 1)
+
+    def chunks_in_each_state(self):
+        """Chunks of each length for payloads and parts in each state, and parts of each length of such payloads."""
+        lengths, numbers = (0, TAG - 1, TAG, TAG + 1, SEALED - 1, SEALED, SEALED + 1), (0, 1, 3, MOST - 2, MOST - 1, MOST)
+        for state, number in itertools.product(STATES, numbers):
+            payload, *parts = (struct.pack("<32s4Q", self.keys[0], number, *rest, 0) for rest in ((state, 0), (0, state), (1, state), (2, state)))
+            for length, is_last in itertools.product(lengths, (0, 1)):
+                yield call_of("open_next", payload, bytes(length), is_last)
+                yield call_of("seal_next", payload, bytes(length), is_last)
+                if not is_last or length <= TAG + 1:  # the model tries each end of a last chunk
+                    yield call_of("salvage_next", payload, bytes(length), is_last)
+            for part, length in itertools.product(parts, lengths):
+                yield call_of("part_open_next", part, bytes(length))
+                yield call_of("part_seal_next", part, bytes(length))
+            for count in (0, 1, 2, MOST):
+                yield call_of("take_part", payload, count, bytes(64))
+
+    def ranges_in_each_state(self):
+        """Each edge of ranges of each length in each state."""
+        for state, sealed in itertools.product(STATES, (0, TAG, TAG + 1, SEALED, SEALED + 1, 2 * SEALED, MOST - 200, MOST - 199)):
+            ranges, plain = struct.pack("<32s3Q", self.keys[0], 200, sealed, state), model.plain_length(sealed)
+            last = model.piece_length(sealed, model.last_index(sealed))
+            yield call_of("ranges_last", ranges, bytes(last))
+            yield call_of("ranges_last", ranges, bytes(last + 1))
+            for at in (0, TEXT - 1, TEXT, max(plain - 1, 0), plain, MOST):
+                yield call_of("ranges_locate", ranges, at)
+                yield call_of("ranges_chunk", ranges, at, bytes(model.piece_length(sealed, at // TEXT)))
 
     def call(self):
         """The name of a call, its flags, arguments and shifts."""
@@ -394,14 +467,14 @@ class Maker:
         return name, flags, arguments, shifts
 
     def refused_calls(self):
-        """A successful call of each function, with each allocation refused."""
+        """A successful call of each function, on threads and with each allocation refused."""
         for name in (name for name in CALLS if name not in NUMBERS):
             is_long = name in ("encrypt", "decrypt", "encrypt_key", "decrypt_key")
             self.one_long_in = 1 if is_long else 400
             self.files = 20 * [self.new_file()] if is_long else []
             while expected(name, arguments := self.arguments_of(name))[0] != 0:
                 pass
-            yield name, REFUSING, arguments, [0] * len(arguments)
+            yield call_of(name, *arguments, flags=REFUSING | THREADS)
 
     def learn(self, name, code, after):
         """Keeps the structs of a call for later calls."""
@@ -429,48 +502,148 @@ ARGUMENTS = {
 
 
 def expected(name, arguments):
-    """By the model: the result, the report, and the buffers after the call."""
+    """By the model: the result, the report or None, and the buffers after the call."""
     if name in NUMBERS:
-        return (VERSION if name == "version" else getattr(model, name)(*arguments)), None, []
-    if any(isinstance(a, NULL) and a.length > 0 for a in arguments):
-        after = [bytearray(a) if isinstance(a, bytearray) else a for a in arguments]
-        if name in OPENING:
-            model.zero(after[OPENING[name]])
-        return model.NULL_POINTER, (0, 0, 0), after
-    after = [bytearray(b"" if isinstance(a, NULL) else a) if not isinstance(a, int) else a for a in arguments]
+        return (VERSION if name == "version" else getattr(model, name)(*arguments)), None, [None] * len(arguments)
+    is_refused = any(isinstance(a, NULL) and a.length > 0 for a in arguments)
+    after = [a if isinstance(a, int) else bytearray(b"" if isinstance(a, NULL) else a) for a in arguments]
     try:
-        code, report = getattr(model, name)(*after)
+        code, report = (model.NULL_POINTER, (0, 0, 0)) if is_refused else getattr(model, name)(*after)
     except model.Fault as fault:
         code, report = fault.code, fault.report
-    return code, report, after
+    if is_refused and name in OPENING:
+        model.zero(after[OPENING[name]])
+    return code, report, [bytes(now) if isinstance(a, bytearray) else None for a, now in zip(arguments, after)]
 
 
-def main(program, count=2000, seed=1):
-    maker, driver, codes = Maker(seed), Driver(program), collections.Counter()
-    calls = itertools.chain(maker.null_calls(), maker.salvaging_calls(), (maker.call() for _ in range(count)), maker.refused_calls())
-    for number, (name, flags, arguments, shifts) in enumerate(calls):
-        result, is_well, report, after, refusals, out_of_memory = driver.call(name, flags, arguments, shifts)
-        is_silent = name in CHUNKS or name in NUMBERS
-        if flags & REFUSING and (refusals if is_silent else result == 0 and out_of_memory < 1 + ("passphrase" in name)):
-            is_well = 0
-        code, wanted_report, wanted = expected(name, arguments)
-        wanted = [bytes(w) if isinstance(a, bytearray) else None for w, a in zip(wanted, arguments)] or after
-        if (result, is_well, after) != (code, 1, wanted) or (wanted_report is not None and report != wanted_report):
-            different = [i for i, (found, right) in enumerate(zip(after, wanted)) if found != right]
-            print(f"call {number} of seed {seed}: {name}, flags {flags}: code {result}, not {code}; report {report}, not {wanted_report};")
-            print(f"well {is_well}; arguments that differ: {different}; arguments:")
-            for argument in arguments:
-                print(argument.hex() if isinstance(argument, bytearray) else getattr(argument, "length", argument))
-            return 1
-        codes[result if name not in NUMBERS else "a number"] += 1
-        maker.learn(name, result, after)
-    driver.process.stdin.close()
-    if driver.process.wait() != 0:
-        print("the driver ended with an error")
-        return 1
+class Journeys:
+    """Calls that follow from each other: what one writes is what the next one gets. `make` makes a call in the form of
+    Maker.call, and returns its code, its report, and its buffers after it."""
+
+    FILE_KEY, NONCE, SALT = SEED[:16], SEED[16:32], SEED[32:]
+    # Texts that are stanzas or not, and words that are arguments or not.
+    TEXTS = (b"", b"-> a\n\n-> b\n\n", b"-> a\n\n-> b\n", b"-> a\n\n-> b", b"-> a\n\n-> b ", b"-> a\n\n->", b"-> a\nAA", b"-> a\n\n-> b\nAA",
+             b"-> a\n\n-> b\n\nc\n", b"-> a\n=\n", b"age-encryption.org/v1\n-> a\n\n", b"-> a\n\n--- AAAA\n", b"-> scrypt x 1\n\n",
+             b"-> scrypt x 1\n\n-> a\n\n", b"-> a\n\n-> scrypt x 1\n\n", b"-> x\n\n" * 10911, b"-> x\n\n" * 10912)
+    WORDS = (b"a b", b"", b" ", b"a ", b" a", b"a  b", b"a\n", b"\t", b"\x7f", "ä".encode(), b"\xff")
+
+    def __init__(self, make):
+        self.make, self.count = make, 0
+
+    def go(self, name, *arguments):
+        self.count += 1
+        return self.make(*call_of(name, *arguments, flags=self.count % 2 * AT_START | THREADS * (self.count % 16 == 0)))
+
+    def in_parts(self, payload, kind, chunks):
+        """Opens or seals the chunks of a payload, the first ones as a part, for each number of these, and the part last for
+        every second number. Returns the chunks."""
+        last = len(chunks) - 1
+        for count in range(last + 1):
+            payload_now, part, made = payload, bytes(64), {}
+            if count:
+                payload_now, _, part = self.go("take_part", payload, count, bytes(64))[2]
+            for i in sorted(range(last + 1), key=lambda i: (i - count) % (last + 1) if count % 2 else i):
+                if i < count:
+                    part, made[i] = self.go(f"part_{kind}_next", part, chunks[i])[2]
+                else:
+                    payload_now, made[i], _ = self.go(f"{kind}_next", payload_now, chunks[i], i == last)[2]
+        return b"".join(made[i] for i in sorted(made))
+
+    def open(self, file):
+        """Opens a file as a whole, in steps and parts, by ranges, and what can be saved of it."""
+        self.go("decrypt_key", file, KEY, bytes(len(file)))
+        self.go("unlock_key", file, KEY, bytes(16))
+        _, (first, _, _), (_, _, payload) = self.go("open", file, self.FILE_KEY, bytes(64))
+        pieces = model.pieces_of(file[first:])
+        self.in_parts(payload, "open", pieces)
+        for i, piece in enumerate(pieces if len(pieces[-1]) < 1000 else pieces[:-1]):  # the model tries each end of the last one
+            payload = self.go("salvage_next", payload, piece, i == len(pieces) - 1)[2][0]
+        _, (length, place, _), (*_, ranges) = self.go("ranges_open", file, len(file), self.FILE_KEY, bytes(56))
+        ranges = self.go("ranges_last", ranges, file[place : place + length])[2][0]
+        for at in (place for i in range(len(pieces) + 1) for place in range(max(TEXT * i - 2, 0), TEXT * i + 2)):
+            length, place, _ = self.go("ranges_locate", ranges, at)[1]
+            self.go("ranges_chunk", ranges, at, file[place : place + length])
+
+    def written(self, size):
+        """A file of this size, made as a whole and in parts, with room enough and with too little."""
+        plain, length = bytes(i * 7 + i // 256 & 255 for i in range(size)), model.sealed_length(size)
+        stanza = self.go("wrap_key", self.FILE_KEY, KEY, self.SALT, bytes(86))[2][-1]
+        *_, front, payload = self.go("begin", stanza, self.FILE_KEY, self.NONCE, bytes(len(stanza) + 86), bytes(64))[2]
+        file = front + self.in_parts(payload, "seal", [chunk + bytes(TAG) for chunk in reference.chunks_of(plain)])
+        for less in (0, 1, 17, length // 2, length):
+            self.go("encrypt_key", plain, KEY, SEED, bytes(len(file) - less))
+            self.go("decrypt_key", file, KEY, bytes(max(size - less, 0)))
+        return file
+
+    def spoiled(self, file):
+        """The file with damage in each chunk, cut, and with bytes behind its end."""
+        for start in range(model.header_of(file)[2] + 16, len(file), SEALED):
+            length = min(SEALED, len(file) - start)
+            for at in (0, length // 2, length - TAG - 1, length - TAG, length - 1):
+                yield changed(file, start + at)
+            yield from (file[: start + rest] for rest in (0, 1, 15, 16, 17, 30000, SEALED - 1) if rest < length)
+        yield from (file + bytes(more) for more in (1, 15, 16, 17))
+
+    def open_front(self, front):
+        """Each call that reads a header."""
+        self.go("inspect", front, bytes(48))
+        self.go("stanzas", front, bytes(72), bytes(200))
+        self.go("unlock_key", front, KEY, bytes(16))
+        self.go("open", front, self.FILE_KEY, bytes(64))
+        self.go("decrypt_key", front, KEY, bytes(6))
+
+    def headers(self, file):
+        """Each beginning of a file, and each byte of its header changed."""
+        for front in [file[:at] for at in range(len(file) + 1)] + [changed(file, at) for at in range(model.header_of(file)[2])]:
+            self.open_front(front)
+
+    def texts(self):
+        """Headers and stanzas of each form, also of other tools, and too long ones."""
+        for text in self.TEXTS:
+            self.go("header", text, self.FILE_KEY, bytes(MAX_HEADER))
+        for words in self.WORDS:
+            self.go("wrap", words, b"body", bytes(200))
+        of_others = [path.read_bytes() for path in sorted((header.ROOT / "tests/data").glob("*.age"))]
+        for file in [*of_others, self.go("header", b"-> x\n\n" * 10911, self.FILE_KEY, bytes(MAX_HEADER))[2][-1]]:
+            found = model.header_of(file)[0]
+            self.go("stanzas", file[:SEALED], bytes(24 * len(found)), bytes(MAX_HEADER))
+        for length in (MAX_HEADER - 1, MAX_HEADER, SEALED, 70000):
+            self.open_front((model.VERSION + b"-> X " + b"a" * length)[:length])
+
+    def all(self):
+        whole = [self.written(size) for size in (0, 1, 16, TEXT - 1, TEXT, TEXT + 1, 2 * TEXT, 3 * TEXT, 3 * TEXT + 100)]
+        for file in itertools.chain(whole, *map(self.spoiled, whole[-2:])):
+            self.open(file)
+        text = self.go("wrap_key", self.FILE_KEY, KEY, self.SALT, bytes(86))[2][-1] + b"-> kind of one\nAAAA\n"
+        self.headers(self.go("encrypt", b"hello\n", text, self.FILE_KEY, self.NONCE, bytes(214))[2][-1])
+        file = self.go("encrypt_passphrase", b"text", PASSPHRASE, 2, SEED, bytes(200))[2][-1][:169]
+        for secret, most in ((PASSPHRASE, 1), (PASSPHRASE, 2), (PASSPHRASE, 30), (PASSPHRASE, 0), (PASSPHRASE, 31), (PASSPHRASE[:-1], 2)):
+            self.go("unlock_passphrase", file, secret, most, bytes(16))
+        self.go("unlock_key", file, KEY, bytes(16))
+        self.texts()
+
+
+def main(count, seed, *programs):
+    maker, drivers, codes = Maker(int(seed)), [Driver(program) for program in programs], collections.Counter()
+
+    def make(*call):
+        """Has each driver make a call. Returns what the model says: the result, the report, and the buffers after it."""
+        wanted = expected(call[0], call[2])
+        for driver in drivers:
+            driver.ask(call, wanted)
+        codes[wanted[0] if call[0] not in NUMBERS else "a number"] += 1
+        maker.learn(call[0], wanted[0], wanted[2])
+        return wanted
+
+    for call in itertools.chain(maker.null_calls(), maker.salvaging_calls(), maker.chunks_in_each_state(), maker.ranges_in_each_state()):
+        make(*call)
+    Journeys(make).all()
+    for call in itertools.chain((maker.call() for _ in range(int(count))), maker.refused_calls()):
+        make(*call)
+    for driver in drivers:
+        driver.end()
     print(f"{sum(codes.values())} calls; " + ", ".join(f"{code}: {times}" for code, times in sorted(codes.items(), key=str)))
-    return 0
 
 
 if __name__ == "__main__":
-    sys.exit(main(sys.argv[1], *map(int, sys.argv[2:])))
+    main(*sys.argv[1:])
