@@ -73,22 +73,11 @@ need_rt() {
     fi
 }
 
-# Writes the mark of a build: a text, the version of the toolchain and the commit. The mark gets the
-# time of the file BEGAN, which was made when the build started: mark MARK TEXT BEGAN.
+# Writes the mark of a build: a text and the version of the toolchain. The mark gets the time of the
+# file BEGAN, which was made when the build started: mark MARK TEXT BEGAN.
 mark() {
-    { echo "$2" && toolchain && commit; } >"$1"
+    { echo "$2" && toolchain; } >"$1"
     touch -r "$3" "$1"
-}
-
-# The commit of the crates, and whether they have changed since. An archive has no repository, but
-# has the commit in share/commit. Prints nothing if neither has it.
-commit() {
-    name=$(cd "$root" && git --git-dir=.git rev-parse --short=10 HEAD 2>/dev/null) || {
-        sed -n 's/^\([0-9a-f]\{10\}\).*/commit \1/p' "$root/share/commit" 2>/dev/null || :
-        return
-    }
-    changes=$(cd "$root" && git --git-dir=.git status --porcelain crates crates.txt)
-    echo "commit $name${changes:+, changed}"
 }
 
 # Replaces the line at the terminal that shows the work in progress. Without arguments, removes it.
