@@ -1,13 +1,11 @@
 """Terminals, pipes without a reader, signals, another /dev/urandom, and the system calls of a run."""
 
-import glob
 import itertools
 import os
 import re
 import shutil
 import signal
 import subprocess
-import time
 import unittest
 
 import fixture
@@ -71,21 +69,15 @@ class ClosedPipes(ProgramCase):
 
 class Interrupted(ProgramCase):
     def test_signal(self):
-        """A signal during scrypt: an existing OUT stays as it was."""
+        """A signal during scrypt, by a timer of processor time: an existing OUT stays as it was."""
         write("slow.age", fixture.for_passphrase(HELLO, work=18))
-        made = os.path.realpath("made")
+        shutil.copy("yesterday", "made")
+        os.utime("made", (10**9, 10**9))
         for words in ("encrypt -p pass -w 18 -o made hello", "decrypt -p pass -o made slow.age"):
             with self.subTest(words):
-                for _ in range(100):  # On a busy machine, a run may end before it is seen with OUT open.
-                    shutil.copy("yesterday", "made")
-                    os.utime("made", (10**9, 10**9))
-                    with subprocess.Popen([AGEP, *words.split()], stdin=subprocess.DEVNULL) as process:
-                        while process.poll() is None and made not in map(os.path.realpath, glob.glob(f"/proc/{process.pid}/fd/*")):
-                            time.sleep(0.001)
-                        process.terminate()
-                    if process.returncode != 0:
-                        break
-                self.assertEqual(process.returncode, -signal.SIGTERM)
+                timer = signal.ITIMER_VIRTUAL, 0.1
+                ran = subprocess.run([AGEP, *words.split()], stdin=subprocess.DEVNULL, preexec_fn=lambda: signal.setitimer(*timer))
+                self.assertEqual(ran.returncode, -signal.SIGVTALRM)
                 self.assert_file("made", read("yesterday"))
                 self.assertEqual(os.stat("made").st_mtime, 10**9)
 
