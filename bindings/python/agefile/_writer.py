@@ -40,9 +40,9 @@ class _Sealer(io.RawIOBase):
             self._sink, self._opener = self._opener(), None
         write_all(self._sink, b"".join((self._front, data)) if self._front else data)
         self._front = b""
-        if self._owned:
+        if self._owned and hasattr(self._sink, "flush"):
             # The finalizer of a forked child would write what is left in a buffer.
-            getattr(self._sink, "flush", bool)()
+            self._sink.flush()
         self._failed = False
 
     def _seal(self, is_last: bool) -> None:
@@ -105,8 +105,8 @@ class _Sealer(io.RawIOBase):
         with self._lock:
             if self._front and not self._failed:
                 self._put(b"")
-            if not getattr(self._sink, "closed", False):
-                getattr(self._sink, "flush", bool)()
+            if hasattr(self._sink, "flush") and not getattr(self._sink, "closed", False):
+                self._sink.flush()
 
     def truncate(self, _: Any = None, /) -> int:
         """Ends the text: this is what a BufferedWriter calls under its own lock, after it has passed
@@ -118,8 +118,8 @@ class _Sealer(io.RawIOBase):
         return self._total
 
     def finish(self, is_whole: bool) -> None:
-        """Seals the last chunk, if the file is whole, and closes the sink. A forked child leaves the
-        sink alone: it is that of its parent, of whom a thread may hold the lock."""
+        """Seals the last chunk of a whole file, and closes a sink that it opened. A forked child
+        leaves the sink alone: it is the parent's, of which a thread may hold the lock."""
         self.close()
         if not self.is_parent():
             return
@@ -186,7 +186,7 @@ class Writer(BinaryBase):
     def flush(self) -> None:
         """Writes the header, and flushes the sealed chunks. What fills no chunk stays in memory."""
         # fsspec flushes what an exception has broken, too: the old file would be lost.
-        is_broken = self._commits_at_close and self._gives_up()
+        is_broken = self._commits_at_close and not self._is_decided_later and sys.exc_info()[0]
         if self._sealer.writable() and self._sealer.is_parent() and not is_broken:
             self._buffer.flush()
             self._sealer.send()
@@ -218,20 +218,22 @@ class Writer(BinaryBase):
         """Closes the file without its last chunk, so that every reader refuses it."""
         self._sealer.finish(False)
 
-    def _gives_up(self) -> bool:
-        """Whether `close` would give the file up."""
-        is_complete = self._commits_at_close and sys.exc_info()[0] is None
-        return not (self._is_decided_later or is_complete)
-
     def close(self) -> None:
         """Ends writing in a `with` block, whose end decides. Elsewhere this is `abort`, and warns and,
         unless another exception is being handled, raises a ValueError."""
         if self.closed or not self._sealer.is_parent():
             self._sealer.close()
-        elif not self._gives_up():
-            self._end() if self._is_decided_later else self.commit()
+        elif self._is_decided_later:
+            self._end()
+        elif self._commits_at_close and sys.exc_info()[0] is None:
+            try:
+                self.commit()
+            except BaseException:
+                self._warn()
+                raise
         else:
-            # In a pool nobody may ask for an error, and `logging` drops it.
+            # In a pool nobody may ask for an error, and `logging` drops it. The warning may be one.
+            self._sealer.spoil()
             self._warn()
             self.abort()
             if sys.exc_info()[0] is None:
@@ -259,8 +261,7 @@ class Writer(BinaryBase):
             self._warn()
 
     def __del__(self) -> None:
-        is_ours = hasattr(self, "_buffer") and self._sealer.is_parent()
-        if is_ours and not self._sealer.is_finished:
+        if hasattr(self, "_buffer") and self._sealer.is_parent() and not self._sealer.is_finished:
             self.abort()
             raise ValueError(self._loss())
 

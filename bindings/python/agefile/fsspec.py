@@ -244,14 +244,14 @@ class AgeFileSystem(AbstractFileSystem):  # type: ignore[misc]
         super().put_file(lpath, rpath, *arguments, **options)
 
     def _refuse_same(self, path: str, local: Any) -> None:
-        """Refuses a local file as its own target: names are the same on both sides."""
+        """Refuses a local file as its own target or new file: names are the same on both sides."""
         name, fs = self._strip_protocol(path), self.fs
         while not isinstance(fs, LocalFileSystem) and getattr(fs, "fs", None) is not None:
             name, fs = fs._join(name) if hasattr(fs, "_join") else name, fs.fs
         is_local = isinstance(fs, LocalFileSystem) and isinstance(local, (str, os.PathLike))
-        is_there = is_local and os.path.isfile(name) and os.path.exists(local)
-        if is_there and os.path.samefile(name, local):
-            raise shutil.SameFileError(f"{name!r} and {local!r} are the same file")
+        for each in (name, os.path.realpath(name) + NEW) if is_local and os.path.exists(local) else ():
+            if os.path.isfile(each) and os.path.samefile(each, local):
+                raise shutil.SameFileError(f"{each!r} and {local!r} are the same file")
 
     def invalidate_cache(self, path: str | None = None) -> None:
         self.fs.invalidate_cache(None if path is None else self._strip_protocol(path))

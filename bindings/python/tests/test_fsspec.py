@@ -427,8 +427,13 @@ class Writes(InSystem):
     def test_a_file_onto_itself(self):
         path = self.new("a.age", b"old")
         os.symlink(path, "link")
-        for call in (lambda: self.system.get(path, path), lambda: self.system.put(path, path), lambda: self.system.get(path, self.path("link"))):
-            self.assertRaises(shutil.SameFileError, call)
+        link, new = self.path("link"), path + ".agep-new"
+        self.put(b"mine", new)
+        for call, *names in (
+            (self.system.get, path, path), (self.system.put, path, path), (self.system.get, path, link), (self.system.put, new, path), (self.system.put, new, link),
+        ):
+            self.assertRaises(shutil.SameFileError, call, *names, atomic=True)
+        self.assertEqual(self.got(new), b"mine")
         local = fsspec.filesystem("file")
         words = {"identities": self.identity, "recipients": self.identity}
         for system, name in (

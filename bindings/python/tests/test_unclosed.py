@@ -9,6 +9,7 @@ import os
 import subprocess
 import sys
 import threading
+import warnings
 from unittest import mock
 
 import agefile
@@ -111,6 +112,15 @@ class Unclosed(InFolder):
         file.flush()
         with self.assertWarns(RuntimeWarning):
             self.assertRaises(OSError, file.close)
+
+    def test_warnings_that_raise(self):
+        """The file cannot be completed all the same, and its finalizer tells of it."""
+        file = agefile.open("w.age", "wb", recipients=KEY)
+        with warnings.catch_warnings():
+            warnings.simplefilter("error")
+            self.assertRaises(RuntimeWarning, file.close)
+        self.assertRaises(OSError, file.commit)
+        self.refused("w.age")
 
     def test_writers_that_begin_together(self):
         """Each first locks its own file, then looks for the other's, so one of them is refused even if both had looked before."""

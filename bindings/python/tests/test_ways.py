@@ -243,7 +243,7 @@ class Ways(InFolder):
         for (_, end, state), found, told, _ in self.cells(sys.executable, ("fsspec",)):
             if found == "half":
                 half.add((end, state))
-            elif ENDS[end][1] is not says_nothing and "pool" not in end and "its own close" not in end:
+            elif ENDS[end][1] is not says_nothing:
                 with self.subTest(f"{end}, {state}: {told}"):
                     self.assertEqual(bool(told), found == "refused")
         self.assertLessEqual(half, {(end, "midway") for end in HALF})
