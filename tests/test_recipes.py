@@ -78,8 +78,8 @@ RUN_BY = {
 
 class Blocks(unittest.TestCase):
     def test_each_runs(self):
-        """A transcript or a test runs each block of each page. Blocks without a language, of Rattle and of
-        proofs are no commands, except those with a container, of which the page says so."""
+        """A transcript or a test runs each block of each page, but not those in Rattle, of proofs or without a
+        language: they are not commands, or they need podman, as their page says."""
         pages = glob.glob(f"{ROOT}/*.md") + glob.glob(f"{ROOT}/*/*.md")
         for page in sorted({*RUN_BY, *(os.path.relpath(name, ROOT) for name in pages)}):
             not_run = {"", "antt", "rust", *["console"] * (page in ("README.md", "docs/USE.md"))}

@@ -20,7 +20,7 @@ OF_SYSTEM = {type(error): error for error in (OSError(number, "failed") for numb
 RAISED = [*OF_SYSTEM, RuntimeError("failed"), EOFError("failed"), MemoryError("failed"), KeyboardInterrupt("failed")]
 EARLIER = "an earlier write failed, so this file stays without its end"
 BINARY, LATIN = {"mode": "wb"}, {"mode": "w", "encoding": "latin-1", "newline": ""}
-# What is no number of bytes read, of all that were asked for.
+# Wrong counts of bytes, each made from the count asked for.
 WRONG = [lambda count: None, lambda count: -1, lambda count: count + 1, lambda count: "all"]
 
 
@@ -69,7 +69,7 @@ COPIES = {
 
 class Devices(unittest.TestCase):
     def assert_error(self, found, device):
-        """The exception must be the device's own. A result that is no number of bytes is one, too."""
+        """The exception must be the device's own. A wrong count of bytes must raise one, too."""
         failure = device.fault[1]
         self.assertIsInstance(found, BaseException, f"{device}: {found!r}")
         if isinstance(failure, BaseException):

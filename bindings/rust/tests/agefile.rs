@@ -221,7 +221,7 @@ fn opening_goes_on_with_another_key() {
     assert_eq!(first.finish().unwrap().read_to_end(&mut back).unwrap_err().kind(), ErrorKind::WouldBlock);
 }
 
-/// A text that comes in two pieces, of which the second is read to its end, has this error before more is read.
+/// A reader of this text, which comes in two pieces, fails with this error and waits for no more.
 fn is_refused_at_once(text: &[u8], cut: usize, identities: &[&dyn Identity], error: Error) {
     let (first, second) = text.split_at(cut);
     let blocked = Device::new([]).blocking(0);
