@@ -4,10 +4,10 @@ throughput by size.
 
 usage: bench/peers.py [--mib 1024] [--runs 7] [--files 1000] [--cpu LEVEL] [--only WORD] [--svg FILE]
 
-The programs are built for this machine's level of processor, or for the level given by --cpu. --only
-leaves out the rows without this word, and the second table; --svg draws the second table. The script
-needs the toolchain, a C compiler, openssl, age, gpg and GNU time. TMPDIR names the folder for the
-files, which need seven times the size.
+The programs are built for each level of processor given by --cpu, and else for this machine's and, if
+that is x86-64-v4, for x86-64-v3. --only leaves out the rows without this word, and the second table;
+--svg draws the second table. The script needs the toolchain, a C compiler, openssl, age, gpg and GNU
+time. TMPDIR names the folder for the files, which need seven times the size.
 """
 
 import argparse
@@ -35,6 +35,15 @@ LOG_N, R, P = 18, 8, 1
 LEVELS = ("x86-64-v2", "x86-64-v3", "x86-64-v4")
 # What openssl must not use to be held to a level: AVX-512, and for x86-64-v2 also AVX and AVX2.
 HELD = {"x86-64-v3": ":~0xD0230000", "x86-64-v2": "~0x1000000000000000:~0xD0230020"}
+
+
+class Built(NamedTuple):
+    """Copies of the programs built for one level."""
+
+    level: str
+    agep: str
+    cipher: str
+    kdf: str
 
 
 class Time(NamedTuple):
@@ -119,9 +128,9 @@ class HashlibScrypt:
         return "-"
 
 
-def primitives(level, mib):
-    """Each kind of work on bytes, with our program and its peers."""
-    below = min(level, max(HELD))
+def primitives(built, mib):
+    """Each kind of work on bytes, with our programs and their peers."""
+    below = min(built[0].level, max(HELD))
     held, held_name = HELD[below], f"openssl held to {below}"
     aead = ["-aead", "-evp", "chacha20-poly1305"]
     for part, size, words in (
@@ -130,77 +139,78 @@ def primitives(level, mib):
         ("chacha20", 65536, ["-evp", "chacha20"]),
         *(("seal", size, aead) for size in (496, 528, 700, 1024)),
     ):
-        here = Command(CIPHER, part, size, mib, 7, user=True)
+        here = [Command(each.cipher, part, size, mib, 7, user=True) for each in built]
         peers = {
             "openssl": OpensslSpeed(words, size, mib),
             held_name: OpensslSpeed(words, size, mib, held),
         }
         yield f"{part} {mib} MiB, {size} bytes each", here, peers
     mac = ["openssl", "mac", "-macopt", "hexkey:" + 32 * "07", "-in", "plain", "POLY1305"]
-    here = Command(CIPHER, "poly1305", 65536, mib, 7, user=True)
+    here = [Command(each.cipher, "poly1305", 65536, mib, 7, user=True) for each in built]
     peers = {"openssl": Command(*mac, user=True), held_name: Command(*mac, held=held, user=True)}
     yield f"poly1305 {mib} MiB, 65536 bytes each", here, peers
-    here, peers = Command(KDF, LOG_N, R, P), {"hashlib": HashlibScrypt()}
-    yield f"scrypt, N = 2^{LOG_N}, r = {R}, p = {P}", here, peers
+    here = [Command(each.kdf, LOG_N, R, P) for each in built]
+    yield f"scrypt, N = 2^{LOG_N}, r = {R}, p = {P}", here, {"hashlib": HashlibScrypt()}
 
 
-def whole_files(mib, files, recipient):
+def whole_files(built, mib, files, recipient):
     """The same for files. Age has no symmetric keys, so its rows use an X25519 key."""
-    encrypt, age_encrypt = [AGEP, "encrypt", "-k", "key"], ["age", "-r", recipient]
-    decrypt, age_decrypt = [AGEP, "decrypt", "-k", "key"], ["age", "-d", "-i", "identity"]
+
+    def here(*words, **options):
+        return [Command(each.agep, *words, **options) for each in built]
+
+    encrypt, age_encrypt = ["encrypt", "-k", "key"], ["age", "-r", recipient]
+    decrypt, age_decrypt = ["decrypt", "-k", "key"], ["age", "-d", "-i", "identity"]
     for where, out in (("/dev/null", "/dev/null"), ("a file", "out")):
-        here = Command(*encrypt, "plain", out=out)
         stream = Command("./stream", "-e", "key", source="plain", out=out)
         peers = {"age": Command(*age_encrypt, "plain", out=out), "bindings/c/examples/stream.c": stream}
-        yield f"encrypt {mib} MiB to {where}", here, peers
-        here = Command(*decrypt, "plain.here", out=out)
+        yield f"encrypt {mib} MiB to {where}", here(*encrypt, "plain", out=out), peers
         stream = Command("./stream", "key", source="plain.here", out=out)
         peers = {"age": Command(*age_decrypt, "plain.age", out=out), "bindings/c/examples/stream.c": stream}
-        yield f"decrypt {mib} MiB to {where}", here, peers
-    here = Command("sh", "-c", 'rm -f out && exec "$0" encrypt -k key -o out plain', AGEP)
+        yield f"decrypt {mib} MiB to {where}", here(*decrypt, "plain.here", out=out), peers
+    own = [Command("sh", "-c", 'rm -f out && exec "$0" encrypt -k key -o out plain', each.agep) for each in built]
     age = Command("sh", "-c", 'rm -f out && age -r "$0" -o out plain && sync out', recipient)
-    yield f"encrypt {mib} MiB to a file, and sync it", here, {"age, sync": age}
-    here = Command(AGEP, "rewrap", "-k", "key", "-K", "new.key", "plain.here", out="out")
+    yield f"encrypt {mib} MiB to a file, and sync it", own, {"age, sync": age}
     copy = Command("dd", "if=plain.here", "bs=64K", "status=none", out="out")
     peers = {"dd bs=64K": copy, "cat": Command("cat", "plain.here", out="out")}
-    yield f"rewrap {mib} MiB to a file", here, peers
-    here = Command(AGEP, "range", "-k", "key", mib << 19, 10, "plain.here")
+    yield f"rewrap {mib} MiB to a file", here("rewrap", "-k", "key", "-K", "new.key", "plain.here", out="out"), peers
     peers = {"age, all of it": Command(*age_decrypt, "plain.age")}
-    yield f"ten bytes in the middle of {mib} MiB", here, peers
+    yield f"ten bytes in the middle of {mib} MiB", here("range", "-k", "key", mib << 19, 10, "plain.here"), peers
     many = {"out": "{}.out", "files": files}
     peers = {"age": Command(*age_encrypt, "{}.txt", **many)}
-    yield f"encrypt {files} files of 1 KiB", Command(*encrypt, "{}.txt", **many), peers
+    yield f"encrypt {files} files of 1 KiB", here(*encrypt, "{}.txt", **many), peers
     peers = {"age": Command(*age_decrypt, "{}.age", **many)}
-    yield f"decrypt {files} files of 1 KiB", Command(*decrypt, "{}.here", **many), peers
-    here, age = (Command(program, "--version", files=files) for program in (AGEP, "age"))
-    yield f"start {files} times, --version", here, {"age": age}
+    yield f"decrypt {files} files of 1 KiB", here(*decrypt, "{}.here", **many), peers
+    age = Command("age", "--version", files=files)
+    yield f"start {files} times, --version", here("--version", files=files), {"age": age}
 
 
-def programs_by_size(recipient):
-    """For each kind of work the arguments of each program, and the suffix of its input. Openssl encrypts
-    without authentication, because its command offers no authenticated cipher."""
+def programs_by_size(built, recipient):
+    """For each kind of work the arguments of each program. Openssl encrypts without authentication,
+    because its command offers no authenticated cipher."""
     gpg = ["gpg", "--batch", "--quiet", "--homedir", "gpg", "--pinentry-mode", "loopback", "--passphrase-file", "new.key"]
     sealing = [*gpg, "--symmetric", "--s2k-mode", "0", "--cipher-algo", "AES256", "--compress-algo", "none", "-o", "-"]
     openssl = ["openssl", "enc", "-chacha20", "-K", 32 * "07", "-iv", 16 * "00", "-in"]
+    own = {f"agep, {each.level}": each.agep for each in built}
     return {
         "encrypting": {
-            "agep": ([AGEP, "encrypt", "-k", "key"], ""),
-            "age": (["age", "-r", recipient], ""),
-            "gpg": (sealing, ""),
-            "openssl": (openssl, ""),
+            **{name: [agep, "encrypt", "-k", "key"] for name, agep in own.items()},
+            "age": ["age", "-r", recipient],
+            "gpg": sealing,
+            "openssl": openssl,
         },
         "decrypting": {
-            "agep": ([AGEP, "decrypt", "-k", "key"], ".agep"),
-            "age": (["age", "-d", "-i", "identity"], ".age"),
-            "gpg": ([*gpg, "-o", "-", "--decrypt"], ".gpg"),
-            "openssl": ([*openssl[:2], "-d", *openssl[2:]], ".openssl"),
+            **{name: [agep, "decrypt", "-k", "key"] for name, agep in own.items()},
+            "age": ["age", "-d", "-i", "identity"],
+            "gpg": [*gpg, "-o", "-", "--decrypt"],
+            "openssl": [*openssl[:2], "-d", *openssl[2:]],
         },
     }
 
 
-def throughput(mib, runs, recipient):
+def throughput(built, mib, runs, recipient):
     """The bytes per second of each kind of work, program and size, by the best of several runs."""
-    works, most = programs_by_size(recipient), mib << 20
+    works, most = programs_by_size(built, recipient), mib << 20
     os.mkdir("gpg", 0o700)
     sizes = [1024 << shift for shift in range(0, 21, 2) if 1024 << shift <= most]
     rates = {name: {program: {} for program in programs} for name, programs in works.items()}
@@ -208,11 +218,11 @@ def throughput(mib, runs, recipient):
         with open("sized", "wb") as sized:
             sized.truncate(size)
         commands = [
-            (rates[name][program], Command(*words, "sized" + ending, out="/dev/null"))
+            (rates[name][program], Command(*words, "sized" if name == "encrypting" else "sized." + program))
             for name, programs in works.items()
-            for program, (words, ending) in programs.items()
+            for program, words in programs.items()
         ]
-        for program, (words, _) in works["encrypting"].items():
+        for program, words in works["encrypting"].items():
             Command(*words, "sized", out="sized." + program).measure()
         # a short run takes only a millisecond or two
         turns = runs if size >= 1 << 24 else 5 * runs
@@ -226,7 +236,7 @@ def print_throughput(rates):
     programs = [(name, program) for name in rates for program in rates[name]]
     print(f"| MB/s | {' | '.join(f'{name}: {program}' for name, program in programs)} |")
     print("|---|" + "---|" * len(programs))
-    for size in rates["encrypting"]["agep"]:
+    for size in rates["encrypting"]["age"]:
         millions = [rates[name][program][size] / 1e6 for name, program in programs]
         print(f"| {size >> 10} KiB | {' | '.join(f'{n:.0f}' if n >= 10 else f'{n:.2f}' for n in millions)} |")
 
@@ -238,26 +248,36 @@ def by_shell(line):
 
 
 def build(level):
-    """Builds the programs to be measured, and checks that both scrypts give the same key."""
+    """Builds the programs to be measured, checks that both scrypts give the same key, and returns copies."""
     os.environ["AGEP_CPU"] = level
-    stream = ["cc", "-O2", "-Iprefix/include", "-o", "stream", ROOT / "bindings/c/examples/stream.c"]
     for line, folder in (
         ([ROOT / "agep", "--version"], "."),
         ([ROOT / "bench/cipher.sh", level], "."),
         (["rt", "run", *by_shell(f"target {level}"), "--", "1", "1", "1"], KDF.parent.parent),
-        ([ROOT / "install", "--library", "prefix"], "."),
-        ([*stream, "prefix/lib/libagefile.a"], "."),
     ):
-        built = subprocess.run(line, cwd=folder, capture_output=True, text=True)
-        if built.returncode != 0:
-            sys.exit(f"{built.stdout}{built.stderr}{line[0]} failed")
+        build_by(line, folder)
     if subprocess.check_output([KDF, str(LOG_N), str(R), str(P)], text=True).strip() != (
         HashlibScrypt().key().hex()
     ):
         sys.exit("the keys differ")
+    os.mkdir(level)
+    return Built(level, *(shutil.copy(path, level) for path in (AGEP, CIPHER, KDF)))
 
 
-def make_files(mib, files):
+def build_stream():
+    """Builds the example of the library for C, which takes the machine's own level."""
+    build_by([ROOT / "install", "--library", "prefix"], ".")
+    source = ROOT / "bindings/c/examples/stream.c"
+    build_by(["cc", "-O2", "-Iprefix/include", "-o", "stream", source, "prefix/lib/libagefile.a"], ".")
+
+
+def build_by(line, folder):
+    built = subprocess.run(line, cwd=folder, capture_output=True, text=True)
+    if built.returncode != 0:
+        sys.exit(f"{built.stdout}{built.stderr}{line[0]} failed")
+
+
+def make_files(agep, mib, files):
     """Makes the plaintexts, the secrets and the encrypted files. Returns the recipient for age."""
     with open("plain", "wb") as plain:
         for _ in range(mib):
@@ -268,47 +288,55 @@ def make_files(mib, files):
         Path(f"{number}.txt").write_bytes(os.urandom(1024))
     subprocess.run(["age-keygen", "-o", "identity"], capture_output=True, check=True)
     recipient = subprocess.check_output(["age-keygen", "-y", "identity"], text=True).strip()
-    for name, line in (("here", [AGEP, "encrypt", "-k", "key"]), ("age", ["age", "-r", recipient])):
+    for name, line in (("here", [agep, "encrypt", "-k", "key"]), ("age", ["age", "-r", recipient])):
         Command(*line, "plain", out=f"plain.{name}").measure()
         Command(*line, "{}.txt", out="{}." + name, files=files).measure()
-    for line in ([AGEP, "decrypt", "-k", "key", "plain.here"], ["./stream", "key"]):
+    for line in ([agep, "decrypt", "-k", "key", "plain.here"], ["./stream", "key"]):
         Command(*line, source="plain.here", out="out").measure()
         if not filecmp.cmp("plain", "out", shallow=False):
             sys.exit(f"{line[0]} changed the plaintext")
     return recipient
 
 
-def cells(here, there):
-    """The best and the median of our times, of those of a peer, and of their ratio."""
-    if any(math.isnan(seconds) for seconds in here + there):
-        return ["-"] * 3
-    ours, peers = ((min(times), statistics.median(times)) for times in (here, there))
-    ratios = (b / a if a > 0 else math.inf for a, b in zip(ours, peers))
-    columns = ((3, ours), (3, peers), (2, ratios))
-    return [f"{best:.{n}f} ({median:.{n}f})" for n, (best, median) in columns]
+def cells(times):
+    """The best and the median."""
+    return f"{min(times):.3f} ({statistics.median(times):.3f})"
 
 
-def print_table(works, times):
+def ratios(here, there):
+    """How many times as fast each of ours is as a peer, by the best and by the median."""
+    def ratio(ours, kind):
+        return kind(there) / kind(ours) if kind(ours) > 0 else math.inf
+
+    return "; ".join(f"{ratio(ours, min):.2f} ({ratio(ours, statistics.median):.2f})" for ours in here)
+
+
+def print_table(built, works, times):
     """The seconds are those of the clock, or of the processor if the peer counts only these."""
-    print("| Work | Peer | Here, s | Peer, s | Ratio | of CPU | MiB |")
-    print("|---|---|---|---|---|---|---|")
+    levels = [each.level for each in built]
+    print(f"| Work | Peer | {' | '.join(levels)} | Peer, s | Ratio | of CPU | MiB |")
+    print("|---|---|" + "---|" * (len(levels) + 4))
     for name, ours, peers in works:
         for peer, program in peers.items():
-            clock, cpu = (cells(*pair) for pair in zip(zip(*times[ours]), zip(*times[program])))
-            seconds = cpu[:2] if clock[0] == "-" else clock[:2]
-            memory = f"{ours.memory()}, {program.memory()}"
-            print(f"| {' | '.join([name, peer, *seconds, clock[2], cpu[2], memory])} |")
+            clock, cpu = ([[time[part] for time in times[each]] for each in (*ours, program)] for part in (0, 1))
+            is_clock = not any(math.isnan(seconds) for column in clock for seconds in column)
+            seconds = map(cells, clock if is_clock else cpu)
+            ratio = ratios(clock[:-1], clock[-1]) if is_clock else "-"
+            memory = f"{ours[0].memory()}, {program.memory()}"
+            print(f"| {' | '.join([name, peer, *seconds, ratio, ratios(cpu[:-1], cpu[-1]), memory])} |")
 
 
 def arguments():
     parser = argparse.ArgumentParser(description=__doc__.splitlines()[0])
     for name, default in (("--mib", 1024), ("--runs", 7), ("--files", 1000)):
         parser.add_argument(name, type=int, default=default)
-    (level,) = by_shell("processor")
-    parser.add_argument("--cpu", choices=LEVELS, default=level)
+    parser.add_argument("--cpu", choices=LEVELS, action="append")
     parser.add_argument("--only", metavar="WORD", default="")
     parser.add_argument("--svg", metavar="FILE", type=Path)
-    return parser.parse_args()
+    args = parser.parse_args()
+    (level,) = by_shell("processor")
+    args.cpu = args.cpu or [level, *["x86-64-v3"] * (level == "x86-64-v4")]
+    return args
 
 
 def main():
@@ -316,21 +344,22 @@ def main():
     svg = args.svg and args.svg.absolute()
     with tempfile.TemporaryDirectory() as scratch:
         os.chdir(scratch)
-        build(args.cpu)
-        recipient = make_files(args.mib, args.files)
-        works = [*primitives(args.cpu, args.mib), *whole_files(args.mib, args.files, recipient)]
+        built = [build(level) for level in args.cpu]
+        build_stream()
+        recipient = make_files(built[0].agep, args.mib, args.files)
+        works = [*primitives(built, args.mib), *whole_files(built, args.mib, args.files, recipient)]
         works = [work for work in works if args.only in work[0]]
-        programs = [program for _, ours, peers in works for program in (ours, *peers.values())]
+        programs = [program for _, ours, peers in works for program in (*ours, *peers.values())]
         times = {program: [] for program in programs}
         for _ in range(args.runs):
             for program in programs:
                 times[program].append(program.measure())
         processor = Path("/proc/cpuinfo").read_text().split("model name\t: ")[1].splitlines()[0]
-        print(f"{processor}, {os.cpu_count()} cores, load {os.getloadavg()[0]:.1f}, {args.cpu}.")
+        print(f"{processor}, {os.cpu_count()} cores, load {os.getloadavg()[0]:.1f}.")
         print(f"The best (and the median) of {args.runs} runs. A ratio above 1 is in our favour.\n")
-        print_table(works, times)
+        print_table(built, works, times)
         if not args.only:
-            rates = throughput(args.mib, args.runs, recipient)
+            rates = throughput(built, args.mib, args.runs, recipient)
             print()
             print_throughput(rates)
             if svg:

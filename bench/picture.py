@@ -3,7 +3,9 @@
 import math
 from typing import NamedTuple
 
-COLORS = {"agep": "#0b5fa5", "age": "#c8423a", "gpg": "#4f8a5b", "openssl": "#8a6d1d"}
+# agep has a line for each level of processor, the first level in the first color.
+AGEP_COLORS = "#0b5fa5", "#63a8dc", "#9aa5b1"
+COLORS = {"age": "#c8423a", "gpg": "#4f8a5b", "openssl": "#8a6d1d"}
 SIZES = (1 << 10, 1 << 30)
 RATES = (1e5, 1e10)
 RATE_NAMES = {1e5: "100 kB/s", 1e6: "1 MB/s", 1e7: "10 MB/s", 1e8: "100 MB/s", 1e9: "1 GB/s", 1e10: "10 GB/s"}
@@ -42,11 +44,17 @@ def grid(panel, title):
         yield text(x, high + 18, name)
 
 
+def colored(programs):
+    """Each program with its color."""
+    agep = iter(AGEP_COLORS)
+    return [(program, COLORS.get(program) or next(agep)) for program in programs]
+
+
 def lines(panel, rates):
     """A line for each program: `rates` has its bytes per second by size."""
-    for program, points in rates.items():
+    for (_, color), points in zip(colored(rates), rates.values()):
         places = " ".join(f"{panel.x(size):.1f},{panel.y(rate):.1f}" for size, rate in points.items())
-        yield f'<polyline points="{places}" fill="none" stroke="{COLORS[program]}" stroke-width="2"/>'
+        yield f'<polyline points="{places}" fill="none" stroke="{color}" stroke-width="2"/>'
 
 
 def draw(works):
@@ -54,8 +62,8 @@ def draw(works):
     panels = [(Panel(80 + 430 * number), name, rates) for number, (name, rates) in enumerate(works.items())]
     width = panels[-1][0].left + 350
     body = [part for panel, name, rates in panels for part in (*grid(panel, name), *lines(panel, rates))]
-    for number, (program, color) in enumerate(COLORS.items()):
-        body.append(f'<path d="M{80 + 110 * number} 352h24" stroke="{color}" stroke-width="2"/>')
-        body.append(text(110 + 110 * number, 356, program, "start", color))
+    for number, (program, color) in enumerate(colored(panels[0][2])):
+        body.append(f'<path d="M{80 + 150 * number} 352h24" stroke="{color}" stroke-width="2"/>')
+        body.append(text(110 + 150 * number, 356, program, "start", color))
     head = f'<svg xmlns="http://www.w3.org/2000/svg" viewBox="0 0 {width} 370" font-family="sans-serif" font-size="12">'
     return "\n".join([head, f'<rect width="{width}" height="370" fill="white"/>', *body, "</svg>"]) + "\n"
