@@ -31,8 +31,8 @@ next_there (Some bytes) at at2 n buf p w le next g has =
     )
 
 -- no byte was returned yet
-pub first_none : (gave : ℕ → ℕ → Type 0) → GaveFirst gave 0 []
-first_none gave = (refl, λ k lt. absurd (omega (arith, lt)))
+pub first_none : (gave : ℕ → ℕ → Type 0) {at : ℕ} → at ≡ 0 → GaveFirst gave at []
+first_none gave start = rw start (refl, λ k lt. absurd (omega (arith, lt)))
 
 -- the bytes of one read more
 pub first_then : (old new : ℕ → ℕ → Type 0) (at at2 : ℕ) (past more : Bytes) → StaysGiven old new

@@ -58,31 +58,32 @@ stopped_faults {fault = stream.Write} s = tt
 stopped_faults {fault = stream.TooManyChunks} s = tt
 stopped_faults {fault = fault} s = absurd (s.stops.holds [] (λ end. refl))
 
-module _ {limits : Bounds} (fresh : Fresh) {gathered : Gathering} {text : Bytes}
-    (header : IsNewHeader limits fresh.file_key gathered text) where
-  -- the first chunk was not read, and nothing was written
-  pub encrypts_unread : {source : Flow} (old : Known) → GaveSome source
-      → EncryptsGiven limits fresh gathered source (move_of old old) (Err Read)
-  encrypts_unread old some =
-      of_any some (λ plain. record { text = text; header = header; part = (0, Appends-nil old) })
+-- the first chunk was not read, and nothing was written
+pub encrypts_unread : {limits : Bounds} (fresh : Fresh) {gathered : Gathering} {text : Bytes}
+    → IsNewHeader limits fresh.file_key gathered text → {source : Flow} (old : Known) → GaveSome source
+    → EncryptsGiven limits fresh gathered source (move_of old old) (Err Read)
+encrypts_unread fresh {text = text} header old some =
+    of_any some (λ plain. record { text = text; header = header; part = (0, Appends-nil old) })
 
+module _ {limits : Bounds} (fresh : Fresh) {gathered : Gathering} {text front : Bytes}
+    (header : IsNewHeader limits fresh.file_key gathered text) (spelled : front ≡ text ++ fresh.nonce) where
   -- a prefix of the header and the nonce was written
-  pub encrypts_begun : {source : Flow} (sink : Moved) → GaveSome source → WritesPart sink (text ++ fresh.nonce)
+  pub encrypts_begun : {source : Flow} (sink : Moved) → GaveSome source → WritesPart sink front
       → EncryptsGiven limits fresh gathered source sink (Err Write)
   encrypts_begun sink some part = of_any some (λ plain. record {
     text = text;
     header = header;
     part = rw append_assoc at (part_more sink (text ++ fresh.nonce)
-        (concat (sealed_chunks fresh.file_key fresh.nonce plain)) part);
+        (concat (sealed_chunks fresh.file_key fresh.nonce plain)) (rw spelled at part));
   })
 
   pub takes_begun : {key : Bytes} {max : ℕ} {t : SealerState} {more : Bool} {source : Flow} (sink : Moved)
-      → WritesPart sink (text ++ fresh.nonce) → Fills (at_start key max) t source (Ok more)
+      → WritesPart sink front → Fills (at_start key max) t source (Ok more)
       → TookWhileEncrypting limits fresh gathered source sink Write
   takes_begun sink part (x, gave, is, fits, full, ended) = record {
     text = text;
     header = header;
-    written = take part.0 (text ++ fresh.nonce);
+    written = take part.0 front;
     gained = part.1;
     n = 0;
     whole = omega arith;
@@ -90,19 +91,19 @@ module _ {limits : Bounds} (fresh : Fresh) {gathered : Gathering} {text : Bytes}
   }
 
   -- both were written, and then a prefix of the sealed chunks
-  begun : {plain : Bytes} (a b c : Known) → Appends a b (text ++ fresh.nonce)
+  begun : {plain : Bytes} (a b c : Known) → Appends a b front
       → WritesPart (move_of b c) (concat (sealed_chunks fresh.file_key fresh.nonce plain))
       → BegunFile limits fresh gathered plain (move_of a c)
   begun {plain} a b c put part = record {
     text = text;
     header = header;
     part = rw append_assoc at (part_after a b c (text ++ fresh.nonce)
-        (concat (sealed_chunks fresh.file_key fresh.nonce plain)) put part);
+        (concat (sealed_chunks fresh.file_key fresh.nonce plain)) (rw spelled at put) part);
   }
 
   -- the payload after the header and the nonce
   pub encrypts_payload : (r : Result Done StreamFault) {source : Flow} (a b c : Known) → length fresh.nonce ≡ 16
-      → Appends a b (text ++ fresh.nonce)
+      → Appends a b front
       → SealsAll (at_start (payload_key fresh.file_key fresh.nonce) limits.max_chunks) source (move_of b c) r
       → EncryptsGiven limits fresh gathered source (move_of a c) (file_result r)
   encrypts_payload (Ok done) a b c sixteen put h = of_map h (λ plain q.
@@ -123,7 +124,7 @@ module _ {limits : Bounds} (fresh : Fresh) {gathered : Gathering} {text : Bytes}
             unmixed = header.heading.unmixed;
           };
         },
-        rw append_assoc at (Appends-trans a b c (text ++ fresh.nonce) rest put q.0),
+        rw append_assoc at (Appends-trans a b c (text ++ fresh.nonce) rest (rw spelled at put) q.0),
         omega (arith, q.2),
         omega (arith, q.3),
       ))
@@ -134,12 +135,12 @@ module _ {limits : Bounds} (fresh : Fresh) {gathered : Gathering} {text : Bytes}
       let out : Bytes = concat (take (limits.max_chunks - 1) (sealed_chunks fresh.file_key fresh.nonce plain)) in (
         text ++ (fresh.nonce ++ out),
         record { text = text; header = header; too_many = omega (arith, q.0); spelled = refl },
-        rw append_assoc at (Appends-trans a b c (text ++ fresh.nonce) out put (rw below at q.1)),
+        rw append_assoc at (Appends-trans a b c (text ++ fresh.nonce) out (rw spelled at put) (rw below at q.1)),
       ))
   encrypts_payload (Err fault) a b c sixteen put s = absurd (stopped_faults s.1)
 
   took : {source : Flow} (a b c : Known) {fault : StreamFault} → length fresh.nonce ≡ 16
-      → Appends a b (text ++ fresh.nonce) → (chunk : ℕ)
+      → Appends a b front → (chunk : ℕ)
       → Stopped (payload_key fresh.file_key fresh.nonce) limits.max_chunks 0 chunk [] source (move_of b c) fault
       → GaveAtMost (chunk_size * (chunk + 1 - 0) + 1 - 0) source
       → TookChunks limits fresh gathered source (move_of a c)
@@ -147,20 +148,14 @@ module _ {limits : Bounds} (fresh : Fresh) {gathered : Gathering} {text : Bytes}
     text = text;
     header = header;
     written = (text ++ fresh.nonce) ++ s.wrote.0;
-    gained = Appends-trans a b c (text ++ fresh.nonce) s.wrote.0 put s.wrote.1;
+    gained = Appends-trans a b c (text ++ fresh.nonce) s.wrote.0 (rw spelled at put) s.wrote.1;
     n = chunk;
-    whole = omega (
-      arith,
-      length-append (text ++ fresh.nonce) s.wrote.0,
-      length-append text fresh.nonce,
-      sixteen,
-      s.wrote.2,
-    );
+    whole = omega (arith, length-append {A = ℕ}, sixteen, s.wrote.2);
     gave = (gave.0, gave.1, omega (arith, gave.2));
   }
 
   pub takes_payload : (fault : StreamFault) {source : Flow} (a b c : Known) → length fresh.nonce ≡ 16
-      → Appends a b (text ++ fresh.nonce)
+      → Appends a b front
       → SealsAll (at_start (payload_key fresh.file_key fresh.nonce) limits.max_chunks) source (move_of b c) (Err fault)
       → TookWhileEncrypting limits fresh gathered source (move_of a c) (stream_fault fault)
   takes_payload stream.Read a b c sixteen put s = tt

@@ -14,6 +14,13 @@ no_stream_fault (Some f) h = absurd (none-some (stream_fault f) (sym h))
 pub with_file_fault_whole : {p : Bytes} {r : Reading StreamFault} → whole p ≡ with_file_fault r → r ≡ whole p
 with_file_fault_whole {p} {r} h = grind (arith, no_stream_fault)
 
+-- a verdict is the reading after any header verdict on the same bytes
+pub verdict_after : {limits : Bounds} {answers : Answering} {b : Bytes} {v : Reading Fault}
+    (r : Result Found HeaderFault) → IsVerdict limits answers b v → HeaderVerdict b limits.max_header r
+    → v ≡ reading_after limits answers b r
+verdict_after {limits} {answers} {b} r i is = i.is ∙ ap (reading_after limits answers b)
+    (headers.one_verdict b limits.max_header i.header r i.header_verdict is)
+
 -- a file of the chosen key
 abbrev pub IsChosenFile : (limits : Bounds) (answers : Answering) (p b : Bytes) → Type 0
 IsChosenFile limits answers p b =
@@ -138,9 +145,7 @@ both_ways limits answers b p = (
 
 pub one_verdict : (limits : Bounds) (answers : Answering) (b : Bytes) (v w : Reading Fault)
     → IsVerdict limits answers b v → IsVerdict limits answers b w → v ≡ w
-one_verdict limits answers b v w h k =
-    h.is ∙ ap (reading_after limits answers b)
-    (headers.one_verdict b limits.max_header h.header k.header h.header_verdict k.header_verdict) ∙ sym k.is
+one_verdict limits answers b v w h k = verdict_after k.header h k.header_verdict ∙ sym k.is
 
 -- one identity that means the key
 pub opens_whole : (limits : Bounds) (meaning : List StanzaParts → Unwrapped) (k : FileKey) (stanzas : List StanzaParts)

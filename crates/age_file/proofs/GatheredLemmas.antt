@@ -7,37 +7,34 @@ item_at : {A B : Type 0} (f : A → B) (xs : List A) (i : ℕ) (x : A) → i < l
     → drop i (map f xs) ≡ f x ∷ drop (i + 1) (map f xs)
 item_at f xs i x low is = grind (arith, drop-map, drop_more)
 
--- what the remaining recipients return, if the answer of the first is known
-gathered_step : {A : Type 0} (f : A → Result (List StanzaParts) ℕ) (xs : List A) {i : ℕ} (n : ℕ) {x : A}
-    {a : Result (List StanzaParts) ℕ} → i < length xs
-    → x ≡ get_or xs i x → f x ≡ a → gathering_from n (drop i (map f xs))
-    ≡ gathering_from n (a ∷ drop (i + 1) (map f xs))
-gathered_step f xs {i} n {x} low is answer =
-    ap (gathering_from n) (item_at f xs i x low is ∙ ap (λ y. y ∷ drop (i + 1) (map f xs)) answer)
-
 preceded_twice : (a b : List StanzaParts) (r : Result (List StanzaParts) Fault)
     → with_stanzas a (with_stanzas b r) ≡ with_stanzas (a ++ b) r
 preceded_twice a b (Ok more) = ap Ok (sym (append_assoc a b more))
 preceded_twice a b (Err fault) = refl
 
--- one more recipient has returned its stanzas
-pub gathered_more : {A : Type 0} (f : A → Result (List StanzaParts) ℕ) (xs : List A) {i : ℕ} (n : ℕ) {x : A}
-    (all : List StanzaParts) {stanzas joined : List StanzaParts} {target : Result (List StanzaParts) Fault}
-    → i < length xs
-    → x ≡ get_or xs i x → f x ≡ Ok stanzas → joined ≡ all ++ stanzas
-    → with_stanzas all (gathering_from n (drop i (map f xs))) ≡ target
-    → with_stanzas joined (gathering_from (n + 1) (drop (i + 1) (map f xs))) ≡ target
-gathered_more f xs {i} n {x} all {stanzas} low is answer e h =
-    let rest : Result (List StanzaParts) Fault = gathering_from (n + 1) (drop (i + 1) (map f xs)) in
-    ap (λ t. with_stanzas t rest) e ∙ sym (preceded_twice all stanzas rest)
-    ∙ ap (with_stanzas all) (sym (gathered_step f xs n low is answer)) ∙ h
+module _ {A : Type 0} (f : A → Result (List StanzaParts) ℕ) (xs : List A) {i : ℕ} (n : ℕ) {x : A}
+    (low : i < length xs) (is : x ≡ get_or xs i x) where
+  -- what the remaining recipients return, if the answer of the first is known
+  gathered_step : {a : Result (List StanzaParts) ℕ} → f x ≡ a
+      → gathering_from n (drop i (map f xs)) ≡ gathering_from n (a ∷ drop (i + 1) (map f xs))
+  gathered_step answer =
+      ap (gathering_from n) (item_at f xs i x low is ∙ ap (λ y. y ∷ drop (i + 1) (map f xs)) answer)
 
--- one recipient has refused
-pub gathered_refused : {A : Type 0} (f : A → Result (List StanzaParts) ℕ) (xs : List A) {i : ℕ} (n : ℕ) {x : A}
-    (all : List StanzaParts) {code : ℕ} {target : Result (List StanzaParts) Fault} → i < length xs
-    → x ≡ get_or xs i x → f x ≡ Err code
-    → with_stanzas all (gathering_from n (drop i (map f xs))) ≡ target → target ≡ Err (Refused n code)
-gathered_refused f xs n all low is answer h = sym h ∙ ap (with_stanzas all) (gathered_step f xs n low is answer)
+  -- one more recipient has returned its stanzas
+  pub gathered_more : (all : List StanzaParts) {stanzas joined : List StanzaParts}
+      {target : Result (List StanzaParts) Fault} → f x ≡ Ok stanzas → joined ≡ all ++ stanzas
+      → with_stanzas all (gathering_from n (drop i (map f xs))) ≡ target
+      → with_stanzas joined (gathering_from (n + 1) (drop (i + 1) (map f xs))) ≡ target
+  gathered_more all {stanzas} answer e h =
+      let rest : Result (List StanzaParts) Fault = gathering_from (n + 1) (drop (i + 1) (map f xs)) in
+      ap (λ t. with_stanzas t rest) e ∙ sym (preceded_twice all stanzas rest)
+      ∙ ap (with_stanzas all) (sym (gathered_step answer)) ∙ h
+
+  -- one recipient has refused
+  pub gathered_refused : (all : List StanzaParts) {code : ℕ} {target : Result (List StanzaParts) Fault}
+      → f x ≡ Err code → with_stanzas all (gathering_from n (drop i (map f xs))) ≡ target
+      → target ≡ Err (Refused n code)
+  gathered_refused all answer h = sym h ∙ ap (with_stanzas all) (gathered_step answer)
 
 pub refusal : {m : Result (List StanzaParts) ℕ} {fault : WrapFault} {code : ℕ} → fault ≡ RefusedBy code
     → WrapsAs m (Err fault) → m ≡ Err code

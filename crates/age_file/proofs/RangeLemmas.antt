@@ -17,8 +17,7 @@ pub header_gave : {D : Type 0} (to_come : AtState D → Known) (gave : D → ℕ
     → Inspects limits (flow_by to_come (λ s. GaveFirst (gave s.dev) s.at) old new) (Ok h)
     → GaveHeader limits (gave new.dev) new.at h
 header_gave to_come gave {limits} {old} {new} {h} small start (text, took, verdict) =
-    let (at, read) = took.grew []
-    (subst (λ n. GaveFirst (gave old.dev) n []) (sym start) (first_none (gave old.dev))) in
+    let (at, read) = took.grew [] (first_none (gave old.dev) start) in
     let found = begins_found text limits.max_header (finding text h) verdict in
     let len : length text ≡ new.at = omega (arith, at, found.fits, small) in
     record {
@@ -47,8 +46,7 @@ pub header_most : {D : Type 0} (to_come : AtState D → Known) (gave : D → ℕ
     → given ≤ base + at → (fault ≡ Read) ⊎ (given ≤ base + limits.max_header)
 header_most to_come gave limits base start (inl e) same le = inl e
 header_most to_come gave limits {old} base start (inr (read, gaves, fits)) same le =
-    let first = gaves.grew [] (subst (λ n. GaveFirst (gave old.dev) n []) (sym start) (first_none (gave old.dev))) in
-    let reached = first.0 in
+    let reached = (gaves.grew [] (first_none (gave old.dev) start)).0 in
     inr (omega (arith, reached, fits, same, le))
 
 refused : (limits : Bounds) (b : Bytes) (g : HeaderFault) → Refuses b limits.max_header g

@@ -1,12 +1,12 @@
 -- What rewrapping a file returns and writes, and what it keeps.
-use Rattle.age_file.proofs.Common.{◌≡◌, ◌⊎◌, ◌↔◌, ◌++◌, length, drop, sym, ◌∙◌, ap, refl, arith, inl, inr, Result, Ok, Err, Appends, Appends-trans, Keeps-refl, drop_at, HeaderFault, Bytes, Flow, WritesPart, Known, Seen, flow, move_of, HeaderParts, header_mac, Refuses, BeginsWith, Found, of_map, of_more, of_then, UnlockFault, FileKey, choice, Reading, Fault, TooManyChunks, Read, Write, OutOfMemory, Bounds, Copies, IsLate, Inspects, FailsHeading, Gathering, IsNewHeader, BeginsRewrapped, IsRewrapped, RefusesRewrap, Rewrapped, Rewraps, RewrapsText, Answering, IsVerdict, finding, header_fault, reading_after, parts_of, reading_under, header_key, unlock_fault, length-append, IfErr}
+use Rattle.age_file.proofs.Common.{◌≡◌, ◌⊎◌, ◌↔◌, ◌++◌, length, drop, sym, ◌∙◌, ap, refl, arith, inl, inr, Result, Ok, Err, Appends, Appends-trans, Keeps-refl, drop_at, HeaderFault, Bytes, Flow, WritesPart, Known, Seen, flow, move_of, HeaderParts, header_mac, Refuses, BeginsWith, Found, HeaderVerdict, of_map, of_more, of_then, UnlockFault, FileKey, choice, Reading, Fault, TooManyChunks, Read, Write, OutOfMemory, Bounds, Copies, IsLate, Inspects, FailsHeading, Gathering, IsNewHeader, BeginsRewrapped, IsRewrapped, RefusesRewrap, Rewrapped, Rewraps, RewrapsText, Answering, IsVerdict, finding, header_fault, reading_after, parts_of, reading_under, header_key, unlock_fault, length-append, IfErr}
 use Rattle.age_header.specs.declared.fault.HeaderFault.TheVariants as header
 use Rattle.age_header.proofs.VerdictUniqueLemmas as headers
 use Rattle.age_recipient.specs.declared.choice.UnlockFault.TheVariants as unlock
 use Rattle.age_file.proofs.CopiesLemmas.{part_after, part_more}
 use Rattle.age_file.proofs.DecryptLemmas.{IsHeaded}
 use Rattle.age_file.proofs.EncryptLemmas.{IsEarly, early_heading}
-use Rattle.age_file.proofs.FileLemmas.{behind, key_faults, key_unlocked}
+use Rattle.age_file.proofs.FileLemmas.{behind, key_faults, key_unlocked, verdict_after}
 
 refused : {limits : Bounds} (answers : Answering) {gathered : FileKey → Gathering} {b : Bytes} (old : Known)
     (fault : Fault) → IsEarly fault → RefusesRewrap limits answers gathered b fault
@@ -109,32 +109,22 @@ copies_late a b c d e f = grind arith
 -- the reading of a rewrapped file is that of the file
 pub keeps : (limits : Bounds) (old new : Answering) (b c : Bytes) (is : Rewrapped limits old b c)
     → choice (new is.stanzas) ≡ Ok is.key → (v : Reading Fault) → IsVerdict limits old b v ↔ IsVerdict limits new c v
-keeps limits old new b c is chosen v = (
-  (λ h. record {
-    header = Ok found;
-    header_verdict = headers.found_begins c limits.max_header found begins;
-    is = h.is ∙ ap (reading_after limits old b)
-        (headers.one_verdict b limits.max_header h.header (Ok is.found) h.header_verdict is.header) ∙ sym same;
-  }),
-  (λ h. record {
-    header = Ok is.found;
-    header_verdict = is.header;
-    is = h.is ∙ ap (reading_after limits new c) (headers.one_verdict c limits.max_header h.header (Ok found)
-        h.header_verdict (headers.found_begins c limits.max_header found begins)) ∙ same;
-  }),
+keeps limits old new b c w chosen v = (
+  (λ h. record { header = Ok found; header_verdict = told; is = verdict_after (Ok w.found) h w.header ∙ sym same }),
+  (λ h. record { header = Ok w.found; header_verdict = w.header; is = verdict_after (Ok found) h told ∙ same }),
 )
   where
     found : Found
-    found = record { stanzas = is.stanzas; mac = header_mac is.key.0 is.stanzas; text = is.text }
-
-    rest : Bytes
-    rest = drop (length is.found.text) b
+    found = record { stanzas = w.stanzas; mac = header_mac w.key.0 w.stanzas; text = w.text }
 
     begins : BeginsWith c limits.max_header found
-    begins = record { rest = rest; head = is.head; prefix = is.spelled; fits = is.fits }
+    begins = record { rest = drop (length w.found.text) b; head = w.head; prefix = w.spelled; fits = w.fits }
 
-    same : reading_after limits new c (Ok found) ≡ reading_after limits old b (Ok is.found)
+    told : HeaderVerdict c limits.max_header (Ok found)
+    told = headers.found_begins c limits.max_header found begins
+
+    same : reading_after limits new c (Ok found) ≡ reading_after limits old b (Ok w.found)
     same =
         ap (λ t. reading_under limits t (header_key new (parts_of found))) (behind c limits.max_header found begins)
-        ∙ ap (reading_under limits rest) (key_unlocked new (parts_of found) is.key
-        (record { unmixed = is.unmixed; chosen = chosen; mac = refl }) ∙ sym is.chosen)
+        ∙ ap (reading_under limits (drop (length w.found.text) b)) (key_unlocked new (parts_of found) w.key
+        (record { unmixed = w.unmixed; chosen = chosen; mac = refl }) ∙ sym w.chosen)

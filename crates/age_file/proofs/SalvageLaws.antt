@@ -1,17 +1,8 @@
 -- What is saved of a file, and the verdict on it.
-use Rattle.age_file.proofs.Common.{refl, false, true, ◌≡◌, ◌↔◌, ◌⊎◌, ◌∙◌, ◌++◌, ◌≤◌, [], length, drop, sym, ap, subst, List, inl, inr, arith, None, Result, Ok, Err, ◌&&◌, if◌then◌else◌, option_map, lt-ltb, take_all, HeaderFault, FileKey, Bytes, Moved, Took, Found, StreamFault, Reading, payload_reading, stop, whole, IsOfPieces, Part, Reports, Saves, SavesParts, SavesPayload, LossesMoved, losses, is_whole, payload_parts, salvaged_text, payload_exactly, payload_plaintext, payload_whole, Fault, BadMac, OutOfMemory, Bounds, IsLate, SavesAfter, SavesFile, SavesUnder, is_whole_file, salvaged_file, SalvagedFile, Answering, IsVerdict, header_fault, reading_after, parts_of, reading_under, stream_fault, found_key, if_right, with_file_fault, Bool, ◌<◌}
-use Rattle.age_header.proofs.VerdictUniqueLemmas as headers
+use Rattle.age_file.proofs.Common.{refl, false, true, ◌≡◌, ◌↔◌, ◌⊎◌, ◌∙◌, ◌++◌, ◌≤◌, [], length, drop, sym, ap, subst, List, inl, inr, arith, None, Result, Ok, Err, ◌&&◌, if◌then◌else◌, option_map, lt-ltb, take_all, HeaderFault, FileKey, Bytes, Moved, Took, Found, StreamFault, Reading, payload_reading, stop, whole, IsOfPieces, Part, Reports, Saves, SavesParts, SavesPayload, LossesMoved, losses, is_whole, payload_parts, salvaged_text, payload_exactly, payload_plaintext, payload_whole, Fault, BadMac, OutOfMemory, Read, Write, TooManyChunks, Bounds, IsLate, SavesAfter, SavesFile, SavesUnder, is_whole_file, salvaged_file, SalvagedFile, Answering, IsVerdict, header_fault, reading_after, parts_of, reading_under, stream_fault, found_key, if_right, with_file_fault, Bool, ◌<◌}
 use Rattle.age_stream.specs.declared.fault.StreamFault.TheVariants as stream
 use Rattle.age_file.proofs.DecryptLemmas.{err_err}
-use Rattle.age_file.proofs.FileLemmas.{never_stops, no_stream_fault, with_file_fault_whole}
-
--- the header of the verdict is the one under which the file was saved
-same_header : (limits : Bounds) (answers : Answering) (b : Bytes) (v : Reading Fault) (sink : Moved)
-    (lost : LossesMoved)
-    (r : Result SalvagedFile Fault) → IsVerdict limits answers b v → (f : SavesFile limits answers b sink lost r)
-    → v ≡ reading_after limits answers b f.header
-same_header limits answers b v sink lost r i f = i.is ∙ ap (reading_after limits answers b)
-    (headers.one_verdict b limits.max_header i.header f.header i.header_verdict f.header_verdict)
+use Rattle.age_file.proofs.FileLemmas.{never_stops, no_stream_fault, verdict_after, with_file_fault_whole}
 
 -- the verdict on a file of which a payload was saved: that on the payload, or the MAC is wrong
 abbrev verdict_of : (has_right_mac : Bool) (payload : Reading Fault) → Reading Fault
@@ -32,25 +23,6 @@ under_right : (limits : Bounds) (rest : Bytes) (key : FileKey) (has_right_mac : 
 under_right limits rest key true = refl
 under_right limits rest key false = refl
 
-saved_of : (limits : Bounds) (answers : Answering) (b : Bytes) (v : Reading Fault) (sink : Moved) (lost : LossesMoved)
-    (s : SalvagedFile) → IsVerdict limits answers b v → SavesFile limits answers b sink lost (Ok s)
-    → SavedOf limits v sink lost s
-saved_of limits answers b v sink lost s i f = go f.header (same_header limits answers b v sink lost (Ok s) i f) f.saves
-  where
-    under : (rest : Bytes) (key : Result (FileKey × Bool) Fault) → v ≡ reading_under limits rest (if_right key)
-        → SavesUnder limits rest key sink lost (Ok s) → SavedOf limits v sink lost s
-    under rest (Err fault) is (e, h) = absurd (cc)
-    under rest (Ok k) is (Err g, e, h) = absurd (cc)
-    under rest (Ok k) is (Ok t, e, h) =
-        let same : s ≡ salvaged_file k.1 t = cc in
-        let reads = is ∙ under_right limits rest k.0 k.1 in
-        rw same (record { key = k.0; rest = rest; reads = reads; long = h.0; saves = h.1 })
-
-    go : (header : Result Found HeaderFault) → v ≡ reading_after limits answers b header
-        → SavesAfter limits answers b header sink lost (Ok s) → SavedOf limits v sink lost s
-    go (Err g) is (e, h) = absurd (cc)
-    go (Ok found) is h = under (drop (length found.text) b) (found_key answers (parts_of found)) is h
-
 -- all parts were written
 written : (ps : List Part) (sink : Moved) (lost : LossesMoved) → Saves (length ps) ps sink lost
     → Took sink (salvaged_text ps) × Reports lost (losses 0 0 ps)
@@ -62,54 +34,17 @@ begins_with : (has_right_mac : Bool) (r : Reading Fault) (text rest : Bytes) →
 begins_with true r text rest is = (rest, is)
 begins_with false r text rest is = (text, refl)
 
-pub saved_plaintext : (limits : Bounds) (answers : Answering) (b : Bytes) (v : Reading Fault) (sink : Moved)
-    (lost : LossesMoved)
-    (s : SalvagedFile) → IsVerdict limits answers b v → SavesFile limits answers b sink lost (Ok s)
-    → (rest : Bytes) × Took sink (v.plaintext ++ rest)
-saved_plaintext limits answers b v sink lost s i f =
-    let o = saved_of limits answers b v sink lost s i f in
-    let ps : List Part = payload_parts o.key o.rest in
-    let r = payload_reading o.key limits.max_chunks o.rest in
-    let begins = payload_plaintext o.key o.rest limits.max_chunks in
-    let (text, is) = begins_with s.has_right_mac (with_file_fault r) (salvaged_text ps) begins.0
-    (rw (take_all limits.max_chunks ps o.saves.0) at begins.1) in
-    (text, subst (Took sink) (rw (← o.reads) at is) (written ps sink lost o.saves.1).0)
-
 -- a verdict without fault is that on the payload, and the MAC is right
 right_whole : (has_right_mac : Bool) (r : Reading Fault) (plain : Bytes) → whole plain ≡ verdict_of has_right_mac r
     → whole plain ≡ r
 right_whole true r plain is = is
 right_whole false r plain is = absurd (never_stops plain BadMac is)
 
-pub saved_whole : (limits : Bounds) (answers : Answering) (b plain : Bytes) (sink : Moved) (lost : LossesMoved)
-    (s : SalvagedFile) → IsVerdict limits answers b (whole plain) → SavesFile limits answers b sink lost (Ok s)
-    → Took sink plain × Reports lost []
-saved_whole limits answers b plain sink lost s i f =
-    let o = saved_of limits answers b (whole plain) sink lost s i f in
-    let ps : List Part = payload_parts o.key o.rest in
-    let r = payload_reading o.key limits.max_chunks o.rest in
-    let a = payload_whole o.key o.rest plain limits.max_chunks
-    (with_file_fault_whole (right_whole s.has_right_mac (with_file_fault r) plain o.reads)) in
-    rw (a.is, a.none 0) at (written ps sink lost o.saves.1)
-
 -- what is whole of a payload is so of its file exactly if the MAC is right
 exactly_right : (has_right_mac payload : Bool) (r : Reading Fault) → (payload ≡ true) ↔ (r.fault ≡ None)
     → ((has_right_mac && payload) ≡ true) ↔ ((verdict_of has_right_mac r).fault ≡ None)
 exactly_right true payload r same = same
 exactly_right false payload r same = (λ is. absurd (cc), λ is. absurd (cc))
-
-pub saved_exactly : (limits : Bounds) (answers : Answering) (b : Bytes) (v : Reading Fault) (sink : Moved)
-    (lost : LossesMoved) (s : SalvagedFile) → IsVerdict limits answers b v → SavesFile limits answers b sink lost (Ok s)
-    → (is_whole_file s ≡ true) ↔ (v.fault ≡ None)
-saved_exactly limits answers b v sink lost s i f =
-    let o = saved_of limits answers b v sink lost s i f in
-    let law = payload_exactly o.key o.rest limits.max_chunks in
-    let reading = payload_reading o.key limits.max_chunks o.rest in
-    let same = exactly_right s.has_right_mac (is_whole s.payload) (with_file_fault reading) (
-      λ is. ap (option_map stream_fault) (law.1 (o.long, o.saves.0, ap is_whole (sym o.saves.2) ∙ is)),
-      λ none. ap is_whole o.saves.2 ∙ (law.0 (no_stream_fault reading.fault none)).2,
-    ) in
-    subst (λ (r : Reading Fault). (is_whole_file s ≡ true) ↔ (r.fault ≡ None)) (sym o.reads) same
 
 -- a fault of a payload of which something may have been saved is late
 late_pieces : (g : StreamFault) → IsOfPieces g → IsLate (stream_fault g)
@@ -119,48 +54,83 @@ pub quiet_pieces : {P Q : Type 0} (g : StreamFault) → IsOfPieces g ⊎ (P × Q
 quiet_pieces g (inl h) = inl (late_pieces g h)
 quiet_pieces g (inr h) = inr h.0
 
-pub saved_fault : (limits : Bounds) (answers : Answering) (b : Bytes) (v : Reading Fault) (sink : Moved)
-    (lost : LossesMoved)
-    (fault : Fault) → IsVerdict limits answers b v → SavesFile limits answers b sink lost (Err fault)
-    → IsLate fault ⊎ (fault ≡ OutOfMemory) ⊎ (v ≡ stop fault) ⊎ (v ≡ stop BadMac)
-saved_fault limits answers b v sink lost fault i f =
-    go f.header (same_header limits answers b v sink lost (Err fault) i f) f.saves
-  where
-    Explained : Type 0
-    Explained = IsLate fault ⊎ (fault ≡ OutOfMemory) ⊎ (v ≡ stop fault) ⊎ (v ≡ stop BadMac)
+module _ (limits : Bounds) (answers : Answering) (b : Bytes) (v : Reading Fault) (sink : Moved)
+    (lost : LossesMoved) where
+  saved_of : (s : SalvagedFile) → IsVerdict limits answers b v → SavesFile limits answers b sink lost (Ok s)
+      → SavedOf limits v sink lost s
+  saved_of s i f = go f.header (verdict_after f.header i f.header_verdict) f.saves
+    where
+      under : (rest : Bytes) (key : Result (FileKey × Bool) Fault) → v ≡ reading_under limits rest (if_right key)
+          → SavesUnder limits rest key sink lost (Ok s) → SavedOf limits v sink lost s
+      under rest (Err fault) is (e, h) = absurd (cc)
+      under rest (Ok k) is (Err g, e, h) = absurd (cc)
+      under rest (Ok k) is (Ok t, e, h) =
+          let same : s ≡ salvaged_file k.1 t = cc in
+          let reads = is ∙ under_right limits rest k.0 k.1 in
+          rw same (record { key = k.0; rest = rest; reads = reads; long = h.0; saves = h.1 })
 
-    same : (g : Fault) → ◌≡◌ {A = Result SalvagedFile Fault} (Err fault) (Err g) → v ≡ stop g → Explained
-    same g e is = inr (inr (inl (is ∙ ap stop (sym (err_err {A = SalvagedFile} fault g e)))))
+      go : (header : Result Found HeaderFault) → v ≡ reading_after limits answers b header
+          → SavesAfter limits answers b header sink lost (Ok s) → SavedOf limits v sink lost s
+      go (Err g) is (e, h) = absurd (cc)
+      go (Ok found) is h = under (drop (length found.text) b) (found_key answers (parts_of found)) is h
 
-    late : (g : StreamFault) → ◌≡◌ {A = Result SalvagedFile Fault} (Err fault) (Err (stream_fault g)) → IsOfPieces g
-        → Explained
-    late g e h = inl (subst IsLate (sym (err_err {A = SalvagedFile} fault (stream_fault g) e)) (late_pieces g h))
+  pub saved_plaintext : (s : SalvagedFile) → IsVerdict limits answers b v → SavesFile limits answers b sink lost (Ok s)
+      → (rest : Bytes) × Took sink (v.plaintext ++ rest)
+  saved_plaintext s i f =
+      let o = saved_of s i f in
+      let ps : List Part = payload_parts o.key o.rest in
+      let begins = payload_plaintext o.key o.rest limits.max_chunks in
+      let (text, is) = begins_with s.has_right_mac (with_file_fault (payload_reading o.key limits.max_chunks o.rest))
+      (salvaged_text ps) begins.0 (rw (take_all limits.max_chunks ps o.saves.0) at begins.1) in
+      (text, subst (Took sink) (rw (← o.reads) at is) (written ps sink lost o.saves.1).0)
 
-    short : (has_right_mac : Bool) (k : FileKey) (rest : Bytes)
-        → v ≡ verdict_of has_right_mac (with_file_fault (payload_reading k limits.max_chunks rest))
-        → ◌≡◌ {A = Result SalvagedFile Fault} (Err fault) (Err (stream_fault stream.NonceTruncated))
-        → length rest < 16 → Explained
-    short true k rest is e h = same (stream_fault stream.NonceTruncated) e (is ∙ rw (lt-ltb (length rest) 16 h) refl)
-    short false k rest is e h = inr (inr (inr is))
+  pub saved_exactly : (s : SalvagedFile) → IsVerdict limits answers b v → SavesFile limits answers b sink lost (Ok s)
+      → (is_whole_file s ≡ true) ↔ (v.fault ≡ None)
+  saved_exactly s i f =
+      let o = saved_of s i f in
+      let law = payload_exactly o.key o.rest limits.max_chunks in
+      let reading = payload_reading o.key limits.max_chunks o.rest in
+      let same = exactly_right s.has_right_mac (is_whole s.payload) (with_file_fault reading) (
+        λ is. ap (option_map stream_fault) (law.1 (o.long, o.saves.0, ap is_whole (sym o.saves.2) ∙ is)),
+        λ none. ap is_whole o.saves.2 ∙ (law.0 (no_stream_fault reading.fault none)).2,
+      ) in
+      subst (λ (r : Reading Fault). (is_whole_file s ≡ true) ↔ (r.fault ≡ None)) (sym o.reads) same
 
-    piece : (has_right_mac : Bool) (k : FileKey) (rest : Bytes) (g : StreamFault)
-        → v ≡ verdict_of has_right_mac (with_file_fault (payload_reading k limits.max_chunks rest))
-        → ◌≡◌ {A = Result SalvagedFile Fault} (Err fault) (Err (stream_fault g))
-        → SavesPayload k limits.max_chunks rest sink lost (Err g) → Explained
-    piece right k rest stream.Read is e h = late stream.Read e tt
-    piece right k rest stream.Write is e h = late stream.Write e tt
-    piece right k rest stream.TooManyChunks is e h = late stream.TooManyChunks e tt
-    piece right k rest stream.Memory is e h = inr (inl (err_err {A = SalvagedFile} fault OutOfMemory e))
-    piece right k rest stream.NonceTruncated is e h = short right k rest is e h.0
-    piece right k rest g is e h = absurd h.1
+  pub saved_fault : (fault : Fault) → IsVerdict limits answers b v → SavesFile limits answers b sink lost (Err fault)
+      → IsLate fault ⊎ (fault ≡ OutOfMemory) ⊎ (v ≡ stop fault) ⊎ (v ≡ stop BadMac)
+  saved_fault fault i f = go f.header (verdict_after f.header i f.header_verdict) f.saves
+    where
+      Explained : Type 0
+      Explained = IsLate fault ⊎ (fault ≡ OutOfMemory) ⊎ (v ≡ stop fault) ⊎ (v ≡ stop BadMac)
 
-    under : (rest : Bytes) (key : Result (FileKey × Bool) Fault) → v ≡ reading_under limits rest (if_right key)
-        → SavesUnder limits rest key sink lost (Err fault) → Explained
-    under rest (Err g) is h = same g h.0 is
-    under rest (Ok k) is (Ok t, e, h) = absurd (cc)
-    under rest (Ok k) is (Err g, e, h) = piece k.1 k.0 rest g (is ∙ under_right limits rest k.0 k.1) e h
+      piece : (right : Bool) (k : FileKey) (rest : Bytes) (g : StreamFault)
+          → v ≡ verdict_of right (with_file_fault (payload_reading k limits.max_chunks rest))
+          → ◌≡◌ {A = Result SalvagedFile Fault} (Err fault) (Err (stream_fault g))
+          → SavesPayload k limits.max_chunks rest sink lost (Err g) → Explained
+      piece right k rest stream.Memory is e h = inr (inl (cc))
+      piece true k rest stream.NonceTruncated is e h = inr (inr (inl (is ∙ rw (lt-ltb (length rest) 16 h.0) (cc))))
+      piece false k rest stream.NonceTruncated is e h = inr (inr (inr is))
+      piece right k rest stream.Read is e h = let same : fault ≡ Read = cc in inl (rw same tt)
+      piece right k rest stream.Write is e h = let same : fault ≡ Write = cc in inl (rw same tt)
+      piece right k rest stream.TooManyChunks is e h = let same : fault ≡ TooManyChunks = cc in inl (rw same tt)
+      piece right k rest g is e h = absurd h.1
 
-    go : (header : Result Found HeaderFault) → v ≡ reading_after limits answers b header
-        → SavesAfter limits answers b header sink lost (Err fault) → Explained
-    go (Err g) is h = same (header_fault g) h.0 is
-    go (Ok found) is h = under (drop (length found.text) b) (found_key answers (parts_of found)) is h
+      under : (rest : Bytes) (key : Result (FileKey × Bool) Fault) → v ≡ reading_under limits rest (if_right key)
+          → SavesUnder limits rest key sink lost (Err fault) → Explained
+      under rest (Err g) is (e, h) = inr (inr (inl (cc)))
+      under rest (Ok k) is (Ok t, e, h) = absurd (cc)
+      under rest (Ok k) is (Err g, e, h) = piece k.1 k.0 rest g (is ∙ under_right limits rest k.0 k.1) e h
+
+      go : (header : Result Found HeaderFault) → v ≡ reading_after limits answers b header
+          → SavesAfter limits answers b header sink lost (Err fault) → Explained
+      go (Err g) is (e, h) = inr (inr (inl (cc)))
+      go (Ok found) is h = under (drop (length found.text) b) (found_key answers (parts_of found)) is h
+
+pub saved_whole : (limits : Bounds) (answers : Answering) (b plain : Bytes) (sink : Moved) (lost : LossesMoved)
+    (s : SalvagedFile) → IsVerdict limits answers b (whole plain) → SavesFile limits answers b sink lost (Ok s)
+    → Took sink plain × Reports lost []
+saved_whole limits answers b plain sink lost s i f =
+    let o = saved_of limits answers b (whole plain) sink lost s i f in
+    let a = payload_whole o.key o.rest plain limits.max_chunks (with_file_fault_whole (right_whole s.has_right_mac
+    (with_file_fault (payload_reading o.key limits.max_chunks o.rest)) plain o.reads)) in
+    rw (a.is, a.none 0) at (written (payload_parts o.key o.rest) sink lost o.saves.1)

@@ -29,71 +29,44 @@ pub inspect_salvages : (limits : Bounds) (answers : Answering) {come mid : Seen}
 inspect_salvages limits answers old lost (g, is, h) =
     rw is (of_map h (λ b refuses. header_text limits answers b old lost g refuses))
 
--- what follows a header that was read
-after_header : (limits : Bounds) (answers : Answering) (come mid : Seen) (h : HeaderParts)
-    (i : IsHeaded limits come mid h) (key : Result (FileKey × Bool) Fault) (rest : Bytes) (old new : Known)
-    (before after : KnownLosses) (r : Result SalvagedFile Fault) → key ≡ found_key answers h
-    → SavesUnder limits rest key (move_of old new) (losses_of before after) r
-    → SavesFile limits answers (i.text ++ rest) (move_of old new) (losses_of before after) r
-after_header limits answers come mid h i key rest old new before after r is s = record {
-  header = Ok (finding i.text h);
-  header_verdict = i.verdict rest;
-  saves = rw (drop_at i.text rest (length i.text) refl)
-      (subst (λ k. SavesUnder limits rest k (move_of old new) (losses_of before after) r) is s);
-}
+module _ {limits : Bounds} (answers : Answering) {come mid : Seen} {h : HeaderParts}
+    (i : IsHeaded limits come mid h) where
+  -- what follows a header that was read
+  after_header : (key : Result (FileKey × Bool) Fault) (rest : Bytes) {sink : Moved} {lost : LossesMoved}
+      {r : Result SalvagedFile Fault} → key ≡ found_key answers h → SavesUnder limits rest key sink lost r
+      → SavesFile limits answers (i.text ++ rest) sink lost r
+  after_header key rest {sink} {lost} {r} is s = record {
+    header = Ok (finding i.text h);
+    header_verdict = i.verdict rest;
+    saves = rw (drop_at i.text rest (length i.text) refl) (subst (λ k. SavesUnder limits rest k sink lost r) is s);
+  }
 
--- no key
-pub locked_salvages : (limits : Bounds) (answers : Answering) {come mid : Seen} (old : Known) (lost : KnownLosses)
-    {h : HeaderParts} {fault : Fault} → Inspects limits (flow come mid) (Ok h)
-    → (◌≡◌ {A = Result (FileKey × Bool) Fault} (Err fault) (Err OutOfMemory)) ⊎ (Err fault ≡ found_key answers h)
-    → SalvagesFile limits answers (flow come mid) (move_of old old) (losses_of lost lost) (Err fault)
-locked_salvages limits answers {come} {mid} old lost {h} {fault} i (inl memory) = grind (arith, headed, of_any, saves_none)
-locked_salvages limits answers {come} {mid} old lost {h} {fault} i (inr key) =
-    let is = headed limits i in
-    of_more is.took (λ d end. stopped limits answers (is.text ++ d) old lost fault
-    (after_header limits answers come mid h is (Err fault) d old old lost lost (Err fault) key
-    (refl, saves_none old lost)))
+  -- no key
+  pub locked_salvages : (old : Known) (lost : KnownLosses) {fault : Fault}
+      → (◌≡◌ {A = Result (FileKey × Bool) Fault} (Err fault) (Err OutOfMemory)) ⊎ (Err fault ≡ found_key answers h)
+      → SalvagesFile limits answers (flow come mid) (move_of old old) (losses_of lost lost) (Err fault)
+  locked_salvages old lost {fault} (inl memory) =
+      let e : fault ≡ OutOfMemory = cc in rw e (of_more i.took (λ d end. saves_none old lost))
+  locked_salvages old lost {fault} (inr key) =
+      of_more i.took (λ d end. stopped limits answers (i.text ++ d) old lost fault
+      (after_header (Err fault) d key (refl, saves_none old lost)))
 
--- ---- the payload
+  payload_text : (k : FileKey × Bool) (c : Bytes) (sink : Moved) (lost : LossesMoved) (r : Result Salvaged StreamFault)
+      → Ok k ≡ found_key answers h → SavesPayload k.0 limits.max_chunks c sink lost r
+      → SalvagesText limits answers (i.text ++ c) sink lost (result_map_both (salvaged_file k.1) stream_fault r)
+  payload_text k c sink lost (Ok t) key x = after_header (Ok k) c key (Ok t, refl, x)
+  payload_text k c sink lost (Err stream.Read) key x = inr (after_header (Ok k) c key (Err stream.Read, refl, x))
+  payload_text k c sink lost (Err stream.Memory) key x = x
+  payload_text k c sink lost (Err fault) key x = after_header (Ok k) c key (Err fault, refl, x)
 
-payload_text : (limits : Bounds) (answers : Answering) (come mid : Seen) (h : HeaderParts)
-    (i : IsHeaded limits come mid h) (k : FileKey × Bool) (c : Bytes) (old new : Known) (before after : KnownLosses)
-    (r : Result Salvaged StreamFault) → Ok k ≡ found_key answers h
-    → SavesPayload k.0 limits.max_chunks c (move_of old new) (losses_of before after) r
-    → SalvagesText limits answers (i.text ++ c) (move_of old new) (losses_of before after) (result_map_both
-    (salvaged_file k.1) stream_fault r)
-payload_text limits answers come mid h i k c old new before after r key s = go r s
-  where
-    file : (q : Result Salvaged StreamFault)
-        → SavesPayload k.0 limits.max_chunks c (move_of old new) (losses_of before after) q
-        → SavesFile limits answers (i.text ++ c) (move_of old new) (losses_of before after) (result_map_both
-        (salvaged_file k.1) stream_fault q)
-    file q x = after_header limits answers come mid h i (Ok k) c old new before after (result_map_both
-        (salvaged_file k.1) stream_fault q) key
-        (q, refl, x)
-
-    go : (q : Result Salvaged StreamFault)
-        → SavesPayload k.0 limits.max_chunks c (move_of old new) (losses_of before after) q
-        → SalvagesText limits answers (i.text ++ c) (move_of old new) (losses_of before after) (result_map_both
-        (salvaged_file k.1) stream_fault q)
-    go (Ok t) x = file (Ok t) x
-    go (Err stream.Read) x = inr (file (Err stream.Read) x)
-    go (Err stream.Memory) x = x
-    go (Err fault) x = file (Err fault) x
-
-pub payload_salvages : (r : Result Salvaged StreamFault) {limits : Bounds} (answers : Answering) {come mid to : Seen}
-    (sink : Moved) (losses : LossesMoved) {h : HeaderParts} {k : FileKey × Bool} {max : ℕ}
-    → Inspects limits (flow come mid) (Ok h)
-    → (◌≡◌ {A = Result (FileKey × Bool) Fault} (Ok k) (Err OutOfMemory)) ⊎ (Ok k ≡ found_key answers h)
-    → max ≡ limits.max_chunks
-    → Salvages k.0 max (flow mid to) sink losses r
-    → SalvagesFile limits answers (flow come to) sink losses (result_map_both (salvaged_file k.1) stream_fault r)
-payload_salvages r {limits} answers {come} {mid} sink losses {h} {k} i (inl memory) same w = absurd (cc)
-payload_salvages r {limits} answers {come} {mid} sink losses {h} {k} i (inr key) same w =
-    let is = headed limits i in
-    of_then is.took w (λ c x.
-    payload_text limits answers come mid h is k c sink.before sink.after losses.before losses.after r key
-    (subst (λ m. SavesPayload k.0 m c sink losses r) same x))
+  pub payload_salvages : (r : Result Salvaged StreamFault) {to : Seen} (sink : Moved) (losses : LossesMoved)
+      {k : FileKey × Bool} {max : ℕ}
+      → (◌≡◌ {A = Result (FileKey × Bool) Fault} (Ok k) (Err OutOfMemory)) ⊎ (Ok k ≡ found_key answers h)
+      → max ≡ limits.max_chunks → Salvages k.0 max (flow mid to) sink losses r
+      → SalvagesFile limits answers (flow come to) sink losses (result_map_both (salvaged_file k.1) stream_fault r)
+  payload_salvages r sink losses (inl memory) same w = absurd (cc)
+  payload_salvages r sink losses {k} (inr key) same w = of_then i.took w (λ c x. payload_text k c sink losses r key
+      (subst (λ m. SavesPayload k.0 m c sink losses r) same x))
 
 -- how much was read
 pub salvage_takes : {limits : Bounds} {come mid : Seen} (to : Seen) (old new : Known) {h : HeaderParts} {max : ℕ}

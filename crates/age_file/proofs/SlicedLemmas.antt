@@ -1,10 +1,9 @@
 -- Ranges of a file whose verdict has no fault.
 use Rattle.age_file.proofs.Common.{arith, ◌≡◌, ◌⊎◌, ℕ, length, take, drop, sym, ◌∙◌, ap, subst, inl, inr, Option, Some, Result, Ok, Err, result_map_both, drop-drop, Bytes, HeaderFault, Found, FileKey, HasPlain, RangeState, payload_reading, whole, IsSlice, plain_len, whole_len, whole_opens, whole_slice, Fault, OutOfMemory, Read, Bounds, Agrees, BeginsFile, finding, IsRangeFault, MissesRanges, ranges_under, Answering, IsVerdict, header_fault, reading_after, parts_of, reading_under, stream_fault, header_key, ◌*◌, ◌<◌, payload_key, source_opening, chunk_size, opening, whole_chunk}
-use Rattle.age_header.proofs.VerdictUniqueLemmas as headers
 use Rattle.age_stream.specs.declared.layout.Layout.{Layout}
 use Rattle.age_stream.proofs.JudgesLastLemmas.{opened_there}
 use Rattle.age_file.proofs.RangeLemmas.{header_known}
-use Rattle.age_file.proofs.FileLemmas.{never_stops, with_file_fault_whole}
+use Rattle.age_file.proofs.FileLemmas.{never_stops, verdict_after, with_file_fault_whole}
 
 -- under the key that was chosen
 none_under : (limits : Bounds) (rest p : Bytes) (fault : Fault) (c : Result FileKey Fault)
@@ -25,9 +24,7 @@ pub file_opens : (limits : Bounds) (answers : Answering) (b p : Bytes) (fault : 
 file_opens limits answers b p fault v (inl e) = inl e
 file_opens limits answers b p fault v (inr (inl e)) = inr e
 file_opens limits answers b p fault v (inr (inr m)) =
-    absurd (none_judged limits answers b p fault v.header v.is
-    (subst (λ (r : Result Found HeaderFault). IsRangeFault limits answers b r fault)
-    (headers.one_verdict b limits.max_header m.0 v.header m.1 v.header_verdict) m.2))
+    absurd (none_judged limits answers b p fault m.0 (verdict_after m.0 v m.1) m.2)
 
 -- its payload reads whole under the reader's key, and its chunks are those of the layout
 record IsWholeUnder (max : ℕ) (b p : Bytes) (layout : Layout) : Type 0 where
@@ -38,46 +35,37 @@ record IsWholeUnder (max : ℕ) (b p : Bytes) (layout : Layout) : Type 0 where
   chunk_key : layout.key ≡ payload_key key (take 16 rest)
   sealed : drop layout.first b ≡ drop 16 rest
 
-whole_under : (limits : Bounds) (answers : Answering) (b p : Bytes) (chunks : RangeState) {gave : ℕ → ℕ → Type 0}
-    {size : Option ℕ} → Agrees b gave size → IsVerdict limits answers b (whole p)
-    → BeginsFile limits answers gave size chunks → IsWholeUnder limits.max_chunks b p chunks.layout
-whole_under limits answers b p chunks agrees v f =
-    let opened = opened_there b f.key limits.max_chunks f.at chunks agrees f.begins in
-    let found : Found = finding f.first.text f.header in
-    record {
-      key = f.key;
-      rest = drop f.at b;
-      reads = with_file_fault_whole (v.is ∙ ap (reading_after limits answers b)
-          (headers.one_verdict b limits.max_header v.header (Ok found) v.header_verdict (header_known b agrees f.first))
-          ∙ ap (λ n. reading_under limits (drop n b) (header_key answers f.header)) f.first.len
-          ∙ ap (reading_under limits (drop f.at b)) f.chosen);
-      plain = opened.plain ∙ ap plain_len (sym (drop-drop 16 f.at b));
-      chunk_key = opened.key;
-      sealed = ap (λ m. drop m b) opened.first ∙ sym (drop-drop 16 f.at b);
-    }
+module _ (limits : Bounds) (answers : Answering) (b p : Bytes) (chunks : RangeState) {gave : ℕ → ℕ → Type 0}
+    {size : Option ℕ} (agrees : Agrees b gave size) (v : IsVerdict limits answers b (whole p))
+    (f : BeginsFile limits answers gave size chunks) where
+  whole_under : IsWholeUnder limits.max_chunks b p chunks.layout
+  whole_under =
+      let opened = opened_there b f.key limits.max_chunks f.at chunks agrees f.begins in
+      let found : Found = finding f.first.text f.header in
+      record {
+        key = f.key;
+        rest = drop f.at b;
+        reads = with_file_fault_whole (verdict_after (Ok found) v (header_known b agrees f.first)
+            ∙ ap (λ n. reading_under limits (drop n b) (header_key answers f.header)) f.first.len
+            ∙ ap (reading_under limits (drop f.at b)) f.chosen);
+        plain = opened.plain ∙ ap plain_len (sym (drop-drop 16 f.at b));
+        chunk_key = opened.key;
+        sealed = ap (λ m. drop m b) opened.first ∙ sym (drop-drop 16 f.at b);
+      }
 
-pub file_has_len : (limits : Bounds) (answers : Answering) (b p : Bytes) (chunks : RangeState) {gave : ℕ → ℕ → Type 0}
-    {size : Option ℕ} → Agrees b gave size → IsVerdict limits answers b (whole p)
-    → BeginsFile limits answers gave size chunks → chunks.layout.plain ≡ length p
-file_has_len limits answers b p chunks agrees v f =
-    let w = whole_under limits answers b p chunks agrees v f in
-    w.plain ∙ whole_len w.key w.rest p limits.max_chunks w.reads
+  pub file_has_len : chunks.layout.plain ≡ length p
+  file_has_len = let w = whole_under in w.plain ∙ whole_len w.key w.rest p limits.max_chunks w.reads
 
-pub file_slice : (limits : Bounds) (answers : Answering) (b p xs : Bytes) (chunks : RangeState) (at : ℕ)
-    {gave : ℕ → ℕ → Type 0} {size : Option ℕ} → Agrees b gave size → IsVerdict limits answers b (whole p)
-    → BeginsFile limits answers gave size chunks → HasPlain (Some b) chunks.layout at xs
-    → xs ≡ take (length xs) (drop at p)
-file_slice limits answers b p xs chunks at agrees v f s =
-    let w = whole_under limits answers b p chunks agrees v f in
-    whole_slice w.key w.rest p xs limits.max_chunks at w.reads
-    (subst (λ k. IsSlice k (drop 16 w.rest) at xs) w.chunk_key
-    (subst (λ t. IsSlice chunks.layout.key t at xs) w.sealed s))
+  pub file_slice : (at : ℕ) (xs : Bytes) → HasPlain (Some b) chunks.layout at xs → xs ≡ take (length xs) (drop at p)
+  file_slice at xs s =
+      let w = whole_under in
+      whole_slice w.key w.rest p xs limits.max_chunks at w.reads
+      (subst (λ k. IsSlice k (drop 16 w.rest) at xs) w.chunk_key
+      (subst (λ t. IsSlice chunks.layout.key t at xs) w.sealed s))
 
-pub file_chunk : (limits : Bounds) (answers : Answering) (b p : Bytes) (chunks : RangeState) (i : ℕ)
-    {gave : ℕ → ℕ → Type 0} {size : Option ℕ} → Agrees b gave size → IsVerdict limits answers b (whole p)
-    → BeginsFile limits answers gave size chunks → chunk_size * i < length p
-    → source_opening (Some b) chunks.layout i ≡ Some (take chunk_size (drop (chunk_size * i) p))
-file_chunk limits answers b p chunks i agrees v f less =
-    let w = whole_under limits answers b p chunks agrees v f in
-    ap (λ t. opening chunks.layout.key t i) w.sealed ∙ ap (λ k. opening k (drop 16 w.rest) i) w.chunk_key
-    ∙ whole_chunk w.key w.rest p limits.max_chunks i w.reads less
+  pub file_chunk : (i : ℕ) → chunk_size * i < length p
+      → source_opening (Some b) chunks.layout i ≡ Some (take chunk_size (drop (chunk_size * i) p))
+  file_chunk i less =
+      let w = whole_under in
+      ap (λ t. opening chunks.layout.key t i) w.sealed ∙ ap (λ k. opening k (drop 16 w.rest) i) w.chunk_key
+      ∙ whole_chunk w.key w.rest p limits.max_chunks i w.reads less

@@ -11,8 +11,7 @@ returns-in_err-header-clause-decrypts g c =
 pub returns-in_err-key-clause-decrypts : goal.returns-in_err-key-clause-decrypts
 returns-in_err-key-clause-decrypts g c =
     let is : c.from_residual-in_err-key.result ≡ Err c.in_err-key.field-0.0 = search rules in
-    rw is (locked_decrypts _ (headed c.args.limits.now c.in_ok-header.ensures.verdict)
-    (g.W.Sink.taken c.args.out.now) {fault = c.in_err-key.field-0.0} c.in_err-key.ensures.key)
+    rw is (locked_decrypts _ (headed c.args.limits.now c.in_ok-header.ensures.verdict) _ c.in_err-key.ensures.key)
 
 pub returns-in-Err-clause-decrypts : goal.returns-in-Err-clause-decrypts
 returns-in-Err-clause-decrypts g c =
@@ -24,17 +23,15 @@ returns-in-Err-clause-decrypts g c =
 pub returns-clause-decrypts : goal.returns-clause-decrypts
 returns-clause-decrypts g c =
     let starts = rw c.max_chunks.ensures.value at c.in-Ok.ensures.starts.0 in
-    written_decrypts _ (headed c.args.limits.now c.in_ok-header.ensures.verdict) (Ok c.in_ok-copy_to.field-0) _
-    (g.W.Sink.taken c.args.out.now) (g.W.Sink.taken c.copy_to.new.out) (found_key c.in_ok-key.ensures.key) starts
-    (search rules)
+    written_decrypts _ (headed c.args.limits.now c.in_ok-header.ensures.verdict) (Ok c.in_ok-copy_to.field-0) _ _ _
+    (found_key c.in_ok-key.ensures.key) starts (search rules)
 
 pub returns-in_err-copy_to-clause-decrypts : goal.returns-in_err-copy_to-clause-decrypts
 returns-in_err-copy_to-clause-decrypts g c =
     let is : c.from_residual-in_err-copy_to.result ≡ Err (stream_fault c.in_err-copy_to.field-0.0) = search rules in
     let starts = rw c.max_chunks.ensures.value at c.in-Ok.ensures.starts.0 in
     rw is (written_decrypts _ (headed c.args.limits.now c.in_ok-header.ensures.verdict)
-    (Err c.in_err-copy_to.field-0.0) _ (g.W.Sink.taken c.args.out.now)
-    (g.W.Sink.taken c.copy_to.new.out) (found_key c.in_ok-key.ensures.key) starts (search rules))
+    (Err c.in_err-copy_to.field-0.0) _ _ _ (found_key c.in_ok-key.ensures.key) starts (search rules))
 
 pub returns-in_err-copy_to-clause-took : goal.returns-in_err-copy_to-clause-took
 returns-in_err-copy_to-clause-took g c =

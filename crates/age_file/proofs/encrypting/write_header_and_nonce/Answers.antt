@@ -1,19 +1,15 @@
-use Rattle.age_file.proofs.Common.{◌++◌, refl, Bytes, err_from_is_err_and, done_start, done_more, done_part, writes_last}
+use Rattle.age_file.proofs.Common.{◌++◌, refl, err_from_is_err_and, done_start, done_more, writes_last}
+use Rattle.age_file.proofs.CopiesLemmas.{part_more}
 use Rattle.age_file.proofs.encrypting.write_header_and_nonce.Goals as goal
 
 pub returns-in_err-write_header-clause-text : goal.returns-in_err-write_header-clause-text
 returns-in_err-write_header-clause-text g c =
-    let h = c.in_err-write_header.ensures.text in
-    let text : Bytes = h.0 ++ c.args.nonce.now in (
-      h.0,
-      h.1,
-      rw (err_from_is_err_and c.from_residual.result c.from_residual.ensures.1).1
-          (done_part (g.W.Sink.taken c.write_header.new.out) h.0 c.args.nonce.now (done_start text) refl h.2),
-    )
+    let (text, head, part) = c.in_err-write_header.ensures.text in
+    let is = (err_from_is_err_and c.from_residual.result c.from_residual.ensures.1).1 in
+    (text, head, rw is (part_more _ text c.args.nonce.now part))
 
 pub returns-clause-text : goal.returns-clause-text
 returns-clause-text g c =
-    let h = c.in_ok-write_header.ensures.text in
-    let text : Bytes = h.0 ++ c.args.nonce.now in
-    let one = done_more h.0 (done_start text) refl h.2 in
-    (h.0, h.1, search (writes_last, one, c.write_all.ensures.text))
+    let (text, head, put) = c.in_ok-write_header.ensures.text in
+    let one = done_more text (done_start (text ++ c.args.nonce.now)) refl put in
+    (text, head, search (writes_last, one, c.write_all.ensures.text))

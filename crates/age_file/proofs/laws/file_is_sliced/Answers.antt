@@ -6,10 +6,9 @@ pub returns : goal.returns
 returns g c = record {
   header = λ dev limits b at h first is. header_known b (g.met.D.ReadAt.agrees dev b is) first;
   opens = file_opens;
-  len = λ dev limits answers b plain chunks is. file_has_len limits answers b plain chunks
-      (g.met.D.ReadAt.agrees dev b is);
-  slice = λ dev limits answers b plain xs chunks at is. file_slice limits answers b plain xs chunks at
-      (g.met.D.ReadAt.agrees dev b is);
-  chunk = λ dev limits answers b plain chunks i is. file_chunk limits answers b plain chunks i
-      (g.met.D.ReadAt.agrees dev b is);
+  len = λ dev limits answers b p chunks is. file_has_len limits answers b p chunks (g.met.D.ReadAt.agrees dev b is);
+  slice = λ dev limits answers b p xs chunks at is v f. file_slice limits answers b p chunks
+      (g.met.D.ReadAt.agrees dev b is) v f at xs;
+  chunk = λ dev limits answers b p chunks i is v f. file_chunk limits answers b p chunks
+      (g.met.D.ReadAt.agrees dev b is) v f i;
 }

@@ -5,12 +5,8 @@ use Rattle.age_file.proofs.new_header.wrap_all.Goals as goal
 pub returns-in-Err-Refused : goal.returns-in-Err-Refused
 returns-in-Err-Refused g c =
     let refuses = refusal c.in-Err-Refused.field-0-is c.in-Err-Refused.ensures in
-    inr (
-      c.loop-i.i,
-      c.in-Err-Refused.code,
-      ap (λ n. Refused c.loop-i.i n) c.in-Err-Refused.code-is,
-      search (gathered_refused, c.loop-i-test.true, c.index-recipients-i.is, refuses, c.loop-i.invariant),
-    )
+    let is = ap (λ n. Refused c.loop-i.i n) c.in-Err-Refused.code-is in
+    inr (_, _, is, search (gathered_refused, c.loop-i-test.true, c.index-recipients-i.is, refuses, c.loop-i.invariant))
 
 pub loop-i-preserved : goal.loop-i-preserved
 loop-i-preserved g c =

@@ -19,12 +19,11 @@ pub returns-in-Err-unlock_header-clause-refuses : goal.returns-in-Err-unlock_hea
 returns-in-Err-unlock_header-clause-refuses g c =
     let answers = answers_by c.args.identities.now (λ i. (goal.Identity-dyn g (i.vtable, i.value)).meaning i.value) in
     let of = c.in-Ok.ensures in
-    let e = c.in-Err-unlock_header.fault in
     let locked = c.in-Err-unlock_header.ensures in
     rw (c.of.ensures.fault, c.of.ensures.unchanged) (record {
-      misses = locked_ranges answers _ e (λ b is. g.met.D.ReadAt.agrees c.in-Ok.found.dev.now b (of.stay ∙ is)) of.first
+      misses = locked_ranges answers _ _ (λ b is. g.met.D.ReadAt.agrees c.in-Ok.found.dev.now b (of.stay ∙ is)) of.first
           locked.key;
-      named = locked_named answers c.in-Ok.found.header e locked.key;
+      named = locked_named answers c.in-Ok.found.header _ locked.key;
       front = inr (inr (omega (arith, of.given, header_fits of.first)));
       stay = of.stay;
       counted = rw locked.no_device.0 of.uncounted;

@@ -4,6 +4,5 @@ abbrev pub ghosts-header_at : goal.ghosts-header_at
 ghosts-header_at g a = record {
   bytes = g.D.ReadAt.bytes a.dev.now;
   given = g.D.ReadAt.given a.dev.now;
-  name =
-      a.dev.ghost_name;
+  name = a.dev.ghost_name;
 }

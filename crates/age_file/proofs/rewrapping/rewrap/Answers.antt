@@ -37,8 +37,7 @@ returns-clause-rewraps g c =
     let text : c.as_slice.result.now ≡ c.in_ok-text.text.items = search rules in
     let wrote = rw text at c.in-Ok.ensures.text in
     let key = found_key c.in_ok-key.ensures.key in
-    let copies = c.copy_all.ensures.copies in
-    search (copied_rewraps, headed, c.in_ok-header.ensures.verdict, key, c.in_ok-text.ensures.ok, wrote, copies)
+    search (copied_rewraps, headed, c.in_ok-header.ensures, key, c.in_ok-text.ensures.ok, wrote, c.copy_all.ensures)
 
 pub returns-clause-quiet : goal.returns-clause-quiet
 returns-clause-quiet g c = search (copies_late (c.copy_all.new.out ≡ c.args.out.now), c.copy_all.ensures.copies)
@@ -63,5 +62,4 @@ returns-in_default-clause-took g c =
 
 pub returns-clause-took : goal.returns-clause-took
 returns-clause-took g c =
-    let copies = c.copy_all.ensures.copies in
-    search (copied_took, c.in_ok-header.ensures.verdict, c.in-Ok.ensures.text, copies, c.copy_all.ensures.ahead)
+    search (copied_took, c.in_ok-header.ensures.verdict, c.in-Ok.ensures.text, c.copy_all.ensures)

@@ -1,5 +1,5 @@
-use Rattle.age_file.proofs.Common.{◌≡◌, rules, Err, Ok, inr, sym, flow, move_by, seen_by, losses_by, answers_by, stream_fault}
-use Rattle.age_file.proofs.DecryptLemmas.{reads_file}
+use Rattle.age_file.proofs.Common.{◌≡◌, rules, Err, Ok, inr, sym, move_by, losses_by, answers_by, stream_fault}
+use Rattle.age_file.proofs.DecryptLemmas.{headed, reads_file}
 use Rattle.age_file.proofs.SalvageLaws.{quiet_pieces}
 use Rattle.age_file.proofs.SalvageLemmas.{locked_salvages, payload_salvages, salvage_takes}
 use Rattle.age_file.proofs.FrontLemmas.{front_gave}
@@ -8,23 +8,18 @@ use Rattle.age_file.proofs.salvaging.salvage.Goals as goal
 pub returns-in_err-key-clause-salvages : goal.returns-in_err-key-clause-salvages
 returns-in_err-key-clause-salvages g c =
     let is : c.from_residual-in_err-key.result ≡ Err c.in_err-key.field-0.0 = search rules in
-    rw is (locked_salvages _ _ _ _ c.in_ok-header.ensures.verdict c.in_err-key.ensures.key)
+    rw is (locked_salvages _ (headed c.args.limits.now c.in_ok-header.ensures.verdict) _ _ c.in_err-key.ensures.key)
 
 pub returns-clause-salvages : goal.returns-clause-salvages
 returns-clause-salvages g c =
-    payload_salvages (Ok c.in_ok-payload.payload) _ _ _ c.in_ok-header.ensures.verdict c.in_ok-key.ensures.key
-    c.max_chunks.ensures.value c.in_ok-payload.ensures.salvages
+    payload_salvages _ (headed c.args.limits.now c.in_ok-header.ensures.verdict) (Ok c.in_ok-payload.payload) _ _
+    c.in_ok-key.ensures.key c.max_chunks.ensures.value c.in_ok-payload.ensures.salvages
 
 pub returns-in_err-payload-clause-salvages : goal.returns-in_err-payload-clause-salvages
 returns-in_err-payload-clause-salvages g c =
     let is : c.from_residual-in_err-payload.result ≡ Err (stream_fault c.in_err-payload.field-0.0) = search rules in
-    let answers = answers_by c.args.identities.now
-    (λ i s. (goal.Identity-dyn g (i.vtable, i.value)).meaning i.value s) in
-    rw is
-    (payload_salvages (Err c.in_err-payload.field-0.0) answers
-    (move_by g.W.Sink.taken c.args.out.now c.salvage_payload.new.out)
-    (losses_by g.L.Losses.lost c.args.losses.now c.salvage_payload.new.losses) c.in_ok-header.ensures.verdict
-    c.in_ok-key.ensures.key c.max_chunks.ensures.value c.in_err-payload.ensures.salvages)
+    rw is (payload_salvages _ (headed c.args.limits.now c.in_ok-header.ensures.verdict) (Err c.in_err-payload.field-0.0)
+    _ _ c.in_ok-key.ensures.key c.max_chunks.ensures.value c.in_err-payload.ensures.salvages)
 
 pub returns-in_err-payload-clause-took : goal.returns-in_err-payload-clause-took
 returns-in_err-payload-clause-took g c =
@@ -39,12 +34,9 @@ returns-in_err-payload-clause-quiet g c =
 pub returns-in_err-payload-clause-reads : goal.returns-in_err-payload-clause-reads
 returns-in_err-payload-clause-reads g c =
     let is : c.from_residual-in_err-payload.result ≡ Err (stream_fault c.in_err-payload.field-0.0) = search rules in
-    rw (is, sym c.in_ok-header.ensures.reads)
-    (search (reads_file, c.in_err-payload.ensures.reads))
+    rw (is, sym c.in_ok-header.ensures.reads) (search (reads_file, c.in_err-payload.ensures.reads))
 
 pub returns-in_err-key-clause-front : goal.returns-in_err-key-clause-front
 returns-in_err-key-clause-front g c =
     let is : c.from_residual-in_err-key.result ≡ Err c.in_err-key.field-0.0 = search rules in
-    rw is (inr (inr (inr (front_gave c.args.limits.now
-    (flow (seen_by g.S.Source.to_come g.S.Source.gave c.args.input.now)
-    (seen_by g.S.Source.to_come g.S.Source.gave c.inspect.new.input)) _ c.in_ok-header.ensures.verdict))))
+    rw is (inr (inr (inr (front_gave c.args.limits.now _ _ c.in_ok-header.ensures.verdict))))

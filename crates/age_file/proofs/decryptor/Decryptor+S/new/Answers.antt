@@ -1,4 +1,4 @@
-use Rattle.age_file.proofs.Common.{inl, inr, rules, flow_by}
+use Rattle.age_file.proofs.Common.{inl, inr, rules}
 use Rattle.age_file.proofs.FrontLemmas.{front_gave}
 use Rattle.age_file.proofs.decryptor.Decryptor+S.new.Goals as goal
 
@@ -9,9 +9,5 @@ returns-in-Err-clause-refuses g c =
 
 pub returns-then-is_mixed-clause-refuses : goal.returns-then-is_mixed-clause-refuses
 returns-then-is_mixed-clause-refuses g c =
-    rw (c.of-then-is_mixed.ensures.fault, c.of-then-is_mixed.ensures.unchanged) (
-      c.in-Ok.ensures.reads,
-      inr (front_gave c.args.limits.now
-          (flow_by g.S.Source.to_come g.S.Source.gave c.args.input.now c.inspect.new.input) _ c.in-Ok.ensures.verdict),
-      search rules,
-    )
+    rw (c.of-then-is_mixed.ensures.fault, c.of-then-is_mixed.ensures.unchanged)
+    (c.in-Ok.ensures.reads, inr (front_gave c.args.limits.now _ _ c.in-Ok.ensures.verdict), search rules)
