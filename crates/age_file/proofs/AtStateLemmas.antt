@@ -1,5 +1,5 @@
 -- A source read from its first byte on.
-use Rattle.age_file.proofs.Common.{◌≡◌, ℕ, [], refl, slice_index, inl, inr, ◌++◌, ◌+◌, ◌-◌, ◌^◌, ◌<◌, ◌≤◌, length, take, drop, min, sym, ◌∙◌, ap, arith, subst, IfOk, Option, Some, None, Result, Ok, cases_lt, length-append, length-drop, length-take, length-take-le, drop-drop, drop_all, get_or-append_right, get_or-take, get_or_append_left, take-append-drop, Bytes, Flow, Gave, Gives, Known, flow_by, Consumes, Consumes-nil, IsAtEnd, AtState, GaveFirst, IsWithin, EmptyAtEnd, GaveAt, IsPast, HasOffsets, StaysGiven, option_map}
+use Rattle.age_file.proofs.Common.{◌≡◌, ℕ, [], refl, ◌++◌, ◌+◌, ◌-◌, ◌^◌, ◌<◌, ◌≤◌, length, take, drop, min, sym, ◌∙◌, ap, arith, subst, IfOk, Option, Some, None, Result, Ok, length-append, length-drop, length-take, length-take-le, drop-drop, drop_all, get_or-append_right, get_or-take, get_or_append_left, take-append-drop, Bytes, Flow, Gave, Gives, Known, flow_by, Consumes, Consumes-nil, IsAtEnd, AtState, GaveFirst, IsWithin, EmptyAtEnd, GaveAt, IsPast, HasOffsets, StaysGiven, option_map}
 
 -- what a source gave there is what its known contents have there
 abbrev pub HasThere : (told : Known) (at : ℕ) (xs : Bytes) → Type 0

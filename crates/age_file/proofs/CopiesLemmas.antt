@@ -1,5 +1,5 @@
 -- A source that is copied piece by piece.
-use Rattle.age_file.proofs.Common.{◌≡◌, inl, inr, take, ℕ, ◌+◌, ◌*◌, ◌^◌, ◌≤◌, true, false, [], ◌++◌, length, refl, sym, arith, Result, Ok, Err, Appends-nil, Appends-trans, Appends, IfErr, Bytes, Flow, Gave, Moved, WritesPart, Known, Seen, flow, move_of, gave_then, of_any, of_ended, of_more, of_then, done_part, done_start, Fault, TooManyChunks, Read, Write, Copies, CopiesAhead, CopiesPiece, GaveAhead, buffer_size, append-nil, length-append}
+use Rattle.age_file.proofs.Common.{◌≡◌, inr, ℕ, ◌+◌, ◌*◌, ◌^◌, ◌≤◌, true, false, [], ◌++◌, length, refl, sym, arith, Result, Ok, Err, Appends-nil, Appends-trans, Appends, IfErr, Bytes, Flow, Gave, Moved, WritesPart, Known, Seen, flow, move_of, gave_then, of_any, of_ended, of_more, of_then, done_part, done_start, Fault, TooManyChunks, Read, Write, Copies, CopiesAhead, CopiesPiece, GaveAhead, buffer_size, append-nil, length-append}
 
 -- a prefix of a text is one of the text and what follows it
 pub part_more : (sink : Moved) (x y : Bytes) → WritesPart sink x → WritesPart sink (x ++ y)

@@ -1,5 +1,5 @@
 -- What a call of `encrypt` has written.
-use Rattle.age_file.proofs.Common.{Bool, true, false, ◌≡◌, ℕ, ◌+◌, ◌-◌, ◌*◌, ◌≤◌, List, [], ◌++◌, length, take, ap, refl, arith, None, Result, Ok, Err, append_assoc, length-append, concat, Appends, Appends-nil, Appends-trans, Bytes, GaveAtMost, GaveSome, Moved, WritesPart, Known, Seen, Flow, flow, move_by, move_of, StanzaParts, Head, header_mac, gave_none, of_any, of_map, of_then, one_text, FileKey, Done, StreamFault, payload, payload_key, sealed_chunks, Fills, FinishesBy, SealerState, SealsAll, Stopped, at_start, chunk_size, filled_finishes, filled_seals, Fault, TooManyChunks, Read, Write, Fresh, Bounds, BegunFile, EncryptsGiven, FailsHeading, Gathering, IsHeading, IsNewHeader, FillsChunk, TookWhileEncrypting, TookChunks, IfNone, inl, inr, stream_fault}
+use Rattle.age_file.proofs.Common.{Bool, true, false, ◌≡◌, ℕ, ◌+◌, ◌-◌, ◌*◌, ◌≤◌, List, [], ◌++◌, length, take, ap, refl, arith, None, Result, Ok, Err, append_assoc, length-append, concat, Appends, Appends-nil, Appends-trans, Bytes, GaveAtMost, GaveSome, Moved, WritesPart, Known, Seen, Flow, flow, move_by, move_of, StanzaParts, Head, header_mac, of_any, of_map, of_then, one_text, FileKey, Done, StreamFault, payload, payload_key, sealed_chunks, Fills, FinishesBy, SealerState, SealsAll, Stopped, at_start, chunk_size, filled_finishes, filled_seals, Fault, TooManyChunks, Read, Write, Fresh, Bounds, BegunFile, EncryptsGiven, FailsHeading, Gathering, IsHeading, IsNewHeader, FillsChunk, TookWhileEncrypting, TookChunks, IfNone, inl, inr, stream_fault}
 use Rattle.age_stream.specs.declared.fault.StreamFault.TheVariants as stream
 use Rattle.age_stream.specs.Salvage.{IsOfPieces}
 use Rattle.age_file.proofs.CopiesLemmas.{part_after, part_more}

@@ -1,5 +1,5 @@
 -- The verdict is a plaintext only on age files.
-use Rattle.age_file.proofs.Common.{arith, ◌≡◌, ◌↔◌, ◌⊎◌, inl, inr, ℕ, List, [], ◌∷◌, ◌++◌, length, drop, cond, true, false, Bool, sym, ◌∙◌, ap, refl, subst, Option, Some, None, Result, Ok, Err, option_map, result_map_both, bytes_eq, drop_at, none-some, bytes_eq-Decides, Bytes, HeaderFault, StanzaParts, HeaderParts, Head, header_mac, Found, BeginsWith, HeaderVerdict, UnlockFault, Memory, FileKey, Unwrapped, Key, choice, StreamFault, payload, Reading, stop, whole, payload_reading, ok_payload, payload_ok, Fault, MixedPassphrase, BadMac, OutOfMemory, Bounds, AgeFile, is_mixed, Answering, IsVerdict, found_key, header_fault, if_right, unlock_fault, reading_after, parts_of, reading_under, stream_fault, header_key, with_file_fault, IfErr}
+use Rattle.age_file.proofs.Common.{arith, ◌≡◌, ◌↔◌, ◌⊎◌, ℕ, List, [], ◌∷◌, ◌++◌, length, drop, cond, true, false, Bool, sym, ◌∙◌, ap, refl, subst, Option, Some, None, Result, Ok, Err, option_map, result_map_both, bytes_eq, drop_at, none-some, bytes_eq-Decides, Bytes, HeaderFault, StanzaParts, HeaderParts, Head, header_mac, Found, BeginsWith, HeaderVerdict, UnlockFault, Memory, FileKey, Unwrapped, Key, choice, StreamFault, payload, Reading, stop, whole, payload_reading, ok_payload, payload_ok, Fault, MixedPassphrase, BadMac, OutOfMemory, Bounds, AgeFile, is_mixed, Answering, IsVerdict, found_key, header_fault, if_right, unlock_fault, reading_after, parts_of, reading_under, stream_fault, header_key, with_file_fault, IfErr}
 use Rattle.age_header.proofs.VerdictUniqueLemmas as headers
 
 -- what is read whole does not stop

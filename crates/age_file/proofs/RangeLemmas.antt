@@ -1,15 +1,14 @@
 -- What opening a file for ranges does, from what its parts do.
-use Rattle.age_file.proofs.Common.{◌≡◌, ◌⊎◌, ℕ, [], ◌++◌, ◌+◌, ◌-◌, ◌≤◌, length, drop, sym, ◌∙◌, ap, refl, subst, arith, inl, inr, Option, Some, None, Result, Ok, Err, IfErr, if◌then◌else◌, result_map_both, append-nil, Agrees, BeginsRanges, Bytes, CountsFaultIf, Known, Seen, flow, flow_by, HeaderFault, HeaderParts, of_known, begins_found, Refuses, HeaderVerdict, FileKey, UnlockFault, StreamFault, StaysGiven, OpensRanges, range_outcome, Fault, OutOfMemory, Read, Bounds, Inspects, ReadsFront, IsLate, IsNoDeviceFault, is_read, AtState, BeginsFile, GaveFirst, GaveHeader, IsOpenFault, MissesHeader, MissesRanges, ranges_under, Answering, finding, header_fault, stream_fault, unlock_fault, header_key, option_map, ◌^◌, min, take, ◌<◌, ◌*◌, take_all, take-append-drop, slice_index, Moved, GaveAt, NonceTruncated, found_again}
+use Rattle.age_file.proofs.Common.{◌≡◌, ◌⊎◌, ℕ, [], ◌++◌, ◌+◌, ◌≤◌, length, drop, sym, ◌∙◌, ap, refl, subst, arith, inl, inr, Option, Some, None, Result, Ok, Err, result_map_both, Agrees, BeginsRanges, Bytes, Known, Seen, flow, flow_by, HeaderFault, HeaderParts, of_known, begins_found, Refuses, HeaderVerdict, FileKey, UnlockFault, StreamFault, StaysGiven, OpensRanges, range_outcome, Fault, OutOfMemory, Read, Bounds, Inspects, ReadsFront, IsLate, AtState, GaveFirst, GaveHeader, IsOpenFault, MissesHeader, MissesRanges, ranges_under, Answering, finding, header_fault, stream_fault, unlock_fault, header_key, option_map, ◌^◌, take, ◌<◌, ◌*◌, take_all, take-append-drop, Moved, GaveAt, NonceTruncated, found_again}
 use Rattle.age_header.specs.declared.fault.HeaderFault.TheVariants as header
 use Rattle.age_recipient.specs.declared.choice.UnlockFault.TheVariants as unlock
-use Rattle.age_stream.specs.declared.fault.StreamFault.TheVariants as fault
 use Rattle.age_stream.specs.Ranges as stream
 use Rattle.age_stream.specs.Writer.{IsRefusedMemory}
 use Rattle.age_stream.proofs.JudgesLastLemmas.{refused_there}
 use Rattle.age_stream.proofs.ReadAtLemmas.{has_at}
 use Rattle.age_file.proofs.FileLemmas.{key_faults}
 use Rattle.age_file.proofs.AtStateLemmas.{first_none}
-use Rattle.age_file.proofs.DecryptLemmas.{err_err, found_key}
+use Rattle.age_file.proofs.DecryptLemmas.{err_err}
 
 -- a header that was read from the first byte on
 pub header_gave : {D : Type 0} (to_come : AtState D → Known) (gave : D → ℕ → ℕ → Type 0) {limits : Bounds}

@@ -1,8 +1,7 @@
 -- What rewrapping a file returns and writes, and what it keeps.
-use Rattle.age_file.proofs.Common.{◌≡◌, ◌⊎◌, ◌↔◌, ◌++◌, length, drop, sym, ◌∙◌, ap, refl, arith, inl, inr, Result, Ok, Err, Appends, Appends-trans, Keeps-refl, drop_at, HeaderFault, Bytes, Flow, WritesPart, Known, Seen, flow, move_of, HeaderParts, header_mac, Refuses, BeginsWith, Found, HeaderVerdict, of_map, of_more, of_then, UnlockFault, FileKey, choice, Reading, Fault, TooManyChunks, Read, Write, OutOfMemory, Bounds, Copies, IsLate, Inspects, FailsHeading, Gathering, IsNewHeader, BeginsRewrapped, IsRewrapped, RefusesRewrap, Rewrapped, Rewraps, RewrapsText, Answering, IsVerdict, finding, header_fault, reading_after, parts_of, reading_under, header_key, unlock_fault, length-append, IfErr}
+use Rattle.age_file.proofs.Common.{◌≡◌, ◌⊎◌, ◌↔◌, ◌++◌, length, drop, sym, ◌∙◌, ap, refl, arith, inl, inr, Result, Ok, Err, Appends, Appends-trans, Keeps-refl, drop_at, HeaderFault, Bytes, Flow, WritesPart, Known, Seen, flow, move_of, HeaderParts, header_mac, Refuses, BeginsWith, Found, HeaderVerdict, of_map, of_more, of_then, FileKey, choice, Reading, Fault, TooManyChunks, Read, Write, OutOfMemory, Bounds, Copies, IsLate, Inspects, FailsHeading, Gathering, IsNewHeader, BeginsRewrapped, IsRewrapped, RefusesRewrap, Rewrapped, Rewraps, RewrapsText, Answering, IsVerdict, finding, header_fault, reading_after, parts_of, reading_under, header_key, length-append, IfErr}
 use Rattle.age_header.specs.declared.fault.HeaderFault.TheVariants as header
 use Rattle.age_header.proofs.VerdictUniqueLemmas as headers
-use Rattle.age_recipient.specs.declared.choice.UnlockFault.TheVariants as unlock
 use Rattle.age_file.proofs.CopiesLemmas.{part_after, part_more}
 use Rattle.age_file.proofs.DecryptLemmas.{IsHeaded}
 use Rattle.age_file.proofs.EncryptLemmas.{IsEarly, early_heading}

@@ -1,7 +1,6 @@
 -- What is saved of a file, and the verdict on it.
-use Rattle.age_file.proofs.Common.{refl, false, true, ◌≡◌, ◌↔◌, ◌⊎◌, ◌∙◌, ◌++◌, ◌≤◌, [], length, drop, sym, ap, subst, List, inl, inr, arith, None, Result, Ok, Err, ◌&&◌, if◌then◌else◌, option_map, lt-ltb, take_all, HeaderFault, FileKey, Bytes, Moved, Took, Found, StreamFault, Reading, payload_reading, stop, whole, IsOfPieces, Part, Reports, Saves, SavesParts, SavesPayload, LossesMoved, losses, is_whole, payload_parts, salvaged_text, payload_exactly, payload_plaintext, payload_whole, Fault, BadMac, OutOfMemory, Read, Write, TooManyChunks, Bounds, IsLate, SavesAfter, SavesFile, SavesUnder, is_whole_file, salvaged_file, SalvagedFile, Answering, IsVerdict, header_fault, reading_after, parts_of, reading_under, stream_fault, found_key, if_right, with_file_fault, Bool, ◌<◌}
+use Rattle.age_file.proofs.Common.{refl, false, true, ◌≡◌, ◌↔◌, ◌⊎◌, ◌∙◌, ◌++◌, ◌≤◌, [], length, drop, sym, ap, subst, List, inl, inr, arith, None, Result, Ok, Err, ◌&&◌, if◌then◌else◌, option_map, lt-ltb, take_all, HeaderFault, FileKey, Bytes, Moved, Took, Found, StreamFault, Reading, payload_reading, stop, whole, IsOfPieces, Part, Reports, Saves, SavesParts, SavesPayload, LossesMoved, losses, is_whole, payload_parts, salvaged_text, payload_exactly, payload_plaintext, payload_whole, Fault, BadMac, OutOfMemory, Read, Write, TooManyChunks, Bounds, IsLate, SavesAfter, SavesFile, SavesUnder, is_whole_file, salvaged_file, SalvagedFile, Answering, IsVerdict, reading_after, parts_of, reading_under, stream_fault, found_key, if_right, with_file_fault, Bool}
 use Rattle.age_stream.specs.declared.fault.StreamFault.TheVariants as stream
-use Rattle.age_file.proofs.DecryptLemmas.{err_err}
 use Rattle.age_file.proofs.FileLemmas.{never_stops, no_stream_fault, verdict_after, with_file_fault_whole}
 
 -- the verdict on a file of which a payload was saved: that on the payload, or the MAC is wrong

@@ -1,8 +1,8 @@
 -- What salvaging returns, from what its parts return.
-use Rattle.age_file.proofs.Common.{arith, ◌≡◌, ◌⊎◌, ◌++◌, length, refl, subst, inl, inr, Result, Ok, Err, ℕ, result_map_both, Appends-nil, drop_at, HeaderFault, FileKey, Bytes, Known, Moved, Seen, flow, move_of, HeaderParts, Refuses, of_any, of_map, of_more, of_then, StreamFault, Salvaged, EndsAt, EndsSaving, KnownLosses, Salvages, SavesPayload, LossesMoved, losses_of, reports_none, Fault, Read, OutOfMemory, Bounds, TookUpTo, Inspects, SalvagedFile, SalvagesFile, SalvagesText, SavesFile, SavesNone, SavesUnder, salvaged_file, Answering, finding, header_fault, stream_fault, found_key, Bool}
+use Rattle.age_file.proofs.Common.{arith, ◌≡◌, ◌⊎◌, ◌++◌, length, refl, subst, inl, inr, Result, Ok, Err, ℕ, result_map_both, Appends-nil, drop_at, HeaderFault, FileKey, Bytes, Known, Moved, Seen, flow, move_of, HeaderParts, Refuses, of_map, of_more, of_then, StreamFault, Salvaged, EndsAt, EndsSaving, KnownLosses, Salvages, SavesPayload, LossesMoved, losses_of, reports_none, Fault, OutOfMemory, Bounds, TookUpTo, Inspects, SalvagedFile, SalvagesFile, SalvagesText, SavesFile, SavesNone, SavesUnder, salvaged_file, Answering, finding, header_fault, stream_fault, found_key, Bool}
 use Rattle.age_header.specs.declared.fault.HeaderFault.TheVariants as header
 use Rattle.age_stream.specs.declared.fault.StreamFault.TheVariants as stream
-use Rattle.age_file.proofs.DecryptLemmas.{IsHeaded, headed, payload_takes}
+use Rattle.age_file.proofs.DecryptLemmas.{IsHeaded, payload_takes}
 
 saves_none : (old : Known) (lost : KnownLosses) → SavesNone (move_of old old) (losses_of lost lost)
 saves_none old lost = (Appends-nil old, reports_none lost)

@@ -1,4 +1,4 @@
-use Rattle.age_file.proofs.Common.{◌≡◌, ◌++◌, [], rules, Ok, Err, inr, gave_none, of_any, stream_fault}
+use Rattle.age_file.proofs.Common.{◌≡◌, [], rules, Ok, Err, inr, gave_none, of_any, stream_fault}
 use Rattle.age_file.proofs.EncryptLemmas.{encrypts_begun, encrypts_payload, filled, late_faults, read_late, sealed_ended, sealed_on, takes_begun, takes_payload}
 use Rattle.age_file.proofs.encrypting.encrypt.Goals as goal
 

@@ -1,4 +1,4 @@
-use Rattle.age_file.proofs.Common.{◌≡◌, rules, Err, Ok, inr, sym, move_by, losses_by, answers_by, stream_fault}
+use Rattle.age_file.proofs.Common.{◌≡◌, rules, Err, Ok, inr, sym, stream_fault}
 use Rattle.age_file.proofs.DecryptLemmas.{headed, reads_file}
 use Rattle.age_file.proofs.SalvageLaws.{quiet_pieces}
 use Rattle.age_file.proofs.SalvageLemmas.{locked_salvages, payload_salvages, salvage_takes}

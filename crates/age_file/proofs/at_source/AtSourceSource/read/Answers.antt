@@ -1,4 +1,4 @@
-use Rattle.age_file.proofs.Common.{rules, ◌≡◌, ◌∙◌, ◌+◌, ◌-◌, ◌^◌, ◌≤◌, length, min, sym, take}
+use Rattle.age_file.proofs.Common.{rules, ◌∙◌, sym, take}
 use Rattle.age_file.proofs.AtStateLemmas.{gives_on, within_on}
 use Rattle.age_stream.proofs.ReadAtLemmas.{has_at}
 use Rattle.age_file.proofs.at_source.AtSourceSource.read.Goals as goal
