@@ -13,8 +13,7 @@ pub first_is : (key : Bytes) (i size : ℕ) (left piece : Bytes) → size ≡ mi
     → outcome key limits.max_chunks i (nat_le (length left) sealed_chunk_size) (take size piece)
     ≡ first_outcome key limits.max_chunks i left
 first_is key i size left piece sized is =
-    let len : length (take size left) ≡ size = length-take-le size left (omega arith) in
-    let whole = take_all size (take size left) (omega (arith, len)) in
+    let whole = take_all size (take size left) (omega (arith, length-take-le size left (omega arith))) in
     rw (is, whole, first_cut sealed_chunk_size size left sized) refl
 
 pub first_given : {o p : Result Bytes StreamFault} (n : ℕ) (after text old : Bytes) {new : Bytes} → p ≡ o
@@ -59,48 +58,46 @@ given text fault is size put =
     rw (is, append-nil) (record { length_so = size; fault_so = refl; buffer = put })
 
 -- a chunk had a fault
-pub read_stops : {key sealed old left room : Bytes} (out : Bytes) (at len number : ℕ) (fault : StreamFault)
-    (mid : Bytes) {new : Bytes} → IsReadTo key sealed old out at len number
-    → left ≡ drop at sealed → room ≡ drop len out
-    → GivesFirst (first_outcome key limits.max_chunks number left) room mid (Err fault) → new ≡ take len out ++ mid
-    → GivesReading (reading_from key limits.max_chunks 0 sealed) old new len (Some fault)
-read_stops {key} {left} {room} out at len number fault mid r left_is room_is gives joined =
+pub read_stops : {key sealed old left room front : Bytes} (out : Bytes) (at len number : ℕ) (fault : StreamFault)
+    (mid : Bytes) → IsReadTo key sealed old out at len number
+    → left ≡ drop at sealed → room ≡ drop len out → front ≡ take len out
+    → GivesFirst (first_outcome key limits.max_chunks number left) room mid (Err fault)
+    → GivesReading (reading_from key limits.max_chunks 0 sealed) old (front ++ mid) len (Some fault)
+read_stops {key} {left} {room} out at len number fault mid r left_is room_is front_is gives =
     let (is, same) = faulty (first_outcome key limits.max_chunks number left) fault room mid gives in
     given r.text (Some fault)
     (rw (← left_is) at r.reads ∙ ap (before r.text) (first_err key limits.max_chunks number left fault is))
     (sym r.count)
-    (rw (same ∙ room_is, take-append-drop) at joined ∙ r.is)
+    (rw (front_is, same ∙ room_is, take-append-drop) r.is)
 
 -- a chunk opened: the buffer after it
-put : (old out mid new front text : Bytes) (len : ℕ) → length front ≡ len → out ≡ front ++ drop (length front) old
-    → mid ≡ text ++ drop (length text) (drop len out) → new ≡ take len out ++ mid
-    → new ≡ (front ++ text) ++ drop (length (front ++ text)) old
-put old out mid new front text len size was is joined =
-    rw (joined, is, ← size, was, take-append_seam, drop-append_seam, drop-drop, length-append, append_assoc) refl
+put : (old out mid start text : Bytes) {front room : Bytes} (len : ℕ) → length start ≡ len
+    → out ≡ start ++ drop (length start) old → mid ≡ text ++ drop (length text) room → room ≡ drop len out
+    → front ≡ take len out → front ++ mid ≡ (start ++ text) ++ drop (length (start ++ text)) old
+put old out mid start text len size was is room_is front_is = rw
+    (front_is, is, room_is, ← size, was, take-append_seam, drop-append_seam, drop-drop, length-append, append_assoc) refl
 
 -- the last chunk opened
-pub read_ends : {key sealed old left room : Bytes} (out : Bytes) (at len number n : ℕ) (mid : Bytes) {new : Bytes}
-    → IsReadTo key sealed old out at len number → left ≡ drop at sealed → room ≡ drop len out
-    → GivesFirst (first_outcome key limits.max_chunks number left) room mid (Ok n) → new ≡ take len out ++ mid
-    → length left ≤ sealed_chunk_size
-    → GivesReading (reading_from key limits.max_chunks 0 sealed) old new (len + n) None
-read_ends {key} {sealed} {old} {left} {room} out at len number n mid {new} r left_is room_is gives joined last =
+pub read_ends : {key sealed old left room front : Bytes} (out : Bytes) (at len number n : ℕ) (mid : Bytes)
+    → IsReadTo key sealed old out at len number → left ≡ drop at sealed → room ≡ drop len out → front ≡ take len out
+    → GivesFirst (first_outcome key limits.max_chunks number left) room mid (Ok n) → length left ≤ sealed_chunk_size
+    → GivesReading (reading_from key limits.max_chunks 0 sealed) old (front ++ mid) (len + n) None
+read_ends {key} {sealed} {old} {left} {room} out at len number n mid r left_is room_is front_is gives last =
     let (text, is, count, gave) = opened (first_outcome key limits.max_chunks number left) n room mid gives in
     let f = first_ok key limits.max_chunks number left text None is
     (rw (le-leb (length left) sealed_chunk_size last) refl) in
     given (r.text ++ text) None
     (rw (← append_assoc r.text text []) at (rw (← left_is) at r.reads ∙ ap (before r.text) f.reads))
     (omega (arith, count, r.count, length-append r.text text))
-    (put old out mid new r.text text len r.count r.is
-    (gave ∙ ap (λ d. text ++ drop (length text) d) room_is) joined)
+    (put old out mid r.text text len r.count r.is gave room_is front_is)
 
 -- another chunk opened
-pub read_more : {key sealed old left room : Bytes} (out : Bytes) (at len number n : ℕ) (mid : Bytes) {new : Bytes}
-    → IsReadTo key sealed old out at len number → left ≡ drop at sealed → room ≡ drop len out
-    → GivesFirst (first_outcome key limits.max_chunks number left) room mid (Ok n) → new ≡ take len out ++ mid
+pub read_more : {key sealed old left room front : Bytes} (out : Bytes) (at len number n : ℕ) (mid : Bytes)
+    → IsReadTo key sealed old out at len number → left ≡ drop at sealed → room ≡ drop len out → front ≡ take len out
+    → GivesFirst (first_outcome key limits.max_chunks number left) room mid (Ok n)
     → sealed_chunk_size < length left → n ≡ min (length left) sealed_chunk_size - 16
-    → IsReadTo key sealed old new (at + sealed_chunk_size) (len + n) (number + 1)
-read_more {key} {sealed} {old} {left} {room} out at len number n mid {new} r left_is room_is gives joined more size =
+    → IsReadTo key sealed old (front ++ mid) (at + sealed_chunk_size) (len + n) (number + 1)
+read_more {key} {sealed} {old} {left} {room} out at len number n mid r left_is room_is front_is gives more size =
     let (text, is, count, gave) = opened (first_outcome key limits.max_chunks number left) n room mid gives in
     let f = first_ok key limits.max_chunks number left text (Some (drop sealed_chunk_size left)) is
     (rw (lt-leb (length left) sealed_chunk_size more) refl) in
@@ -114,8 +111,7 @@ read_more {key} {sealed} {old} {left} {room} out at len number n mid {new} r lef
       count = omega (arith, count, r.count, length-append r.text text);
       some = inr (omega (arith, more, ap length left_is, length-drop at sealed));
       room = r.room;
-      is = put old out mid new r.text text len r.count r.is
-          (gave ∙ ap (λ d. text ++ drop (length text) d) room_is) joined;
+      is = put old out mid r.text text len r.count r.is gave room_is front_is;
       reads = rest ∙ ap (λ c. before (r.text ++ text) (reading_from key limits.max_chunks (number + 1) c))
           (ap (drop sealed_chunk_size) left_is ∙ drop-drop sealed_chunk_size at sealed);
     }

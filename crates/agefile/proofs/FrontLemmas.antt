@@ -1,6 +1,6 @@
 -- What is found in a beginning of a file: in one that holds its header and its nonce, as its first 65,552 bytes do, and
 -- in one that ends within them.
-use Rattle.agefile.proofs.Common.{◌≡◌, ◌≢◌, ◌⊎◌, ℕ, ◌+◌, ◌-◌, ◌<◌, ◌≤◌, List, ◌++◌, length, take, drop, min, sym, ◌∙◌, ap, refl, subst, arith, inl, inr, append_assoc, length-append, length-drop, length-take, take-append-drop, codes, Result, Ok, Err, cases_lt, le-ltb, lt-ltb, drop-take, take-append-le, take-take, take_all, Bytes, line, version_line, version_size, AreLines, BeginsAsAge, Found, Finds, HeaderVerdict, lines_text, length-version_line, FileKey, Fault, HeaderTruncated, NonceTruncated, Answering, parts_of, header_key, Payload, Report, Start, fault_code, limits, front_size, IsStart, Opens, StartsAt, start_under}
+use Rattle.agefile.proofs.Common.{◌≡◌, ◌≢◌, ◌⊎◌, ℕ, ◌+◌, ◌-◌, ◌<◌, ◌≤◌, List, ◌++◌, length, take, drop, sym, ◌∙◌, ap, refl, arith, inl, inr, append_assoc, length-append, length-drop, length-take, take-append-drop, codes, Result, Ok, Err, cases_lt, le-ltb, lt-ltb, drop-take, take-append-le, take-take, take_all, Bytes, line, version_line, AreLines, BeginsAsAge, Found, Finds, HeaderVerdict, lines_text, length-version_line, FileKey, Fault, HeaderTruncated, NonceTruncated, Answering, parts_of, header_key, Payload, Report, Start, fault_code, limits, front_size, IsStart, Opens, StartsAt, start_under}
 use Rattle.age_header.specs.declared.fault.HeaderFault.TheVariants.{Truncated}
 use Rattle.age_header.proofs.LinesLemmas.{lines_prefix}
 use Rattle.age_header.proofs.VerdictFirstLineLemmas.{cap_prefix}
@@ -17,9 +17,7 @@ start_in : (len m : ℕ) (rest : Bytes) (key : Result FileKey Fault) → 16 ≤ 
 start_in len m rest (Err fault) le = refl
 start_in len m rest (Ok k) le = elim (cases_lt (length rest) 16) [
   | inl lt ↦ rw (take_all m rest (omega arith)) refl
-  | inr ge ↦
-      let long : 16 ≤ length (take m rest) = omega (arith, length-take m rest) in
-      rw (le-ltb (length (take m rest)) 16 long, le-ltb (length rest) 16 ge, take-take 16 m rest le) refl
+  | inr ge ↦ grind (arith, length-take m rest, le-ltb, take-take 16 m rest le)
 ]
 
 -- the same for a beginning of a file
@@ -35,9 +33,8 @@ pub whole_start : (answers : Answering) (b : Bytes) (start : Result Start Fault)
 whole_start answers b start (Err e, verdict, is) = (Err e, whole_verdict b (Err e) verdict, is)
 whole_start answers b start (Ok found, verdict, is) =
     let there = whole_verdict b (Ok found) verdict in
-    let fits : length found.text ≤ limits.max_header = (headers.begins_found b limits.max_header found there).fits in
-    let key = header_key answers (parts_of found) in
-    (Ok found, there, is ∙ start_behind (length found.text) front_size b key (omega arith))
+    let fits = (headers.begins_found b limits.max_header found there).fits in
+    (Ok found, there, is ∙ start_behind (length found.text) front_size b _ (omega (arith, fits)))
 
 pub longer : (answers : Answering) (n : ℕ) (b : Bytes) (s : Start) → IsStart answers (take n b) (Ok s)
     → IsStart answers b (Ok s)
@@ -47,11 +44,9 @@ longer answers n b s (Ok found, verdict, is) =
     let len : ℕ = length found.text in
     let key = header_key answers (parts_of found) in
     let long = (under len (drop len (take n b)) key s is).long in
-    let begins : b ≡ found.text ++ (w.rest ++ drop n b) = sym (take-append-drop n b)
-    ∙ ap (λ t. t ++ drop n b) w.prefix ∙ append_assoc found.text w.rest (drop n b) in (
+    let begins : found.text ++ (w.rest ++ drop n b) ≡ b = rw (← append_assoc, ← w.prefix) (take-append-drop n b) in (
       Ok found,
-      subst (λ x. Finds x limits.max_header found) (sym begins)
-          (headers.found_again (take n b) limits.max_header found verdict (w.rest ++ drop n b)),
+      rw begins at (headers.found_again (take n b) limits.max_header found verdict (w.rest ++ drop n b)),
       is ∙ start_behind len n b key (omega (arith, long, length-drop len (take n b), length-take n b)),
     )
 
@@ -96,19 +91,9 @@ fewer_lines : (ks ls : List Bytes) (p b : Bytes) (d : AreLines ks p) (e : AreLin
 fewer_lines ks ls p b d e rest is short = elim (cases_lt (length ks) (length ls)) [
   | inl lt ↦ lt
   | inr ge ↦
-      let (more, front, on) = lines_prefix ls ks e.rest (d.rest ++ rest) e.each d.each
-      (sym e.prefix ∙ is ∙ ap (λ (z : Bytes). z ++ rest) d.prefix ∙ append_assoc (lines_text ks) d.rest rest) ge in
-      absurd (omega (
-        arith,
-        short,
-        ap length is,
-        length-append p rest,
-        ap length e.prefix,
-        length-append (lines_text ls) e.rest,
-        ap length on,
-        length-append (lines_text more) (d.rest ++ rest),
-        length-append d.rest rest,
-      ))
+      let split = rw (d.prefix, append_assoc) at (sym e.prefix ∙ is) in
+      let (more, front, on) = lines_prefix ls ks e.rest (d.rest ++ rest) e.each d.each split ge in
+      absurd (omega (arith, short, ap length is, ap length e.prefix, ap length on, length-append {A = ℕ}))
 ]
 
 -- a header that is cut within its text is cut short
@@ -136,8 +121,7 @@ cut_short b max n x h short =
           let there : AreLines ks (take max b) = record {
             rest = d.lines.rest ++ behind;
             each = d.lines.each;
-            prefix = front ∙ ap (λ z. z ++ behind) d.lines.prefix
-                ∙ append_assoc (lines_text ks) d.lines.rest behind;
+            prefix = rw (d.lines.prefix, append_assoc) at front;
           } in
           let f = h.decides.first ks there
           (fewer_lines ks h.lines p (take max b) d.lines h.decides.lines behind front few) in
@@ -160,11 +144,7 @@ short_start answers n b s low (Ok found, verdict, is) =
       | inl short ↦ inl (Err Truncated, cut_short b limits.max_header n found verdict short, refl)
       | inr ge ↦
           let few : length rest < 16 = omega (arith, u.first, length-drop len (take n b), length-take n b) in
-          inr (
-            Ok found,
-            found_within n b found verdict ge,
-            rw (u.unlocks, lt-ltb (length rest) 16 few) refl,
-          )
+          inr (Ok found, found_within n b found verdict ge, rw (u.unlocks, lt-ltb (length rest) 16 few) refl)
     ]
 
 pub short_fronts : (answers : Answering) (n : ℕ) (b : Bytes) (p q : Payload) (report r : Report) (code : ℕ)
@@ -173,11 +153,7 @@ pub short_fronts : (answers : Answering) (n : ℕ) (b : Bytes) (p q : Payload) (
 short_fronts answers n b p q report r code first low second other =
     let (s, is, at) = opened_start answers b p report first in
     let (start, there, gives) = found_start answers (take n b) q r code second other in
-    gave_short there gives (short_start answers n b s (rw at.1 at low) is)
-  where
-    gave_short : {start : Result Start Fault} → IsStart answers (take n b) start → StartsAt start q r code
-        → ShortStart answers (take n b) → (code ≡ fault_code HeaderTruncated) ⊎ (code ≡ fault_code NonceTruncated)
-    gave_short there gives (inl header) =
-        let h = rw (one_start answers (take n b) there header) at gives in inl h.returned
-    gave_short there gives (inr nonce) =
-        let h = rw (one_start answers (take n b) there nonce) at gives in inr h.returned
+    elim (short_start answers n b s (rw at.1 at low) is) [
+      | inl header ↦ let h = rw (one_start answers (take n b) there header) at gives in inl h.returned
+      | inr nonce ↦ let h = rw (one_start answers (take n b) there nonce) at gives in inr h.returned
+    ]

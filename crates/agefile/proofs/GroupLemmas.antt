@@ -1,5 +1,5 @@
 -- What calls on a payload and on its parts give, one chunk after another and in groups.
-use Rattle.agefile.proofs.Common.{◌≡◌, ◌∙◌, ℕ, ◌+◌, ◌++◌, List, [], ◌∷◌, length, take, Bool, true, false, sym, ap, ap₂, refl, arith, inl, inr, append_assoc, length-append, Result, Ok, Err, concat, append-nil, take-append_seam, Bytes, sealed_text, StreamFault, chunk_nonce, is_end, sealed_chunks_from, first_fault, outcome, outcomes, plaintext_of, stream_fault, Payload, Report, OpensPiece, PartOpens, PartSeals, Runs, Seals, TakesSome, all_of, unended_chunks, Opened, OpensNext, SealsNext, limits}
+use Rattle.agefile.proofs.Common.{◌≡◌, ◌∙◌, ℕ, ◌+◌, ◌++◌, List, [], ◌∷◌, length, take, Bool, true, false, sym, ap₂, refl, arith, inl, inr, append_assoc, length-append, Result, Ok, Err, concat, append-nil, take-append_seam, Bytes, sealed_text, StreamFault, chunk_nonce, is_end, sealed_chunks_from, first_fault, outcome, outcomes, plaintext_of, stream_fault, Payload, Report, OpensPiece, PartOpens, PartSeals, Runs, Seals, TakesSome, all_of, unended_chunks, Opened, OpensNext, SealsNext, limits}
 use Rattle.agefile.specs.declared.part.Part.{Part}
 use Rattle.agefile.specs.Part as part
 use Rattle.agefile.proofs.RunLemmas.{fitting, some_code, text_of}

@@ -1,5 +1,5 @@
 -- The header in front of bytes that lie in memory.
-use Rattle.agefile.proofs.Common.{◌≡◌, ◌⊎◌, ℕ, ◌<◌, ◌≤◌, ◌-◌, ◌^◌, List, [], ◌∷◌, ◌++◌, length, length-take, take, map, min, sym, ◌∙◌, ap, refl, inl, inr, arith, Some, None, Result, Ok, Err, String, IfOk, take-take, Global, string_bytes, join_by, Bytes, CountsIf, Flow, HeaderFault, Head, HeaderParts, Found, HeaderVerdict, one_text, begins_found, found_again, of_known, of_more, Fault, Inspects, finding, header_fault, Report, fault_code, Refuses, Returns, report_of, GivesStanzas, HeaderOf, Inspected, InspectsStanzas, arguments_text, limits, front_size, IsFront}
+use Rattle.agefile.proofs.Common.{◌≡◌, ◌⊎◌, ℕ, ◌-◌, ◌^◌, List, [], ◌∷◌, ◌++◌, length, length-take, take, map, min, sym, ◌∙◌, ap, refl, inl, inr, arith, Some, None, Result, Ok, Err, String, IfOk, take-take, Global, string_bytes, join_by, Bytes, CountsIf, Flow, HeaderFault, Head, HeaderParts, Found, HeaderVerdict, one_text, begins_found, found_again, of_known, of_more, Fault, Inspects, finding, header_fault, Report, fault_code, Refuses, Returns, report_of, GivesStanzas, HeaderOf, Inspected, InspectsStanzas, arguments_text, limits, front_size, IsFront}
 use Rattle.age_header.specs.declared.fault.HeaderFault.TheVariants as header
 use Rattle.age_file.specs.Device.{is_read}
 use Rattle.std.proofs.lemmas.List.Folds.{flat_map-map}
@@ -37,12 +37,8 @@ whole_verdict b r h = whole r (take-take limits.max_header front_size b (omega a
     }
     whole (Err header.NotAge) same h = rw same at h
     whole (Err (header.BadLine n)) same h = rw same at h
-    whole (Err header.Truncated) same h =
-        let short : length (take front_size b) < limits.max_header = h.2 in
-        (rw same at h.0, rw same at h.1, omega (arith, length-take front_size b))
-    whole (Err header.TooLarge) same h =
-        let long : limits.max_header ≤ length (take front_size b) = h.2 in
-        (rw same at h.0, rw same at h.1, omega (arith, length-take front_size b))
+    whole (Err header.Truncated) same h = (rw same at h.0, rw same at h.1, omega (arith, h.2, length-take front_size b))
+    whole (Err header.TooLarge) same h = (rw same at h.0, rw same at h.1, omega (arith, h.2, length-take front_size b))
     whole (Err header.Read) same h = absurd h
     whole (Err header.Memory) same h = absurd h
 
@@ -66,9 +62,8 @@ pub inspected : (b : Bytes) {h : Bytes} (header : HeaderParts) {old : Summary} {
     → Inspected b old (record { header_len = len; stanzas = stanzas; mac = mac }) report 0
 inspected b {h} header {len} (text, found) none head is count same =
     let front = begins_found b limits.max_header (finding text header) found in
-    let fits : length text ≤ limits.max_header = front.fits in
     let size : len ≡ length text =
-    omega (arith, is, ap length (one_text header.stanzas header.mac h text head front.head)) in
+    omega (arith, is, front.fits, ap length (one_text header.stanzas header.mac h text head front.head)) in
     inr (Ok (finding text header), found, (refl, none, rw (size, count, same) refl))
 
 -- a fault is returned, which is that of the header or of a refused allocation

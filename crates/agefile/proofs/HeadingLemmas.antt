@@ -1,5 +1,5 @@
 -- A header that is made of a text of stanzas, and a new file that begins with it.
-use Rattle.agefile.proofs.Common.{◌≡◌, ◌≢◌, ℕ, ◌+◌, ◌-◌, ◌<◌, ◌≤◌, Bool, true, false, List, [], ◌∷◌, ◌++◌, length, take, replicate, codes, cond, sym, ◌∙◌, ap, refl, arith, inl, inr, length-append, append_assoc, Vec, Result, Ok, Err, String, IfOk, slice_index, Global, string_bytes, cases_lt, le-ltb, lt-ltb, append-nil, append_cancel_left, nil_from_length, take_at, Bytes, AreStanzas, Head, HeaderParts, StanzaParts, line, IsStanza, header_mac, length-line, length-version_line, begins_found, characters_are, FileKey, Fault, BadLine, MixedPassphrase, OutOfMemory, is_mixed, AgeFile, finding, header_fault, err_err, FindsMac, HasStanzas, MakesHeader, ReadsAs, heading, gathering_of, in_text, lines_in, probe, unless_mixed, HeaderOf, file_len, limits, sealed_len, b64_size, key_header, pass_header, reading, payload, IsNewFile}
+use Rattle.agefile.proofs.Common.{◌≡◌, ◌≢◌, ℕ, ◌+◌, ◌-◌, ◌<◌, ◌≤◌, Bool, true, false, List, [], ◌∷◌, ◌++◌, length, take, replicate, codes, cond, sym, ◌∙◌, ap, refl, arith, inl, inr, length-append, append_assoc, Vec, Result, Ok, Err, String, IfOk, slice_index, Global, string_bytes, cases_lt, le-ltb, lt-ltb, append-nil, append_cancel_left, nil_from_length, take_at, Bytes, AreStanzas, Head, HeaderParts, StanzaParts, line, IsStanza, header_mac, length-line, length-version_line, begins_found, characters_are, FileKey, Fault, BadLine, MixedPassphrase, is_mixed, AgeFile, finding, header_fault, err_err, FindsMac, HasStanzas, MakesHeader, ReadsAs, heading, gathering_of, in_text, lines_in, probe, unless_mixed, HeaderOf, file_len, limits, sealed_len, b64_size, key_header, pass_header, reading, payload, IsNewFile}
 use Rattle.age_header.specs.Base64.{IsBase64, base64_of}
 use Rattle.age_header.specs.Header.{version_line}
 use Rattle.age_file.specs.NewFile.{IsHeading}
@@ -20,16 +20,10 @@ pub mac_early : (text rest front : Bytes) (h : HeaderParts) (k : FileKey) {fault
     → 0 < length rest → front ≡ take (length (probe text) - length rest) (probe text)
     → fault ≡ BadLine (lines_in front - 1) → FindsMac text k (Err fault)
 mac_early text rest front h k f some is count =
-    let size : length (probe text) ≡ length f.text + length rest = ap length f.begins ∙ length-append f.text rest in
-    let len : length (probe text) - length rest ≡ length f.text = omega (arith, size) in
-    let same : front ≡ f.text = rw len at is ∙ ap (take (length f.text)) f.begins
-    ∙ take_at f.text rest (length f.text) refl in
-    let early = lt-ltb (length f.text) (length (probe text)) (omega (arith, size, some)) in
-    inr (
-      Err (BadLine (lines_in f.text - 1)),
-      (Ok (finding f.text h), f.verdict, rw early refl),
-      rw (count, same) refl,
-    )
+    let len = length-append f.text rest in
+    let same : front ≡ f.text = rw f.begins at is ∙ take_at f.text rest _ (omega (arith, len)) in
+    let early = lt-ltb (length f.text) (length (probe text)) (omega (arith, ap length f.begins, len, some)) in
+    inr (Err (BadLine (lines_in f.text - 1)), (Ok (finding f.text h), f.verdict, rw early refl), rw (count, same) refl)
 
 -- the whole probe is the header
 pub whole_text : (text rest : Bytes) (h : HeaderParts) (s : Result (List StanzaParts) Fault)
@@ -63,18 +57,12 @@ reads text ss (Ok found, h, eq) = elim (cases_lt (length found.text) (length (pr
   | inl lt ↦ absurd (cc (rw (lt-ltb (length found.text) (length (probe text)) lt) at eq))
   | inr ge ↦
       let w = begins_found (probe text) limits.max_header found h in
-      let size : length (probe text) ≡ length found.text + length w.rest = ap length w.prefix
-      ∙ length-append found.text w.rest in
+      let size = ap length w.prefix ∙ length-append found.text w.rest in
       let none : w.rest ≡ [] = nil_from_length w.rest (omega (arith, size, ge)) in
       let whole : probe text ≡ found.text = rw (none, append-nil) at w.prefix in
       let all = rw (le-ltb (length found.text) (length (probe text)) ge) at eq in
       let (alone, same) = unmixed (is_mixed found.stanzas) found.stanzas ss (sym all) in
-      record {
-        alone = rw same at alone;
-        mac = found.mac;
-        head = rw (← whole, same) at w.head;
-        fits = omega (arith, size, ge, w.fits);
-      }
+      record { alone = rw same at alone; mac = found.mac; head = rw (← whole, same) at w.head; fits = rw whole w.fits }
 ]
 
 pub read_of : (text : Bytes) (ss : List StanzaParts) → HasStanzas text (Ok ss) → Reads text ss
@@ -190,16 +178,13 @@ pub key_file : (key salt stanza file_key nonce plain file : Bytes) → length sa
     → IsStanza (keyed_stanza key salt (record { 0 = file_key })) stanza → IsNewFile stanza file_key nonce plain file
     → length file ≡ sealed_len (length plain)
 key_file key salt stanza file_key nonce plain file salted keyed len is new =
-    let f = one_file (keyed_stanza key salt (record { 0 = file_key })) stanza file_key nonce plain file len is new in
-    let head : length f.header ≡ 156 = key_header key salt (record { 0 = file_key }) salted keyed f.head in
-    file_size plain file f ∙ ap (λ n. file_len n (length plain)) head
+    let f = one_file _ stanza file_key nonce plain file len is new in
+    file_size plain file f ∙ ap (λ n. file_len n (length plain)) (key_header key salt _ salted keyed f.head)
 
 pub pass_file : (pass salt stanza file_key nonce plain file : Bytes) (work : ℕ) → length salt ≡ 16
     → length file_key ≡ 16 → length nonce ≡ 16 → work ≤ 30
     → IsStanza (pass_stanza pass work salt (record { 0 = file_key })) stanza
     → IsNewFile stanza file_key nonce plain file → length file < sealed_len (length plain)
 pass_file pass salt stanza file_key nonce plain file work salted keyed len high is new =
-    let f = one_file (pass_stanza pass work salt (record { 0 = file_key })) stanza file_key nonce plain file len is
-    new in
-    let head : length f.header ≤ 150 = pass_header pass salt (record { 0 = file_key }) salted keyed high f.head in
-    omega (arith, head, file_size plain file f)
+    let f = one_file _ stanza file_key nonce plain file len is new in
+    omega (arith, pass_header pass salt _ salted keyed high f.head, file_size plain file f)

@@ -1,5 +1,5 @@
 -- What runs of calls that open give; and that what a run of calls that seal gives is the file.
-use Rattle.agefile.proofs.Common.{◌≡◌, ◌≢◌, ◌⊎◌, ℕ, ◌+◌, ◌-◌, ◌<◌, ◌≤◌, List, [], ◌∷◌, ◌++◌, length, take, Bool, true, false, sym, ◌∙◌, refl, arith, inl, inr, append_assoc, length-append, Result, Ok, Err, option_map, concat, le-leb, lt-ltb, take_at, take-append_seam, Bytes, StreamFault, chunks, is_end, payload_key, pieces, sealed_chunks_from, first_fault, outcome, outcomes, plaintext_of, sealed_chunk_size, AtMost, cut_at_most, Sized, at_most_chunks, Fault, NotAge, stream_fault, Payload, Report, code_of, fault_code, OpensRun, SealsRun, BeginsFile, Opened, SealsAs, after_chunk, before_first, may_seal, phase_reading, phase_writing, Steps, report_of, limits, IsNewFile}
+use Rattle.agefile.proofs.Common.{◌≡◌, ◌≢◌, ◌⊎◌, ℕ, ◌+◌, ◌-◌, ◌<◌, ◌≤◌, List, [], ◌∷◌, ◌++◌, length, take, Bool, true, false, sym, refl, arith, inl, inr, append_assoc, length-append, Result, Ok, Err, option_map, concat, le-leb, lt-ltb, take_at, take-append_seam, Bytes, StreamFault, chunks, is_end, payload_key, pieces, sealed_chunks_from, first_fault, outcome, outcomes, plaintext_of, sealed_chunk_size, AtMost, cut_at_most, Sized, at_most_chunks, Fault, NotAge, stream_fault, Payload, Report, code_of, fault_code, OpensRun, SealsRun, BeginsFile, Opened, SealsAs, after_chunk, before_first, may_seal, phase_reading, phase_writing, Steps, report_of, limits, IsNewFile}
 
 -- no fault has the code 0
 pub some_code : (f : Fault) → fault_code f ≡ 0 → ⊥
@@ -38,17 +38,8 @@ read_on : (p new : Payload) (last : Bool) (more : List Bytes) (chunk after text 
     → ((step ≡ 0) × ((rest : Bytes) × (text ≡ take report.len after ++ rest) × OpensRun new more rest code place))
     ⊎ ((step ≢ 0) × ((text ≡ []) × ((code ≡ step) × (place ≡ report.place))))
     → IsReadAs (o ∷ os) text code place
-read_on p new last more chunk after text report step code place (Ok t) os (is, reported, buffer) state next
-    (inl (zero, (rest, joined, run))) =
-    let (plain, fault) = next rest (rw (state, is) at run) in
-    (rw (joined, reported, buffer, take-append_seam, plain) refl, fault)
-read_on p new last more chunk after text report step code place (Ok t) os opened state next (inr (nonzero, h)) =
-    absurd (nonzero opened.0)
-read_on p new last more chunk after text report step code place (Err f) os refused state next (inl (zero, h)) =
-    absurd (some_code (stream_fault f) (sym refused.returned ∙ zero))
-read_on p new last more chunk after text report step code place (Err f) os refused state next
-    (inr (nonzero, (none, (code_is, place_is)))) =
-    (none, (code_is ∙ refused.returned, rw refused.reported at place_is))
+read_on p new last more chunk after text report step code place o os opened state next on =
+    grind (arith, take-append_seam)
 
 run_reads : (key : Bytes) (i : ℕ) (cs : List Bytes) (text : Bytes) (code place : ℕ) → AtMost sealed_chunk_size cs
     → OpensRun (at_chunk key i phase_reading) cs text code place

@@ -1,11 +1,11 @@
 -- What runs of calls that save chunks give.
-use Rattle.agefile.proofs.Common.{◌≡◌, ℕ, ◌+◌, List, [], ◌∷◌, ◌++◌, ◌∙◌, ap, sym, length, take, map, Bool, true, false, refl, arith, inl, inr, take-append_seam, length-append, Option, Some, None, is_end, pieces, before_first, after_chunk, sealed_chunk_size, Bytes, Payload, Report, phase_reading}
+use Rattle.agefile.proofs.Common.{◌≡◌, ℕ, ◌+◌, List, [], ◌∷◌, ◌++◌, ◌∙◌, length, take, map, Bool, true, false, refl, arith, inl, inr, take-append_seam, length-append, Option, None, is_end, pieces, before_first, after_chunk, sealed_chunk_size, Bytes, Payload, Report, phase_reading}
 use Rattle.agefile.specs.Words.{nat_eq, nat_le}
 use Rattle.std.proofs.lemmas.Bool.{ne_eqb}
 use Rattle.age_stream.proofs.ReadingLemmas.{is_end_cut}
 use Rattle.age_stream.specs.declared.salvaged.LostChunk.{LostChunk}
 use Rattle.age_stream.specs.declared.salvaged.Saved.{Saved}
-use Rattle.age_stream.specs.declared.salvaged.Saved.TheVariants.{Chunk, LastChunk, Early, Zeros, Nothing}
+use Rattle.age_stream.specs.declared.salvaged.Saved.TheVariants.{Chunk, LastChunk, Nothing}
 use Rattle.age_stream.specs.Salvage.{Part, early_after, is_cut_to, is_whole_to, last_saved, latest_early, loss, losses, part, parts, saved_before, summary}
 use Rattle.agefile.specs.Salvage.{Given, SavesAs, SavesRun, damage, detail_of, given_of, judged, noted, saved_number, verdict_of, verdict_to}
 use Rattle.agefile.proofs.RunLemmas.{at_chunk, fitting}
@@ -60,10 +60,7 @@ run_judges : (key : Bytes) (i damaged before n at : ℕ) (early : Option ℕ) (b
     → nat_le before 1 ≡ is_cut_to Nothing b → SavesRun (noting key i damaged before) (c ∷ more) given detail
     → detail ≡ told i n at early b (parts key i (c ∷ more))
 run_judges key i damaged before n at early b c [] given detail same seen
-    (new, after, report, step, rest, is, ends, run) =
-    let q : Part = part key i true c in
-    ends refl ∙ saved_detail (noting key i damaged before) new true c after report (fitting step)
-    ∙ last_told q.saved b damaged before i n early (record { chunk = i; start = at; len = length q.text }) same seen
+    (new, after, report, step, rest, is, ends, run) = grind (arith, saved_detail, fitting, last_told)
 run_judges key i damaged before n at early b c (d ∷ more) given detail same seen
     (new, after, report, step, rest, is, ends, run) =
     let q : Part = part key i false c in

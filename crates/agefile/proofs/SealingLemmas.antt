@@ -1,5 +1,5 @@
 -- Sealing the chunks of a plaintext into a buffer.
-use Rattle.agefile.proofs.Common.{◌≡◌, ◌⊎◌, ℕ, ◌+◌, ◌-◌, ◌*◌, ◌<◌, ◌≤◌, [], ◌++◌, length, take, drop, min, nat_le, true, false, sym, ◌∙◌, ap, ap₂, refl, arith, inl, inr, append_assoc, length-append, length-drop, ◌^◌, Vec, None, Ok, Global, concat, le-leb, lt-leb, drop-drop, length-take-le, nil_from_length, take_all, take_at, Bytes, sealed_text, length-sealed_text, FileKey, chunk_nonce, chunks, payload, sealed_chunks_from, chunk_size, sealed_chunk_size, cut_last, cut_step, is_end_cut, Report, Encrypts, MakesHeader, report_of, chunk_count, file_len}
+use Rattle.agefile.proofs.Common.{◌≡◌, ◌⊎◌, ℕ, ◌+◌, ◌-◌, ◌*◌, ◌<◌, ◌≤◌, [], ◌++◌, length, take, drop, min, nat_le, false, sym, ◌∙◌, ap, ap₂, refl, arith, inr, append_assoc, length-append, length-drop, ◌^◌, Vec, None, Ok, Global, concat, le-leb, lt-leb, drop-drop, length-take-le, nil_from_length, take_all, take_at, Bytes, sealed_text, length-sealed_text, FileKey, chunk_nonce, chunks, payload, sealed_chunks_from, chunk_size, sealed_chunk_size, cut_last, cut_step, is_end_cut, Report, Encrypts, MakesHeader, report_of, chunk_count, file_len}
 use Rattle.agefile.proofs.HeadingLemmas.{size_of}
 use Rattle.agefile.proofs.RunLemmas.{text_of}
 use Rattle.agefile.proofs.SizeLemmas.{chunks_size, first_cut}
@@ -46,14 +46,10 @@ pub seals_end : {key plain left room : Bytes} (out mid : Bytes) {new : Bytes} (a
 seals_end {key} {plain} {left} {room} out mid at done number r size left_is room_is last is joined =
     let fills = last_fills key plain out at done number r size (rw left_is at last) in
     let skip : ℕ = min (length left) chunk_size + 16 in
-    let none : drop skip room ≡ [] =
-    nil_from_length (drop skip room)
+    let none = nil_from_length (drop skip room)
     (omega (arith, fills, ap length left_is, ap length room_is, length-drop done out, length-drop skip room)) in
-    let rest : concat (sealed_chunks_from key number (chunks left))
-    ≡ sealed_text key (chunk_nonce number true) [] left ++ [] =
-    ap (λ cs. concat (sealed_chunks_from key number cs)) (cut_last chunk_size left last) in
-    let filled = rw (none, le-leb (length left) chunk_size last, take_all chunk_size left last, ← rest) at is in
-    joined ∙ ap₂ ◌++◌ r.begins filled ∙ sym (rw (← left_is) at r.seals)
+    let filled = rw (none, le-leb (length left) chunk_size last, take_all chunk_size left last) at is in
+    joined ∙ ap₂ ◌++◌ r.begins filled ∙ sym (rw (← left_is, cut_last chunk_size left last) at r.seals)
 
 pub seals_more : {key plain left room : Bytes} (out mid : Bytes) {new : Bytes} (at done number : ℕ)
     → IsSealedTo key plain out at done number → left ≡ drop at plain → room ≡ drop done out
@@ -72,6 +68,7 @@ seals_more {key} {plain} {left} {room} out mid {new} at done number r left_is ro
     let later : Bytes = concat (sealed_chunks_from key (number + 1) (chunks next)) in
     let rest : concat (sealed_chunks_from key number (chunks left)) ≡ one ++ later =
     rw (cut_step chunk_size left (omega arith) more, is_end_cut chunk_size [] next) refl in
+    let seals = rw (← left_is, rest, ← append_assoc r.text one later) at r.seals in
     record {
       text = r.text ++ one;
       begins = rw (joined, r.begins, put, ← append_assoc r.text one after) (take_at (r.text ++ one) after
@@ -80,9 +77,7 @@ seals_more {key} {plain} {left} {room} out mid {new} at done number r left_is ro
       sealed_so = omega (arith, r.sealed_so);
       count = count;
       some = inr (omega (arith, more, ap length left_is, length-drop at plain));
-      seals = rw (← left_is, rest, ← append_assoc r.text one later) at r.seals
-          ∙ ap (λ c. (r.text ++ one) ++ concat (sealed_chunks_from key (number + 1) (chunks c)))
-          (ap (drop chunk_size) left_is ∙ drop-drop chunk_size at plain);
+      seals = rw (ap (drop chunk_size) left_is ∙ drop-drop chunk_size at plain) at seals;
     }
 
 -- ---- the whole file
@@ -95,15 +90,19 @@ file_size k header nonce plain size len short low is = omega (arith, is, short, 
 
 pub encrypts_exceeds : {stanzas file_key nonce plain old : Bytes} (header : Vec ℕ Global) {report : Report} (size : ℕ)
     → MakesHeader stanzas (record { 0 = file_key }) (Ok header)
-    → length plain < 2 ^ 63 → size ≡ length (header.items ++ payload (record { 0 = file_key }) nonce plain)
-    → report ≡ report_of size None → length old < size
-    → Encrypts stanzas file_key nonce plain old old report 21
-encrypts_exceeds {plain} header size made low is reported more = grind (arith, chunks_size)
+    → length nonce ≡ 16 → length header.items < 2 ^ 62 → length plain < 2 ^ 63
+    → size ≡ min (file_len (length header.items) (length plain)) (2 ^ 64 - 1)
+    → report ≡ report_of size None → length old < size → Encrypts stanzas file_key nonce plain old old report 21
+encrypts_exceeds {file_key = f} {nonce = n} {plain = plain} header size made len short low is reported more =
+    grind (arith, chunks_size, file_size (record { 0 = f }) header.items n plain size len short low is)
 
 pub encrypts_whole : {stanzas file_key nonce plain old : Bytes} (file : Bytes) {rest : Bytes} (header : Vec ℕ Global)
     {report : Report} (size : ℕ) → MakesHeader stanzas (record { 0 = file_key }) (Ok header)
-    → length plain < 2 ^ 63 → size ≡ length (header.items ++ payload (record { 0 = file_key }) nonce plain)
+    → length nonce ≡ 16 → length header.items < 2 ^ 62 → length plain < 2 ^ 63
+    → size ≡ min (file_len (length header.items) (length plain)) (2 ^ 64 - 1)
     → report ≡ report_of size None → size ≤ length old
     → file ≡ header.items ++ payload (record { 0 = file_key }) nonce plain → rest ≡ drop size old
     → Encrypts stanzas file_key nonce plain old (file ++ rest) report 0
-encrypts_whole {plain} file header size made low is reported fits written behind = grind (arith, chunks_size)
+encrypts_whole {file_key = f} {nonce = n} {plain = plain} file header size made len short low is reported fits
+    written behind =
+    grind (arith, chunks_size, file_size (record { 0 = f }) header.items n plain size len short low is)

@@ -1,6 +1,5 @@
 -- How long a payload is, and at most the plaintext of a verdict.
-use Rattle.agefile.proofs.Common.{◌≡◌, ℕ, ◌+◌, ◌-◌, ◌*◌, ◌/◌, List, [], ◌∷◌, length, length-append, take, min, ◌∙◌, refl, ap, inl, inr, arith, ◌≤◌, length-drop, drop, true, false, nat_lt, cond, Result, Ok, Err, concat, AllByRecursion, cases_lt, take_min, Bytes, length-sealed_text, FileKey, is_cut, AtMost, cut_at_most, concat-cut_after, cut_count, sealed_text, chunk_count, limits, opened_len, plain_len_at_most, chunks, is_end, payload, payload_key, chunk_nonce, sealed_chunks_from, pieces, chunk_size, sealed_chunk_size, HeaderFault, Found, HeaderVerdict, Reading, plaintext_of, outcome, outcomes, payload_reading, reading_from, stop, outcome_opens, result_cases, Fault, Answering, IsVerdict, header_key, parts_of, reading_after, reading_under, least_header}
-use Rattle.age_stream.specs.declared.fault.StreamFault.TheVariants.{NonceTruncated}
+use Rattle.agefile.proofs.Common.{◌≡◌, ℕ, ◌+◌, ◌-◌, ◌*◌, ◌/◌, List, [], ◌∷◌, length, length-append, take, min, ◌∙◌, refl, ap, inl, inr, arith, ◌≤◌, length-drop, drop, cond, Result, Ok, Err, concat, AllByRecursion, cases_lt, take_min, Bytes, length-sealed_text, FileKey, is_cut, AtMost, cut_at_most, concat-cut_after, cut_count, chunk_count, limits, opened_len, plain_len_at_most, chunks, is_end, payload, payload_key, chunk_nonce, sealed_chunks_from, pieces, chunk_size, sealed_chunk_size, HeaderFault, Found, HeaderVerdict, Reading, plaintext_of, outcome, outcomes, payload_reading, reading_from, outcome_opens, result_cases, Fault, Answering, IsVerdict, header_key, parts_of, reading_after, reading_under, least_header}
 
 -- the first of the pieces of this size, by as many bytes as it has
 pub first_cut : (most size : ℕ) (left : Bytes) → size ≡ min (length left) most → take size left ≡ take most left
@@ -31,9 +30,8 @@ abbrev pub AreSmall : List Bytes → Type 0
 AreSmall cs = AllByRecursion (λ c. length c ≤ sealed_chunk_size) cs
 
 small : (cs : List Bytes) → AtMost sealed_chunk_size cs → AreSmall cs
-small [] h = absurd h
-small (c ∷ []) h = (h, tt)
 small (c ∷ d ∷ more) h = (let full : length c ≡ sealed_chunk_size = h.0 in omega arith, small (d ∷ more) h.1)
+small cs h = grind arith
 
 front_comes : (key : Bytes) (max i : ℕ) (cs : List Bytes) → AreSmall cs
     → Comes (length (plaintext_of (outcomes key max i cs))) (length (concat cs))
@@ -56,18 +54,12 @@ payload_at_most : (k : FileKey) (max most : ℕ) (text : Bytes) → length text 
     → length (payload_reading k max text).plaintext ≤ opened_len most
 payload_at_most k max most text le =
     let rest : Bytes = drop 16 text in
-    let join : length (concat (pieces rest)) ≡ length rest = ap length (concat-cut_after sealed_chunk_size [] rest) in
-    let size : length rest ≡ length text - 16 = length-drop 16 text in
+    let join = ap length (concat-cut_after sealed_chunk_size [] rest) in
     let comes = front_comes (payload_key k (take 16 text)) max 0 (pieces rest)
     (small (pieces rest) (cut_at_most sealed_chunk_size rest (omega arith))) in
     let opens : length (reading_from (payload_key k (take 16 text)) max 0 rest).plaintext ≤ opened_len most =
-    comes_at_most (length (concat (pieces rest))) most comes (omega arith) in
-    elim (nat_lt (length text) 16) as (λ t. length
-    (cond t (stop NonceTruncated) (reading_from (payload_key k (take 16 text)) max 0 rest)).plaintext
-    ≤ opened_len most) [
-      | true ↦ omega arith
-      | false ↦ opens
-    ]
+    comes_at_most (length (concat (pieces rest))) most comes (omega (arith, join, length-drop 16 text)) in
+    grind (arith, cond, opens)
 
 under_at_most : (rest : Bytes) (most : ℕ) (key : Result FileKey Fault) → length rest - 16 ≤ most
     → length (reading_under limits rest key).plaintext ≤ opened_len most
@@ -79,9 +71,8 @@ judged_at_most : (answers : Answering) (b : Bytes) (header : Result Found Header
     → length (reading_after limits answers b header).plaintext ≤ plain_len_at_most (length b)
 judged_at_most answers b (Err fault) h = omega arith
 judged_at_most answers b (Ok found) h =
-    let least = least_header found.stanzas found.mac found.text h.head in
     under_at_most (drop (length found.text) b) (length b - 86) (header_key answers (parts_of found))
-    (omega (arith, length-drop (length found.text) b))
+    (omega (arith, least_header found.stanzas found.mac found.text h.head, length-drop (length found.text) b))
 
 pub verdict_at_most : (answers : Answering) (b : Bytes) (verdict : Reading Fault) → IsVerdict limits answers b verdict
     → length verdict.plaintext ≤ plain_len_at_most (length b)

@@ -1,10 +1,8 @@
 -- Finding a file key, and where the chunks begin, from what the parts return; and the verdict, by the file key.
-use Rattle.agefile.proofs.Common.{◌≡◌, ◌≢◌, ◌⊎◌, ℕ, ◌+◌, ◌-◌, [], ◌++◌, length, take, drop, sym, ◌∙◌, ap, refl, arith, inl, inr, length-append, Some, Result, Ok, Err, Bool, true, false, cond, ◌<◌, ◌≤◌, length-drop, Bytes, Flow, HeaderFault, HeaderParts, Found, HeaderVerdict, found_again, FileKey, Reading, stop, Fault, OutOfMemory, BadMac, MixedPassphrase, NonceTruncated, Inspects, Answering, IsVerdict, header_fault, reading_after, parts_of, reading_under, header_key, if_right, finding, err_err, Report, code_of, HeaderOf, limits, IsFront, Refuses, report_of, FindsKey, FindsStart, GivesKey, IsKey, IsStart, Opens, StartsAt, Unlocks, by_file_key, start_under, with_len, bytes_eq, header_mac, is_mixed, cases_lt, le-ltb, lt-ltb, payload_key, begins_found, Payload, Start}
+use Rattle.agefile.proofs.Common.{◌≡◌, ◌≢◌, ◌⊎◌, ℕ, ◌+◌, ◌-◌, [], ◌++◌, length, take, drop, sym, ◌∙◌, ap, refl, arith, inl, inr, length-append, Some, Result, Ok, Err, Bool, true, false, cond, ◌<◌, ◌≤◌, length-drop, Bytes, Flow, HeaderFault, HeaderParts, Found, HeaderVerdict, found_again, FileKey, Reading, stop, Fault, OutOfMemory, BadMac, NonceTruncated, Inspects, Answering, IsVerdict, header_fault, reading_after, parts_of, reading_under, header_key, finding, err_err, Report, code_of, HeaderOf, limits, IsFront, Refuses, report_of, FindsKey, FindsStart, GivesKey, IsKey, IsStart, Opens, StartsAt, Unlocks, by_file_key, start_under, with_len, le-ltb, lt-ltb, payload_key, begins_found, Payload, Start}
 use Rattle.age_file.proofs.FileLemmas.{tested_key, one_verdict}
 use Rattle.agefile.specs.declared.unlocking.Unlocked.{Unlocked}
 use Rattle.agefile.proofs.HeaderLemmas.{front_verdict}
-use Rattle.age_recipient.specs.declared.choice.UnlockFault.{UnlockFault}
-use Rattle.age_recipient.specs.Choice.{choice}
 use Rattle.agefile.proofs.RunLemmas.{some_code}
 
 pub ok_ok : {A : Type 0} {x y : A} → ◌≡◌ {A = Result A Fault} (Ok x) (Ok y) → x ≡ y
@@ -63,9 +61,8 @@ pub key_found : (answers : Answering) {b : Bytes} (rest : Bytes) {h : HeaderPart
     → FindsKey answers b (Ok (record { header_len = length b - length rest; key = k }))
 key_found answers rest k f (inl memory) = absurd (cc)
 key_found answers {b} rest {h} k f (inr is) =
-    let len : length b - length rest ≡ length f.text =
-    omega (arith, ap length f.begins, length-append f.text rest) in
-    inr (Ok (finding f.text h), f.verdict, rw (len, ← is) refl)
+    let len = ap length f.begins ∙ length-append f.text rest in
+    inr (Ok (finding f.text h), f.verdict, grind (arith, len))
 
 -- the first 65,552 bytes of a file have its file key
 pub whole_unlocks : (answers : Answering) (b : Bytes) {front old new : Bytes} {report : Report} {code : ℕ}
@@ -164,10 +161,8 @@ pub start_found : (answers : Answering) {b rest : Bytes} (nonce : Bytes) {key : 
     → FindsStart answers b (Ok (record { first = length b - length rest + 16; key = key }))
 start_found answers {b} {rest} nonce {key} found finds back long nonce_is key_is =
     let low = key_in_front answers b found finds in
-    let size : length rest ≡ length b - found.header_len = ap length back ∙ length-drop found.header_len b in
-    let first : length b - length rest + 16 ≡ found.header_len + 16 = omega (arith, low, size) in
-    start_after answers b found (Ok (record { first = length b - length rest + 16; key = key })) finds
-    (rw (sym back, le-ltb (length rest) 16 long, key_is, nonce_is, first) refl)
+    start_after answers b found _ finds
+    (grind (arith, low, back, length-drop found.header_len b, le-ltb (length rest) 16 long))
 
 -- ---- what a start is
 

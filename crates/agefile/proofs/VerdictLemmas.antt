@@ -1,9 +1,8 @@
 -- What the calls on a file give is its verdict: those of a payload, and those of ranges.
-use Rattle.agefile.proofs.Common.{◌≡◌, ◌≢◌, ℕ, ◌+◌, [], length, take, drop, nat_lt, Bool, true, false, cond, sym, Result, Ok, Err, arith, inl, inr, refl, drop-drop, Bytes, FileKey, payload_key, Reading, reading_from, stop, Fault, NonceTruncated, OutOfMemory, Answering, IsVerdict, parts_of, reading_under, header_key, with_file_fault, Payload, Report, Start, code_of, limits, front_size, IsStart, Opens, StartsAt, start_under, before_first, phase_reading, report_of, Ranges, OpensRanges}
-use Rattle.age_stream.specs.declared.fault.StreamFault.TheVariants as stream
+use Rattle.agefile.proofs.Common.{cases_lt, le-ltb, lt-ltb, ◌≡◌, ◌≢◌, ℕ, ◌+◌, [], length, take, drop, cond, sym, Result, Ok, Err, arith, inl, inr, drop-drop, Bytes, FileKey, Reading, reading_from, stop, Fault, Answering, IsVerdict, parts_of, reading_under, header_key, with_file_fault, Payload, Report, Start, code_of, limits, front_size, IsStart, Opens, start_under, before_first, phase_reading, report_of, Ranges, OpensRanges}
 use Rattle.agefile.proofs.FrontLemmas.{whole_start}
 use Rattle.agefile.proofs.RunLemmas.{some_code}
-use Rattle.agefile.proofs.UnlockLemmas.{found_start, judged_is, opened_start, refusal, start_within}
+use Rattle.agefile.proofs.UnlockLemmas.{judged_is, opened_start, refusal, start_within}
 
 -- ---- the verdict, by the start
 
@@ -16,17 +15,7 @@ IsVerdictFrom b v (Ok start) =
 under_from : (b : Bytes) (n : ℕ) (v : Reading Fault) (key : Result FileKey Fault)
     → v ≡ reading_under limits (drop n b) key → IsVerdictFrom b v (start_under n (drop n b) key)
 under_from b n v (Err fault) is = is
-under_from b n v (Ok k) is = cut (nat_lt (length (drop n b)) 16) is
-  where
-    key : Bytes
-    key = payload_key k (take 16 (drop n b))
-
-    cut : (t : Bool)
-        → v ≡ with_file_fault (cond t (stop stream.NonceTruncated)
-        (reading_from key limits.max_chunks 0 (drop 16 (drop n b))))
-        → IsVerdictFrom b v (cond t (Err NonceTruncated) (Ok (record { first = n + 16; key = key })))
-    cut true is = is
-    cut false is = rw (drop-drop 16 n b) at is
+under_from b n v (Ok k) is = grind (arith, lt-ltb, le-ltb, drop-drop 16 n b, cond, cases_lt (length (drop n b)) 16)
 
 pub verdict_from : (answers : Answering) (b : Bytes) (start : Result Start Fault) (v : Reading Fault)
     → IsStart answers b start → IsVerdict limits answers b v → IsVerdictFrom b v start
@@ -40,14 +29,10 @@ verdict_from answers b start v (Ok found, verdict, is) h =
 pub opening_refused : (answers : Answering) (b : Bytes) (p : Payload) (report : Report) (code : ℕ) (v : Reading Fault)
     → Opens answers (take front_size b) p report code → IsVerdict limits answers b v → code ≢ 0 → code ≢ 17
     → (v.plaintext ≡ []) × (code_of v.fault ≡ code) × (report ≡ report_of 0 v.fault)
-opening_refused answers b p report code v opens h some other =
-    let (start, is, gives) = found_start answers (take front_size b) p report code opens other in
-    refused start gives (verdict_from answers b start v (whole_start answers b start is) h)
-  where
-    refused : (start : Result Start Fault) → StartsAt start p report code → IsVerdictFrom b v start
-        → (v.plaintext ≡ []) × (code_of v.fault ≡ code) × (report ≡ report_of 0 v.fault)
-    refused (Ok start) opens from = absurd (some opens.0)
-    refused (Err fault) opens from = refusal fault v opens from
+opening_refused answers b p report code v (Ok start, is, opens) h some other = absurd (some opens.0)
+opening_refused answers b p report code v (Err fault, inl memory, opens) h some other = grind arith
+opening_refused answers b p report code v (Err fault, inr is, opens) h some other =
+    refusal fault v opens (verdict_from answers b (Err fault) v (whole_start answers b (Err fault) is) h)
 
 -- the verdict, if the payload was opened
 pub by_payload : (answers : Answering) (b : Bytes) (p : Payload) (report : Report) (v : Reading Fault)
@@ -56,13 +41,8 @@ pub by_payload : (answers : Answering) (b : Bytes) (p : Payload) (report : Repor
     × (v ≡ with_file_fault (reading_from p.key limits.max_chunks p.number (drop report.len b)))
 by_payload answers b p report v opens h =
     let (start, is, at) = opened_start answers (take front_size b) p report opens in
-    begins p report at (verdict_from answers b (Ok start) v (whole_start answers b (Ok start) is) h)
-  where
-    begins : {start : Start} (p : Payload) (report : Report) → StartsAt (Ok start) p report 0
-        → IsVerdictFrom b v (Ok start)
-        → (p ≡ before_first p.key phase_reading)
-        × (v ≡ with_file_fault (reading_from p.key limits.max_chunks p.number (drop report.len b)))
-    begins p report (code, at, payload) from = rw (at, payload) (refl, from)
+    let from = verdict_from answers b (Ok start) v (whole_start answers b (Ok start) is) h in
+    grind (arith, from)
 
 -- ---- ranges
 

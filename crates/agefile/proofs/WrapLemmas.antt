@@ -1,7 +1,6 @@
 -- The text of a stanza that is written.
-use Rattle.agefile.proofs.Common.{◌≡◌, ℕ, zero, suc, ◌-◌, ◌<◌, ◌≤◌, List, [], ◌∷◌, ◌++◌, length, take, drop, codes, flat_map, get_or, sym, ◌∙◌, ap, refl, arith, inl, inr, append_assoc, length-append, None, AllByRecursion, IsUtf8, append-nil, drop_at, take_at, Bytes, IsArgument, StanzaParts, version_line, length-version_line, stanza_text_is, Report, Gives, Returns, GivesOwn, refusal_code, words}
+use Rattle.agefile.proofs.Common.{◌≡◌, ℕ, suc, ◌-◌, ◌<◌, ◌≤◌, List, [], ◌∷◌, ◌++◌, length, take, drop, codes, flat_map, get_or, sym, ◌∙◌, arith, inr, append_assoc, length-append, None, AllByRecursion, IsUtf8, append-nil, drop_at, take_at, Bytes, IsArgument, StanzaParts, version_line, length-version_line, stanza_text_is, Report, Gives, Returns, GivesOwn, refusal_code, words}
 use Rattle.age_header.specs.declared.stanza.StanzaError.{StanzaError}
-use Rattle.age_header.specs.declared.stanza.StanzaError.TheVariants.{NoArgs, EmptyArg, BadByte, Memory}
 use Rattle.age_header.specs.Stanza.{IsStanzaError}
 use Rattle.age_header.specs.Text.{IsHeaderValue, IsWhole, signed_text, stanza_text}
 use Rattle.agefile.specs.Wrapping.{GivesText}
@@ -43,9 +42,8 @@ own_given a b c d = grind arith
 
 at_index : (xs : List Bytes) (i : ℕ) (d : Bytes) → AllByRecursion IsArgument xs → i < length xs
     → IsArgument (get_or xs i d)
-at_index [] i d all low = absurd (omega (arith, low))
-at_index (x ∷ xs) zero d all low = all.0
 at_index (x ∷ xs) (suc i) d all low = at_index xs i d all.1 (omega (arith, low))
+at_index xs i d all low = grind arith
 
 pub own_refused : {args body old new : Bytes} {report : Report} {code : ℕ} (error : StanzaError)
     → IsStanzaError (words args) error → Returns (refusal_code error) None old new report code
