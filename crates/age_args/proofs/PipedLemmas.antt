@@ -1,6 +1,6 @@
 -- The job of words that name no file for input and output.
-use Rattle.age_args.proofs.Common.{arith, ◌≡◌, ◌∙◌, refl, sym, subst, List, Option, Some, None, option_map, string_bytes, Row, Text, IsPiped, JobOf, Makes, header_limit, Command, Job}
-use Rattle.age_args.proofs.TakenLemmas.{one_command, pair_same}
+use Rattle.age_args.proofs.Common.{arith, ◌≡◌, ◌∙◌, sym, List, None, Text, IsPiped, Makes, header_limit, Command, Job}
+use Rattle.age_args.proofs.TakenLemmas.{pair_same}
 
 pub record Piped (command : Command) (words : List Text) (job : Job) : Type 0 where
   pub is : job.command ≡ command

@@ -1,6 +1,6 @@
 -- Where `clap` finds no fault in the words, a subcommand of the program was named, and its values
 -- make a job.
-use Rattle.age_args.proofs.Common.{◌≡◌, ◌∙◌, ◌<◌, ◌⊎◌, inl, inr, ℕ, Bool, cond, true, false, true≢false, not, ◌&&◌, ◌||◌, ◌==◌, refl, sym, ap, subst, List, [], ◌∷◌, ◌++◌, length, Option, Some, None, IfSome, codes, arith, nat_lt, length-append, ltb-true, ne_eqb, bytes_eq-Decides, if◌then◌else◌, is_some, slice_get, option_and_then, option_map, ⊤, find, list_all, list_any, option_map_or, bytes_eq, action_fault, entered_fault, is_simple_and_free, given_default_fault, level_fault, values_fault, Kinds, or_else, range_kinds, values_kinds, argument_words, built, entered, is_simple, label_of, names_of, rows_at, IsUnsignedIn, is_request, refused_kind, Rule, action_of, answers_to, at_row, default_rows, first_of, is_empty, most_values, nothing_held, reading_by, row_text, rows_after, stop_after, used_as, values_or_missing, with_values, without, has_row, more_values, used, with_default, ErrorKind, InvalidValue, agep, NamesInput, HasNumber, IsTaken, name_of, Command, Encrypt, Decrypt, Inspect, Range, Rewrap, Salvage}
+use Rattle.age_args.proofs.Common.{◌≡◌, ◌∙◌, ◌<◌, ◌⊎◌, inl, inr, ℕ, Bool, cond, true, false, true≢false, not, ◌&&◌, ◌||◌, ◌==◌, refl, sym, ap, subst, List, [], ◌∷◌, ◌++◌, length, Option, Some, None, IfSome, codes, arith, nat_lt, length-append, ltb-true, bytes_eq-Decides, if◌then◌else◌, is_some, slice_get, option_and_then, option_map, ⊤, find, list_all, list_any, option_map_or, bytes_eq, action_fault, entered_fault, is_simple_and_free, given_default_fault, level_fault, values_fault, Kinds, range_kinds, values_kinds, argument_words, built, entered, is_simple, label_of, names_of, rows_at, IsUnsignedIn, is_request, Rule, action_of, answers_to, at_row, default_rows, first_of, most_values, nothing_held, reading_by, row_text, rows_after, stop_after, used_as, values_or_missing, with_values, used, with_default, agep, HasNumber, IsTaken, name_of, Command, Range}
 use Rattle.clap.specs.Facts.{explicit_source, parser_of_value, unwrap_or_range}
 use Rattle.clap.specs.Faults.{fault_of}
 use Rattle.clap.specs.Simple.{Shape, subcommand_of}
@@ -9,17 +9,17 @@ use Rattle.clap.specs.ValueTests.{accepts}
 use Rattle.clap.specs.Walk.{Row, Text}
 use Rattle.clap.proofs.ValueTestLemmas.{accepts-Accepts}
 use Rattle.clap.specs.declared.builder.action.ArgAction.{ArgAction}
-use Rattle.clap.specs.declared.builder.action.ArgAction.TheVariants.{Set, Append, SetTrue, SetFalse, Count}
+use Rattle.clap.specs.declared.builder.action.ArgAction.TheVariants.{Count}
 use Rattle.clap.specs.declared.builder.value_parser.Reading.{Reading}
 use Rattle.clap.specs.declared.builder.value_parser.Reading.TheVariants.{AsWritten}
 use Rattle.clap.specs.declared.builder.value_parser.ValueParser.{ValueParser}
 use Rattle.clap.specs.declared.builder.value_parser.ValueParser.TheVariants as vp
 use Rattle.clap.specs.declared.parser.matches.ValueSource.{ValueSource}
-use Rattle.clap.specs.declared.parser.matches.ValueSource.TheVariants.{DefaultValue, CommandLine}
+use Rattle.clap.specs.declared.parser.matches.ValueSource.TheVariants.{DefaultValue}
 use Rattle.age_job.specs.declared.ranges.TheConstants.{MIN_HEADER_SIZE, MIN_WORK_FACTOR, MAX_HEADER_SIZE, MAX_OFFSET, MAX_WORK_FACTOR}
+use Rattle.std.proofs.lemmas.Option.{slice_get-get_or}
 use Rattle.std.proofs.lemmas.Bool.{and_parts, or_parts, not-false, not-true}
-use Rattle.age_args.proofs.ValueLemmas.{same_number}
-use Rattle.age_args.proofs.LevelLemmas.{DefaultsWell, Each, UsesWell, both_none, level_ok, test_fails}
+use Rattle.age_args.proofs.LevelLemmas.{DefaultsWell, Each, UsesWell, both_none, found, level_ok}
 
 -- what the values of an option have to pass
 abbrev parser_for : Text → ValueParser
@@ -73,9 +73,6 @@ at_row_passes : (id : Text) (change : Row → List Row) (missing rows : List Row
 at_row_passes id change missing [] c m q = m
 at_row_passes id change missing (r ∷ rs) c m q = grind (arith, cond, each_append, at_row_passes id change missing rs c m q.1)
 
-without_passes : (id : Text) (rows : List Row) → Each RowPasses rows → Each RowPasses (without id rows)
-without_passes id rows q = at_row_passes id (λ _. []) [] rows (λ r e p. tt) tt q
-
 with_values_passes : (id : Text) {how : Reading} (s : ValueSource) (values : List Text) (rows : List Row)
     → how ≡ AsWritten
     → 0 < length values → Each (Passes id) values → Each RowPasses rows
@@ -85,18 +82,12 @@ with_values_passes id s values rows written some pass q = grind (arith, at_row_p
 -- ---- one use
 
 accepts_too : (p q : ValueParser) (v : Text) → covers p q ≡ true → accepts false q v ≡ true → accepts false p v ≡ true
-accepts_too a b c d e = grind (arith, and_parts, same_number, true≢false)
-
-test_passes : {b : Bool} (k : ErrorKind) → cond b [] (k ∷ []) ≡ [] → b ≡ true
-test_passes k f = grind arith
+accepts_too a b c d e = grind (arith, and_parts, true≢false)
 
 values_pass : (id : Text) (parser : ValueParser) (values : List Text) → covers (parser_for id) parser ≡ true
     → values_kinds false parser values ≡ [] → Each (Passes id) values
 values_pass id parser [] fits e = tt
-values_pass id parser (v ∷ vs) fits e = (
-  accepts_too (parser_for id) parser v fits (test_passes (refused_kind parser) (both_none e).0),
-  values_pass id parser vs fits (both_none e).1,
-)
+values_pass id parser (v ∷ vs) fits e = grind (arith, accepts_too, both_none, values_pass id parser vs fits)
 
 -- what the test says of a rule
 record IsGood (a : Rule) : Type 0 where
@@ -106,78 +97,39 @@ record IsGood (a : Rule) : Type 0 where
   no_count : is_count (action_of a) ≡ false
   value : has_value a ≡ true
 
-reads : {r : Reading} → is_as_written r ≡ true → r ≡ AsWritten
-reads e = grind arith
-
 good_of : (a : Rule) → is_good a ≡ true → IsGood a
-good_of a e =
-    let (covers, (exact, (written, (no_count, value)))) = all_five e in
-    record { covered = covers; exact = exact; written = reads written; no_count = no_count; value = value }
-  where
-    all_five : {p q r s t : Bool} → (p && (not q && (r && (not s && t)))) ≡ true
-        → (p ≡ true) × ((q ≡ false) × ((r ≡ true) × ((s ≡ false) × (t ≡ true))))
-    all_five e = grind arith
-
-faults_pass : {a : Rule} → IsGood a → (values : List Text) → values_fault a values ≡ [] → Each (Passes a.id) values
-faults_pass {a} g values e = values_pass a.id (parser_of_value a.parser) values g.covered (rw g.exact at e)
+good_of a e = grind (arith, and_parts, not-true)
 
 given_passes : {a : Rule} → IsGood a → (s : ValueSource) (values : List Text) (rows : List Row)
     → nat_lt 0 (length values) ≡ true
     → values_fault a values ≡ [] → Each RowPasses rows
     → Each RowPasses (with_values a.id (reading_by a) s values rows)
-given_passes {a} g s values rows some e q =
-    with_values_passes a.id s values rows g.written (ltb-true 0 (length values) some) (faults_pass g values e) q
+given_passes g s values rows some e q =
+    grind (arith, with_values_passes, ltb-true, values_pass, g.covered, g.written, g.exact)
 
 stored : (again : Bool) {a : Rule} → IsGood a → (x : ArgAction) → is_count x ≡ false
     → (values : List Text) (rows : List Row)
     → (is_request x || nat_lt 0 (length values)) ≡ true
     → action_fault x again a values rows ≡ [] → Each RowPasses rows
     → Each RowPasses (used_as x a.id (reading_by a) values rows)
-stored again {a} g Set c values rows some e q = grind (arith, given_passes, both_none, without_passes)
-stored again {a} g SetTrue c values rows some e q = grind (arith, given_passes, both_none, without_passes)
-stored again {a} g SetFalse c values rows some e q = grind (arith, given_passes, both_none, without_passes)
-stored again g Append c values rows some e q = given_passes g CommandLine values rows some e q
-stored again g Count c values rows some e q = absurd (true≢false c)
-stored again g x c values rows some e q = q
-
-or_other : {b c : Bool} → (b || c) ≡ true → (b && true) ≡ false → (b ≡ false) × (c ≡ true)
-or_other e f = grind arith
+stored again g x c values rows some e q = grind (arith, given_passes, both_none, at_row_passes)
 
 one_value : (a : Rule) (values : List Text)
     → (nat_lt 0 (unwrap_or_range a.range).start_inclusive || nat_lt 0 (length a.missing)) ≡ true
     → range_kinds (unwrap_or_range a.range).start_inclusive (most_values a) (length values) ≡ []
     → nat_lt 0 (length (values_or_missing a values)) ≡ true
-one_value a (v ∷ vs) some e = grind arith
-one_value a [] some e = (or_other some (test_fails InvalidValue [] e).0).1
-
-some_value : (a : Rule) (values : List Text) (b : Bool)
-    → (b || (nat_lt 0 (unwrap_or_range a.range).start_inclusive || nat_lt 0 (length a.missing))) ≡ true
-    → range_kinds (unwrap_or_range a.range).start_inclusive (most_values a) (length values) ≡ []
-    → (b || nat_lt 0 (length (values_or_missing a values))) ≡ true
-some_value a values true h e = refl
-some_value a values false h e = one_value a values h e
+one_value a values some e = grind arith
 
 used_well : (again : Bool) (a : Rule) → is_good a ≡ true → UsesWell again RowPasses a
-used_well again a good values rows e q = grind (arith, good_of, both_none, stored, some_value)
+used_well again a good values rows e q = grind (arith, good_of, both_none, stored, one_value)
 
 defaults_well : (again : Bool) (a : Rule) → is_good a ≡ true → DefaultsWell again RowPasses a
-defaults_well again a good rows e q = go (has_row a.id rows) e
+defaults_well again a good rows e q = grind (arith, given a.defaults)
   where
-    given : (values : List Text) → or_else (Rattle.clap.specs.Kinds.request_kinds (action_of a))
-        (values_fault a values) ≡ []
+    given : (values : List Text) → given_default_fault a values ≡ []
         → Each RowPasses (default_rows a.id (reading_by a) values rows)
     given [] f = q
     given (v ∷ vs) f = given_passes (good_of a good) DefaultValue (v ∷ vs) rows (grind arith) (both_none f).1 q
-
-    tested : (values : List Text) → cond (is_empty values) [] (given_default_fault a values) ≡ []
-        → Each RowPasses (default_rows a.id (reading_by a) values rows)
-    tested [] f = q
-    tested (v ∷ vs) f = given (v ∷ vs) (rw (ne_eqb (length (v ∷ vs)) 0 (λ z. omega arith)) at f)
-
-    go : (b : Bool) → cond (b || is_empty a.defaults) [] (given_default_fault a a.defaults) ≡ []
-        → Each RowPasses (cond b rows (default_rows a.id (reading_by a) a.defaults rows))
-    go true f = q
-    go false f = tested a.defaults f
 
 -- ---- what the rows of a level give
 
@@ -215,21 +167,12 @@ wanted_given id (a ∷ rest) rows none some = grind (arith, bytes_eq-Decides, no
 
 given_first : (id : Text) (rows : List Row) → Each RowPasses rows → is_given id rows ≡ true
     → is_some (first_of id rows) ≡ true
-given_first id rows q g =
-    go (find (λ r. bytes_eq r.id id) rows) (found_where RowPasses (λ r. bytes_eq r.id id) rows q) g
+given_first id rows q g = go (find (λ r. bytes_eq r.id id) rows) (found RowPasses (λ r. bytes_eq r.id id) rows q) g
   where
-    first : (values : List Text) → 0 < length values → is_some (slice_get values 0) ≡ true
-    first [] h = absurd (omega arith)
-    first (v ∷ vs) h = refl
-
-    go : (o : Option Row) → IfSome o (λ r. (bytes_eq r.id id ≡ true) × RowPasses r)
-        → option_map_or (λ r. explicit_source r.source) o false ≡ true
+    go : (o : Option Row) → IfSome o RowPasses → option_map_or (λ r. explicit_source r.source) o false ≡ true
         → is_some (option_and_then (λ r. slice_get r.values 0) o) ≡ true
     go None h e = cc
-    go (Some r) h e = first r.values h.1.1
-
-wanted_kind : {a b c : Bool} → Rattle.clap.specs.Kinds.check_kinds a b c ≡ [] → (a ≡ false) × (b ≡ false) × (c ≡ false)
-wanted_kind e = grind arith
+    go (Some r) h e = ap is_some (slice_get-get_or r.values 0 [] h.1)
 
 -- ---- a subcommand
 
@@ -256,12 +199,6 @@ each_good : {P : Rule → Type 0} (rules : List Rule) → ((a : Rule) → is_goo
 each_good [] p e = tt
 each_good (a ∷ rest) p e = let h = and_parts _ _ e in (p a h.0, each_good rest p h.1)
 
-names_input : (command : Command) (s : Shape) (rows : List Row) → wants command s ≡ true → Each RowPasses rows
-    → list_any (λ a. a.required && not (is_given a.id rows)) s.rules ≡ false
-    → NamesInput command (first_of (codes "input") rows)
-names_input Range s rows w q n = given_first (codes "input") rows q (wanted_given (codes "input") s.rules rows n w)
-names_input command s rows w q n = tt
-
 level_taken : {command : Command} (s : Shape) (words : List Text) → is_good_for command s ≡ true
     → level_fault s [] nothing_held words false [] ≡ []
     → IsTaken command (rows_after s.rules [] words)
@@ -271,18 +208,15 @@ level_taken {command} s words good e =
     let rows = rows_after s.rules [] words in
     let level = level_ok s [] RowPasses (λ _. ⊤) (each_good s.rules (used_well s.args_override_self) h.0)
     (each_good s.rules (defaults_well s.args_override_self) h.0) (λ _ _. tt) words false [] e in
-    let none = negated (not-true _ g.0) (wanted_kind level.2).2 in
+    let named = given_first (codes "input") rows level.0 in
     record {
       work = has_number (codes "work") rows refl level.0;
       max_work = has_number (codes "max-work") rows refl level.0;
       max_header = has_number (codes "max-header") rows refl level.0;
       at = has_number (codes "at") rows refl level.0;
       len = has_number (codes "len") rows refl level.0;
-      input = names_input command s rows h.1 level.0 none;
+      input = grind (arith, named, wanted_given (codes "input") s.rules rows, not-true);
     }
-  where
-    negated : {b c : Bool} → b ≡ false → (not (b && false) && c) ≡ false → c ≡ false
-    negated e f = grind arith
 
 abbrev pub Taken : Text → List Row → Type 0
 Taken name rows = (command : Command) × (name ≡ name_of command) × IsTaken command rows
@@ -295,15 +229,11 @@ no_help : (words : List Text) (has : Bool) (below : Kinds)
     → IfSome (stop_after (built agep).top.rules (names_of (built agep)) words)
     (λ p. bytes_eq p.0 (codes "help") ≡ false)
 no_help words has below none =
-    (level_ok (built agep).top (names_of (built agep)) (λ _. ⊤) (λ name. bytes_eq name (codes "help") ≡ false)
-    (each_of {P = UsesWell (built agep).top.args_override_self (λ _. ⊤)} (built agep).top.rules
-    (λ a values rows e q. anything (used a values rows)))
-    (each_of {P = DefaultsWell (built agep).top.args_override_self (λ _. ⊤)} (built agep).top.rules
-    (λ a rows e q. anything (with_default rows a)))
-    (λ name e. plain e) words has below none).1
-  where
-    plain : {b : Bool} → (b && true) ≡ false → b ≡ false
-    plain e = grind arith
+    let top = (built agep).top in
+    (level_ok top (names_of (built agep)) (λ _. ⊤) (λ name. bytes_eq name (codes "help") ≡ false)
+    (each_of {P = UsesWell top.args_override_self (λ _. ⊤)} top.rules (λ a vs rows e q. anything (used a vs rows)))
+    (each_of {P = DefaultsWell top.args_override_self (λ _. ⊤)} top.rules (λ a rs e q. anything (with_default rs a)))
+    (λ name e. grind arith) words has below none).1
 
 -- `help` is entered only by its name
 is_help : (s : Shape) (word : Text) → s.name ≡ codes "help" → s.aliases ≡ [] → answers_to word (label_of s) ≡ true
@@ -320,51 +250,24 @@ at_shape : {name : Text} {rows : List Row} (p : Text × List Text) → bytes_eq 
     → option_map_or (λ s. level_fault s [] nothing_held p.1 false []) o [] ≡ []
     → option_map (λ s. rows_at s p.1) o ≡ Some (name, rows) → Taken name rows
 at_shape p not_help None h e f = cc
-at_shape p not_help (Some s) h e f =
-    let same = pair_same f in
-    elim h.1.0 [
-      | inl help ↦ absurd (true≢false (sym (is_help s p.0 help h.1.1 h.0) ∙ not_help))
-      | inr made ↦ (made.0, sym same.0 ∙ made.1, subst (IsTaken made.0) same.1 (level_taken s p.1 made.2 e))
-    ]
+at_shape p not_help (Some s) (answers, (inl help, none)) e f = grind (arith, is_help s p.0 help none answers)
+at_shape p not_help (Some s) (answers, (inr (command, is, good), none)) e f =
+    let same = pair_same f in (command, sym same.0 ∙ is, subst (IsTaken command) same.1 (level_taken s p.1 good e))
 
 at_stop : {name : Text} {rows : List Row} (o : Option (Text × List Text))
     → IfSome o (λ p. bytes_eq p.0 (codes "help") ≡ false)
     → entered_fault (built agep) o ≡ [] → entered (built agep) o ≡ Some (name, rows) → Taken name rows
 at_stop None h e f = cc
-at_stop (Some p) h e f =
-    at_shape p h (find (λ s. answers_to p.0 (label_of s)) (built agep).subs)
-    (found_where (λ s. Makes s × (s.aliases ≡ [])) (λ s. answers_to p.0 (label_of s)) (built agep).subs all_make) e
-    f
+at_stop (Some p) h e f = at_shape p h _ (found_where _ (λ s. answers_to p.0 (label_of s)) (built agep).subs all_make) e f
 
 -- where there is no fault, the subcommand that was named is a command of the program, and its values
 -- make a job
 pub taken : (words : List Text) {name : Text} {rows : List Row} → fault_of agep words ≡ []
     → subcommand_of agep words ≡ Some (name, rows) → Taken name rows
-taken words none is =
-    let given = argument_words agep words in
-    let stop = stop_after (built agep).top.rules (names_of (built agep)) given in
-    at_stop stop (no_help given (is_some (entered (built agep) stop)) (entered_fault (built agep) stop) none)
-    (both_none (both_none none).1).0 is
-
--- ---- the name of a command
-
-command_of : Text → Option Command
-command_of name =
-    if bytes_eq name (codes "encrypt") then Some Encrypt
-    else if bytes_eq name (codes "decrypt") then Some Decrypt
-    else if bytes_eq name (codes "inspect") then Some Inspect
-    else if bytes_eq name (codes "range") then Some Range
-    else if bytes_eq name (codes "rewrap") then Some Rewrap
-    else if bytes_eq name (codes "salvage") then Some Salvage
-    else None
-
-known : (command : Command) → command_of (name_of command) ≡ Some command
-unfolding command_of
-known Encrypt = refl
-known command = refl
+taken words none is = at_stop _ (no_help (argument_words agep words) _ _ none) (both_none (both_none none).1).0 is
 
 pub one_command : {a b : Command} → name_of a ≡ name_of b → a ≡ b
-one_command {a} {b} e = let same : Some a ≡ Some b = sym (known a) ∙ ap command_of e ∙ known b in cc
+one_command {a} {b} e = grind arith
 
 pub agep_is_free : is_simple_and_free agep ≡ true
 agep_is_free = refl

@@ -1,5 +1,5 @@
 -- What the words of a command line name.
-use Rattle.age_args.proofs.Common.{◌≡◌, ◌∙◌, ◌⊎◌, inl, inr, ap, refl, sym, subst, true, codes, arith, length, map, get_or, Bor, List, [], ◌∷◌, Some, Result, Ok, Err, option_map, bytes_eq, bytes_eq-Decides, App, HasKind, HasMatchesOf, IsAmong, kind_of, Row, Text, app_of, fault_of, subcommand_name_of, subcommand_of, subcommand_rows_of, Error, DisplayHelp, InvalidSubcommand, ArgMatches, agep, AsksForHelp, Becomes, JobOf, Reads, name_of, Job, Memory, Refused}
+use Rattle.age_args.proofs.Common.{◌≡◌, ◌∙◌, ◌⊎◌, inl, inr, ap, refl, sym, subst, true, codes, arith, length, map, get_or, Bor, List, [], ◌∷◌, Some, Result, Ok, Err, option_map, bytes_eq, bytes_eq-Decides, App, HasKind, HasMatchesOf, Row, Text, app_of, fault_of, subcommand_name_of, subcommand_of, subcommand_rows_of, Error, DisplayHelp, InvalidSubcommand, ArgMatches, agep, AsksForHelp, Becomes, JobOf, Reads, name_of, Job, Memory, Refused}
 use Rattle.std.specs.Result.{IsErrAnd}
 use Rattle.clap.specs.Words.{is_simple, is_simple_and_free}
 use Rattle.clap.proofs.OnLiterals.{clap_on_literals}
@@ -22,11 +22,9 @@ pub named : (command : Command) {words : List Text} (m : ArgMatches) {name : Tex
     → Named words name rows
 named command {words} m {name} {rows} app matches kinds is_name are_rows =
     let simple = ap is_simple app ∙ agep_is_simple in
-    let is : subcommand_of agep words ≡ Some (name, rows) =
-    sym ((matches simple).1 ∙ ap (λ (a : App). subcommand_of a words) app)
-    ∙ subcommand_is m is_name are_rows in
-    let faultless : fault_of agep words ≡ [] = sym (ap (λ (a : App). fault_of a words) app)
-    ∙ kinds (ap is_simple_and_free app ∙ agep_is_free) in
+    let is = subst (λ (a : App). subcommand_of a words ≡ Some (name, rows)) app
+    (sym (matches simple).1 ∙ subcommand_is m is_name are_rows) in
+    let faultless = subst (λ (a : App). fault_of a words ≡ []) app (kinds (ap is_simple_and_free app ∙ agep_is_free)) in
     record { is = is; faultless = faultless; taken = taken words faultless is }
 
 help_fault : fault_of agep (codes "agep" ∷ codes "--help" ∷ []) ≡ DisplayHelp ∷ []
@@ -44,12 +42,8 @@ unfolding clap_on_literals
 short_fault program = refl
 
 help_is : {words : List Text} → AsksForHelp words → fault_of agep words ≡ DisplayHelp ∷ InvalidSubcommand ∷ []
-help_is (program, option, is, inl long) =
-    ap (fault_of agep) is
-    ∙ (ap (λ (o : Text). fault_of agep (program ∷ codes "help" ∷ o ∷ [])) long ∙ long_fault program)
-help_is (program, option, is, inr short) =
-    ap (fault_of agep) is
-    ∙ (ap (λ (o : Text). fault_of agep (program ∷ codes "help" ∷ o ∷ [])) short ∙ short_fault program)
+help_is (program, option, is, inl long) = rw (is, long) (long_fault program)
+help_is (program, option, is, inr short) = rw (is, short) (short_fault program)
 
 pub help_read : {words : List Text} (result : Result Job WordsFault) → AsksForHelp words
     → Reads (codes "agep" ∷ codes "--help" ∷ []) result → Reads words result
@@ -68,18 +62,12 @@ pub refusal : (words : List Text) (command : Command) (error : Error) (result : 
 refusal words command error (Ok job) app becomes kinds = absurd becomes
 refusal words command error (Err Memory) app becomes kinds = tt
 refusal words command error (Err (Refused refused)) app becomes kinds =
-    let free = ap is_simple_and_free app ∙ agep_is_free in
-    elim (subst (λ (a : App). HasKind (fault_of a words) error) app (kinds free)) [
-      | inl memory ↦ absurd (becomes.1 memory)
-      | inr among ↦ subst (λ (e : Error). IsAmong (kind_of e) (fault_of agep words)) (sym becomes.0) among
-    ]
+    let has = kinds (ap is_simple_and_free app ∙ agep_is_free) in
+    grind (arith, subst (λ (a : App). HasKind (fault_of a words) error) app has)
 
 pub asks : (words : List (Bor Text)) (d e : Bor Text) {option : Text} → length words ≡ 3
     → bytes_eq (get_or words 1 d).now (codes "help") ≡ true
     → bytes_eq (get_or words 2 e).now option ≡ true → (option ≡ codes "--help") ⊎ (option ≡ codes "-h")
     → AsksForHelp (map (λ w. w.now) words)
-asks [] d e n help same is = absurd (omega arith)
-asks (p ∷ []) d e n help same is = absurd (omega arith)
-asks (p ∷ h ∷ []) d e n help same is = absurd (omega arith)
 asks (p ∷ h ∷ o ∷ []) d e {option} n help same is = grind (arith, bytes_eq-Decides)
-asks (p ∷ h ∷ o ∷ x ∷ xs) d e n help same is = absurd (omega arith)
+asks words d e n help same is = absurd (omega arith)
