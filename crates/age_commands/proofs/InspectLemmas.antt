@@ -42,22 +42,16 @@ shown_of {limits} raw key {h = h} P text same (front, took, found) made spelled 
 rows_push : (n : ℕ) (xs : List StanzaParts) (x : StanzaParts)
     → rows n (xs ++ x ∷ []) ≡ rows n xs ++ row (n + length xs) x
 rows_push n [] x = append-nil (row n x) ∙ ap (λ k. row k x) (omega arith)
-rows_push n (y ∷ xs) x = ap (λ r. row n y ++ r)
-    (rows_push (n + 1) xs x ∙ ap (λ k. rows (n + 1) xs ++ row k x) (omega arith))
-    ∙ sym (append_assoc (row n y) (rows (n + 1) xs) (row (n + length (y ∷ xs)) x))
+rows_push n (y ∷ xs) x = grind (arith, rows_push (n + 1) xs x, append_assoc)
 
 pub rows_more : (old mid new : Known) (xs : List StanzaParts) {x : StanzaParts} (d : StanzaParts) {i : ℕ}
     → i < length xs
     → x ≡ get_or xs i d
     → Appends old mid (rows 0 (take i xs)) → Appends mid new (row i x) → Appends old new (rows 0 (take (i + 1) xs))
 rows_more old mid new xs {x} d {i} low is before one =
-    let l : length (take i xs) ≡ i = length-take-le i xs (omega arith) in
-    let start : 0 + length (take i xs) ≡ i = omega arith in
     let at : rows 0 (take (i + 1) xs) ≡ rows 0 (take i xs) ++ row i x =
-    ap (rows 0) (take_more xs i d low) ∙ rows_push 0 (take i xs) (get_or xs i d)
-    ∙ ap (λ k. rows 0 (take i xs) ++ row k (get_or xs i d)) start
-    ∙ ap (λ (y : StanzaParts). rows 0 (take i xs) ++ row i y) (sym is) in
-    subst (Appends old new) (sym at) (Appends-trans old mid new (rows 0 (take i xs)) (row i x) before one)
+    grind (arith, take_more xs i d low, rows_push 0 (take i xs) x, length-take-le) in
+    rw at (Appends-trans old mid new (rows 0 (take i xs)) (row i x) before one)
 
 -- the parts of a table, one after the other
 pub tabled : {E : Type 0} {header : HeaderParts} (checked : Check) (one two three four five six : Known)

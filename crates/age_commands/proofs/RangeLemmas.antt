@@ -65,19 +65,14 @@ pub follows : {P Q : ℕ → ℕ → Type 0} (R : ℕ → ℕ → Type 0) (at k 
     → ((x byte : ℕ) → P x byte → R x byte) → ((x byte : ℕ) → Q x byte → R x byte) → from ≡ at + k → m ≡ k + n
     → WritesBytes P at k (move_of old mid) → WritesBytes Q from n (move_of mid new)
     → WritesBytes R at m (move_of old new)
-follows R at k from n m {old} {mid} {new} first second ef em one more =
-    let all : length (one.part ++ more.part) ≡ length one.part + length more.part = length-append one.part more.part in
-    let a : length one.part ≡ k = one.size in
-    let b : length more.part ≡ n = more.size in
-    let here : from ≡ at + length one.part = omega arith in
-    record {
-      part = one.part ++ more.part;
-      size = omega arith;
-      holds = both R at one.part more.part (λ i lt. first (at + i) (slice_index one.part i) (one.holds i lt))
-          (subst (λ x. OfBytes R x more.part) here
-          (λ i lt. second (from + i) (slice_index more.part i) (more.holds i lt)));
-      appends = Appends-trans old mid new one.part more.part one.appends more.appends;
-    }
+follows R at k from n m {old} {mid} {new} first second ef em one more = record {
+  part = one.part ++ more.part;
+  size = grind (arith, length-append, one.size, more.size);
+  holds = both R at one.part more.part (λ i lt. first (at + i) (slice_index one.part i) (one.holds i lt))
+      (subst (λ x. OfBytes R x more.part) (grind (arith, one.size))
+      (λ i lt. second (from + i) (slice_index more.part i) (more.holds i lt)));
+  appends = Appends-trans old mid new one.part more.part one.appends more.appends;
+}
 
 pub some_on : (plain : ℕ) {begin : ℕ} (len : ℕ) {at : ℕ} (left : ℕ) {n : ℕ}
     → n ≡ min (min left (chunk_size - at % chunk_size)) (plain - at)

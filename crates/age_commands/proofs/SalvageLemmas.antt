@@ -45,13 +45,11 @@ read_of {A} input reached {failed} start now {old} {new} {P} same none gave o =
     first : (r : Reached) → HasRead r failed start now o.given → IsFirst start o.given ⊎ failed
     first Place h = inl (now, h)
     first End h = inl (now, h.0)
-    first Failure (inl h) = inl (now, h)
-    first Failure (inr h) = inr h
+    first Failure h = grind arith
 
     ended : (r : Reached) → is_end r ≡ true → HasRead r failed start now o.given → IfSome start P
     ended End is h = Consumes-whole start now o.given P h.0 h.1 holds
-    ended Place is h = absurd (cc)
-    ended Failure is h = absurd (cc)
+    ended r is h = absurd (cc)
 
     all : (input ≡ None) ⊎ (is_end reached ≡ true) → IfSome start P
     all (inl is) = subst (λ k. IfSome k P) (same ∙ ap (λ i. come_by (is_some i) start) is) (of_all o)
@@ -81,41 +79,15 @@ succeeded = Ok tt
 -- what a result says of devices and reports, the command's says too
 pub quiet_whole : {W : Type 0} (old new : W) (is_read : Bool) (done : Result SalvagedFile Fault)
     {result : Result ⊤ Fault} → result ≡ if_whole is_read done → IsQuiet old new done → IsQuiet old new result
-quiet_whole {W} old new is_read (Err fault) is h = subst (IsQuiet old new) (sym is) h
-quiet_whole {W} old new is_read (Ok s) is h = subst (IsQuiet old new) (sym is) (go (is_whole_file s && is_read))
-  where
-    go : (b : Bool) → IsQuiet old new (cond b succeeded (Err (BadChunk s.payload.chunks)))
-    go true = tt
-    go false = inl tt
+quiet_whole old new is_read done is h = grind arith
 
 pub writes_whole : (old new : ℕ) (is_read : Bool) (done : Result SalvagedFile Fault) {result : Result ⊤ Fault}
     → result ≡ if_whole is_read done → CountsIf is_write old new done → CountsIf is_write old new result
-writes_whole old new is_read (Err fault) is h = subst (CountsIf is_write old new) (sym is) h
-writes_whole old new is_read (Ok s) is h =
-    subst (CountsIf is_write old new) (sym is) (go (is_whole_file s && is_read))
-  where
-    go : (b : Bool) → CountsIf is_write old new (cond b succeeded (Err (BadChunk s.payload.chunks)))
-    go true = h
-    go false = h
-
-none_lost : (b : Bool) (last : Saved) (lost : ℕ) (early : Option ℕ) → (b && is_whole_to last lost early) ≡ true
-    → lost ≡ 0
-none_lost true LastChunk lost None e = grind (arith, nat_tests, e)
-none_lost b last lost early e = absurd (cc)
+writes_whole old new is_read done is h = grind arith
 
 pub silent_whole : {L : Type 0} (old mid new : L) (is_read : Bool) (done : Result SalvagedFile Fault)
     {result : Result ⊤ Fault} → result ≡ if_whole is_read done
     → IfOk done (λ s. s.payload.lost ≡ 0 → mid ≡ old) → OnOk result (new ≡ mid) → OnOk result (new ≡ old)
-silent_whole {L} old mid new is_read (Err fault) is h kept = subst (λ r. OnOk r (new ≡ old)) (sym is) tt
-silent_whole {L} old mid new is_read (Ok s) is h kept =
-    subst (λ r. OnOk r (new ≡ old)) (sym is)
-    (go (is_whole_file s) refl is_read (subst (λ r. OnOk r (new ≡ mid)) is kept))
-  where
-    go : (w : Bool) → is_whole_file s ≡ w → (r : Bool)
-        → OnOk (cond (w && r) succeeded (Err (BadChunk s.payload.chunks))) (new ≡ mid)
-        → OnOk (cond (w && r) succeeded (Err (BadChunk s.payload.chunks))) (new ≡ old)
-    go true whole true same = same ∙ h (none_lost s.has_right_mac s.payload.last s.payload.lost s.payload.early whole)
-    go true whole false same = tt
-    go false whole r same = tt
+silent_whole old mid new is_read done is h kept = grind (arith, nat_tests)
 
 pub ruleset salvage = (of_any, gave_none, reports_none)

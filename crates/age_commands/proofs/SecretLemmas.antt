@@ -1,5 +1,5 @@
 -- A list of one recipient or identity, and one that is known by its meaning.
-use Rattle.age_commands.proofs.Common.{◌≡◌, ◌∙◌, ◌+◌, ◌<◌, ◌++◌, [], ◌∷◌, List, ap, get_or, drop, length, map, subst, sym, take, Result, get_or_default, map_push, take_more, ℕ, Bytes, Flow, Known, OfGiven, Seen, flow, move_of, of_any, gave_none, StanzaParts, decision_from, Fault, Bounds, Answering, Secret, gathering_of, labels_of, recipient_of, wraps_of, Encrypting}
+use Rattle.age_commands.proofs.Common.{arith, ◌≡◌, ◌∙◌, ◌+◌, ◌<◌, ◌++◌, [], ◌∷◌, List, ap, get_or, drop, length, map, subst, sym, take, Result, get_or_default, map_push, take_more, ℕ, Bytes, Flow, Known, OfGiven, Seen, flow, move_of, of_any, gave_none, StanzaParts, decision_from, Fault, Bounds, Answering, Secret, gathering_of, labels_of, recipient_of, wraps_of, Encrypting}
 use denote.Param.Object.{Made, read_made}
 use denote.Param.Table.{Entry, Table}
 use Rattle.age_header.specs.declared.file_key.FileKey.{FileKey}
@@ -36,8 +36,7 @@ unread a p = of_any ([], gave_none) p
 pub encrypting_meant : {f g : FileKey → Gathering} {limits : Bounds} {fresh : Fresh} {source : Flow} {old new : Known}
     {r : Result Done Fault} → f ≡ g → Encrypting limits fresh (f fresh.file_key) source (move_of old new) r
     → Encrypting limits fresh (g fresh.file_key) source (move_of old new) r
-encrypting_meant {limits} {fresh} {source} {old} {new} {r} same h =
-    subst (λ (f : FileKey → Gathering). Encrypting limits fresh (f fresh.file_key) source (move_of old new) r) same h
+encrypting_meant same h = rw same at h
 
 -- what is decided by the remaining secrets, after the next one
 pub answers_step : {A : Type 0} (f : A → Unwrapped) (xs : List A) {i : ℕ} {x : A} (so_far : Unwrapped)
@@ -58,7 +57,5 @@ keys_step f keys {i} so_far next low is step before =
 -- one more is made for the next key
 pub wrapped_more : {S : Type 0} (f : Bytes → S) (keys : List Bytes) (i : ℕ) {old one new : List S} → i < length keys
     → new ≡ old ++ one → one ≡ f (get_or keys i []) ∷ [] → old ≡ map f (take i keys) → new ≡ map f (take (i + 1) keys)
-wrapped_more f keys i {one} low added is before =
-    added ∙ ap (λ xs. xs ++ one) before ∙ ap (λ ys. map f (take i keys) ++ ys) is
-    ∙ sym (map_push f (take i keys) (get_or keys i []))
-    ∙ ap (map f) (sym (take_more keys i [] low))
+wrapped_more f keys i low added is before =
+    grind (arith, map_push f (take i keys) (get_or keys i []), take_more keys i [] low)

@@ -34,13 +34,7 @@ stopped {gave} {s} at left {most} {old} le is stops =
 -- a fault of a later part is one of the whole
 part_of_whole : (s t : RangeState) (begin len at left : ℕ) (fault : Fault) → t.layout ≡ s.layout
     → at + left ≡ begin + len → begin ≤ at → IsPartFault t at left fault → IsPartFault s begin len fault
-part_of_whole s t begin len at left fault el end low (inr failed) = inr failed
-part_of_whole s t begin len at left fault el end low (inl (i, is, has)) =
-    let plain : t.layout.plain ≡ s.layout.plain = ap (λ (l : Layout). l.plain) el in
-    let some : 0 < range_len t at left = has.some in
-    let from : at < chunk_size * (i + 1) = has.from in
-    let to : chunk_size * i < at + range_len t at left = has.to in
-    inl (i, is, record { some = omega arith; from = omega arith; to = omega arith })
+part_of_whole s t begin len at left fault el end low p = grind arith
 
 -- two parts that follow one another are one
 pub joined : {early late : ℕ → ℕ → Type 0} {layout same : Layout} (at k from n m : ℕ) {old mid new : Known}
@@ -99,18 +93,11 @@ ranges_unseen {found} job secret from lost (inr o) = (
   inr (record { source = found o.source; state = o.state; begins = o.begins; writes = o.writes }),
 )
 
-part_is_late : (s : RangeState) (at len : ℕ) (fault : Fault) → IsPartFault s at len fault → IsLate fault
-part_is_late s at len fault (inl (i, is, has)) = subst IsLate (sym is) tt
-part_is_late s at len fault (inr (inl is)) = subst IsLate (sym is) tt
-part_is_late s at len fault (inr (inr is)) = subst IsLate (sym is) tt
-
 -- an opened file ends with a fault before which something may have been written
 pub quiet_part : {W : Type 0} (gave : ℕ → ℕ → Type 0) (s : RangeState) (at len : ℕ) (sink : Moved) (old new : W)
     (r : Result ⊤ Fault) → WritesAny gave s at len sink r → IsQuiet old new r
-quiet_part gave s at len sink old new (Ok u) h = tt
-quiet_part gave s at len sink old new (Err fault) h = inl (part_is_late s at len fault h.0)
+quiet_part gave s at len sink old new r h = grind arith
 
 -- a fault of opening is not a failed write
 pub opens_unwritten : {n : ℕ} (fault : Fault) → IsOpenFault fault → CountsFaultIf is_write n n fault
-opens_unwritten Write is = absurd is
-opens_unwritten fault is = refl
+opens_unwritten fault is = grind arith
