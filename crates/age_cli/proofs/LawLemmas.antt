@@ -30,14 +30,11 @@ use Rattle.age_commands.specs.Secret.{answers_of, gathering_of, limits_of}
 
 -- the output ends with what was appended
 grown : (xs more : Bytes) (taken new : Known) → Appends (Some xs) taken more → Keeps taken new → new ≡ Some (xs ++ more)
-grown xs more None new a k = absurd a
-grown xs more (Some ys) None a k = absurd k
-grown xs more (Some ys) (Some zs) a k = ap Some (k ∙ a)
+grown xs more taken new a k = grind arith
 
 -- what an output has after work that succeeded
 ended : (taken new : Known) {work : Result ⊤ Fault} → Ends taken new work (Ok tt) → (work ≡ Ok tt) × Keeps taken new
-ended taken new (keeps, inl is) = (sym is, keeps)
-ended taken new (keeps, inr is) = absurd (cc)
+ended taken new e = grind arith
 
 abbrev pub OkIsAgeFile : Type 0
 OkIsAgeFile = (limits : Bounds) (answers : Answering) (b plain : Bytes) → IsVerdict limits answers b (whole plain)
@@ -55,18 +52,14 @@ decrypted : OkIsAgeFile → (limits : Bounds) (answers : Answering) (b xs : Byte
     (done : Result Done Fault) (work : Result ⊤ Fault)
     → work ≡ without_counts done → OfKnown (Some b) (λ x. DecryptsText limits answers x (move_of (Some xs) taken) done)
     → Ends taken new work (Ok tt) → Gained limits b xs new
-decrypted law limits answers b xs taken new (Err fault) work is d ends = absurd (cc (is, (ended taken new ends).0))
+decrypted law limits answers b xs taken new (Err fault) work is d ends = grind arith
 decrypted law limits answers b xs taken new (Ok counts) work is
     (given, one, (verdict, judged, (none, bytes, n), appends)) ends =
-    let is_whole = subst (λ f. IsVerdict limits answers b (record { plaintext = verdict.plaintext; fault = f }))
-    none judged in
-    let found = (law limits answers b verdict.plaintext).0 is_whole in
-    let keeps = (ended taken new ends).1 in
-    (found.0, found.1, verdict.plaintext, found.2, grown xs verdict.plaintext taken new appends keeps)
+    let found = (law limits answers b verdict.plaintext).0 (rw none at judged) in
+    (found.0, found.1, verdict.plaintext, found.2, grown xs verdict.plaintext taken new appends (ended taken new ends).1)
 
 if_ok : (b : Bool) (fault : Fault) → ◌≡◌ {A = Result ⊤ Fault} (cond b (Ok tt) (Err fault)) (Ok tt) → b ≡ true
-if_ok true fault e = refl
-if_ok false fault e = absurd (cc)
+if_ok b fault e = grind arith
 
 saved_all : OkIsAgeFile → SomeVerdict → (limits : Bounds) (answers : Answering) (b xs : Bytes) (taken new : Known)
     (lost : LossesMoved) (s : SalvagedFile) → is_whole_file s ≡ true
@@ -74,8 +67,7 @@ saved_all : OkIsAgeFile → SomeVerdict → (limits : Bounds) (answers : Answeri
 saved_all law some limits answers b xs taken new lost s all saves keeps =
     let (verdict, judged) = some limits answers b in
     let none = (saved_exactly limits answers b verdict (move_of (Some xs) taken) lost s judged saves).0 all in
-    let reads = subst (λ f. IsVerdict limits answers b (record { plaintext = verdict.plaintext; fault = f }))
-    none judged in
+    let reads = rw none at judged in
     let found = (law limits answers b verdict.plaintext).0 reads in
     let took = (saved_whole limits answers b verdict.plaintext (move_of (Some xs) taken) lost s reads saves).0 in
     (found.0, found.1, verdict.plaintext, found.2, grown xs verdict.plaintext taken new took keeps)
@@ -111,11 +103,7 @@ encrypted : (limits : Bounds) (fresh : Fresh) (gathered : Gathering) (plain xs :
     → work ≡ without_counts done
     → OfKnown (Some plain) (λ x. EncryptsText limits fresh gathered x (move_of (Some xs) taken) done)
     → Ends taken new work (Ok tt) → Made limits plain xs new
-encrypted limits fresh gathered plain xs taken new (Err fault) work is e ends =
-    absurd (cc (is, (ended taken new ends).0))
-encrypted limits fresh gathered plain xs taken new (Ok counts) work is
-    (given, one, (gained, file, appends, bytes, n)) ends =
-    (file.header.stanzas, fresh.file_key, gained, file.file, grown xs gained taken new appends (ended taken new ends).1)
+encrypted limits fresh gathered plain xs taken new done work is e ends = grind (arith, grown)
 
 pub done_encrypt : (job : Job) (plain xs : Bytes) (new : Known) → job.command ≡ command.Encrypt
     → Runs job (Some plain) (move_of (Some xs) new) (Ok tt) → Made (limits_of job) plain xs new
@@ -171,12 +159,7 @@ GainedAtMost len xs new = (part : Bytes) × (length part ≤ len) × (new ≡ So
 ranged : (job : Job) (secret : Secret) (from : Known) (xs : Bytes) (taken new : Known) (lost : LossesMoved)
     (work : Result ⊤ Fault) → Performs job (task.Range secret) ⊤ from (move_of (Some xs) taken) lost work
     → Ends taken new work (Ok tt) → GainedAtMost job.len xs new
-ranged job secret from xs taken new lost (Err fault) r ends = absurd (cc (ended taken new ends).0)
-ranged job secret from xs taken new lost (Ok u) (size, inl none) ends = absurd none
-ranged job secret from xs taken new lost (Ok u) (size, inr o) ends =
-    let one = o.writes in
-    let n : length one.part ≡ range_len o.state job.at job.len = one.size in
-    (one.part, omega arith, grown xs one.part taken new one.appends (ended taken new ends).1)
+ranged job secret from xs taken new lost work r ends = grind (arith, ended, grown)
 
 pub done_range : (job : Job) (from : Known) (xs : Bytes) (new : Known) → job.command ≡ command.Range
     → Runs job from (move_of (Some xs) new) (Ok tt) → GainedAtMost job.len xs new
@@ -191,7 +174,6 @@ pub words_job : {F : Type 0} (remaining contents : F → Known) (words : List By
     → (job.command ≡ c) × (limits_of job ≡ word_limits words) × Runs job from sink result
 words_job remaining contents words c job from sink result pipe makes runs =
     let p = piped c words job pipe makes in
-    let limits : ℕ → Bounds = λ n. record { max_header = n; max_chunks = (word_limits words).max_chunks } in
-    (p.is, ap limits p.max_header, alone remaining contents job p.input p.output runs)
+    (p.is, grind (arith, p.max_header), alone remaining contents job p.input p.output runs)
 
 pub ruleset jobs_done = (done_decrypt, done_encrypt, done_rewrap, done_inspect, done_range)

@@ -8,12 +8,6 @@ use Rattle.age_job.proofs.RefusalLemmas.{of_secret}
 use Rattle.age_cli.specs.declared.failure.Failure.{Failure}
 use Rattle.age_cli.specs.declared.failure.Failure.TheVariants.{AgeFile, Job as OfJob}
 
--- the standard device, if no file is named
-device_is : {A F T : Type 0} (told : F → T) (o : Option A) (standard device : T) → o ≡ None
-    → IsDevice told o standard device → device ≡ standard
-device_is told None standard device e h = h
-device_is told (Some name) standard device e h = absurd (cc)
-
 -- the result of a job, from that of its task
 pub completes : {F : Type 0} (remaining contents : F → Known) (job : Job) (task : Task) (from source : Known)
     (below unread : Type 0) (sink : Moved) (r : Result ⊤ Failure) → (below → unread) → IsTaskOf job task
@@ -22,21 +16,13 @@ pub completes : {F : Type 0} (remaining contents : F → Known) (job : Job) (tas
     × IsDevice (λ (file : F × F). move_by contents file.0 file.1) job.output sink target
     × Works job task source target done) (FailsBeside job below sink) r
     → OfWork (RunsOn remaining contents job from sink) (FailsBeside job unread sink) r
-completes remaining contents job task from source below unread sink (Ok u) keeps is i (target, o, w) =
-    (source, i, (target, o, (task, is, w)))
-completes remaining contents job task from source below unread sink (Err (AgeFile fault detail)) keeps is i
-    (target, o, w) = (source, i, (target, o, (task, is, w)))
-completes remaining contents job task from source below unread sink (Err (OfJob failure)) keeps is i
-    (stays, inl (may, same)) = (stays, inl (may, keeps same))
-completes remaining contents job task from source below unread sink (Err (OfJob failure)) keeps is i
-    (stays, inr ends) = (stays, inr ends)
+completes remaining contents job task from source below unread sink r keeps is i w = grind arith
 
 -- what was written by a job that failed
 pub begins : (meaning : Result ⊤ Fault → Type 0) (job : Job) (unread : Type 0) (sink : Moved) (failure : Failure)
     → OfWork meaning (FailsBeside job unread sink) (Err failure)
     → Stays sink ⊎ ((fault : Fault) × meaning (Err fault))
-begins meaning job unread sink (AgeFile fault detail) h = inr (fault, h)
-begins meaning job unread sink (OfJob failure) h = inl h.0
+begins meaning job unread sink failure h = grind arith
 
 -- the result of work that writes to this output
 pub performs : {F : Type 0} (contents : F → Known) (job : Job) (task : Task) (from : Known) (unread : Type 0)
@@ -46,9 +32,7 @@ pub performs : {F : Type 0} (contents : F → Known) (job : Job) (task : Task) (
     → OfWork (λ done. (target : Moved)
     × IsDevice (λ (file : F × F). move_by contents file.0 file.1) job.output sink target
     × Works job task from target done) (FailsBeside job unread sink) r
-performs contents job task from unread sink target (Ok u) o works = (target, o, works)
-performs contents job task from unread sink target (Err (AgeFile fault detail)) o works = (target, o, works)
-performs contents job task from unread sink target (Err (OfJob failure)) o works = absurd works
+performs contents job task from unread sink target r o works = grind arith
 
 pub stays_known : {old new : Known} → new ≡ old → Stays (move_of old new)
 stays_known {old} e = subst (λ (k : Known). Stays (move_of old k)) (sym e) (Keeps-refl old)
@@ -57,44 +41,30 @@ stays_known {old} e = subst (λ (k : Known). Stays (move_of old k)) (sym e) (Kee
 pub alone : {F : Type 0} (remaining contents : F → Known) (job : Job) {from : Known} {sink : Moved}
     {result : Result ⊤ Fault} → job.input ≡ None
     → job.output ≡ None → RunsOn remaining contents job from sink result → Runs job from sink result
-alone {F} remaining contents job {from} {sink} {result} none silent (source, i, (target, o, h)) =
-    subst (λ (k : Known). Runs job k sink result) (device_is remaining job.input from source none i)
-    (subst (λ (s : Moved). Runs job source s result)
-    (device_is (λ (file : F × F). move_by contents file.0 file.1) job.output sink target silent o) h)
+alone remaining contents job none silent runs = grind arith
 
 -- what the status after a refusal says of the words
 pub refused : (words : List Bytes) (unwritten : Type 0) (fault : WordsFault) (status : ℕ) → Reads words (Err fault)
     → AnswersRefusal fault status unwritten → status ≡ 2 → unwritten × AreWrong words
-refused words unwritten Memory status h a two = absurd (omega arith)
-refused words unwritten (Refused error) status h (inl (low, is)) two = absurd (omega arith)
-refused words unwritten (Refused error) status h (inr (is, stays, hidden)) two = (stays, wrong words error h hidden)
+refused words unwritten fault status h a two = grind (arith, wrong)
 
 pub answered : (words : List Bytes) (unwritten : Type 0) (fault : WordsFault) (status : ℕ) → Reads words (Err fault)
     → AnswersRefusal fault status unwritten → status ≡ 0 → AskForText words
-answered words unwritten Memory status h a none = absurd (omega arith)
-answered words unwritten (Refused error) status h (inl (low, is)) none = shown words error h is
-answered words unwritten (Refused error) status h (inr (two, stays, hidden)) none = absurd (omega arith)
+answered words unwritten fault status h a none = grind (arith, shown)
 
 pub failed : (words : List Bytes) (unwritten : Type 0) (fault : WordsFault) (status : ℕ) → Reads words (Err fault)
     → AnswersRefusal fault status unwritten → status ≡ 1 → AskForText words ⊎ unwritten
-failed words unwritten Memory status h a one = inr a.1
-failed words unwritten (Refused error) status h (inl (low, is)) one = inl (shown words error h is)
-failed words unwritten (Refused error) status h (inr (two, stays, hidden)) one = absurd (omega arith)
+failed words unwritten fault status h a one = grind (arith, shown)
 
 pub unused : (words : List Bytes) (unread unwritten used : Type 0) (fault : WordsFault) (status : ℕ)
     → Reads words (Err fault) → AnswersRefusal fault status unwritten → unread
     → (AskForText words × unread) ⊎ ((unread × unwritten) ⊎ used)
-unused words unread unwritten used Memory status h a kept = inr (inl (kept, a.1))
-unused words unread unwritten used (Refused error) status h (inl (low, is)) kept = inl (shown words error h is, kept)
-unused words unread unwritten used (Refused error) status h (inr (two, stays, hidden)) kept =
-    inr (inl (kept, stays))
+unused words unread unwritten used fault status h a kept = grind (arith, shown)
 
 -- the status of words that make no job
 pub wrong_status : (words : List Bytes) {unwritten : Type 0} (fault : WordsFault) (status : ℕ) → Reads words (Err fault)
     → AnswersRefusal fault status unwritten → AskForText words ⊎ ((status ≡ 2) ⊎ ((status ≡ 1) × unwritten))
-wrong_status words Memory status h a = inr (inr a)
-wrong_status words (Refused error) status h (inl (low, is)) = inl (shown words error h is)
-wrong_status words (Refused error) status h (inr (two, stays, hidden)) = inr (inl two)
+wrong_status words fault status h a = grind (arith, shown)
 
 -- words that make a job are not wrong
 pub not_wrong : (words : List Bytes) (job : Job) → Makes words job → AreWrong words → ⊥

@@ -10,29 +10,20 @@ use Rattle.age_cli.specs.Told.{Prints, Says, Stream, error_line}
 -- the line, from a write of it whole
 pub prints : {E : Type 0} (err : Stream) (r : Result ⊤ E) (line : Bytes) → Writes err.bytes r line
     → Counts err.before err.after r → Prints err line
-prints err (Ok u) line h count = inl h
-prints err (Err e) line h count = inr (h, count)
+prints err r line h count = grind arith
 
 -- the line of refused memory was printed in place of another
 refused_is : (known : Known)
     → IfSome known (λ said. (error_line (codes "out of memory") ≡ said)
     ⊎ (error_line (codes "out of memory") ≡ error_line (codes "out of memory")))
-refused_is None = tt
-refused_is (Some said) = inr refl
+refused_is known = grind arith
 
 pub says_refusal : {E : Type 0} (known : Known) (err : Stream) (r : Result ⊤ E)
     → Writes err.bytes r (error_line (codes "out of memory")) → Counts err.before err.after r → Says known err false
-says_refusal known err r h count = (
-  error_line (codes "out of memory"),
-  prints err r (error_line (codes "out of memory")) h count,
-  (λ yes. absurd (cc)),
-  refused_is known,
-)
+says_refusal known err r h count = grind (arith, prints, refused_is)
 
 -- what was printed after a refusal with status 1
 pub told_refusal : (words : List Bytes) (unwritten told : Type 0) (fault : WordsFault) (status : ℕ)
     → Reads words (Err fault) → AnswersRefusal fault status unwritten → (fault ≡ Memory → told) → status ≡ 1
     → AskForText words ⊎ told
-told_refusal words unwritten told Memory status h a t one = inr (t refl)
-told_refusal words unwritten told (Refused error) status h (inl (low, is)) t one = inl (shown words error h is)
-told_refusal words unwritten told (Refused error) status h (inr (two, stays, hidden)) t one = absurd (omega arith)
+told_refusal words unwritten told fault status h a t one = grind (arith, shown)
