@@ -1,5 +1,5 @@
 -- What a finished job has written, if input and output are known.
-use Rattle.age_cli.proofs.Common.{◌≡◌, ◌≤◌, ◌⊎◌, ◌∙◌, ◌++◌, ℕ, ap, arith, cond, false, inl, inr, length, refl, subst, sym, true, List, None, Some, Result, Ok, Err, ⊤, ◌↔◌, ◌&&◌, Bool, Option, Bytes, Known, move_of, LossesMoved, Fault, Job, Ends, IsPiped, Makes, Moved, Runs, RunsOn, word_limits, OfKnown, Performs, SalvagesAll, without_counts}
+use Rattle.age_cli.proofs.Common.{◌≡◌, ◌≤◌, ◌⊎◌, ◌∙◌, ◌++◌, ℕ, arith, cond, inl, inr, length, sym, true, List, Some, Result, Ok, Err, ⊤, ◌↔◌, ◌&&◌, Bool, Option, Bytes, Known, move_of, LossesMoved, Fault, Job, Ends, IsPiped, Makes, Moved, Runs, RunsOn, word_limits, OfKnown, Performs, SalvagesAll, without_counts}
 use Rattle.std.proofs.lemmas.Bool.{and_parts}
 use Rattle.std.specs.Io.KnownBytes.{Appends, Keeps}
 use Rattle.age_header.specs.Header.{HeaderParts, StanzaParts}
@@ -21,7 +21,6 @@ use Rattle.age_file.proofs.SalvageLaws.{saved_exactly, saved_whole}
 use Rattle.age_job.specs.declared.job.Command.{Command}
 use Rattle.age_job.specs.declared.job.Command.TheVariants as command
 use Rattle.age_job.specs.declared.secret.Secret.{Secret}
-use Rattle.age_stream.specs.Ranges.{range_len}
 use Rattle.age_commands.specs.declared.task.Task.TheVariants as task
 use Rattle.age_commands.specs.Inspect.{InspectsText, IsShown, check_of}
 use Rattle.age_args.proofs.PipedLemmas.{piped}

@@ -1,12 +1,10 @@
 -- The result of a job, from the result of its task.
-use Rattle.age_cli.proofs.Common.{◌≡◌, ◌⊎◌, ℕ, List, arith, inl, inr, subst, sym, Option, None, Some, Result, Ok, Err, ⊤, Bytes, Known, Moved, Stays, move_by, move_of, Fault, Job, AreWrong, AskForText, Makes, Reads, Task, AnswersRefusal, FailsBeside, IsDevice, IsTaskOf, OfWork, Runs, RunsOn, Works}
+use Rattle.age_cli.proofs.Common.{◌≡◌, ◌⊎◌, ℕ, List, arith, subst, sym, None, Result, Err, ⊤, Bytes, Known, Moved, Stays, move_by, move_of, Fault, Job, AreWrong, AskForText, Makes, Reads, Task, AnswersRefusal, FailsBeside, IsDevice, IsTaskOf, OfWork, Runs, RunsOn, Works}
 use Rattle.std.proofs.KnownBytes.{Keeps-refl}
 use Rattle.age_args.specs.declared.fault.WordsFault.{WordsFault}
-use Rattle.age_args.specs.declared.fault.WordsFault.TheVariants.{Memory, Refused}
 use Rattle.age_args.proofs.RefusalLemmas.{shown, wrong}
 use Rattle.age_job.proofs.RefusalLemmas.{of_secret}
 use Rattle.age_cli.specs.declared.failure.Failure.{Failure}
-use Rattle.age_cli.specs.declared.failure.Failure.TheVariants.{AgeFile, Job as OfJob}
 
 -- the result of a job, from that of its task
 pub completes : {F : Type 0} (remaining contents : F → Known) (job : Job) (task : Task) (from source : Known)

@@ -1,8 +1,8 @@
 -- What was printed on standard error, from what each call printed.
 use Rattle.std.specs.Prelude.{IfSome, codes, false}
-use Rattle.age_cli.proofs.Common.{◌≡◌, ◌⊎◌, ℕ, List, arith, inl, inr, refl, None, Some, Result, Ok, Err, ⊤, Bytes, Known, AskForText, Reads, AnswersRefusal}
+use Rattle.age_cli.proofs.Common.{◌≡◌, ◌⊎◌, ℕ, List, arith, Result, Err, ⊤, Bytes, Known, AskForText, Reads, AnswersRefusal}
 use Rattle.age_args.specs.declared.fault.WordsFault.{WordsFault}
-use Rattle.age_args.specs.declared.fault.WordsFault.TheVariants.{Memory, Refused}
+use Rattle.age_args.specs.declared.fault.WordsFault.TheVariants.{Memory}
 use Rattle.age_args.proofs.RefusalLemmas.{shown}
 use Rattle.age_header.specs.Device.{Counts, Writes}
 use Rattle.age_cli.specs.Told.{Prints, Says, Stream, error_line}

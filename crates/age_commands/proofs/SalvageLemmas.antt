@@ -1,8 +1,6 @@
 -- What salvaging comes to from a source that may skip what cannot be read.
 use Rattle.age_commands.proofs.Common.{arith, append-nil, ◌≡◌, ◌⊎◌, ◌∙◌, ◌++◌, [], ap, subst, cond, false, true, Bool, ℕ, Option, None, Result, Ok, Err, OnOk, IfOk, inl, inr, sym, refl, ◌&&◌, ⊤, IfSome, is_some, Consumes-whole, Bytes, CountsIf, Known, Moved, OfGiven, Seen, flow, KnownLosses, is_whole_to, losses_of, Fault, BadChunk, SalvagedFile, Bounds, IsQuiet, is_write, SalvagesFile, is_whole_file, Answering, SalvagesAll, if_whole, of_any, gave_none, of_all, reports_none, Consumes, Consumes-kept, Consumes-nil, Consumes-trans, IsAtEnd, Keeps}
 use Rattle.std.proofs.lemmas.Bool.Decides.{nat_tests}
-use Rattle.age_stream.specs.declared.salvaged.Saved.{Saved}
-use Rattle.age_stream.specs.declared.salvaged.Saved.TheVariants.{LastChunk}
 use Rattle.age_commands.specs.declared.skipping.Reached.{Reached}
 use Rattle.age_commands.specs.declared.skipping.Reached.TheVariants.{Place, End, Failure}
 use Rattle.age_commands.specs.Skipping.{HasRead, IsFirst, OfRead, come_by, is_end}

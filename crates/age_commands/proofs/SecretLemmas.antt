@@ -1,5 +1,5 @@
 -- A list of one recipient or identity, and one that is known by its meaning.
-use Rattle.age_commands.proofs.Common.{arith, ◌≡◌, ◌∙◌, ◌+◌, ◌<◌, ◌++◌, [], ◌∷◌, List, ap, get_or, drop, length, map, subst, sym, take, Result, get_or_default, map_push, take_more, ℕ, Bytes, Flow, Known, OfGiven, Seen, flow, move_of, of_any, gave_none, StanzaParts, decision_from, Fault, Bounds, Answering, Secret, gathering_of, labels_of, recipient_of, wraps_of, Encrypting}
+use Rattle.age_commands.proofs.Common.{arith, ◌≡◌, ◌∙◌, ◌+◌, ◌<◌, ◌++◌, [], ◌∷◌, List, ap, get_or, drop, length, map, sym, take, Result, get_or_default, map_push, take_more, ℕ, Bytes, Flow, Known, OfGiven, Seen, flow, move_of, of_any, gave_none, StanzaParts, decision_from, Fault, Bounds, Answering, Secret, gathering_of, labels_of, recipient_of, wraps_of, Encrypting}
 use denote.Param.Object.{Made, read_made}
 use denote.Param.Table.{Entry, Table}
 use Rattle.age_header.specs.declared.file_key.FileKey.{FileKey}

@@ -1,5 +1,5 @@
 -- What is written of a range of any source, piece by piece.
-use Rattle.age_commands.proofs.Common.{◌≡◌, ◌∙◌, Result, ◌+◌, ◌-◌, ◌*◌, ◌<◌, ◌≤◌, ℕ, ap, arith, inl, inr, length, refl, slice_index, subst, sym, take, Option, None, Ok, Err, ⊤, Keeps-refl, length-take-le, get_or-take, Bytes, CountsFaultIf, Known, Moved, move_of, StreamFault, Layout, StaysGiven, IsVerifiedByte, RangeState, Stops, range_len, chunk_size, Fault, Write, Bounds, BeginsFile, IsOpenFault, Answering, stream_fault, IsPartFault, OfBytes, RangingAny, WritesAny, WritesVerified, answers_of, limits_of, Range, LossesMoved, Performs, IsLate, IsQuiet, is_write, Job, Secret}
+use Rattle.age_commands.proofs.Common.{◌≡◌, ◌∙◌, Result, ◌+◌, ◌-◌, ◌*◌, ◌<◌, ◌≤◌, ℕ, ap, arith, inl, inr, length, refl, slice_index, subst, sym, take, Option, None, Err, ⊤, Keeps-refl, length-take-le, get_or-take, Bytes, CountsFaultIf, Known, Moved, move_of, StreamFault, Layout, StaysGiven, IsVerifiedByte, RangeState, Stops, range_len, chunk_size, Fault, Bounds, BeginsFile, IsOpenFault, Answering, stream_fault, IsPartFault, OfBytes, RangingAny, WritesAny, WritesVerified, answers_of, limits_of, Range, LossesMoved, Performs, IsQuiet, is_write, Job, Secret}
 use Rattle.age_stream.proofs.RangeLemmas.{byte_stays}
 use Rattle.age_commands.proofs.RangeLemmas.{follows, nothing}
 
