@@ -565,6 +565,15 @@ class Writes(InSystem):
                 file.write(data)
             self.assertEqual(self.system.info(path)["size"], 200000)
 
+    def test_flush_in_a_handler(self):
+        """In a `with` block it writes, whatever exception is being handled outside."""
+        try:
+            raise KeyError
+        except KeyError:
+            with self.system.open(self.path("a.age"), "wb") as file:
+                file.flush()
+                self.assertGreater(os.path.getsize("a.age"), 0)
+
     @unittest.skipIf(dask is None, "dask is missing")
     def test_single_file(self):
         """Dask closes such a file after each partition, and appends: the error says so."""
