@@ -126,7 +126,7 @@ class MaxHeader(ProgramCase):
                         self.writes(read("key.age") if words.startswith("rewrap") else HELLO, *run)
 
     def test_rewrapped(self):
-        """rewrap leaves out the other stanzas, so here -H applies to the old header."""
+        """The new header of rewrap is short, so here -H applies to the old one."""
         file = with_header(1025)
         self.says(message("HeaderTooLarge"), "rewrap", "-k", "key", "-K", "new.key", "-H", "1024", input=file)
         ran = self.run_agep("rewrap", "-k", "key", "-K", "new.key", "-H", "1025", input=file)

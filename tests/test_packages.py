@@ -209,7 +209,7 @@ class Packages(unittest.TestCase):
 
     @needs("cc", "qemu-x86_64")
     def test_old_processor(self):
-        """Every program and library runs on a processor without SSSE3, and the library on one with AVX2."""
+        """Every program and library runs on a processor without SSSE3, and on one with AVX2."""
         (self.work / "key").write_bytes(fixture.KEY)
         (self.work / "keyed").write_bytes(fixture.for_keys(fixture.PLAIN, fixture.KEY))
         expected = (0, fixture.PLAIN)

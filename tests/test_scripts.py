@@ -186,8 +186,8 @@ class Builds(unittest.TestCase):
         self.assertEqual(subprocess.run(["tree/package", "--build"], env=self.environment, capture_output=True).returncode, 1)
 
     def test_interrupted(self):
-        """An interrupt ends a build with all that it has started, and leaves no file. The next one says that it
-        resumes it."""
+        """An interrupt ends a build with all that it has started, and leaves no file. The next build says
+        that it resumes."""
         for name in ("age_cipher", "age_kdf", "temporary"):
             os.mkdir(f"tree/crates/{name}")
         write("pids", b"")

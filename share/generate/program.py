@@ -8,7 +8,7 @@ RIVALS = [{"passphrase", "key"}, {"new-pass", "new-key"}]
 
 
 class Option(NamedTuple):
-    """An option, or an argument of a command, which has no name. A missing text is empty."""
+    """An option of a command, or an argument, which has no name. A missing text is empty."""
 
     short: str
     long: str

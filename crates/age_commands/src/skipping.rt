@@ -150,7 +150,7 @@ impl<'a, R: Input, K: Begun> SkippingSource<'a, R, K> {
 fn pass_over<R: Seek>(reader: &mut R, buf: &mut [u8]) -> Option<(u64, usize)>
     ensures zeros { IfSome result
         (λ r. (r.1 ≤ length buf.new) × (take r.1 buf.new ≡ replicate r.1 0)) }
-    // No more zeros follow than the file has bytes, and the reader goes on behind them.
+    // The zeros end within the file, and the reader is then behind them.
     ensures within { IfSome (R.stream_position reader.old) (λ at. IfSome (R.stream_bytes reader.old)
         (λ bytes. IfSome result (λ r. (r.0 ≡ at) × (0 < r.1) × (at + r.1 ≤ length bytes)
         × (R.stream_position reader.new ≡ Some (at + r.1))))) }

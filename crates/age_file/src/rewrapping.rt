@@ -60,7 +60,7 @@ pub fn rewrap<S: Source, W: Sink>(
     let Ok(()) = write_all(out, text.as_slice()) else {
         return Err(Fault::Write);
     };
-    // So that each write after it begins at a page of the new file.
+    // After this first piece, each write begins at a page of the new file.
     let first = BUFFER_SIZE - text.len() % BUFFER_SIZE;
     copy_all(input, out, buf.as_mut_slice(), first)
 }

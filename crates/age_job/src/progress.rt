@@ -50,8 +50,8 @@ fn terminal<F: Files>(rt: &F) -> io::Result<F::File> {
     OpenOptions::new().write(true).open(rt, "/dev/stderr")
 }
 
-/// Whether this is the name of a character device other than `/dev/null`. The standard library does
-/// not say which of these are terminals.
+/// Whether this is the name of a character device other than `/dev/null`. Only of an open file does
+/// the standard library say whether it is a terminal.
 fn may_be_terminal<F: Files>(rt: &F, name: &str) -> bool {
     match (Inode::at(rt, name), Inode::at(rt, "/dev/null")) {
         (Ok(out), Ok(null)) => out.kind == Kind::CharDevice && !out.is(&null),

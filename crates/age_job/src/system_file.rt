@@ -1,4 +1,4 @@
-//! What code that is generic over `Files` needs of a file besides `OpenFile`.
+//! The calls beyond `OpenFile` that code generic over `Files` makes on a file.
 
 use std::fs::{File, TryLockError};
 use std::io;

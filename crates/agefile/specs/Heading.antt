@@ -44,7 +44,7 @@ abbrev pub unless_mixed : Result (List StanzaParts) Fault → Result (List Stanz
 unless_mixed (Err fault) = Err fault
 unless_mixed (Ok stanzas) = if is_mixed stanzas then Err MixedPassphrase else Ok stanzas
 
--- the stanzas of a nonempty text, if none is mixed, or the first fault
+-- the stanzas of a nonempty text, or the first fault
 abbrev pub ReadsAs : (text : Bytes) (stanzas : Result (List StanzaParts) Fault) → Type 0
 ReadsAs text stanzas =
     (verdict : Result Found HeaderFault) × HeaderVerdict (probe text) limits.max_header verdict
