@@ -1,13 +1,13 @@
 #!/usr/bin/env python3
-"""Measures the library from C, Rust and Python beside agep and age, and prints one table.
+"""Measures the library from C, Rust and Python beside agep and age, and prints two tables.
 
 usage: bench/library.py PREFIX [--mib 1024] [--runs 3] [--only WORD]
 
 PREFIX is where ./install --library put the library; `agep` must be built. The script needs a C compiler,
 cargo and age. Programs in C and Rust link the archive, except in the row that says otherwise. The commands
-run in turn, --runs times each. The table has the best times, on the clock and of the processor, the ratio
-of processor time to that of agep, and the peak memory. TMPDIR names the folder for the files, which need
-four times the size; --only leaves out the rows without this word.
+run in turn, --runs times each. The first table has the best times, on the clock and of the processor, the
+ratio of processor time to that of agep, and the peak memory; --only leaves out its rows without this word.
+TMPDIR names the folder for the files, which need five times the size.
 """
 
 import argparse

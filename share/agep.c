@@ -1,6 +1,6 @@
 /* The program agep of a package: contains the proved program once for each level of processor, and
- * calls the build that fits this one. The main of each is named after its level. This file is not
- * proved. */
+ * calls the build that fits the processor. The main of each is named after its level. This file is
+ * not proved. */
 #include <signal.h>
 #include <stdio.h>
 #include <string.h>

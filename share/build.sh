@@ -1,12 +1,12 @@
-# Builds the program and the library. ./agep, ./install, ./package, ./release and .ci/run source this
-# file, with the repository's folder in `root`.
+# Builds the program and the library. Scripts source this file, with the repository's folder in
+# `root`.
 # shellcheck shell=sh disable=SC2046,SC2154
 
 # The levels of processor for which the library and the packages' program contain builds, lowest
 # first. Debian and most distributions support x86-64.
 levels="x86-64 x86-64-v3 x86-64-v4"
 
-# Whether this machine's processor has all of a level: runs LEVEL. Any has x86-64-v2.
+# Whether this machine's processor has all of a level: runs LEVEL. It is assumed to have x86-64-v2.
 runs() {
     parts="avx avx2 bmi1 bmi2 f16c fma abm movbe xsave"
     case $1 in
@@ -119,9 +119,9 @@ stop_libraries() {
 
 # Proves and builds the libraries up to age_file or up to age_cli, lowest first: libraries LAST. A
 # run of `rt` waits for another run that uses the same lower library. So only those that share none
-# are proved in parallel with the others: age_cipher, and age_job with age_args above it. These two
-# must be done before age_commands, which depends on age_job. Skips what this script has proved
-# before.
+# are proved in parallel with the others: age_cipher, and age_job with age_args above it. The latter
+# two must be done before age_commands, which depends on age_job, too. Skips what this script has
+# proved before.
 proved_to=
 libraries() {
     [ "$proved_to" != age_cli ] && [ "$proved_to" != "$1" ] || return 0
@@ -166,7 +166,7 @@ has_level() {
     is_current "$program-$1" "$program-$1.built" "$1"
 }
 
-# Makes the kept program for a processor the current one. Fails if none was kept.
+# Makes the kept program for a processor the one in use. Fails if none was kept, or it is stale.
 take_level() {
     has_level "$1" || return
     cp -p "$program-$1" "$program.$$"

@@ -3,13 +3,13 @@
 // for a write to standard error, or any. NUMBER is its number among the calls of its kind, from 1, or
 // 0 for all of them. DO says what happens: the call transfers "one" byte, "half" of the bytes or
 // "none", or fails with this error number, or the process is killed by signal 9 before it, or a
-// command of the shell is run. If AFTER names a kind, only what comes after a call of that kind counts.
-// If KEPT is set, each unlink fails too. The file "met" gets the kind and the file of the first such call. The file
-// that TRACE names gets a line for each call: its kind, the file, and the result. A
-// read of the character device /dev/urandom returns the bytes of the file that URANDOM names. If
-// CLOCK is set, these milliseconds pass between two looks at the clock. If INODE is set, the number
-// of each file is its size times this. If BAD is set, to two offsets, no
-// byte of a file IN.age can be read from the first to before the second.
+// command of the shell is run. If AFTER names a kind, only what comes after a call of that kind
+// counts. If KEPT is set, each unlink fails too. The file "met" gets the kind and the file of the
+// first such call. The file that TRACE names gets a line for each call but unlink: its kind, the
+// file, and the result. A read of the character device /dev/urandom returns the bytes of the file
+// that URANDOM names. If CLOCK is set, these milliseconds pass between two looks at the clock. If
+// INODE is set, the inode number of each file is its size times this. If BAD is set, to two
+// offsets, a file IN.age cannot be read from the first to before the second.
 #define _GNU_SOURCE
 #include <dlfcn.h>
 #include <errno.h>
@@ -142,7 +142,7 @@ static ssize_t read_known(const char *name, void *bytes, size_t size)
     return count;
 }
 
-// How much can be read of a file from where it stands: -1, and errno is set, at bytes that can't.
+// How much of a file can be read from its offset on; -1, with errno set, if the byte there cannot.
 static ssize_t readable(int from, size_t size)
 {
     const char *bad = getenv("BAD");

@@ -1,5 +1,5 @@
-"""What stands after a job that writes a new file, and what was told: what the pages promise, as functions of
-what stood before. test_new_file.py tries each cell with the program and with the package for Python."""
+"""The files after a job that writes a new file, and what it reports, as the pages promise: functions of the
+files before the job. test_new_file.py tries each cell with the program and with the package for Python."""
 
 import collections
 import itertools
@@ -50,7 +50,7 @@ def refusal(c):
 
 
 def happens(c):
-    """Whether the job comes to its end."""
+    """Whether the job can end as the cell says."""
     how, _, call = c.end.partition(" ")
     if refusal(c) or c.out == "full" and call or c.new != "absent" and not c.atomic:
         return c.end == "whole"
@@ -122,7 +122,7 @@ def after(c):
 
 
 def then(c):
-    """The cell of the same job, whole, after one that left its new file."""
+    """The cell of the same job run again, whole, after a run that left its new file."""
     out, new, _ = after(c)
     new = {"left": "linked" if out == "new" else "dead", "same": c.new}[new]
     return c._replace(out="regular" if out == "new" and c.out != "link" else c.out, new=new, end="whole")

@@ -12,8 +12,8 @@ ROOT = Path(__file__).resolve().parent.parent
 
 
 def members(package):
-    """For everything that a package installs its path, mode, owner and link target, and the contents of its
-    files."""
+    """The path, mode, owner and link target of each file and folder of a package, and the contents of each
+    file."""
     if package.suffix == ".whl":
         with zipfile.ZipFile(package) as file:
             for info in file.infolist():
@@ -55,14 +55,14 @@ def disassembled(file):
 
 
 def instructions_of(file):
-    """Of the instructions of a program the most in a row that are not newer, the newer ones, and all."""
+    """The numbers of a program's instructions: of the longest row without newer ones, of newer ones, of all."""
     marks = "".join("-" if NEWER.search(line) else "+" for line in disassembled(file) if "\t" in line)
     return max(map(len, marks.split("-"))), marks.count("-"), len(marks)
 
 
 def functions_of(file):
-    """For each function of a program or archive its name, which is the same in all builds, and its number of
-    newer instructions."""
+    """The name of each function of a program or archive, the same in all builds, and its number of newer
+    instructions."""
     found = [["", 0]]
     for line in disassembled(file):
         if line.endswith(">:"):

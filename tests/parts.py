@@ -1,5 +1,5 @@
 """Finds the file key, the nonce and the salt of an age v1 file with one stanza, following the RFCs and
-sharing nothing with this project. With these bytes as the seed, reference.py makes the same file again."""
+sharing no code with the crates. With these bytes as the seed, reference.py makes the same file again."""
 
 import base64
 import hashlib

@@ -19,7 +19,7 @@ from messages import filled
 TESTS = os.path.dirname(os.path.abspath(__file__))
 ROOT = os.path.dirname(TESTS)
 AGEP = os.path.join(ROOT, "crates", "agep", "out", "agep")
-# The commands that open IN, which must follow, with a key and with a passphrase.
+# The commands that open IN, with a key and with a passphrase. IN must follow them.
 OPENING = ("decrypt -k key", "range -k key 0 1", "rewrap -k key -K key", "salvage -k key")
 BY_PASSPHRASE = ("decrypt -p pass", "range -p pass 0 1", "rewrap -p pass -K key", "salvage -p pass")
 # The levels of processor for which the packages contain builds, lowest first.
@@ -27,7 +27,7 @@ LEVELS = ("x86-64", "x86-64-v3", "x86-64-v4")
 IO_ERROR, NO_SPACE, INTERRUPTED = "5", "28", "4"
 # Gives up after so many seconds without progress.
 PATIENCE = 600
-# How many programs run at a time, since other scripts run at the same time as most of these.
+# How many programs run at a time: by default half as many as processors, because other scripts run meanwhile.
 AT_A_TIME = int(os.environ.get("AT_A_TIME", max(1, (os.cpu_count() or 1) // 2)))
 
 

@@ -15,8 +15,8 @@ def runs(numbers):
 
 
 def opened(made, i, piece, is_end):
-    """The chunk that a piece is or, if it is the last one, begins with, and how many bytes follow it there: a
-    text, True if it was made as the last chunk, None if zeros stand for it, and that number."""
+    """The chunk that a piece is, or that the last piece begins with: its text (zeros if it does not open), whether
+    it was made as the last chunk (None if it does not open), and how many bytes follow it in the piece."""
     if (i, piece) in made or not is_end:
         return *made.get((i, piece), (bytes(max(len(piece) - 16, 0)), None)), 0
     fits = [(len(piece) - len(other), text) for (number, other), (text, is_last) in made.items()
@@ -36,7 +36,7 @@ def expected(payload):
                  if is_last and not padding and (i < end or i > 0 and not text)), default=None)
     _, last, padding = found[end]
     trailing = padding if early is None else max(len(payload) - 16 - (early + 1) * SEALED, 0)
-    # After a lost chunk, a few bytes may follow the end.
+    # After a lost or an early chunk, up to 16 bytes are no sign of a cut: they may follow the end.
     is_cut = last is False or (last is None and not texts[end] and end - 1 not in (early, *lost))
     listed = tuple((run, sum(map(len, texts[: run[0]])), sum(len(texts[i]) for i in run), False) for run in runs(lost))
     return b"".join(texts), (sum(map(len, texts)), end + 1, listed, early, trailing, is_cut,

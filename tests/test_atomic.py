@@ -40,7 +40,7 @@ class Calls(CallCase):
         self.assertEqual(calls[-2:], [("rename", "target.agep-new", 0), ("fsync", "other", 0)])
 
     def test_left(self):
-        """A new file that cannot be removed stays. The next run removes it; if it cannot, it is refused."""
+        """A new file that cannot be removed stays. The next run removes it, or is refused if it cannot."""
         for call in ("write", "fsync", "rename", "fchmod"):
             with self.subTest(call):
                 write("made", YESTERDAY)
@@ -104,9 +104,9 @@ class Runs(ProgramCase):
         self.assertGreater(number, 15)
 
     def test_changed_names(self):
-        """Before any call another program removes the new file, or gives its name to a file of its own, which it has
-        locked, to a link or to a folder: no run ends with status 0 over that, and that stays as it is. What
-        comes right before the rename is renamed, with status 1."""
+        """Before any call another program removes the new file, or puts its own locked file, a link or a folder there: with
+        status 0 OUT is the run's file, otherwise it is as it was, and what the other program put there stays. Only a file
+        or link put there right before the rename becomes OUT, with status 1."""
         write("theirs", b"theirs")
         os.mkdir("theirs.d")
         with open("theirs") as file:
@@ -157,7 +157,7 @@ class Atomic(Files):
 
     def test_modes(self):
         """A new file has the permissions, the owner and the group of the old one. If the system does not let the owner
-        be kept, the group is; a group that is not gets no permission."""
+        be kept, the group is kept; if neither can be, the new file's group gets no permission."""
         mine = os.geteuid(), os.getegid()
         other = (65534, 65533) if mine[0] == 0 else mine
         for mode, umask, (refused, kept, owner) in itertools.product(
@@ -201,7 +201,7 @@ class Atomic(Files):
             shutil.rmtree("acl")
 
     def test_special(self):
-        """What a name says of a folder or of standard output is refused, and so is a name that cannot be created."""
+        """A name of a folder or of standard output is refused, and so is one under which no file can be created."""
         for name in ("folder/", ".", "/dev/stdout"):
             with self.subTest(name):
                 self.changes_nothing(f"OutputIsSpecial: {name}", f"decrypt -k key --atomic -o {name} key.age")

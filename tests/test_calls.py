@@ -1,6 +1,6 @@
-"""Runs each command with each of its reads, writes, truncations, syncs and seeks cut short or failing in
-turn. A short call changes nothing. A failing call ends with its message, status 1 and a prefix of the right
-output, and never with status 0 and an incomplete file."""
+"""Runs each command with each of its reads and writes cut short, and each of its calls on files failing, in turn.
+A short call changes nothing. After a failing call the run goes on, or ends with the call's message, status 1 and a
+prefix of the right output; status 0 never comes with an incomplete file."""
 
 import copy
 import errno
@@ -120,8 +120,8 @@ class CallCase(ProgramCase):
         return judge
 
     def each_call(self, kind, what, job, form, judge):
-        """Changes all calls of a kind, unless they are repeated then, and each in turn, until a run has no such
-        call; that run must be complete."""
+        """Changes all calls of a kind at once, unless these are interrupted or of any kind, then each in turn, until a
+        run has no such call; that run must be complete."""
         with self.subTest(f"{job} {form}, each {kind} in turn, DO={what}"):
             for number in range(what == INTERRUPTED or kind == "any", 1000):
                 ran = self.run_job(job, form, call=kind, number=number, do=what)
@@ -142,7 +142,7 @@ class Order(CallCase):
 
     def test_order(self):
         """OUT is truncated, then written, then synced; the writes add up to the whole output. Those of `rewrap`
-        after the header begin at pages."""
+        begin at pages from the third on."""
         for job in self.jobs:
             if job.has_out:
                 with self.subTest(str(job)):
@@ -170,7 +170,7 @@ class ShortCalls(CallCase):
     TRACE = {}
 
     def test_in_turn(self):
-        """A short read or write is followed by another one, and so if all are short."""
+        """A short read or write is followed by another one, even if all are short."""
         for job in self.jobs:
             for form in job.forms():
                 for kind in ("read", "write"):
@@ -178,7 +178,7 @@ class ShortCalls(CallCase):
                         self.each_call(kind, what, job, form, self.is_whole)
 
     def test_nothing_saved(self):
-        """Zeros in place of each chunk are nothing saved, though written in parts: the old OUT stays."""
+        """If every chunk is lost, nothing is saved, even if the zeros are written in parts: the old OUT stays."""
         write("lost.age", functools.reduce(fixture.changed, (180, 65800, 131300), read("key.age")))
         self.run_job(Job("salvage -k key --atomic", "lost.age", b"", 5, 3), "-o", call="write", number=0, do="half")
         self.assertTrue(self.met)
@@ -202,7 +202,7 @@ class ShortCalls(CallCase):
 
 
 class UnreadChunks(CallCase):
-    """salvage goes on behind what cannot be read of a file that it is given by its name."""
+    """salvage goes on after a part of a file that cannot be read, if the file is given by name."""
 
     def setUp(self):
         super().setUp()
@@ -226,7 +226,7 @@ class UnreadChunks(CallCase):
         self.assert_bytes(self.made, text)
 
     def test_in_turn(self):
-        """Each read fails once: it costs the rest of its chunk. At the header, the nonce or the end nothing follows."""
+        """Each read fails once: that costs the rest of its chunk, or ends the run at the header, the nonce or the end."""
         def judge(ran, job, form):
             sizes = [int(row.split()[2]) for row in read("trace").decode().splitlines() if row.startswith("read IN.age ")]
             if -1 not in sizes:
@@ -261,7 +261,7 @@ class UnreadChunks(CallCase):
                     self.assert_bytes(self.made, YESTERDAY)
 
     def test_changed_header(self):
-        """It does so too behind a header that was changed."""
+        """salvage goes on after unread bytes even if the header was changed."""
         write("IN.age", with_other_mac(read("key.age")))
         ran = self.run_job(self.job, "-o", bad=f"{HEAD + SEALED} {FILE}")
         line = "the header was changed: the chunks were tried with the key that fits"
@@ -269,7 +269,7 @@ class UnreadChunks(CallCase):
         self.assert_bytes(self.made, LONG_PLAIN[:65536] + bytes(len(LONG_PLAIN) - 65536))
 
     def test_reasons(self):
-        """Whatever the system's reason is, but not after an interrupted call."""
+        """salvage goes on whatever the system's reason is, except after an interrupted call."""
         for number in ERRORS:
             with self.subTest(os.strerror(number)):
                 ran = self.run_job(self.job, "-o", call="read", number=4, do=number)
@@ -282,7 +282,7 @@ class UnreadChunks(CallCase):
                 self.assert_bytes(self.made, bytes(65536) + LONG_PLAIN[65536:])
 
     def test_fault_behind_it(self):
-        """They are told too, after the lost chunks, if a write fails later."""
+        """The bytes left out are reported, after the lost chunks, even if a write fails later."""
         env = {"LD_PRELOAD": preload("calls"), "CALL": "read", "NUMBER": "4", "DO": IO_ERROR}
         limits = {"preexec_fn": lambda: resource.setrlimit(resource.RLIMIT_FSIZE, (100000, 100000)), "restore_signals": False}
         ran = self.run_agep("salvage", "-k", "key", "-o", "limited", "IN.age", env=env, **limits)
@@ -291,7 +291,7 @@ class UnreadChunks(CallCase):
         self.assert_ended(ran, 1, fault(lost) + fault(unread) + fault(message("Write")))
 
     def test_pipe(self):
-        """Of a pipe and of standard input nothing follows."""
+        """salvage does not go on after a failed read of standard input."""
         whole = Job("salvage -k key", "key.age", LONG_PLAIN, 5, 3)
         self.each_call("read", IO_ERROR, whole, "", self.has_failed(message("Read")))
 
@@ -407,7 +407,7 @@ class FailingCalls(CallCase):
         self.each_call("read", IO_ERROR, job, "-o", is_old)
 
     def test_metadata_of_one_file(self):
-        """An OUT that is also read stays as it was, whichever question about files fails."""
+        """An OUT that is also read stays as it was, whichever call of statx fails."""
         for words, name, is_piped in (
             ("encrypt -k key -o plain", "plain", False), ("encrypt -k key -o plain", "plain", True),
             ("encrypt -k key -s seed -o seed", "seed", True), ("decrypt -k key -o key.age", "key.age", False),

@@ -83,7 +83,7 @@ class Interrupted(ProgramCase):
 
 
 class ClosedStreams(ProgramCase):
-    """A closed standard stream stays closed: no file gets its descriptor."""
+    """No file of a job gets the descriptor of a closed standard stream."""
 
     def run_closed(self, words, closed, is_terminal):
         """Runs the program with these streams closed and a terminal or a pipe as standard error. Returns its
@@ -129,7 +129,7 @@ class ClosedStreams(ProgramCase):
                                 os.remove("made")
 
     def test_by_name(self):
-        """Nor does the name of a stream lead to a file."""
+        """No name of a closed stream, such as /dev/stdout, leads to a file."""
         for streams, name in ((1,), "/dev/stdout"), ((2,), "/dev/stderr"), ((1, 2), "/dev/fd/1"), ((0, 1, 2), "/dev/fd/2"):
             with self.subTest(f"-o {name}, {streams} closed"):
                 line = "" if 2 in streams else fault(message("CannotCreate", name))
@@ -296,7 +296,7 @@ class SystemCalls(ProgramCase):
 
     def test_whole_chunks(self):
         """encrypt and decrypt move at least 64 KiB in a call, except in the first two and the last two reads,
-        the write of the header and the last write."""
+        and in the first and the last write."""
         many = b"".join(b"%d\n" % i for i in range(1, 100001))[:450000]
         for words, text in (("encrypt -k key -s seed", many), ("decrypt -k key", fixture.for_keys(many, KEY))):
             with self.subTest(words):

@@ -1,5 +1,5 @@
 """The order in which each command checks for faults, and refused command lines. tests/cli/usage.console has
-an example of each refusal."""
+the missing and the unknown commands."""
 
 import itertools
 import re
@@ -49,8 +49,8 @@ ORDERS = {
 
 class Order(Files):
     def test_order(self):
-        """Of each two faults a command tells the one that it checks first. Nothing behind it is opened, and no file is
-        created."""
+        """Of any two faults a command reports the one that it checks for first. No file is created or
+        changed."""
         for command, (good, groups) in ORDERS.items():
             rows = [(slot, words, name) for slot, faults in groups for name, each in faults.items() for words in each]
             for first, other in itertools.combinations_with_replacement(rows, 2):
@@ -88,7 +88,7 @@ class Refused(ProgramCase):
                 yield f"{command} {name} N {self.ARGUMENTS.get(command, 'absent')}", f"{name} <N>", *ends
 
     def test_numbers(self):
-        """Each number is one, and has a least and a greatest value."""
+        """Each numeric argument must be a number from its least to its greatest value."""
         for line, name, least, most in self.numbers():
             said = {number: f"{number} is not in {least}..={most}" for number in (least - 1, most + 1, 2**64 - 1) if number >= 0}
             said |= {2**64: "number too large to fit in target type", "x": "invalid digit found in string"}

@@ -48,8 +48,8 @@ class Out(Files):
         write("mixed.age", read("empty_pass.age").replace(b"-> ", b"-> x\n\n-> ", 1))
 
     def test_kept(self):
-        """If nothing was written, an existing OUT stays as it was, and a new one is left empty. If a secret
-        or IN is refused, OUT is not created."""
+        """If nothing was written, an existing OUT stays as it was, and a new one is left empty. If a secret is
+        malformed or IN cannot be opened, OUT is not created."""
         def each(commands, *files):
             return [f"{command} {file}" for command in commands for file in files]
 
@@ -127,7 +127,7 @@ class Out(Files):
                 self.assertIn(fault(message("Unidentified", name), f"identifying {name}: Input/output error"), said)
 
     def test_out_of_memory(self):
-        """The same if an allocation is refused."""
+        """If memory is refused, an existing OUT stays as it was."""
         self.changes_nothing("OutOfMemory", "encrypt -p pass -w 18 -o old hello", memory=100000 * 1024)
 
     def test_modes(self):
@@ -194,7 +194,7 @@ class OutIsRead(Files):
             os.remove("hard")
 
     def test_two_roles(self):
-        """A file that is read twice, as the first of them, and an empty one."""
+        """A file read in two roles is named by the first, IN before secrets. An empty one is refused, too."""
         write("both", b"")
         os.symlink("hello", "linked.in")
         for command in ("encrypt -k key", *OPENING):
@@ -204,7 +204,7 @@ class OutIsRead(Files):
         self.refuses_out("Passphrase", "pass", "rewrap -p pass -P pass -o pass pass.age")
 
     def test_numbers(self):
-        """All 64 bits of the numbers of files are compared; here they are the sizes times 2^32."""
+        """All 64 bits of inode numbers are compared; here these are the sizes times 2^32."""
         env = {"LD_PRELOAD": preload("calls"), "INODE": str(2**32)}
         write("made", b"old\n")
         self.assert_ended(self.run_line("encrypt -k key -s seed -o made hello", env=env))

@@ -15,7 +15,7 @@ from program import AGEP, ProgramCase, read, write
 CHUNK = {"x86-64-v2": 1_040_000, "x86-64-v3": 348_000}
 # The header of a keyed file, and the nonce after it.
 FRONT = 172
-# Rounds of scrypt for each KiB of its memory.
+# Instructions of scrypt for each KiB of its memory.
 KIB = {"x86-64-v2": 12_700, "x86-64-v3": 10_200}
 
 
@@ -48,8 +48,8 @@ class Instructions(ProgramCase):
                 self.assertGreater(two - one, 65536)
 
     def test_short_text(self):
-        """400 bytes go through the lanes: they cost less than three blocks more than 128 bytes, which are two
-        single blocks."""
+        """400 bytes go through the lanes: they cost less than 128 bytes, which are two single blocks, and three
+        such blocks more."""
         counts = []
         for size in (64, 128, 400):
             write("short", bytes(size))

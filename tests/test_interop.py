@@ -64,7 +64,7 @@ class Age(ProgramCase):
         self.age_opens(fixture.HELLO)
 
     def test_another_last_byte(self):
-        """Of 65: no other passphrase opens a file."""
+        """Of two passphrases of 65 bytes that differ in the last, neither opens the other's file."""
         write("secret", PREFIX + b"x")
         write("other", PREFIX + b"y")
         self.age_writes("secret", "-p", "-o", "made", "hello")

@@ -20,7 +20,7 @@ try:
 except ImportError:
     ChaCha20Poly1305 = None
 
-# The cipher has loops for pieces of 512 and 1,024 bytes, and takes shorter ones block by block.
+# The cipher takes pieces of 1,024 and 512 bytes; a rest above 128 bytes as 512, others by blocks of 64.
 EDGES = (64, 256, 320, 512, 1024, 2048, 65536)
 SIZES = (0, 1, *(edge + more for edge in EDGES for more in (-1, 0, 1)), 131073, 200000)
 PLAIN = b"".join(b"%d\n" % i for i in range(1, 100001))[: SIZES[-1]]

@@ -207,7 +207,7 @@ class Installing(unittest.TestCase):
         self.assertIn(f"#define AGEFILE_VERSION 0x{major:02x}{minor:02x}{patch:02x} ", HEADER.read_text())
 
     def test_uninstalling(self):
-        """--uninstall removes only these files, and the folders that this leaves empty."""
+        """--uninstall removes only these files, and the folder lib/pkgconfig, which this leaves empty."""
         other = work() / "other"
         shutil.copytree(prefix(), other, symlinks=True)
         self.assertEqual(run(ROOT / "install", "--library", "--uninstall", other, status=0).stderr, b"")
@@ -244,8 +244,8 @@ class Names(unittest.TestCase):
             self.assertGreater(code.count("\tvprold "), 100, library.name)
 
     def test_what_they_need(self):
-        """They need malloc, realloc, free, functions on memory, and no library but libc. The linker defines the last
-        name."""
+        """Archive and shared library need malloc, realloc, free, functions on memory, and no library but libc. The
+        linker defines _GLOBAL_OFFSET_TABLE_."""
         needed = {"free", "malloc", "realloc", "memcpy", "memmove", "memset", "memcmp", "_GLOBAL_OFFSET_TABLE_"}
         self.assertLessEqual(set(names_in("-u", archive())), needed)
         text = said("readelf", "-Wdl", prefix() / "lib" / SONAME)
@@ -292,7 +292,7 @@ class Processors(unittest.TestCase):
 
     def passed(self, *flags):
         """A program that prints which build agefile.c calls, and how many functions call that for x86-64-v4 if
-        they get 16 KiB, and fails if it is passed a null pointer."""
+        they get 16 KiB, and fails if a build gets a null pointer."""
         return built("passed", *flags, f"-I{texts()}", "-Wno-unused-parameter", library=(ROOT / "bindings/c/agefile.c",))
 
     def printed(self, level):
@@ -467,7 +467,7 @@ class Constants(unittest.TestCase):
 
     def test_unknown_codes(self):
         """convert prints the message of each code and detail up to the first one without, and succeeds only
-        if all others have the default message."""
+        if code 2^32 - 1 and the details 0 and 2^64 - 1 have the default message."""
         lines = said(built("convert"), "messages").splitlines()
         faults = [f"{fault.code} {fault.message}" for fault in codes.faults(ROOT)]
         self.assertEqual(lines, faults + [f"detail {number} {part.text}" for number, part in codes.parts(ROOT).items()])
@@ -523,7 +523,7 @@ class Calls(unittest.TestCase):
         self.agree(100, self.driver("-O1", library=(second / "libagefile.a",)))
 
     def test_a_wrong_library_is_found(self):
-        """Random calls find a library that reads, writes, reports or returns something else."""
+        """random_calls.py finds a library that reads, writes, reports or returns something else."""
         text = (texts() / "driver_calls.h").read_text()
         call = "agefile_wrap_key(P(0), P(1), P(2), P(3), N(3), report)"
         self.assertIn(f" return {call};", text)
@@ -552,7 +552,7 @@ class WithTheProgram(unittest.TestCase):
         return run(built("convert", "-O2"), *words, cwd=work(), **options)
 
     def test_both_ways(self):
-        """Whole buffers, steps and ranges make and open the files of agep, for each size."""
+        """Whole buffers and steps make and open the files of agep, and ranges open them, for each size."""
         for size in SIZES:
             plain = b"".join(b"%d\n" % i for i in range(40000))[:size]
             for secret, work_factor in ((("-k", "key"), ()), (("-p", "pass"), ("-w", "3"))):
@@ -603,13 +603,13 @@ class WithTheProgram(unittest.TestCase):
                 self.assertEqual({name: (work() / name).read_bytes() for name in before}, before)
 
     def test_a_closed_standard_input(self):
-        """The key file then gets its descriptor, and is not taken for the plaintext."""
+        """If standard input is closed, the key file gets its descriptor, and is not taken for the plaintext."""
         stream = built("stream", *sanitizers(), source=EXAMPLES / "stream.c")
         done = run("sh", "-c", '"$0" -e "$1" <&-', stream, work() / "key", status=2)
         self.assertEqual((done.stdout, done.stderr), (b"", b"usage: stream [-e] KEY_FILE\n"))
 
     def test_an_empty_passphrase(self):
-        """It makes no file."""
+        """An empty passphrase makes no file."""
         (work() / "none").touch()
         for kind in ("whole", "steps"):
             done = self.convert(kind, "encrypt", "-p", "none", "3", input=b"hello\n", status=26)
@@ -724,7 +724,7 @@ class Document(unittest.TestCase):
                 self.assertEqual(run("./program", "nowhere", input=file, cwd=work(), env=environment, status=2).stdout, b"")
 
     def test_loop(self):
-        """The loop in docs/C.md seals plaintexts of each size, and ends with a failed read."""
+        """The loop in docs/C.md seals plaintexts of each size, and fails if a read fails."""
         loop = re.findall(r"```c\n(.*?)```", (ROOT / "docs/C.md").read_text(), re.S)[1]
         (work() / "loop.c").write_text(f"#include <agefile.h>\n#include <stdio.h>\n{loop}{AROUND_THE_LOOP}")
         for standard in ("c99", "gnu17"):

@@ -36,7 +36,7 @@ class Names(ProgramCase):
                 self.says(message("CannotOpen", shown), "inspect", name)
 
     def test_second_lines(self):
-        """All of them in each kind of second line: NAME is a secret, a seed or IN of this content, a folder or a link."""
+        """All control characters in each kind of second line: NAME is absent, a file of this content or a link to this name."""
         size = "6 bytes; a key file holds 32 raw bytes, not hexadecimal"
         damaged = fixture.changed(read("key.age"), -1)
         for made, words, line, more in (

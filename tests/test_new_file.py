@@ -3,8 +3,8 @@
 
 usage: tests/test_new_file.py [WORD..]     prints the cells with these words that differ
 
-The workers run below calls.c, as nobody, because root may do everything. What they start, the program or a
-forked child that calls the package, is below it too, so the same calls fail in both."""
+The workers run with calls.c preloaded, as nobody, because root may do everything. The program and the forked
+child that calls the package inherit this, so the same calls fail in both."""
 
 import contextlib
 import fcntl
@@ -92,7 +92,7 @@ class Place:
         return text, os.lstat(self.new)[:2] if os.path.lexists(self.new) else None, others
 
     def differs(self, status, said, expected):
-        """How what stands and was told differs from what the model says."""
+        """How the files and the report of a run differ from the model."""
         (text, new, others), (old, was, before) = self.look(), self.before
         whole = sealed(SEALS[self.cell.job]) if self.cell.job in SEALS else PLAIN
         texts = {"absent": None, "empty": b"", "theirs": b"theirs", "old": old, "saved": SAVED, "new": whole}
@@ -135,7 +135,7 @@ def ran(c, place, env):
             by_python(c, place)
         except Exception as error:
             print(type(error).__mro__, error, file=sys.stderr)
-        # What a buffer of the caller's still has is lost.
+        # _exit loses what is left in a buffer of the caller's.
         sys.exit() if c.end in new_file.GIVEN_UP else os._exit(0)
     os.close(told_out)
     with open(told_in) as file:
@@ -165,7 +165,7 @@ def by_python(c, place):
 def write_in_python(c, file):
     if c.end in new_file.GIVEN_UP:
         file.write(PLAIN)
-        # What sys holds has no finalizer.
+        # Python runs no finalizer of what sys holds.
         sys.held = file if c.end == "held" else None
         with contextlib.suppress(ValueError):
             return file.close() if c.end == "closed" else None
@@ -187,7 +187,7 @@ def environment(c, place):
 
 
 def tried(c):
-    """How what the cell's job does differs from the model, in the current folder."""
+    """How the job of a cell, done in the current folder, differs from the model."""
     place, expected = Place(c), new_file.after(c)
     env = environment(c, place)
     found = ran(c, place, env)
@@ -208,7 +208,7 @@ def chosen(words):
 
 
 def work(home, at, *words):
-    """Tries each cell of AT_A_TIME, from this one on. Prints those that differ, and then how many it tried."""
+    """Tries every AT_A_TIME-th cell, from this one on. Prints those that differ, and then how many it tried."""
     os.umask(0o022)
     if os.geteuid() == 0:
         os.setgroups([]), os.setgid(65534), os.setuid(65534)

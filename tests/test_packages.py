@@ -176,7 +176,7 @@ class Packages(unittest.TestCase):
                     self.assert_content(path, files[path][1], source, sign == "~")
 
     def assert_content(self, path, content, source, has_version):
-        """Compares a file with its source, except for the first line with the version, if there is one."""
+        """Compares a file with its source; with `has_version`, all but the first line with the version."""
         lines = (gzip.decompress(content) if path.endswith(".gz") else content).split(b"\n")
         expected = source.read_bytes().split(b"\n")
         if has_version:
@@ -192,8 +192,8 @@ class Packages(unittest.TestCase):
 
     def test_instructions(self):
         """Each program has builds for newer processors, and one without any instruction that a processor of the level
-        x86-64 may lack: a fifth of its instructions are in one row. In the archives each export with such an
-        instruction also occurs without any."""
+        x86-64 may lack: more than a fifth of the program's instructions follow each other without any such. In the
+        archives each export with such an instruction also occurs without any."""
         for name, path in self.programs():
             with self.subTest(f"{name}: {path.name}"):
                 row, newer, every = instructions_of(path)
@@ -240,8 +240,8 @@ class Packages(unittest.TestCase):
         self.assertEqual(run("lintian", "--display-info", "--tag-display-limit", "0", *packages), "")
 
     def test_source_package(self):
-        """With the toolchain, it builds exactly the bytes of the Debian packages; without, it says what it
-        needs. Its target clean removes all that a build makes."""
+        """With the toolchain, it builds exactly the bytes of the Debian packages; without, it says what it needs. It
+        refuses a function that its list of symbols lacks. Its target clean removes all that a build makes."""
         tree = self.work / "unpacked"
         run("dpkg-source", "-x", self.one("*.dsc"), tree)
         sources = sorted(tree.rglob("*"))
@@ -322,7 +322,7 @@ class Packages(unittest.TestCase):
         self.assertEqual(refused.returncode, 1)
 
     def test_limit_of_a_file_size(self):
-        """A write above the limit fails; a signal would end the program that ./agep runs."""
+        """A write above the limit fails, because the package's program ignores SIGXFSZ."""
         agep = self.unpacked("agep_*.deb") / "usr/bin/agep"
         (self.work / "key").write_bytes(fixture.KEY)
         (self.work / "big").write_bytes(bytes(200000))
@@ -389,7 +389,7 @@ class Packages(unittest.TestCase):
         run("sh", "-ec", line, cwd=folder, env=os.environ | {"HOME": str(folder), "PIP_NO_INDEX": "1"})
 
     def test_the_wheel(self):
-        """Installed by the command of README.md."""
+        """The command of README.md installs the wheel; pip removes all of it."""
         work = Path(tempfile.mkdtemp(dir=self.work))
         self.by_the_readme("python3 -m venv", work)
         folder = work / "v"
@@ -436,7 +436,7 @@ class Packages(unittest.TestCase):
         self.assertEqual(((tree / "notes").read_bytes(), (tree / "saved").stat().st_size), (b"hello\n", 1500000))
 
     def test_the_tarball(self):
-        """Installed in a home, by the command of README.md and by those of docs/PACKAGES.md."""
+        """The commands of README.md and docs/PACKAGES.md install the tarball in a home, link a program, and remove it."""
         home = self.work / "home"
         home.mkdir()
         self.by_the_readme("mkdir -p", home)
@@ -472,7 +472,7 @@ class Packages(unittest.TestCase):
 
     @unittest.skipUnless(can_mount(), "no mount namespace")
     def test_static_program(self):
-        """It runs in a root without any other file."""
+        """agep-static runs in a root that has no other program and no library."""
         (tree,) = self.unpacked("agep-*.tar.xz").iterdir()
         root = Path(tempfile.mkdtemp(dir=self.work))
         shutil.copy(tree / "bin/agep-static", root)
@@ -624,7 +624,7 @@ class ForRust(unittest.TestCase):
         return subprocess.run([self.converter(), *words], input=file, capture_output=True, cwd=self.tree, check=True).stdout
 
     def test_files_of_others(self):
-        """The crate opens files of tests/reference.py and of agep; tests/reference.py and agep open those of
+        """The crate opens files of tests/reference.py and of agep; tests/library/model.py and agep open those of
         the crate."""
         (self.tree / "key").write_bytes(fixture.KEY)
         for size in (0, 1, 65535, 65536, 65537, 131072, 140000):
@@ -649,7 +649,7 @@ class ForRust(unittest.TestCase):
                 self.assertEqual(test_vectors.differences(way, test_damaged_files.cases()), {})
 
     def test_salvage(self):
-        """What it saves and reports of the program's small files is what the model says."""
+        """What the crate saves and reports of the files of test_salvage.py is what salvaged.py says."""
         (self.tree / "key").write_bytes(fixture.KEY)
         words = (self.converter(), "files", "salvage", "-k", "key")
         with subprocess.Popen(words, stdin=subprocess.PIPE, stdout=subprocess.PIPE, cwd=self.tree) as process:
@@ -672,9 +672,9 @@ class ForRust(unittest.TestCase):
             self.assertEqual(process.wait(), 0)
 
     def test_folder_of_the_library(self):
-        """It is the folder that AGEFILE_LIB_DIR names, else the one that pkg-config knows, else
-        /usr/local/lib. If it has no library, the error of the build names the folder, the package and the
-        variable. Other platforms are refused."""
+        """The library's folder is the one that AGEFILE_LIB_DIR names, else the one that pkg-config knows, else
+        /usr/local/lib. If it has no library, the error of the build names the folder, the package and the variable.
+        Other platforms are refused. If the library changes, the crate is built again."""
         (self.tree / "link").symlink_to("lib")
         own, first, second = (str(self.tree / name) for name in ("lib", "lib/pkgconfig", "link/pkgconfig"))
         # Each variable changes once by itself, after a successful build.
@@ -729,7 +729,7 @@ class ForRust(unittest.TestCase):
         self.assertEqual(sorted(re.sub(r".*::", "", name) for name in called), sorted(names), called)
 
     def test_passphrases(self):
-        """The crate opens a passphrase file of tests/reference.py, and makes the same file as that with its random bytes."""
+        """The crate opens a passphrase file of tests/reference.py, which makes the crate's file again from its random bytes."""
         (self.tree / "pass").write_bytes(fixture.PASSPHRASE)
         self.assertEqual(self.convert("stream", "decrypt", "-p", "pass", file=fixture.for_passphrase(b"hello\n")), b"hello\n")
         made = self.convert("stream", "encrypt", "-p", "pass", file=b"hello\n")

@@ -87,7 +87,7 @@ class Progress(ProgramCase):
         self.assert_drawn(said, FILE, last=fault(message("BadChunk", 6), "IN: damaged"))
 
     def test_lost(self):
-        """A line about lost chunks replaces it: chunk 1 in the middle, and chunk 4 at the end."""
+        """A line about a lost chunk replaces it; of seven chunks, 1 and 4 are lost."""
         text = fixture.changed(read("many.age"), KEY_FRONT + 65552)
         write("damaged", fixture.changed(text, KEY_FRONT + 4 * 65552))
         status, out, said = self.at_terminal("salvage -v -k key damaged")
@@ -136,7 +136,7 @@ class Progress(ProgramCase):
                 self.assertIn(ERASE, self.at_terminal("decrypt -v -k key many.age", term=term)[2])
 
     def test_out(self):
-        """Nothing is shown if OUT is a terminal by any name: it gets only the plaintext. Another OUT gets all of it."""
+        """Nothing is shown if OUT is a terminal by any name: it gets only the plaintext. With another OUT the line is shown."""
         os.symlink("/dev/tty", "link")
         for name, shows in (("/dev/tty", False), ("/dev/stderr", False), ("link", False), ("/dev/null", True), ("made", True)):
             with self.subTest(name):

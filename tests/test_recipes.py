@@ -172,7 +172,7 @@ class Cron(unittest.TestCase):
             fcntl.flock(lock, fcntl.LOCK_EX)
 
     def test_running(self):
-        """While one runs, another one does not touch its files."""
+        """While a backup runs, another one does not touch its files."""
         job = self.start_half()
         header = read("data.age.new.agep-new")[:150]
         self.assertTrue(header)
@@ -599,7 +599,7 @@ ANSWERS = {
 @unittest.skipUnless(shutil.which("rt"), "rt missing")
 class OneCrate(unittest.TestCase):
     def test_commands(self):
-        """Each command of the table does what it says. Each has its own text, because `rt lib` takes what another tree built of the same."""
+        """Each command of the table does what it says. Each tree has its own text, because `rt lib` takes another's build of the same."""
         page = text_of("CONTRIBUTING.md")
         self.assertEqual(re.findall(r"^\| `(rt .*?)` \|", page, re.MULTILINE), list(ANSWERS))
         with_jobs = re.findall("`(rt [^`]*)`", re.search("^.*take `--jobs N`", page, re.MULTILINE)[0])

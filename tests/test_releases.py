@@ -185,7 +185,7 @@ class Folder(Case):
         return {path.name for path in self.dist.iterdir()}
 
     def test_files_of_others(self):
-        """They stay, and SHA256SUMS does not list them; a file with the name of a package is not replaced."""
+        """Files of others stay, even with the name of a package, and SHA256SUMS does not list them."""
         others, old = ["mine.deb", "backup.tar.xz", "agep_0.1.0_amd64.deb"], "agep-0.1.0-linux-x86_64.tar.xz"
         self.put(*others, old)
         (self.dist / "SHA256SUMS").write_text(f"{'0' * 64}  {old}\n")
@@ -295,7 +295,7 @@ class Release(Case):
         self.assertEqual((done.returncode, self.git("log", "-1", "--format=%s")), (1, "Other"))
 
     def test_refused(self):
-        """Each is refused, and nothing changes."""
+        """./release refuses each of these, and changes nothing."""
         usage = "usage: ./release VERSION KEY FOLDER"
         self.assertEqual(self.right("./release", "--help"), f"{usage}\n")
         self.refused(usage, "./release", "80.9.2", status=2)

@@ -108,8 +108,8 @@ class Payloads(ProgramCase):
         self.assert_all((f"{more} bytes behind", whole + bytes(more)) for more in (*range(1, 40), 512, 4095, 4096))
 
     def test_headers(self):
-        """The same in its header and nonce: the fault is that of decrypt, except that a changed header costs
-        no chunk if a key fits."""
+        """A file cut in its header or nonce, or changed in its header: the fault is that of decrypt, except that a
+        changed header costs no chunk if a key fits."""
         file = HEADER + NONCE + chunk(0, True, HELLO)
         cuts = [(f"cut at {at}", file[:at]) for at in range(len(HEADER) + 16)]
         for name, bad in cuts + [(f"byte {at} changed", changed(file, at)) for at in range(len(HEADER))]:

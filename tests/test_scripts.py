@@ -15,8 +15,8 @@ from pathlib import Path
 import stand_in
 from program import AGEP, LEVELS, ROOT, read, scratch, version, write
 
-# It logs its calls, makes each file that the scripts take from it, and runs a script that a test
-# sets. By itself it is of kit two.
+# The stand-in logs its calls, makes each file that the scripts take from it, and runs a test's
+# script `meanwhile`. Without the file KIT-ID its version is `kit two`.
 RT = """folder={}
 [ "$1" != version ] || exec echo kit two
 echo "${{PWD##*/}} $*" >>"$folder/asked"
@@ -32,9 +32,9 @@ def for_program(level):
 
 
 LIBRARIES = ["agefile lib --cpu x86-64", "agefile lib --cpu x86-64-v3", "agefile lib --cpu x86-64-v4 --backend rattle"]
-# Set as that script: the two libraries that are proved in parallel with others end after these.
+# Set as `meanwhile`: what is proved in parallel with others, age_cipher and age_args, ends after these.
 LAST = """
-case $PWD in *cipher) other=age_header ;; *words) other=age_file ;; esac
+case $PWD in *cipher) other=age_header ;; *args) other=age_file ;; esac
 n=0
 until [ -z "$other" ] || grep -q "^$other is done" {0} || [ $((n += 1)) -gt 50 ]; do sleep 0.1; done
 ${{other:+sleep 0.3}}
@@ -92,8 +92,8 @@ class Builds(unittest.TestCase):
         return sorted(line for line in read("asked").decode().splitlines() if "--cpu" in line)
 
     def test_sources(self):
-        """A build is repeated if a source is newer, was added or removed, or changed during the build, and if
-        it was for another processor."""
+        """A build is repeated if a source is newer, was added or removed, or changed during the build, and not
+        otherwise."""
         rows = [
             ("nothing is built", "", True), ("all is current", "", False), ("crates.txt", "touch tree/crates.txt", True),
             *((name, f"touch {name}", True) for name in self.sources),
@@ -290,7 +290,7 @@ class Installs(unittest.TestCase):
 
     def test_files(self):
         """The files are those of the repository, whatever the umask; a running program is replaced and not
-        overwritten. --uninstall removes only these, and the folders that this leaves empty."""
+        overwritten. --uninstall removes only these, and the folders that this leaves empty, but none of FOLDERS."""
         here, other = os.getcwd(), "share/man/man1/other.1"
         rows = [(f"{here}/prefix", f"{here}/prefix", {}), ("other", "other", {}), ("/usr", "staged/usr", {"DESTDIR": "staged"})]
         rows += [("/usr", "again/usr", {"DESTDIR": "again/"}), (None, "default/usr/local", {"DESTDIR": "default"})]

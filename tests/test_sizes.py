@@ -12,7 +12,7 @@ PASSPHRASE_HEADER, KEY_HEADER = 150, 156
 
 
 def file_size(header, size):
-    """The size of the payload: a nonce, and for each chunk a tag of 16 bytes."""
+    """The size of a file: the header, a nonce, the plaintext, and for each chunk a tag of 16 bytes."""
     return header + 16 + size + 16 * max(1, -(-size // 65536))
 
 

@@ -79,8 +79,8 @@ class Documents(unittest.TestCase):
         self.assertEqual(listed, [first.lower() + rest for first, rest in recipes])
 
     def test_paths(self):
-        """Each path that a page names exists in the repository, in a crate, or where packages put their
-        documents."""
+        """Each path that a page names exists in the repository or in a crate, unless it is one of an installation or
+        of a release to come."""
         for page in sorted(glob.glob(ROOT + "/*.md") + glob.glob(ROOT + "/*/*.md")):
             names = set(re.findall(r"`((?:crates|tests|docs|share|bindings|bench|specs|src|proofs|must-fail)/[\w./*-]+)`", text_of(page)))
             names = [name for name in sorted(names - {"share/man", "share/signers"}) if not re.search("NAME|CRATE|^share/doc/", name)]

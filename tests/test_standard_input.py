@@ -61,7 +61,7 @@ class StandardInput(ProgramCase):
                 self.writes(expected, "inspect", "-f", name, "key.age", input=stdin)
 
     def test_device(self):
-        """A character device is standard input only by the names of that, and refused as two files."""
+        """A character device is standard input only by the names of standard input; as IN and a secret it is then refused."""
         for name in NAMES:
             for words, role in (("decrypt -k", "Key"), ("encrypt -k key -s", "Seed")):
                 with self.subTest(f"{words} {name}"), open("/dev/zero", "rb") as stdin:
@@ -95,7 +95,7 @@ class Refused(ProgramCase):
                         self.refused(f"StandardInputTwice: Input, {role}", f"{named[: named.rindex(' ')]}{out} {stdin}")
 
     def test_two_roles(self):
-        """Nor may two files be standard input, by any of its names."""
+        """No two files may be standard input, by any of its names."""
         for said, line in (
             ("Passphrase", "decrypt -p {} -p {} pass.age <pass"), ("Key", "rewrap -k {} -k {} -K new.key key.age <key"), ("Key, Seed", "encrypt -k {} -s {} hello <key"),
             ("Passphrase, NewPassphrase", "rewrap -p {} -P {} pass.age <pass"), ("NewKey", "rewrap -k key -K {} -K {} key.age < <(cat key)"),

@@ -106,13 +106,13 @@ class NonBlocking(ProgramCase):
         return done.returncode, err, out
 
     def test_full(self):
-        """A write that would have to wait fails, in agep as in cat."""
+        """A write that would have to wait fails."""
         write("many.age", fixture.for_keys(MANY, KEY))
         expected = (1, fault(message("Write")).encode(), MANY[:CHUNK])
         self.assertEqual(self.run_full("agep decrypt -k key many.age", True), expected)
 
     def test_helped(self):
-        """The command in docs/USE.md makes both wait again."""
+        """After the command in docs/USE.md agep waits again."""
         write("many.age", fixture.for_keys(MANY, KEY))
         use = read(os.path.join(TESTS, "../docs/USE.md")).decode()
         (helps,) = re.findall(r"`(python3 -c 'import os; [^`]*)`", use)

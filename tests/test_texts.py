@@ -327,8 +327,8 @@ class Completions(unittest.TestCase):
         self.assert_offered({"agep range so": [], "agep range 0 so": []}, ["zsh"])
 
     def test_options_that_are_given(self):
-        """After an option zsh offers it again only if it is -k, -K or the -p of a file that is read, and none that
-        it excludes; after -h or -V nothing."""
+        """After an option zsh offers it again only if it is -k, -K or, except in encrypt, -p, and none that it
+        excludes; after -h or -V nothing."""
         rivals, rows = {"-p": ["-k", "--key"], "-k": ["-p", "--passphrase"], "-P": ["-K", "--new-key"], "-K": ["-P", "--new-pass"]}, {}
         for command in commands():
             for letter, name, value in option_rows(command):

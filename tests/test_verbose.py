@@ -22,7 +22,7 @@ PACKETS = [*(0x80 | tag << 2 | kind for tag in (1, 3) for kind in range(3)), 0xC
 
 
 def no_growth():
-    """Lets no file of this process grow, without a signal."""
+    """Forbids files of this process to grow: a write fails, without a signal."""
     signal.signal(signal.SIGXFSZ, signal.SIG_IGN)
     resource.setrlimit(resource.RLIMIT_FSIZE, (0, 0))
 

@@ -3,10 +3,10 @@
 
 usage: tests/testkit FOLDER [agep | python | c]..
 
-tests/vectors/README.md describes the form. A program refuses ASCII armor as not an age file.
+tests/vectors/README.md describes the form. ASCII armor must be refused as not an age file.
 
-A program skips vectors with an identity that it lacks. The skipped ones are listed before the last line,
-which is 'N passed, M failed'.
+Vectors without a passphrase or identity, or with one of a kind that a program lacks, are skipped, and listed
+before the last line, which is 'N passed, M failed'.
 """
 
 import functools

@@ -1,8 +1,8 @@
 #!/usr/bin/env python3
 """Runs the tests of tests/test_*.py, and prints a line for each check.
 
-usage: tests/unit.py [NAME..]     test_FILE, test_FILE.Class or test_FILE.Class.test_name; or all
-       tests/unit.py --list       the names of all classes
+usage: tests/unit.py [NAME..]     test_FILE, test_FILE.Class or test_FILE.Class.test_name; or all but ALONE
+       tests/unit.py --list       the names of their classes
 
 Each subtest is a check, and so is a test without subtests. The classes run in parallel, each in its own process; but
 the classes of a file that builds something first run in one. The last line is 'N passed, M failed'.
@@ -106,7 +106,7 @@ class Apart:
             self.run(tests)
 
     def run(self, tests):
-        """Ends the process, with all that it says in a file."""
+        """Runs the tests, with their output in a file, and ends the process."""
         status, said = 1, os.open(self.folder + "/said", os.O_CREAT | os.O_WRONLY)
         for file, number in (os.open(os.devnull, os.O_RDONLY), 0), (said, 1), (said, 2):
             os.dup2(file, number)

@@ -63,9 +63,9 @@ extern "C" {
 #define AGEFILE_STANZA_ROOM 128    /* bytes for a stanza of agefile_wrap_passphrase or _key */
 #define AGEFILE_HEADER_ROOM 256    /* bytes for a header with one such stanza, and its nonce */
 
-/* A code is never reused. 15, 16, 19 and 20 are faults of files and of other recipients; no call
- * here returns them. AGEFILE_NULL_POINTER comes before every other code: the call closes a payload
- * or ranges that it was to open, and otherwise writes only the report. */
+/* A code is never reused. 15 and 16 are failed reads and writes, 19 and 20 faults of other
+ * recipients; no call here returns them. AGEFILE_NULL_POINTER comes before every other code: the
+ * call closes a payload or ranges that it was to open, and otherwise writes only the report. */
 /* generated: codes */
 enum agefile_code {
     AGEFILE_OK = 0,
@@ -192,8 +192,8 @@ uint32_t agefile_inspect(
     AGEFILE_CALL((3, 4));
 /* Lists all stanzas. Writes their sizes, in order, to the start of `stanzas`, and to the start of
  * `text`, for each stanza, its arguments joined by single spaces, then its body. report.len is the
- * length of this text, and report.place the number of stanzas. On AGEFILE_TOO_SMALL, if either
- * array is too small, both are unchanged, and the report has the sizes needed. */
+ * length of this text, and report.place the number of stanzas. If either array is too small
+ * (AGEFILE_TOO_SMALL), both are unchanged, and the report has the sizes needed. */
 uint32_t agefile_stanzas(
     const uint8_t *front, size_t front_len, agefile_stanza_summary *stanzas, size_t stanzas_len,
     uint8_t *text, size_t text_len, agefile_report *report) AGEFILE_CALL((7));
@@ -211,9 +211,9 @@ uint32_t agefile_unlock_key(
     AGEFILE_CALL((3, 4, 5));
 
 /* ---- From a file key to the text of a stanza, at the start of `out`. report.len is its length. On
- * AGEFILE_TOO_SMALL it is the length needed, and `out` is unchanged. Several stanzas are their
- * texts, concatenated. A salt is 16 fresh random bytes for each stanza. For an empty passphrase the
- * call returns AGEFILE_EMPTY_PASSPHRASE, whatever `work` and `out` are. */
+ * AGEFILE_TOO_SMALL it is the length needed, and `out` is unchanged. For several stanzas,
+ * concatenate their texts. A salt is 16 fresh random bytes for each stanza. For an empty passphrase
+ * the call returns AGEFILE_EMPTY_PASSPHRASE, whatever `work` and `out` are. */
 uint32_t agefile_wrap_passphrase(
     const uint8_t file_key[AGEFILE_LEAST 16], const uint8_t *pass, size_t pass_len, uint8_t work,
     const uint8_t salt[AGEFILE_LEAST 16], uint8_t *out, size_t out_len, agefile_report *report)
@@ -329,16 +329,16 @@ enum agefile_saved {
     AGEFILE_SAVED_PADDED = 6 /* the text of the last chunk, and up to 4,095 bytes follow it */
 };
 
-/* What the plaintext is after the last chunk, or 0 if it is neither: */
+/* What is known of the plaintext after its last chunk, or 0 if neither is: */
 enum agefile_verdict {
     AGEFILE_WHOLE = 1, /* complete and genuine: agefile_open_next opens all chunks */
-    AGEFILE_CUT = 2    /* cut short: chunks that are not there followed the last one */
+    AGEFILE_CUT = 2    /* cut short: chunks are missing at the end */
 };
 
 /* Opens the next sealed chunk in place, whether it is marked as the last or not. On 0 report.len
  * bytes at the start of the chunk are its text, or zeros if it does not open, report.place is an
  * agefile_saved, and the payload continues after the chunk; report.detail is an agefile_verdict if
- * the chunk is the last, else 0. Otherwise the chunk is unchanged. Each text is genuine. */
+ * the chunk is the last, else 0. On another code the chunk is unchanged. Each text is genuine. */
 uint32_t agefile_salvage_next(
     agefile_payload *payload, uint8_t *chunk, size_t chunk_len, bool last, agefile_report *report)
     AGEFILE_CALL((1, 5));
@@ -351,8 +351,8 @@ uint32_t agefile_salvage_next(
  * of the file; AGEFILE_OUT_OF_ORDER if the file ends before its first sealed chunk.
  *
  * As for a payload, a call out of order, or with a chunk of another length, returns
- * AGEFILE_OUT_OF_ORDER. Once the last chunk was verified, threads may share the struct, since later
- * calls only read it. */
+ * AGEFILE_OUT_OF_ORDER. Once the last chunk was verified, threads may share the struct, because
+ * agefile_ranges_locate and agefile_ranges_chunk only read it. */
 typedef struct agefile_ranges {
     uint8_t key[32];
     uint64_t first;      /* the offset of the first sealed chunk */
@@ -374,16 +374,16 @@ uint32_t agefile_ranges_last(
  * file, report.len its length. AGEFILE_OUT_OF_ORDER if the plaintext has no such byte. */
 uint32_t agefile_ranges_locate(
     const agefile_ranges *ranges, uint64_t at, agefile_report *report) AGEFILE_CALL((1, 3));
-/* Opens the sealed chunk that holds byte `at` in place. On 0 report.len bytes of the plaintext,
+/* Opens in place the sealed chunk that holds byte `at`. On 0 report.len bytes of the plaintext,
  * from `at` on, are at chunk + report.place; otherwise the chunk is unchanged. */
 uint32_t agefile_ranges_chunk(
     const agefile_ranges *ranges, uint64_t at, uint8_t *chunk, size_t chunk_len,
     agefile_report *report) AGEFILE_CALL((1, 5));
 
 /* ---- Whole buffers under a file key. report.len is the number of bytes written to the start of
- * `out`. On AGEFILE_TOO_SMALL it is the number needed, and `out` is unchanged. See above for
- * `front`, the stanzas, the file key and the nonce. After a fault of the payload `out` begins with
- * the plaintext of the verified chunks before it: use the output only after AGEFILE_OK. */
+ * `out`. On AGEFILE_TOO_SMALL it is the number needed, and `out` is unchanged. See above for the
+ * stanzas, the file key and the nonce. After a fault of the payload `out` begins with the plaintext
+ * of the verified chunks before it: use the output only after AGEFILE_OK. */
 uint32_t agefile_decrypt(
     const uint8_t *file, size_t file_len, const uint8_t file_key[AGEFILE_LEAST 16], uint8_t *out,
     size_t out_len, agefile_report *report) AGEFILE_CALL((3, 6));

@@ -1,5 +1,5 @@
-"""The package is Python alone. A wheel with the shared library inside is for one platform, with glibc
-2.17 or newer."""
+"""The package is pure Python. A wheel with the shared library inside is for Linux on x86-64, with
+glibc 2.17 or newer."""
 
 from pathlib import Path
 

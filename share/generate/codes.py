@@ -7,7 +7,7 @@ from typing import NamedTuple
 import calls
 
 FAULT, PART, CODE = "age_file/src/fault.rt", "age_recipient/src/unwrapped.rt", "agefile/src/code.rt"
-# The faults of files for which the crate for Rust has no variant.
+# The faults of files for which no variant of the crate for Rust is generated.
 NOT_IN_RUST = {"Read", "Write", "Refused", "IncompatibleRecipients"}
 # The parts of a stanza that the crate for Rust names differently.
 PARTS_IN_RUST = {"ArgCount": "ArgumentCount", "WorkFactorText": "WorkFactor"}

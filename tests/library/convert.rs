@@ -12,7 +12,7 @@ use std::{env, fs, process};
 
 use agefile::{Identity, Key, Passphrase, RangeReader, Reader, Recipient, Salvaged, Writer};
 
-/// The lengths of the pieces that are read and written, so that a chunk takes several, and one has several.
+/// The lengths of the pieces read and written: some chunks take several, some pieces span two.
 const PIECES: [usize; 3] = [7_000, 100_000, 50_000];
 
 fn encrypted(way: &str, plain: &[u8], recipient: &dyn Recipient) -> io::Result<Vec<u8>> {

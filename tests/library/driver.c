@@ -158,8 +158,8 @@ static uint64_t make(const struct call *call, const struct memory *m)
     return make_call(call->index, call->arguments, m->pointers, (agefile_report *)(void *)m->pointers[call->count]);
 }
 
-// Whether after a refused allocation everything is unchanged, except that a struct to be opened is
-// closed.
+// Whether after a refused allocation a struct to be opened is closed, the report is zeros, and
+// everything else is unchanged.
 static bool is_kept(const struct memory *memory, const struct call *call)
 {
     static const uint8_t zeros[sizeof(agefile_payload) + sizeof(agefile_ranges)];

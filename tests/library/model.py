@@ -383,7 +383,7 @@ def saved(key, number, is_last, data):
 
 
 def verdict(payload, kind):
-    """What the plaintext is after its last chunk, of which this was saved."""
+    """Whether the plaintext is whole, cut or neither, by what was saved of its last chunk."""
     if kind == SAVED_LAST and not payload.damaged:
         return WHOLE
     return CUT if kind == SAVED_CHUNK or kind == SAVED_NONE and payload.before <= SAVED_CHUNK else 0

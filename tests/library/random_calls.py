@@ -9,8 +9,8 @@ each kind are salvaged, and structs in each state get chunks of each length. The
 and opened in every way, whole, damaged, cut and longer, and each place of a header is cut and changed. Then
 files, headers, structs, lengths and numbers are right or wrong in many ways; structs come from earlier calls, or
 are random. Each buffer lies at the end or at the start of its pages, shifted by up to 15 bytes. Some calls are
-made on eight threads at once, some with each allocation refused in turn, and last so a successful call of each
-function. Prints how many calls returned each code. If the results differ, it prints the call, and the status is 1.
+made on eight threads at once, some with each allocation refused in turn; at the end both are done with a successful
+call of each function. Prints how many calls returned each code, or the first call that differs, with status 1.
 """
 
 import collections
@@ -484,7 +484,7 @@ class Maker:
                 del self.payloads[size][:-40]
 
 
-# The arguments of the calls for which they are a line.
+# The arguments of each call that needs only a line for them.
 ARGUMENTS = {
     "inspect": lambda maker: (maker.front()[1], bytes([0xEE]) * 48),
     "unlock_passphrase": lambda maker: (maker.front()[1], maker.choice(*maker.passphrases), maker.work(), bytes(16)),
@@ -535,8 +535,8 @@ class Journeys:
         return self.make(*call_of(name, *arguments, flags=self.count % 2 * AT_START | THREADS * (self.count % 16 == 0)))
 
     def in_parts(self, payload, kind, chunks):
-        """Opens or seals the chunks of a payload, the first ones as a part, for each number of these, and the part last for
-        every second number. Returns the chunks."""
+        """Opens or seals the chunks of a payload once for each number of first chunks that are taken as a part; if that
+        number is odd, the part comes last. Returns the chunks."""
         last = len(chunks) - 1
         for count in range(last + 1):
             payload_now, part, made = payload, bytes(64), {}
@@ -550,7 +550,7 @@ class Journeys:
         return b"".join(made[i] for i in sorted(made))
 
     def open(self, file):
-        """Opens a file as a whole, in steps and parts, by ranges, and what can be saved of it."""
+        """Opens a file as a whole, in steps and parts, and by ranges, and salvages its chunks."""
         self.go("decrypt_key", file, KEY, bytes(len(file)))
         self.go("unlock_key", file, KEY, bytes(16))
         _, (first, _, _), (_, _, payload) = self.go("open", file, self.FILE_KEY, bytes(64))
@@ -565,7 +565,7 @@ class Journeys:
             self.go("ranges_chunk", ranges, at, file[place : place + length])
 
     def written(self, size):
-        """A file of this size, made as a whole and in parts, with room enough and with too little."""
+        """The file of a plaintext of this size, made as a whole and in parts, with enough room and with too little."""
         plain, length = bytes(i * 7 + i // 256 & 255 for i in range(size)), model.sealed_length(size)
         stanza = self.go("wrap_key", self.FILE_KEY, KEY, self.SALT, bytes(86))[2][-1]
         *_, front, payload = self.go("begin", stanza, self.FILE_KEY, self.NONCE, bytes(len(stanza) + 86), bytes(64))[2]
@@ -585,7 +585,7 @@ class Journeys:
         yield from (file + bytes(more) for more in (1, 15, 16, 17))
 
     def open_front(self, front):
-        """Each call that reads a header."""
+        """Makes five of the calls that read a header."""
         self.go("inspect", front, bytes(48))
         self.go("stanzas", front, bytes(72), bytes(200))
         self.go("unlock_key", front, KEY, bytes(16))

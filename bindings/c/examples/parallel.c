@@ -33,7 +33,7 @@ static bool fail(const char *text)
     return fprintf(stderr, "parallel: %s\n", text), false;
 }
 
-/* Whether a call succeeded; otherwise it prints why on standard error. */
+/* Whether a call succeeded. If not, prints the reason on standard error. */
 static bool is_ok(uint32_t code, const agefile_report *report)
 {
     if (code != AGEFILE_OK)

@@ -9,7 +9,7 @@
 
 static uint8_t buf[AGEFILE_SEALED_CHUNK + 1]; /* a sealed chunk, and one more byte, without which it is the last */
 
-/* Whether a call succeeded; otherwise it prints why on standard error. */
+/* Whether a call succeeded. If not, prints the reason on standard error. */
 static bool is_ok(uint32_t code, const agefile_report *report)
 {
     if (code != AGEFILE_OK)
@@ -39,8 +39,8 @@ static bool wants_more(uint32_t code)
     return code == AGEFILE_HEADER_TRUNCATED || code == AGEFILE_NONCE_TRUNCATED;
 }
 
-/* Opens the payload with as little of the file as that needs, so that a wrong key is reported while
- * a pipe still waits. Afterwards `buf` has the bytes after the nonce. */
+/* Opens the payload with the first 256 bytes of the file, or more if needed, so that a wrong key is
+ * reported before a pipe ends. Afterwards `buf` has the bytes read after the nonce. */
 static bool open_payload(const uint8_t key[32], agefile_payload *payload, size_t *have)
 {
     agefile_report report;

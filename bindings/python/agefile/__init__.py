@@ -13,9 +13,9 @@ r"""Reads and writes age v1 encrypted files (age-encryption.org/v1).
 pipe to another; `salvage` saves what is left of a damaged file. Files for a `Passphrase` are
 exchanged with `age`; only agep and this library open files for a `Key`.
 
-Calls may run in any number of threads. Threads may share an open file and then take turns, but only
-one of them may read its lines. Memory is not wiped, and constant time is not promised. The code of
-libagefile, the library underneath, is proved; this package is ordinary, tested code.
+Any number of threads may make calls. They may share an open binary file, whose calls take turns,
+but only one of them may read its lines. Memory is not wiped, and constant time is not promised. The
+code of libagefile, the library underneath, is proved; this package is ordinary, tested code.
 """
 
 from __future__ import annotations

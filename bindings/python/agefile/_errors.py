@@ -64,7 +64,7 @@ class AgeError(Exception):
     `code` is the code of the library, or 0 if another library made this error from a text, as Dask
     does. `place` is the line of a header, counted from 1, or the chunk, counted from 0. `detail` is
     the part of a malformed stanza, 1 to 5. `place` and `detail` are 0 if the error has none.
-    `filename` is the path of the file, or the name of its object, or None.
+    `filename` is the path or the descriptor of the file, the name of its object, or None.
     """
 
     def __init__(
@@ -87,7 +87,7 @@ class AgeError(Exception):
 
     @staticmethod
     def of(code: int, place: int = 0, detail: int = 0) -> AgeError:
-        """Makes the exception of a code. That of refused memory is also a MemoryError."""
+        """Makes the exception of a code: an AgeMemoryError if memory was refused."""
         kind = AgeMemoryError if code == Code.OUT_OF_MEMORY else AgeError
         return kind(code, place, detail)
 
@@ -97,7 +97,7 @@ class AgeMemoryError(AgeError, MemoryError):
 
 
 class AgeChangedError(AgeError):
-    """The file was cut while it was open, or, opened again from a pickle, was cut or has grown."""
+    """The file was cut while it was open, or had another length when a pickle opened it again."""
 
     def __init__(self, code: int | str = Code.CHUNK_SHORT, *rest: Any) -> None:
         super().__init__(code, *rest)

@@ -51,11 +51,11 @@ def open(
 
     Modes `wb` and `xb` (return a Writer), `w` and `x` (text) write a new file for `recipients`. It
     is complete after `commit` or the clean end of its `with` block, and never otherwise; until then
-    every reader refuses it. `close` elsewhere warns and raises a ValueError.
+    every reader refuses it. `close` without either warns and raises a ValueError.
 
     An existing file keeps its contents until the first byte is written or, with `atomic`, until the
-    new file, which is written beside it, is complete and takes its place. Text is UTF-8 unless
-    `encoding` names another encoding.
+    new file beside it is complete. Text is UTF-8 unless `encoding` names another. AgeError if no
+    identity opens the file or its last chunk is damaged; BlockingIOError if another writer has it.
     """
     kind = mode.replace("b", "").replace("t", "")
     if kind not in ("r", "w", "x") or len(mode) > 2 or {"b", "t"} <= set(mode):

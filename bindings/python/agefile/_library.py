@@ -115,8 +115,8 @@ def version() -> str:
 
 
 def call(name: str, *arguments: Any) -> tuple[int, Report]:
-    """Calls a function, and returns its code and report. Memory is passed as `bytes`, which nobody
-    changes meanwhile, and results are written to ctypes arrays."""
+    """Calls a function, and returns its code and report. Inputs are `bytes`, which nobody changes
+    meanwhile; outputs are ctypes objects, new bytes, or the room of a Chunk."""
     report = Report()
     return _functions[name](*arguments, ctypes.byref(report)), report
 
@@ -130,7 +130,7 @@ def check(name: str, *arguments: Any) -> Report:
 
 
 def for_chunks(name: str, struct: ctypes.Structure) -> Callable[..., int]:
-    """A function that is called for chunk after chunk of one struct, by one thread at a time. It
+    """Returns a function for the chunks of a payload, part or ranges, for one thread at a time. It
     returns the length in the report, or raises the error of a code other than 0."""
     report = Report()
     step, out = functools.partial(_functions[name], ctypes.byref(struct)), ctypes.byref(report)

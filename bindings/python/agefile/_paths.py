@@ -21,7 +21,7 @@ NEW = ".agep-new"
 
 if TYPE_CHECKING:
     class BinaryBase(io.BufferedIOBase, BinaryIO):  # type: ignore[misc]
-        """As `io.BufferedReader` for type checkers."""
+        """A BinaryIO for type checkers, like `io.BufferedReader`."""
         name: Any
         mode: str
 else:
@@ -84,7 +84,7 @@ def _stat_of(file: Any) -> os.stat_result | None:
 
 
 def _refuse_source(sink: Any, source: Any) -> None:
-    """Refuses a file that is the source, or from which a Reader reads its plaintext: it would be
+    """Refuses a sink that is the source or, if that is a Reader, the file below it: it would be
     emptied, or grow while it is read. A socket or terminal may be both."""
     source = getattr(source, "encrypted", source)
     to, of = _stat_of(sink), _stat_of(source)
@@ -97,7 +97,7 @@ def _refuse_source(sink: Any, source: Any) -> None:
 
 
 def _is_same(name: Any, other: Any) -> bool:
-    """Whether this name, not followed if it is a link, is one of the other file."""
+    """Whether this name, not followed if it is a link, is a name of the other file."""
     with contextlib.suppress(FileNotFoundError):
         return os.path.samestat(os.lstat(name), os.stat(other))
     return False
@@ -110,7 +110,7 @@ class Locked(io.FileIO):
     _process = 0
 
     def lock(self, beside: str = "") -> bool:
-        """Refuses a file if another writer has locked it or the one beside it. False: no locks."""
+        """Locks it, or raises if it or the file beside it is locked. False if locks do not work."""
         self._process = os.getpid()
         try:
             fcntl.flock(self.fileno(), fcntl.LOCK_EX | fcntl.LOCK_NB)
@@ -125,7 +125,7 @@ class Locked(io.FileIO):
 
     def close(self) -> None:
         if not self.closed and self._process == os.getpid():
-            # A forked child would keep the lock by its descriptor, and must not end it.
+            # Only the parent unlocks, and must: a forked child's descriptor would keep the lock.
             with contextlib.suppress(OSError):
                 fcntl.flock(self.fileno(), fcntl.LOCK_UN)
         super().close()
@@ -136,8 +136,8 @@ def _busy(name: Any) -> BlockingIOError:
 
 
 def _refuse_busy(name: str, target: str = "") -> None:
-    """Refuses a file that another writer has locked. Given its target, removes what a killed writer
-    left: a regular file with one name, or the target itself, if the writer had linked it already."""
+    """Refuses a file that another writer has locked. Given its target, removes this name if a
+    killed writer left it: a regular file's only name, or a second one of the target, by a link."""
     flags = os.O_RDWR | os.O_NOFOLLOW | os.O_NONBLOCK | os.O_CLOEXEC
     try:
         with Locked(name, "rb+", opener=lambda name, _: os.open(name, flags)) as file:
@@ -157,7 +157,7 @@ class Output(Locked):
         def without_truncation(path: Any, flags: int) -> int:
             return os.open(path, flags & ~os.O_TRUNC, permissions)
 
-        # A writer with `atomic` has locked this one.
+        # The file that a writer with `atomic` would have locked.
         new = os.path.realpath(os.fsdecode(path)) + NEW
         if not os.path.exists(path):
             _refuse_busy(new)
@@ -204,7 +204,7 @@ class Replacement(Locked):
             super().__init__(name, "xb", opener=lambda name, flags: os.open(name, flags, access))
         except FileExistsError:
             raise _busy(name) from None
-        # Another writer may have locked this file first, to remove it as that of a killed one.
+        # Another writer may have locked it first, taken it for a killed writer's, and removed it.
         self.lock()
         if not _is_same(name, self.fileno()):
             self.close()
@@ -216,8 +216,8 @@ class Replacement(Locked):
             self._take_permissions(found)
 
     def _take_permissions(self, found: os.stat_result) -> None:
-        """Takes over owner, group, mode and ACL, or less where the system does not let them be kept:
-        nobody may read the new file who could not read the old one."""
+        """Takes over owner, group, ACL and mode without set-id bits, where the system allows it. If
+        the group or the ACL cannot be kept, the group gets no permissions."""
         new, kept, acl = self.fileno(), 0o707, None
         for owner in (found.st_uid, -1):
             with contextlib.suppress(OSError):
@@ -231,12 +231,12 @@ class Replacement(Locked):
             if acl is not None or error.errno not in (errno.ENODATA, errno.ENOTSUP):
                 kept = 0o707
             with contextlib.suppress(OSError):
-                # One that the folder gave would come to life with the bits of the group, its mask.
+                # The mode's group bits, as the mask of an inherited ACL, would put it into effect.
                 os.removexattr(new, _ACL)
         os.fchmod(new, found.st_mode & kept)
 
     def replace_old(self) -> None:
-        """Syncs the file, moves it to the path, and syncs the folder, unless that may not be read."""
+        """Syncs the file, moves it to the path, and syncs the folder if that may be read."""
         folder = None
         with contextlib.suppress(PermissionError):
             folder = os.open(os.path.dirname(self._target), os.O_RDONLY)
@@ -281,14 +281,14 @@ def created(
 
 
 def with_name(error: BaseException, name: Any) -> None:
-    """Adds the name of the file to the error, if it has none."""
+    """Adds the name of the file to an AgeError that has none."""
     if isinstance(error, AgeError) and error.filename is None:
         error.filename = name
 
 
 @contextlib.contextmanager
 def named(name: Any) -> Iterator[None]:
-    """Adds the file's name to an error that the block raises."""
+    """Adds the file's name to an AgeError that the block raises."""
     try:
         yield
     except AgeError as error:
@@ -313,14 +313,14 @@ def check_atomic(file: Any, atomic: bool) -> None:
 def writing(
     file: Any, source: BinaryIO, permissions: int = 0o666, atomic: bool = False, in_place: bool = True
 ) -> Iterator[Any]:
-    """Does the same for a file to write. It may be the source only if it is replaced at the end."""
+    """Like `reading`, for writing. The file may be the source only if it is replaced at the end."""
     if is_open(file, "write"):
         _refuse_source(file, source)
         yield file
         getattr(file, "flush", bool)()
         return
     if atomic and not _is_same(new := os.path.realpath(os.fsdecode(file)) + NEW, file):
-        # As the new file of a killed run, it would be removed.
+        # A source of this name would be removed as a killed run's new file.
         _refuse_source(new, source)
     if atomic and not in_place:
         _refuse_source(file, source)

@@ -112,10 +112,10 @@ SEALING = _Step(lib.TEXT_CHUNK, lib.SEALED_CHUNK, "seal_next", "part_seal_next")
 
 def pieces(source: BinaryIO, length: int) -> Iterator[tuple[Chunk, int, bool]]:
     """A source in pieces of this length: each with the number of its bytes, and whether it is the
-    last. The next piece overwrites the one before the last."""
+    last. A piece is valid until the next one is requested."""
     chunk, ahead = Chunk(), Chunk()
     count = read_into(source, chunk.view[:length])
-    # A byte behind a chunk says that it is not the last: it waits for no more.
+    # One byte after a chunk shows that it is not the last, so the chunk need not wait for more.
     while count == length and (more := read_into(source, ahead.view[:1])):
         yield chunk, count, False
         count = more + read_into(source, ahead.view[more:length])
@@ -166,7 +166,7 @@ def _read_batch(step: _Step, source: BinaryIO, room: Chunk) -> int:
 
 
 def run(step: _Step, payload: lib.Payload, source: BinaryIO, sink: Any, threads: int) -> int:
-    """Does the same on several threads. For each thread two batches of chunks are in memory."""
+    """Like `one_by_one`, on several threads. Has two batches for each, and one more, in memory."""
     if threads == 1:
         return one_by_one(step, payload, source, sink)
     total, waiting = 0, collections.deque[tuple[_Batch, Any]]()

@@ -53,7 +53,7 @@ class _Source:
         return done
 
     def read(self, size: int) -> bytes:
-        """Reads on from the first byte of the file."""
+        """Reads the next bytes, beginning with the first of the file."""
         room = bytearray(min(size, max(self.length - self._at, 0)))
         count = self.read_at(self._at, memoryview(room))
         self._at += count
@@ -182,12 +182,12 @@ class Reader(BinaryBase):
     """The plaintext of an age file, as a seekable binary file.
 
     Opens only the chunks that are read, so damage in other chunks is not noticed. A call that needs
-    a damaged chunk raises its error, now and each time, and the position stays. `read1`, `peek` and
+    a damaged chunk raises AgeError each time, and the position stays. `read1`, `peek` and
     `raw.readinto`, whose results may be short, first return the verified bytes before the chunk.
 
     A Reader opened from a path or an opener can be pickled, for example for worker processes. The
-    pickle contains the key of the payload: whoever has the pickle can read the file. It opens the
-    file again, without scrypt, at its first call, which raises what is wrong with the file.
+    pickle contains the key of the payload: whoever has it can read the file. The unpickled Reader
+    opens the file again, without scrypt, at its first call, which raises what is wrong with it.
     """
 
     mode = "rb"
@@ -213,7 +213,7 @@ class Reader(BinaryBase):
         return _reopen, (*self.again(), self.tell())
 
     def again(self) -> tuple[Any, bytes]:
-        """What is needed to open the same plaintext again without a secret: the opener, and the
+        """What is needed to open the same plaintext again without identities: the opener, and the
         payload's key with the offsets of its chunks."""
         if self._chunks.source.opener is None:
             raise TypeError("a file that was opened over a file object cannot be pickled")
@@ -369,7 +369,7 @@ class _LaterReader(Reader):
                     if self.closed:
                         raise ValueError("I/O operation on closed file")
                     made = reopened(*self._source)
-                    # What is closed with the other Reader is in use here.
+                    # The other Reader is kept: its finalizer would close the file in use here.
                     vars(self).update(vars(made), _made=made)
                     # Lookups of attributes take longer in this class.
                     self.__class__ = Reader

@@ -36,7 +36,7 @@ class Salvaged(NamedTuple):
     `lost` lists those that are lost. `early` is the latest chunk that is marked as the last and
     cannot be it, or None: a chunk follows it, or it is empty after other chunks. `trailing` is the
     number of bytes of the file after the early chunk, or after the last one if there is none.
-    `cut` says that the file is cut short; if its last chunk is lost, more may be missing too.
+    `cut` says that the file is cut short. False if its last chunk is lost, but more may be missing.
     `whole` says that the plaintext is complete and genuine: exactly then `copy` decrypts the file.
     """
 
@@ -50,7 +50,7 @@ class Salvaged(NamedTuple):
 
 
 class _Skipping:
-    """A source that returns zeros up to the next chunk where a read fails, if its file can seek."""
+    """A source that, after a failed read, gives zeros up to the next chunk if its file can seek."""
 
     def __init__(self, file: Any) -> None:
         self._file, self._readinto = file, readinto_of(file)
@@ -101,12 +101,12 @@ def salvage(
     """Saves what is left of a damaged file. Returns what was saved and what is lost.
 
     Writes the plaintext of every chunk that opens, at its offset, and zeros for every chunk that
-    does not. Each chunk that was saved is genuine; the file as a whole is only if the result is
-    `whole`. Damaged chunks raise no exception. A wrong key does, and so does a damaged header, even
-    if a key fits it.
+    does not. Each chunk that was saved is genuine; the file as a whole only if the result's
+    `whole` is True. Damaged chunks raise no exception. A wrong key raises AgeError, and so does a
+    damaged header, even if a key fits it.
 
     If a read fails and the source can seek, the chunk is lost, and salvaging continues at the next
-    one. Otherwise the error is raised; what was saved before it has been written.
+    one. Otherwise the error is raised; without `atomic` the sink has what was saved before.
 
     `source`, `sink`, `atomic` and `progress` are those of `copy`, but the sink is never the source:
     a later try may save more. Uses constant memory, except for the list of losses.

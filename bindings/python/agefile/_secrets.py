@@ -59,8 +59,8 @@ class _Stanzas(tuple[Stanza, ...]):
 
 
 class _Secret:
-    """A secret that the library itself wraps and unwraps. Its repr does not show it. Equal ones have
-    the same secret, which is compared in constant time, and the same settings."""
+    """A secret with which the library wraps and unwraps file keys. Its repr does not show it.
+    Equal ones have the same secret, which is compared in constant time, and the same settings."""
 
     def __init__(self, secret: bytes) -> None:
         self._secret, self._token = secret, os.urandom(16).hex()
@@ -88,8 +88,8 @@ class _Secret:
         return list(read_header(header_of(self._text(file_key), file_key)).stanzas)
 
     def unwrap(self, stanzas: Sequence[Stanza]) -> bytes | None:
-        """Returns the file key of a header, whose MAC it verifies, or None if this secret does not open
-        it. `stanzas` is the tuple of a Header, or the one that was passed to an identity."""
+        """Returns the file key of a header, whose MAC it verifies, or None if this secret does not
+        open it. `stanzas` is that of a Header, or given to an identity; TypeError for any other."""
         if not isinstance(stanzas, _Stanzas):
             raise TypeError("pass the stanzas of a Header: without its MAC they are not unwrapped")
         code, file_key = self._find(stanzas)
@@ -139,8 +139,8 @@ class Passphrase(_Secret):
     """A passphrase, as a recipient and as an identity: text, which is encoded as UTF-8, or bytes.
 
     `work` is the work factor of new files: each attempt to open one takes 2^work KiB of memory.
-    `max_work` is the largest work factor that is accepted from a file. Both are 1 to 30. An empty
-    passphrase can open files but not make them.
+    `max_work` is the largest work factor that is accepted from a file. Both are 1 to 30, else
+    AgeError. An empty passphrase can open files but not make them: AgeError.
     """
 
     _untyped = False
@@ -155,10 +155,10 @@ class Passphrase(_Secret):
 
     @classmethod
     def from_file(cls, file: Any, *, work: int = 18, max_work: int = 22) -> Passphrase:
-        """Reads a passphrase file as `agep -p` does: at most 65,536 bytes, without one LF at the
-        end. `file` is a path, a descriptor or a binary file object. A passphrase that ends in CR or
-        LF, or begins with a byte-order mark, which nobody types, can open files but not make them:
-        ValueError."""
+        """Reads a passphrase file as `agep -p` does: at most 65,536 bytes, else ValueError; one LF
+        at the end is removed. `file` is a path, a descriptor or a binary file object. A passphrase
+        that ends in CR or LF, or begins with a byte-order mark, which nobody types, can open files;
+        to make one with it raises ValueError."""
         room = bytearray(lib.TEXT_CHUNK + 1)
         with reading(file) as source:
             length = read_into(source, memoryview(room))
@@ -184,7 +184,7 @@ class Passphrase(_Secret):
 
 class Key(_Secret):
     """A secret key of 32 bytes, as a recipient and as an identity. Only agep and libagefile open
-    files encrypted with it."""
+    files encrypted with it. ValueError for any other length."""
 
     def __init__(self, key: bytes) -> None:
         if isinstance(key, str):
@@ -195,8 +195,8 @@ class Key(_Secret):
 
     @classmethod
     def from_file(cls, file: Any) -> Key:
-        """Reads a key file as `agep -k` does: 32 raw bytes. `file` is a path, a descriptor or a
-        binary file object."""
+        """Reads a key file as `agep -k` does: 32 raw bytes, else ValueError. `file` is a path, a
+        descriptor or a binary file object."""
         room = bytearray(33)
         with reading(file) as source:
             length = read_into(source, memoryview(room))

@@ -20,7 +20,7 @@ def encrypt(data: ReadableBuffer, *, recipients: Recipients, threads: int = 1) -
     """Encrypts a bytes-like object for one or several recipients. Returns the age file."""
     threads = thread_count(threads)
     with flat(data, "text.encode()") as view:
-        # Another thread may change other memory, so it is read chunk by chunk, each once.
+        # Another thread may change data that are not bytes: these are read once, chunk by chunk.
         if threads == 1 and type(data) is bytes:
             file_key, nonce = os.urandom(lib.FILE_KEY), os.urandom(lib.NONCE)
             text = stanzas_text(recipients, file_key)
@@ -33,8 +33,8 @@ def encrypt(data: ReadableBuffer, *, recipients: Recipients, threads: int = 1) -
 
 
 def decrypt(data: ReadableBuffer, *, identities: Identities, threads: int = 1) -> bytes:
-    """Decrypts an age file in memory, and returns its plaintext. Raises AgeError, and returns nothing,
-    if the file has a fault."""
+    """Decrypts an age file in memory, and returns its plaintext. Raises AgeError, and returns
+    nothing, if no identity opens the file or it has a fault."""
     threads = thread_count(threads)
     with flat(data, "the bytes of a file, or its path to agefile.open") as view:
         front = bytes(view[: lib.FRONT])
@@ -50,7 +50,7 @@ def decrypt(data: ReadableBuffer, *, identities: Identities, threads: int = 1) -
 
 def inspect(data: Any) -> Header:
     """Reads the header of an age file, given as a path, a descriptor, or bytes that contain at least
-    the header. Does not verify its MAC."""
+    the header. Does not verify its MAC. Raises AgeError if there is no complete, valid header."""
     if isinstance(data, (str, int, os.PathLike)):
         with reading(data) as source:
             return Front(source).header()
@@ -62,7 +62,7 @@ def rewrap(data: Any, *, identities: Identities, recipients: Recipients) -> byte
     """Replaces the header of an age file by one for other recipients, and returns the new file.
 
     File key and payload stay: whoever kept the old header can still open the file. The payload is
-    not verified.
+    not verified. Raises AgeError if no identity opens the header.
     """
     source, sink = io.BytesIO(data), io.BytesIO()
     rewrap_copy(source, sink, identities=identities, recipients=recipients)
@@ -107,10 +107,10 @@ def copy(
     Source and sink are paths, descriptors or binary file objects, also pipes. Uses constant memory,
     and up to `threads` threads. Returns the length of the plaintext.
 
-    After an error in the payload the sink has the plaintext of the chunks before it. An existing
-    file at the sink's path keeps its contents until the first byte is written or, with `atomic`,
-    until the new file beside it is complete: after an error nothing has changed, unless it says
-    `replaced`. A new file with a plaintext can be read only by its owner.
+    Raises AgeError if no identity opens the source, or at a damaged chunk: without `atomic` the
+    sink has the plaintext before it. An existing file at the sink's path keeps its contents until
+    the first byte is written or, with `atomic`, until the new file beside it is complete: an error
+    changes nothing unless its text says `replaced`. A new plaintext is readable only by its owner.
 
     `progress` is called with the number of bytes read from the source and with the number of all,
     or None if that is not known, as of pipes. An exception that it raises ends the copy.

@@ -20,7 +20,7 @@ from ._sources import flat, write_all
 
 
 class _Sealer(io.RawIOBase):
-    """The age file under a Writer, which collects and seals chunks. Closed, its text has ended;
+    """The age file under a Writer, which collects and seals chunks. Closed, it takes no more text;
     `finish` then completes the file, or leaves it without its last chunk."""
 
     def __init__(self, file: Any, mode: str, recipients: Recipients, atomic: bool) -> None:
@@ -119,7 +119,7 @@ class _Sealer(io.RawIOBase):
 
     def finish(self, is_whole: bool) -> None:
         """Seals the last chunk of a whole file, and closes a sink that it opened. A forked child
-        leaves the sink alone: it is the parent's, of which a thread may hold the lock."""
+        leaves the sink to its parent, one of whose threads may hold the lock."""
         self.close()
         if not self.is_parent():
             return
@@ -148,9 +148,9 @@ class Writer(BinaryBase):
     otherwise.** Until then every reader refuses it, or it keeps its old contents: the header is
     written before the first full chunk, or by `flush`.
 
-    `close` in a `with` block ends writing, and the block decides; so wrappers that close the file
-    below, such as a TextIOWrapper, belong inside. Elsewhere `close` gives the file up, and says so.
-    A forked child cannot write: it would seal other bytes under the nonces of its parent.
+    `close` in a `with` block ends writing, and the block's clean end completes the file; so
+    wrappers that close it, such as a TextIOWrapper, belong inside. Elsewhere `close` gives up: it
+    warns and raises a ValueError. A forked child cannot write: it would reuse its parent's nonces.
     """
 
     # A TextIOWrapper asks for it at each write.
@@ -165,7 +165,7 @@ class Writer(BinaryBase):
     def __init__(self, file: Any, mode: str, recipients: Recipients, atomic: bool) -> None:
         self._sealer = _Sealer(file, mode, recipients, atomic)
         self.name, self.mode = self._sealer.name, mode
-        # This has a BufferedWriter and is none, because numpy asks such for a descriptor.
+        # Has a BufferedWriter and is not one itself: numpy would ask it for a descriptor.
         self._buffer = io.BufferedWriter(self._sealer, lib.TEXT_CHUNK)
         self._write = self._buffer.write
         _unended.add(self)
@@ -205,7 +205,7 @@ class Writer(BinaryBase):
                 raise
 
     def commit(self) -> None:
-        """Seals the last chunk, which completes the file, and closes it."""
+        """Completes the file with its last chunk, and closes it. OSError after a failed write."""
         self._sealer.check_ours()
         try:
             self._end()
@@ -232,7 +232,7 @@ class Writer(BinaryBase):
                 self._warn()
                 raise
         else:
-            # In a pool nobody may ask for an error, and `logging` drops it. The warning may be one.
+            # In a pool nobody may ask for an error, and `logging` drops it. A warning may raise.
             self._sealer.spoil()
             self._warn()
             self.abort()
@@ -274,8 +274,8 @@ _unended: weakref.WeakSet[Writer] = weakref.WeakSet()
 
 
 class _Last(NamedTuple):
-    """Gives a file up once Python frees its modules, and says so. No finalizer runs of what `logging`
-    or `sys` holds, and functions of `atexit` that run after ours may still commit it."""
+    """Gives a file up once Python frees its modules, and says so. A file that `logging` or `sys`
+    holds is never finalized, and functions of `atexit` that run after ours may still commit it."""
 
     writer: Writer
 

@@ -8,11 +8,11 @@
 
 Names are those of the file system below. Each worker opens only the chunks of its own blocks, so
 damage in one block fails only its task, and damage in the header or in the last chunk every task.
-Do not replace a file between the making of a table and its computation: Dask then reads as many
-bytes as the old file had, of plain files too.
+Do not replace a file between the making of a table and its computation: as with plain files, Dask
+then reads as many bytes as the old file had.
 
-The pickle of the file system for a worker contains the keys of the last files that it read, so
-that scrypt runs once for each: whoever has the pickle can read these files.
+The pickle of the file system for a worker contains its identities and recipients, and the keys of
+the last files that it read, so that scrypt runs once for each: whoever has it has the secrets.
 """
 
 from __future__ import annotations
@@ -39,12 +39,12 @@ from ._secrets import Identities, Key, Recipients, as_list
 
 # How a file that does not exist is reported.
 _ABSENT = FileNotFoundError, NotADirectoryError, IsADirectoryError
-# For how many files keys are kept, which the pickle of a file system has with it.
+# The number of files whose keys are kept; the pickle of a file system contains these keys.
 _MOST_KEYS = 512
 
 
 def _refuse_slips(options: dict[str, Any], *others: str) -> None:
-    """Refuses likely slips. Other words may be those of a later fsspec, which are passed over."""
+    """Refuses likely mistakes. Other options are allowed: a later fsspec may pass new ones."""
     slips = {"key", "keys", "passphrase", "password", "secret", "identity", "recipient", *others}
     if found := sorted(slips & {*options}):
         raise TypeError(f"{', '.join(found)}: a secret is passed as identities or recipients")
@@ -63,7 +63,7 @@ def _reading(path: str) -> Iterator[None]:
 
 
 def _random_end() -> str:
-    """The end of a new file's name, where several writers may replace one file at a time."""
+    """The end of a new file's name, where several writers may replace the same file at once."""
     return f".{os.urandom(8).hex()}{NEW}"
 
 
@@ -76,9 +76,9 @@ def _below(name: str) -> Any:
 
 class AgeFileSystem(AbstractFileSystem):  # type: ignore[misc]
     """The plaintexts of the age files in another file system, which are read with `identities` and
-    written for `recipients`. With `atomic` a file that is written takes the place of the old one
-    when it is complete: see `agefile.open`, or, if the file system below is not the local one, by
-    its `mv`. `rm`, `mv`, `cp`, `created` and `modified` are those of the file system below.
+    written for `recipients`. With `atomic` a new file replaces the old one once it is complete, as
+    in `agefile.open` or, if the file system below is not local, by its `mv`. A failed read raises
+    AgeError. `rm`, `mv`, `cp`, `created` and `modified` are those of the file system below.
 
     The file system below is `fs`, else that of the protocol of a chain, else the local one. `ls`
     opens no file, so its entries have no sizes; `info` of a single file has its size.
@@ -111,7 +111,7 @@ class AgeFileSystem(AbstractFileSystem):  # type: ignore[misc]
 
     @property
     def _fs_token(self) -> str:
-        """fsspec and Dask take file systems with one token for one file system. fsspec's own token
+        """fsspec and Dask treat file systems with the same token as one. fsspec's own token
         contains the reprs of the secrets, which are all alike."""
         return str(self._token)
 
@@ -122,9 +122,9 @@ class AgeFileSystem(AbstractFileSystem):  # type: ignore[misc]
         return self.fs._strip_protocol(path) if path else self._target
 
     def open(self, path: Any, mode: str = "rb", **options: Any) -> Any:
-        """Opens a file to read its plaintext, or a new file to write. Text is UTF-8 unless
-        `encoding` names another encoding. Files are written as by `agefile.open`. A compression,
-        which would lose the end of the file, and a transaction are refused."""
+        """Opens a file as `agefile.open` does; but `close` of a new file completes it, unless an
+        exception is being handled. Text is UTF-8 unless `encoding` names another. To write with a
+        compression, which would lose the end of the file, or in a transaction: ValueError."""
         if "r" not in mode:
             return self._create(self._strip_protocol(path), mode, options)
         _refuse_slips(options, "identities", "recipients", "atomic")
@@ -244,7 +244,7 @@ class AgeFileSystem(AbstractFileSystem):  # type: ignore[misc]
         super().put_file(lpath, rpath, *arguments, **options)
 
     def _refuse_same(self, path: str, local: Any) -> None:
-        """Refuses a local file as its own target or new file: names are the same on both sides."""
+        """Refuses a local file that is the age file itself or its new file: `age://X` is file X."""
         name, fs = self._strip_protocol(path), self.fs
         while not isinstance(fs, LocalFileSystem) and getattr(fs, "fs", None) is not None:
             name, fs = fs._join(name) if hasattr(fs, "_join") else name, fs.fs

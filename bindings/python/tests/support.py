@@ -30,7 +30,7 @@ def text(length):
 
 
 def program(number, **places):
-    """The program of this number in the package's README.md, with other folders than its own."""
+    """The Python program of this number in the package's README.md, with its folders replaced."""
     with open(os.path.join(ROOT, "bindings/python/README.md"), encoding="utf-8") as page:
         found = re.findall(r"^```python\n(.*?)^```$", page.read(), re.MULTILINE | re.DOTALL)[number - 1]
     for name, place in places.items():
@@ -62,7 +62,7 @@ def in_threads(work, count=4):
 
 
 def in_time(work, seconds=20):
-    """The result of the function, or its exception; an AssertionError if it does not return."""
+    """Returns the function's result or exception. Raises an AssertionError if it does not return."""
     found = []
 
     def run():
@@ -207,6 +207,6 @@ class InFolder(unittest.TestCase):
             return file.read()
 
     def refused(self, name):
-        """The code with which the file is refused, as a whole and by ranges."""
+        """The code with which `decrypt` refuses the file. `open` must refuse it too."""
         self.assertRaises(AgeError, agefile.open, name, identities=KEY)
         return error_of(lambda: agefile.decrypt(self.got(name), identities=KEY)).code

@@ -1,5 +1,5 @@
-"""Damaged and cut files, read in every way: each is refused; no call returns less than requested
-except at the end; and undamaged chunks stay readable."""
+"""Damaged and cut files, read in every way: a call that needs a damaged or missing chunk raises its
+error, and the other chunks of an open file stay readable."""
 
 import functools
 import io
@@ -114,8 +114,8 @@ class Positions(unittest.TestCase):
         return next(file, b"") if kind == "next" else getattr(file, kind)(size)
 
     def test_calls_in_random_order(self):
-        """A call raises only for the bytes that it was asked for, and then keeps the position. What may be short ends
-        before the damage. `raw` shares the chunks and has a position of its own."""
+        """A call that needs a bad chunk raises its error and keeps the position. If the result may be short, only the
+        first byte is needed. `raw` shares the chunks and has a position of its own."""
         choose, whole = random.Random(48), agefile.open(io.BytesIO(self.file), identities=KEY)
         places, raised = {whole: 0, whole.raw: 0}, 0
         for number in range(6000):
@@ -195,7 +195,7 @@ class Positions(unittest.TestCase):
 
 
 class EachChunk(unittest.TestCase):
-    """A file of 50 chunks, damaged in each in turn, or cut at its end, or in the last one."""
+    """A file of 50 chunks, damaged in each, cut after each, or cut in the last one."""
 
     def test_whole_and_streamed(self):
         plain = text(49 * TEXT + 77)

@@ -39,7 +39,7 @@ def failure_of(work):
 
 
 class Logged:
-    """A recipient and identity whose file key is in the file; it logs each call."""
+    """A recipient and identity whose file key is in the file; `unwrap` logs each call."""
 
     def __init__(self, log):
         self.log = log

@@ -25,7 +25,7 @@ class Kinds(InFolder):
             self.assertEqual({*kind.__mro__}, {kind, AgeError, *Exception.__mro__})
 
     def test_the_module(self):
-        """Pickles and tracebacks name no private module."""
+        """Pickles and `__module__` name no private module."""
         for name in agefile.__all__:
             if hasattr(getattr(agefile, name), "__qualname__"):
                 self.assertEqual(getattr(agefile, name).__module__, "agefile", name)

@@ -1,5 +1,5 @@
-"""Each call of a caller's file fails in turn, in each way, under each reader and writer. What must come of it follows
-from the bytes that the file gave or took."""
+"""Each call of a caller's file fails in turn, in each way, under each reader and writer. The expected outcome follows
+from the bytes read or written."""
 
 import contextlib
 import errno
@@ -25,7 +25,7 @@ WRONG = [lambda count: None, lambda count: -1, lambda count: count + 1, lambda c
 
 
 def each(kind, run, data=b"", failures=RAISED):
-    """Each device of which a call of this kind fails, up to the last one that a run makes."""
+    """Devices that fail at each call of this kind that a run makes, in each way, once or from it on."""
     whole = Device(data)
     run(whole)
     assert whole.calls[kind] > 0
@@ -34,7 +34,7 @@ def each(kind, run, data=b"", failures=RAISED):
 
 
 def opened(given):
-    """The length of the text of the chunks after which another byte is among the first bytes of the file."""
+    """The length of the text of the chunks that have a byte after them within the first `given` bytes."""
     return max(given - FRONT - 1, 0) // SEALED * TEXT
 
 
@@ -78,7 +78,7 @@ class Devices(unittest.TestCase):
             self.assertIsInstance(found, BlockingIOError, device)
 
     def assert_part(self, name, key, made):
-        """What was written is the start of the result, and no complete file."""
+        """The plaintext or the rewrapped payload is a start of the whole, and a new file is refused."""
         if name == "rewrap_copy":
             # It does not open the chunks. The new header is as long as the old one.
             self.assertTrue(FILE[FRONT - 16 :].startswith(made[FRONT - 16 :]))
@@ -109,7 +109,7 @@ class Devices(unittest.TestCase):
                             self.assertEqual(len(sink.getvalue()), opened(device.failed[0]))
 
     def test_salvage(self):
-        """A read that fails costs the rest of its chunk, unless it would block or was interrupted."""
+        """An OSError of a read after the nonce costs its chunk, unless the read would block or was interrupted."""
         for device in each("read", lambda source: agefile.salvage(source, io.BytesIO(), identities=KEY), FILE):
             with self.subTest(str(device)):
                 found = outcome(COPIES["salvage"][0], device, sink := io.BytesIO())
@@ -167,9 +167,8 @@ class Devices(unittest.TestCase):
         return [result for result in results if isinstance(result, BaseException)]
 
     def test_writers(self):
-        """After a failed write, and after a failed flush of a file that it opened, a Writer refuses all more. Its buffer
-        repeats a write that was interrupted, and has an error of its own for one that would block. A text file is
-        closed then."""
+        """After a failed write a Writer refuses all more. A file that it opened is flushed as part of each write. Its buffer
+        repeats a write that was interrupted, and has an error of its own for one that would block."""
         for kind, is_owned, words in (("write", False, BINARY), ("write", True, BINARY), ("flush", True, BINARY), ("write", False, LATIN), ("flush", True, LATIN)):
             new = lambda device: agefile.open((lambda: device) if is_owned else device, recipients=OTHER, **words)
             for device in each(kind, lambda device: self.written(new(device)), b"", [*RAISED, *WRONG * (kind == "write")]):
@@ -184,7 +183,7 @@ class Devices(unittest.TestCase):
         self.assertLessEqual(said, {EARLIER, str(device.fault[1]), *["I/O operation on closed file", "I/O operation on closed file."] * (file.mode == "w")})
         self.assertTrue(file.closed)
         made = device.below.getvalue()
-        # A failed flush may have been the last call.
+        # A failed flush may follow the last chunk, or be part of no write.
         self.assertTrue(is_refused(made, OTHER) or device.fault[0] == "flush" and agefile.decrypt(made, identities=OTHER) == PLAIN)
 
     def test_flushes(self):

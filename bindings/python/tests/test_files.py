@@ -1,4 +1,4 @@
-"""Open files: reading by ranges, writing chunk by chunk, closing, copies, threads and forks."""
+"""Open files: reading by ranges and lines, pickles, closing, threads, forks, and what may be opened."""
 
 import contextlib
 import csv
@@ -155,7 +155,7 @@ class Reading(InFolder):
         self.assertRaisesRegex(ValueError, "closed file", again.read)
 
     def test_pools(self):
-        """A worker opens the file, and its error is that of the call: a Pool would wait for ever for a task that it cannot unpickle."""
+        """A worker opens the file in the call, which raises the error, because a Pool waits for ever for a task that it cannot unpickle."""
         with multiprocessing.get_context("fork").Pool(1) as pool, agefile.open(self.made(text(200000)), identities=KEY) as file:
             self.assertEqual(in_time(lambda: pool.apply(file.read)), text(200000))
             os.rename("a.age", "old.age")
@@ -413,7 +413,7 @@ class Reading(InFolder):
 
     def test_descriptors(self):
         """A file closes the descriptor that it was opened from, as a built-in one does. After an error, and
-        by the other functions, it stays open."""
+        in the other functions, the descriptor stays open."""
         self.made(b"text"), self.put(bytes(32), "key")
         other = Key(bytes(32))
         for stays, name, call in (

@@ -214,7 +214,7 @@ def failing(path, error):
 
 class Frameworks(InFolder):
     def outcome(self, folder, files, *then):
-        """The value, or the error of a second try. `then` is written before the value is read."""
+        """The value, or the error; an AgeError only of a second try. `then` is written before the value is read."""
         place = Place(folder)
         place.put(files)
         for is_second in (False, True):

@@ -33,7 +33,7 @@ dask, pandas, zarr = map(imported, ("dask.dataframe", "pandas", "zarr"))
 
 
 class Counted:
-    """A recipient and identity whose file key is in the file; it counts its calls."""
+    """A recipient and identity whose file key is in the file; `asked` counts `unwrap`."""
 
     def __init__(self):
         self.asked = 0
@@ -212,7 +212,7 @@ class Reads(InSystem):
                 self.assertEqual(self.read("w.age"), b"new")
 
     def test_getting(self):
-        """A local file keeps its contents and its mode until the new ones are complete."""
+        """A local file keeps its mode, and its contents until the new ones are complete."""
         path, bad = self.new("a.age", text(5 << 20)), self.path(self.put(damaged(self.got("a.age"), 79), "bad.age"))
         self.assertRaises(AgeError, self.system.get, bad, self.path("plain"))
         self.assertEqual(sorted(os.listdir()), ["a.age", "bad.age"])
@@ -229,7 +229,7 @@ class Reads(InSystem):
         self.assertEqual((self.got("to/b.age"), self.got("new/folder/b")), (b"b", b"b"))
         self.system.get_file(path, out := io.BytesIO())
         self.assertEqual(out.getvalue() == text(5 << 20), True)
-        # As threads do that fill one cache.
+        # As threads that fill one cache do.
         in_threads(lambda: self.system.get_file(path, self.path("plain")))
         self.assertEqual((self.got("plain") == text(5 << 20), [*filter(lambda name: "new" in name, os.listdir())]), (True, ["new"]))
 
@@ -273,7 +273,7 @@ class Keys(InSystem):
         self.assertEqual(error_of(lambda: self.system.cat_file(path)).code, Code.WRONG_KEY)
 
     def test_a_file_system_that_says_nothing_of_a_file(self):
-        """If the file system below reports no state, a fault makes the file be unlocked again."""
+        """If the file system below reports no change, a file that the kept key does not open is unlocked again."""
         path = self.new("a.age", text(200000))
         with mock.patch.object(type(self.system.fs), "ukey", lambda *_: "the same"):
             self.assertEqual(self.asked_for(lambda: self.system.cat_file(path)), (text(200000), 1))
@@ -365,7 +365,7 @@ class Chains(InSystem):
             self.assertEqual(file.read(), plain)
 
     def test_the_system_below(self):
-        """The file system below is that of a protocol and its options; over two of them, the file systems
+        """The file system below is that of a protocol and its options. File systems over different ones
         differ."""
         options = {"target_protocol": "file", "cache_storage": self.path("cache")}
         system = fsspec.filesystem("age", identities=self.identity, target_protocol="simplecache", target_options=options)
@@ -553,7 +553,7 @@ class Writes(InSystem):
         self.assertEqual((self.got("a.age"), os.listdir()), (old, ["a.age"]))
 
     def test_open_files_of_fsspec(self):
-        """An OpenFile does not tell its file about an exception."""
+        """After an exception, of which an OpenFile tells its file nothing, the file is not completed."""
         path, words = self.path("a.age"), {"identities": self.identity, "recipients": self.identity}
         for mode, data in (("wb", text(200000)), ("w", "x" * 200000)):
             broken(fsspec.open("age://" + path, mode, **words), data)
@@ -583,7 +583,7 @@ class Writes(InSystem):
         self.assertEqual(len(self.system.glob(self.path("*.csv.age"))), 7)
 
     def test_unknown_words(self):
-        """Likely names of a secret are refused; what a later fsspec may pass is passed over."""
+        """Likely names of a secret are refused; words that a later fsspec may pass are ignored."""
         path = self.new("a.age", b"old")
         for words in ({"passphrase": "x"}, {"identity": KEY}, {"atomic": True, "key": KEY}, {"password": "x"}):
             self.assertRaisesRegex(TypeError, "identities or recipients", fsspec.filesystem, "age", **words)
@@ -596,7 +596,7 @@ class Writes(InSystem):
             self.assertEqual(fsspec.filesystem("age", identities=self.identity, **words).cat_file(path), b"old")
 
     def test_words_of_text(self):
-        """They are those of Python's own files."""
+        """`encoding`, `errors` and `newline` are those of Python's own files."""
         path = self.path("a.age")
         for words in {"newline": "\r\n"}, {"newline": ""}, {"encoding": "utf-16"}, {"encoding": "ascii", "errors": "replace"}:
             words = {"encoding": "utf-8", **words}
@@ -612,7 +612,7 @@ class Writes(InSystem):
 
     @unittest.skipIf(pandas is None, "pandas is missing")
     def test_pandas(self):
-        """A broken export leaves an incomplete file, and with `atomic` the old file."""
+        """A broken export leaves an incomplete file or the old one, and with `atomic` always the old one."""
         class Bad:
             def __str__(self):
                 raise RuntimeError("bad")

@@ -27,7 +27,7 @@ PASSPHRASE = b"correct horse"
 
 
 def ways_to_open(secret):
-    """Every way to read a file in memory with this package."""
+    """Ways to read a file in memory with this package."""
     def ranges(file):
         with agefile.open(io.BytesIO(file), identities=secret) as opened:
             begins = range(0, opened.length, 50000)
@@ -40,7 +40,7 @@ def ways_to_open(secret):
 
 
 def ways_to_make(recipients):
-    """Every way to make a file in memory with this package."""
+    """Ways to make a file in memory with this package."""
     def writer(plain):
         out = io.BytesIO()
         with agefile.open(out, "wb", recipients=recipients) as file:
@@ -117,7 +117,7 @@ class Fresh(unittest.TestCase):
                     self.assertEqual(shown in file, False, f"way {number}")
 
     def test_64_files(self):
-        """File keys, nonces and salts differ in each byte, and no two are equal."""
+        """Each byte of the file keys, nonces and salts varies, and no two values of a kind are equal."""
         noting, nonces, salts = Noting(), [], {"scrypt": [], "example.org/key": []}
         for number in range(64):
             for recipients in ([noting, KEY], Passphrase("x", work=1)):
@@ -150,8 +150,8 @@ class Fresh(unittest.TestCase):
         self.assertEqual(sorted(found), sorted(asked))
 
     def test_no_file_without_random_bytes(self):
-        """If the system returns none for the file key, the nonce or a salt, each way ends with the system's
-        error."""
+        """If the system returns no random bytes for the file key, the nonce or a salt, each way raises the
+        system's error."""
         urandom = os.urandom
         for number, make in enumerate(ways_to_make([KEY, KEY])):
             for failing in range(4):

@@ -136,8 +136,8 @@ class FailedReads(unittest.TestCase):
             self.assertTrue(out.getvalue() == self.plain[: 2 * TEXT])
 
     def test_no_end(self):
-        """If the file ends before the failed read, as files without a known length do, the error is
-        raised."""
+        """The error is raised if `seek` finds the end before the failed read, as in files of unknown
+        length."""
         disk = Device(self.file, bad=[(FRONT + 2 * SEALED) // 512 + 9])
         seek = disk.seek
         disk.seek = lambda at, whence=0: FRONT if whence == os.SEEK_END else seek(at, whence)

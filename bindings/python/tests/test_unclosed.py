@@ -19,7 +19,7 @@ from support import KEY, InFolder, error_of, in_child, text
 
 class Unclosed(InFolder):
     def test_an_old_file_is_kept(self):
-        """If it was not flushed, and less than a chunk was written. The user is told, whatever the filters of warnings."""
+        """If it was not flushed, and less than a chunk was written. If nobody ends it, `sys.unraisablehook` is told."""
         for mode, data in (("wb", b"text"), ("w", "text")):
             for end in (lambda file: self.assertRaisesRegex(ValueError, "only commit or the clean end of a with block", file.close), lambda file: getattr(file, "buffer", file).abort(), lambda file: None):
                 self.put(b"old", "o.age")
@@ -70,7 +70,7 @@ class Unclosed(InFolder):
                 self.refused("w.age")
 
     def test_the_buffer_of_text(self):
-        """Text that has not reached it is in the file, by whatever name that is completed."""
+        """Text that has not reached the buffer is in the file, whichever call of the buffer completes it."""
         for end in (lambda file: file.buffer.commit(), lambda file: file.buffer.close(), lambda file: file.detach().commit(), lambda file: file.buffer.__exit__(None)):
             with contextlib.suppress(ValueError), agefile.open("w.age", "w", recipients=KEY) as file:
                 file.write("text")
@@ -91,8 +91,8 @@ class Unclosed(InFolder):
             self.assertEqual(self.read("w.age"), b"")
 
     def test_the_end_of_a_program(self):
-        """Each file that something holds to the end is given up and told, whatever the filters of warnings, and nobody waits
-        for a thread in a write."""
+        """Each file that something holds to the end is given up, and the user is told, whatever the filters of warnings. Nobody
+        waits for a thread in a write."""
         begin = "import agefile, concurrent.futures, os, sys, threading; key = agefile.Key(bytes(32))\ndef new(*file, **words): return agefile.open(*file, recipients=key, **words)\n"
         for code, names in (
             ("sys.a, sys.b = new('a.age', 'w'), new('b.age', 'wb', atomic=True)", ("a.age", "b.age")),
@@ -114,7 +114,7 @@ class Unclosed(InFolder):
             self.assertRaises(OSError, file.close)
 
     def test_warnings_that_raise(self):
-        """The file cannot be completed all the same, and its finalizer tells of it."""
+        """The file still cannot be completed."""
         file = agefile.open("w.age", "wb", recipients=KEY)
         with warnings.catch_warnings():
             warnings.simplefilter("error")

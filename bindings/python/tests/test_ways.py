@@ -1,5 +1,5 @@
 """Ways to end a file, a block, a task, a thread and a program, each in a process of its own and with each Python on PATH:
-the disk then has the old file, one that every reader refuses, or the complete new one, and the user is told."""
+then the disk has the complete new file; or the old or a refused one, and the user is told (not in HALF, `says_nothing`)."""
 
 import importlib.util
 import itertools
@@ -117,8 +117,8 @@ try: exec(code)
 finally:
     for each in [each() for each in opened if state == "twice" and each() and each().closed] * 2: each.close()
 """
-# In each state: all data were written; an exception came midway; all were written, and the file is closed twice more; or a
-# write failed, and nobody minded. With `completes` the file is whole in the first and third of them, else in none.
+# The states: all data were written; an exception came midway; all were written, and the file is closed twice more; a write
+# failed, and nobody minded. With `completes` the file is whole in the first and third of them, else in none.
 STATES = "whole", "midway", "twice", "failed"
 completes, gives_up, says_nothing = "whole", "refused", None
 ENDS = {
@@ -238,7 +238,7 @@ class Ways(InFolder):
 
     @unittest.skipIf(importlib.util.find_spec("fsspec") is None, "fsspec is missing")
     def test_fsspec(self):
-        """What is half is named by README.md; of all else that is not whole the user is told."""
+        """Only the ends in HALF, which README.md lists, leave half a file; of any other loss the user is told."""
         half = set()
         for (_, end, state), found, told, _ in self.cells(sys.executable, ("fsspec",)):
             if found == "half":

@@ -131,7 +131,7 @@ class Wrong(unittest.TestCase):
                 self.assertEqual(agefile.decrypt(file, identities=identities), b"text")
 
     def test_a_passphrase_beside_others(self):
-        """A stanza of a passphrase that is not alone is refused before any identity is asked."""
+        """A stanza of a passphrase that is not alone is refused, even if the identity ignores it."""
         file = agefile.encrypt(b"", recipients=Passphrase("x", work=1))
         for other in (b"--- ", b"-> scrypt "):
             mixed = file.replace(b"\n" + other, b"\n-> other\n\n" + other, 1)
@@ -290,7 +290,7 @@ class Devices(unittest.TestCase):
         self.assertEqual(str(error), "the read returned 100000, not 0 to 65536")
 
     def test_a_sink_that_returns_nothing(self):
-        """An object that is no raw file takes all."""
+        """If it is not a raw file, None means that it took all bytes."""
         taken = []
         agefile.copy(io.BytesIO(self.PLAIN), types.SimpleNamespace(write=lambda data: taken.append(bytes(data))), recipients=KEY)
         self.assertEqual(agefile.decrypt(b"".join(taken), identities=KEY) == self.PLAIN, True)

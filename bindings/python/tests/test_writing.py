@@ -54,7 +54,7 @@ class Writing(InFolder):
             self.assertEqual(file.encoding, io.TextIOWrapper(io.BytesIO(), "locale").encoding)
 
     def test_an_old_file_is_kept(self):
-        """A file keeps its contents until the header is known and the first byte is written."""
+        """A file keeps its contents if `open` fails, and no other file is left."""
 
         class Kms:
             def wrap(self, file_key):
@@ -119,7 +119,7 @@ class Writing(InFolder):
         self.assertEqual(agefile.decrypt(self.got("o.age"), identities=KEY), b"text")
 
     def test_copies_of_paths(self):
-        """`copy` and `rewrap_copy` keep a sink until there is something to write, and then empty
+        """An error before the first byte is written leaves the sink as it was. An empty plaintext empties
         it."""
         self.made(text(100000)), self.made(b"", "e.age")
         self.put(damaged(self.got("a.age"), 0), "bad.age")
@@ -157,8 +157,7 @@ class Writing(InFolder):
         self.assertEqual(agefile.decrypt(self.got("old"), identities=KEY), b"")
 
     def test_small_writes(self):
-        """They are collected, in whatever kind of object they come, and an interrupt is a
-        failure."""
+        """They are collected, in whatever kind of object they come."""
         choose, pieces = random.Random(2), []
         with agefile.open("s.age", "wb", recipients=KEY) as file:
             for kind in (bytes, bytearray, memoryview) * 3000:
@@ -186,7 +185,7 @@ class Writing(InFolder):
             self.refused("s.age")
 
     def test_threads_that_write(self):
-        """Each write is complete in the file, in some order, whoever closes it in the meantime."""
+        """Each write is complete in the file, in some order."""
         file = agefile.open("t.age", "wb", recipients=KEY)
         numbers = iter(range(4))
 
@@ -349,7 +348,7 @@ class Writing(InFolder):
 
     @unittest.skipIf(os.geteuid() != 0, "only root gives files away")
     def test_atomic_and_the_owner(self):
-        """Owner and group stay. Who is not let keep the group gives the new one nothing, and nobody gets bits of set-id."""
+        """Owner and group stay. If the group cannot stay, the new one gets no permissions. Set-ID bits are dropped."""
         fchown, mode_of = os.fchown, lambda: (lambda it: (it.st_uid, it.st_gid, it.st_mode & 0o7777))(os.stat("o.age"))
         for mode, refused, found in (
             (0o6750, (), (1234, 5678, 0o750)), (0o664, ((1234, 5678),), (0, 5678, 0o664)),
@@ -409,7 +408,7 @@ class Writing(InFolder):
         self.assertEqual(sorted(os.listdir()), ["like", "loop", "n.age"])
 
     def test_what_a_killed_writer_left(self):
-        """Where there are no locks it stays, and is refused; a path is written without them."""
+        """Without locks a path is still written, but what was left stays, and the next writer is refused."""
         with mock.patch("fcntl.flock", side_effect=OSError(errno.ENOLCK, "no locks")):
             self.written(b"text", "o.age", atomic=True)
             name = os.path.realpath(self.put(b"", "o.age.agep-new"))
@@ -427,7 +426,7 @@ class Writing(InFolder):
             self.assertEqual((self.got("o.age"), self.got("o.age.agep-new")), (b"old", b"other"))
 
     def test_many_writers(self):
-        """Of those that write at once one completes the file, and each other is refused; some are killed."""
+        """Each of several writers completes the file or is refused; some are killed, and the next one succeeds."""
         def write():
             for number in range(50):
                 with contextlib.suppress(BlockingIOError), agefile.open("m.age", "wb", recipients=KEY, atomic=True) as file:

@@ -53,7 +53,7 @@ class WithAge(unittest.TestCase):
                 self.assertEqual(opened.read(10), PLAIN[70000:70010])
 
     def test_grease(self):
-        """Unknown stanzas before, between and after the others, in both directions."""
+        """`age` and the example open a file with unknown stanzas before, between and after the others."""
 
         class Grease:
             def wrap(self, file_key):

@@ -10,7 +10,7 @@ use std::{env, process};
 
 use agefile::{Key, Reader, Writer};
 
-/// By pieces of this length, where `io::copy` takes 8 KiB.
+/// The length of the pieces read; `io::copy` alone takes 8 KiB.
 const PIECE: usize = 65536;
 
 fn main() -> io::Result<()> {
@@ -24,7 +24,7 @@ fn main() -> io::Result<()> {
         }
     };
     let key = Key::from_file(name)?;
-    // As files: standard output of the library of Rust looks for the ends of lines.
+    // As files, because `io::Stdout` looks for the ends of lines.
     let input = File::from(io::stdin().as_fd().try_clone_to_owned()?);
     let mut output = File::from(io::stdout().as_fd().try_clone_to_owned()?);
     if is_encrypting {

@@ -68,7 +68,7 @@ pub enum Error {
     WorkFactor,
     /// An argument of a stanza is empty, or has a character other than `!` to `~`.
     BadArguments,
-    /// A caller's own recipient or identity refused.
+    /// A caller's own recipient or identity refused, or the system returned no random bytes.
     Refused,
     /// An earlier write failed, so the file cannot be completed.
     Incomplete,

@@ -109,7 +109,7 @@ macro_rules! call {
     ($function:ident($($argument:expr),* $(,)?)) => {{
         let mut report = Report::default();
         // SAFETY: each pointer and length are those of one slice, array or struct, so none is null
-        // and each is valid for its length; what the call writes is borrowed alone.
+        // and each is valid for its length; what the call writes is borrowed exclusively.
         let code = unsafe { $function($($argument,)* &mut report) };
         match code {
             0 => Ok(report),

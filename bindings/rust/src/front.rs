@@ -6,9 +6,9 @@ use crate::ffi::NONCE;
 use crate::header::{inspect, unlock};
 use crate::{Error, FileKey, Header, Identity};
 
-/// The most bytes read at once, which most headers fit.
+/// The maximum number of bytes read at once. Most headers are shorter.
 const PIECE: usize = 4096;
-/// The number of bytes added to those read, in the bound on how often they may be parsed.
+/// Added to the number of bytes read, in the bound on the number of bytes parsed (`is_due`).
 const MARGIN: usize = 4096;
 /// The length of a header's last line.
 const LAST_LINE: usize = 48;
@@ -55,8 +55,8 @@ pub struct Front {
 }
 
 impl Front {
-    /// Reads no more than is needed to find the file key, so that a wrong key is reported before
-    /// the payload has arrived.
+    /// Makes no further read after the header until the file key is found, so that a wrong key is
+    /// reported before the payload has arrived.
     pub fn read(&mut self, source: &mut impl Read, identities: &[&dyn Identity]) -> io::Result<()> {
         let header = match self.header.take() {
             Some(header) => header,
@@ -86,9 +86,9 @@ impl Front {
         }
     }
 
-    /// Whether to parse the header now, after a read before which there were `had` bytes. Every
-    /// read may complete the header or make it invalid. If reads are so short that parsing after
-    /// each would take too long, it is still parsed as soon as its last line has been read.
+    /// Whether to parse the header now. Before the last read there were `had` bytes. Parses after
+    /// every read, because it may complete the header or make it invalid; once that has taken too
+    /// long, only after a read of what may be the header's last line.
     fn is_due(&self, had: usize) -> bool {
         let new = &self.bytes[had.saturating_sub(LAST_LINE)..];
         self.tried <= 16 * (self.bytes.len() + MARGIN) || new.windows(4).any(|four| four == b"\n---")

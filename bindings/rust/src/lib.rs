@@ -65,7 +65,7 @@ pub use secret::{FileKey, Identity, Key, Passphrase, Recipient};
 pub use whole::{decrypt, encrypt, library_version, rewrap, rewrap_copy};
 pub use writer::{FinishError, Writer};
 
-/// The example of README.md, which the compiler checks.
+/// The examples of README.md, which the compiler checks.
 #[cfg(doctest)]
 #[doc = include_str!("../README.md")]
 struct Readme;

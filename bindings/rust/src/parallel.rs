@@ -19,7 +19,7 @@ use crate::header::{header_of, inspect, stanzas_text, unlock};
 use crate::whole::text_len;
 use crate::{Error, FileKey, Identity, Recipient};
 
-/// The work of a thread on a chunk of its part, with the chunk's place in the output.
+/// Seals or opens the next chunk of a part, from the first slice into the second.
 type Step = fn(&mut Part, &[u8], &mut [u8]) -> Result<(), Error>;
 
 /// Encrypts a plaintext as [`crate::encrypt`] does, on up to `threads` threads. Uses fewer if the

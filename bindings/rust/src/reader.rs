@@ -8,7 +8,7 @@ use crate::ffi::{self, Payload, SEALED_CHUNK};
 use crate::front::{fill, Front};
 use crate::{Error, Identity};
 
-/// A [`Reader`] whose header has not been read yet, for sources that may block.
+/// A [`Reader`] whose header has not been read yet, for nonblocking sources.
 ///
 /// ```
 /// # use std::io::{ErrorKind, Read};
@@ -45,7 +45,7 @@ impl<R: Read> Opening<R> {
         self.front.read(&mut self.source, identities)
     }
 
-    /// Returns the reader of the plaintext, or an error unless [`Opening::read`] has returned `Ok`.
+    /// Verifies the header's MAC and returns the reader. [`Opening::read`] must have returned `Ok`.
     pub fn finish(self) -> Result<Reader<R>, Error> {
         let (payload, begun) = ffi::open(&self.front.bytes, &self.front.file_key()?.0)?;
         let mut ahead = io::Cursor::new(self.front.bytes);
@@ -100,9 +100,9 @@ pub struct Reader<R> {
 }
 
 impl<R: Read> Reader<R> {
-    /// Reads the header, and finds the file key with the first identity that matches. Reads no more
-    /// than the source has ready, so a wrong key is reported before the payload has arrived. A
-    /// source that may block before its header has arrived needs an [`Opening`].
+    /// Reads the header, and finds the file key with the first identity that matches. Reads on only
+    /// then, so a wrong key is reported before the payload has arrived. For a nonblocking source,
+    /// use an [`Opening`].
     pub fn new(source: R, identities: &[&dyn Identity]) -> io::Result<Reader<R>> {
         let mut opening = Opening::new(source);
         opening.read(identities)?;

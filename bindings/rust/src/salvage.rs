@@ -42,8 +42,8 @@ pub struct Salvaged {
     /// The number of bytes of the file after the early chunk, or after the last one if there is
     /// none.
     pub trailing: u64,
-    /// Whether the file is cut short. If its last chunk is lost, with or without up to 16 bytes after
-    /// it, more may be missing too.
+    /// Whether the file is known to be cut short. If its last chunk is lost, with or without up to
+    /// 16 bytes after it, more may be missing, too.
     pub is_cut: bool,
     /// Whether the plaintext is complete and genuine. Exactly then [`decrypt`](crate::decrypt)
     /// returns it.
@@ -76,8 +76,8 @@ impl Salvaged {
 /// Saves what is left of a damaged file. Returns what was saved and what is lost.
 ///
 /// Writes the plaintext of every chunk that opens, at its offset, and zeros for every chunk that
-/// does not. Each chunk that was saved is genuine; the file as a whole is only if the result
-/// [is whole](Salvaged::is_whole).
+/// does not. Each chunk that was saved is genuine; the plaintext as a whole is genuine only if the
+/// result [is whole](Salvaged::is_whole).
 ///
 /// If a read fails and the source can seek, the chunk is lost, and salvaging continues at the next
 /// one. A read that would block is an error. A pipe can be passed as a [`File`](std::fs::File),
@@ -85,8 +85,8 @@ impl Salvaged {
 ///
 /// # Errors
 /// Damaged chunks are not an error. A wrong key is one, and so is a damaged header, even if a key
-/// fits it. Otherwise those of the sink, and of reads of a source that cannot seek; what was saved
-/// before the error has been written.
+/// fits it. The other errors are those of the sink, of reads of the header and, if the source
+/// cannot seek, of all reads. What was saved before the error has been written.
 ///
 /// ```
 /// # fn main() -> std::io::Result<()> {
@@ -126,7 +126,7 @@ pub fn salvage(source: impl Read + Seek, mut sink: impl Write, identities: &[&dy
     }
 }
 
-/// A source that returns zeros up to the next chunk where a read fails, if it can seek.
+/// A source that, after a failed read, returns zeros up to the next chunk, if it can seek.
 struct Skipping<R> {
     source: R,
     can_seek: bool,
@@ -155,7 +155,7 @@ impl<R: Read + Seek> Skipping<R> {
 
     /// Moves the source to the next chunk or to its end. Returns the error if it cannot.
     fn skip(&mut self, error: io::Error) -> io::Result<()> {
-        // This says nothing of the disk.
+        // A read that would block says nothing about the disk.
         let is_retried = error.kind() == io::ErrorKind::WouldBlock;
         let first = match self.first {
             Some(first) if self.can_seek && !is_retried => first,
@@ -176,7 +176,7 @@ impl<R: Read + Seek> Skipping<R> {
 impl<R: Read + Seek> Read for Skipping<R> {
     fn read(&mut self, out: &mut [u8]) -> io::Result<usize> {
         if self.zeros == 0 {
-            // A read ends where its chunk does, so that its failure costs no other.
+            // A read ends where its chunk does, so that a failed one costs no other chunk.
             let left = |first| SEALED_CHUNK - ((self.at - first) % SEALED_CHUNK as u64) as usize;
             let len = out.len().min(self.first.map_or(usize::MAX, left));
             match read_some(&mut self.source, &mut out[..len]) {

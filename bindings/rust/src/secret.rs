@@ -105,7 +105,7 @@ pub struct Passphrase {
     text: Vec<u8>,
     work: u8,
     max_work: u8,
-    /// Whether a file has it, and nobody types it.
+    /// Whether it comes from a file, and begins or ends with bytes that nobody types.
     is_untyped: bool,
 }
 

@@ -87,7 +87,7 @@ impl<W: Write> Write for Writer<W> {
         Ok(count)
     }
 
-    /// Flushes the sink. The bytes of a chunk that is not full stay in the buffer.
+    /// Flushes the sink. The text of the next chunk, up to 65,536 bytes, stays in the buffer.
     fn flush(&mut self) -> io::Result<()> {
         self.sink.flush()
     }

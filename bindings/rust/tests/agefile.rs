@@ -86,7 +86,7 @@ fn great_header_is_listed_in_a_tenth_of_a_second() {
     assert!(least < 100_000_000, "{least} ns");
 }
 
-/// A source that must not need more than ten seconds of the processor, which would be too much by far.
+/// A source whose reader must take less than ten seconds of processor time.
 struct Timed(Device, u64);
 
 impl Read for Timed {
@@ -250,7 +250,7 @@ fn no_byte_is_awaited_that_is_not_needed() {
         (b"age-encryption.org/v1\n-> a\n\n--- AAAA\n", Error::BadLine(4)),
     ];
     for (text, error) in rows {
-        // With its last byte the text is refused.
+        // The text is refused with its last byte at the latest.
         (1..text.len()).for_each(|cut| is_refused_at_once(text, cut, &[wrong], error));
     }
     let long = [b"age-encryption.org/v1\n-> ", &[b'a'; 65511][..]].concat();
@@ -378,7 +378,7 @@ impl Identity for Says {
 /// One that finds another file key.
 const WRONG: Says = Says(Ok(Some(FileKey([0; 16]))));
 
-/// The first match and the first error but of a miss end the search. Of misses a wrong key counts most.
+/// The first match or error that is not a miss ends the search. Of misses a wrong key counts most.
 #[test]
 fn each_three_identities_find_what_the_first_or_the_gravest_finds() {
     let file = encrypt(b"", &[&Plain]).unwrap();

@@ -1,5 +1,5 @@
-//! Damaged files on several threads and by ranges, and a file that changes while it is open. What is expected is
-//! arithmetic. The packages' tests compare each way of reading with test vectors.
+//! Damaged files on several threads and by ranges, and a file that changes while open. The expected
+//! results follow by arithmetic. The packages' tests compare each way of reading with test vectors.
 
 mod common;
 
@@ -31,7 +31,7 @@ fn chunk_of(reader: &mut RangeReader<impl Read + Seek>, number: usize, len: usiz
     result.map(|()| chunk).map_err(fault)
 }
 
-/// A bad chunk stays bad, and the chunks that are read before it and after it are themselves.
+/// A bad chunk stays bad, and the chunks read before and after it are right.
 #[test]
 fn ranges_around_a_bad_chunk_are_right() {
     let plain = text(4 * TEXT + 100);

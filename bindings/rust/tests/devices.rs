@@ -1,5 +1,5 @@
 //! Each read, write, seek and flush of a device fails in turn, in each way, under each reader and
-//! writer. What must come of it follows from the bytes that the device gave or took.
+//! writer. The expected outcome follows from the bytes read or written.
 
 mod common;
 
@@ -37,7 +37,7 @@ impl Case {
         self.failure == Some(ErrorKind::Interrupted) && self.call != Call::Flush
     }
 
-    /// Where the first failure was that must be noticed.
+    /// The device's offset at its first failure, if that must be noticed.
     fn noticed(&self, device: &Device) -> Option<usize> {
         device.failed.first().copied().filter(|_| !self.is_repeated())
     }
@@ -71,7 +71,7 @@ fn each_failure(device: &Device, calls: &[Call], run: impl Fn(&mut Device, &Case
     }
 }
 
-/// The length of the text of the chunks after which another byte, or the end, is among the first
+/// The length of the plaintext of the chunks that have another byte after them among the first
 /// `len` bytes of a file.
 fn opened(len: usize, front: usize) -> usize {
     len.saturating_sub(front + 1) / SEALED * TEXT
@@ -87,7 +87,7 @@ impl Identity for Asked {
     }
 }
 
-/// The text that comes from a source, and the errors, so many of which end the work.
+/// The text read from a source, and the errors. Ends after `most` errors.
 fn read_on(source: &mut Device, most: usize) -> (Vec<u8>, Vec<io::Error>) {
     let (mut came, mut errors, mut piece) = (Vec::new(), Vec::new(), [0; 7000]);
     let (mut opening, asked) = (Opening::new(source), Asked(Cell::new(0)));
@@ -137,7 +137,7 @@ fn reader_goes_on_however_often_its_source_would_block() {
     }
 }
 
-/// A chunk, the one before it again, and so on. A failed call gives no wrong byte, then or later.
+/// Reads the chunks in turn, each several times. A failed call gives no wrong byte, then or later.
 #[test]
 fn ranges_are_right_after_each_failed_call() {
     let plain = text(2 * TEXT + 100);

@@ -1,5 +1,5 @@
 //! What is random in a file: each byte is the system's, and stands at one place. This binary has a
-//! `getrandom` of its own, which the library calls in place of the system's.
+//! `getrandom` of its own, which `agefile` calls in place of the system's.
 
 mod common;
 
@@ -73,7 +73,7 @@ const WAYS: &[(&str, usize, Way)] = &[
     ("rewrap_copy", 0, |recipients, out| rewrap_copy(OLD, out, &[&Passphrase::new("")], recipients)),
 ];
 
-/// Makes a file by a system whose calls end so, and returns what is left of that and what it gave.
+/// Makes a file on a system whose calls end so. Returns the ends left over and the bytes given.
 fn made(
     way: Way,
     recipients: &[&dyn Recipient],

@@ -96,7 +96,7 @@ fn errors_of_the_header_and_of_a_disk_without_an_end() {
     assert_eq!(fault(saved(Cursor::new(&changed)).unwrap_err()), agefile::Error::BadMac);
 }
 
-/// As a pipe, a socket is a file that cannot seek.
+/// Like a pipe, a socket is a file that cannot seek.
 #[test]
 fn a_pipe() {
     let (plain, file, _) = file();
