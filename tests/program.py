@@ -45,6 +45,12 @@ def scratch():
     return folder
 
 
+def memory():
+    """A folder in memory, where a new file costs a tenth, or None if programs may not run there or it is small."""
+    has_room = os.access("/dev/shm", os.W_OK) and shutil.disk_usage("/dev/shm").free > 1 << 30
+    return "/dev/shm" if has_room and not os.statvfs("/dev/shm").f_flag & os.ST_NOEXEC else None
+
+
 def made_once(make):
     """The function; its first result is kept."""
     kept = []

@@ -5,11 +5,13 @@ import os
 import re
 import shutil
 import subprocess
+import sys
+import tempfile
 import unittest
 from pathlib import Path
 
 import stand_in
-from program import AT_A_TIME, read, scratch, write
+from program import AT_A_TIME, memory, read, scratch, write
 from test_packages import run
 from test_releases import AUTHOR, HERE, ROOT
 
@@ -43,6 +45,8 @@ TOOLS = {
     "dpkg-source": 'sums "$2" | tee cushionduck_1.dsc >cushionduck_1.tar.xz',
     "dpkg-buildpackage": "sums . >../agep_1.deb",
 }
+# What a run of the test itself leaves in its folder.
+OWN = "calls", "fails", "last", "temporary"
 OLDER = "; find result -type f -exec sh -c 'echo old >$0' {} \\;"
 # What the scripts need of the repository.
 USED = (*"agep install package generate release crates.txt CHANGELOG.md CONTRIBUTING.md README.md SECURITY.md LICENSE .gitignore share docs".split(),
@@ -75,12 +79,14 @@ class Fails(unittest.TestCase):
     def setUpClass(cls):
         """A kit of stand-ins, a folder with the counted form of all tools, and a repository."""
         cls.kit = Path(scratch())
+        cls.copies = tempfile.mkdtemp(dir=memory())
+        cls.addClassCleanup(shutil.rmtree, cls.copies)
         for name in "bin", "doc", "counted", "made":
             (cls.kit / name).mkdir()
         write(cls.kit / "KIT-ID", b"kit\n")
         for name, script in TOOLS.items():
             stand_in.tool(cls.kit / "bin" / name, SUMS + script.replace("KIT", str(cls.kit)))
-        cls.path = f"{cls.kit}/bin:{os.environ['PATH']}"
+        cls.path = f"{cls.kit}/bin:{os.path.dirname(sys.executable)}:{os.environ['PATH']}"
         stand_in.tool(cls.kit / "counted/wrap", COUNTED.format(path=cls.path))
         for name in {name for place in cls.path.split(":") if os.path.isdir(place) for name in os.listdir(place)}:
             os.symlink("wrap", cls.kit / "counted" / name)
@@ -97,7 +103,7 @@ class Fails(unittest.TestCase):
             subprocess.run(["git", "-C", tree, *AUTHOR, *words], check=True)
 
     def copied(self, source):
-        folder = Path(scratch())
+        folder = Path(tempfile.mkdtemp(dir=self.copies))
         subprocess.run(["cp", "-a", f"{source}/.", folder], check=True)
         return folder
 
@@ -116,12 +122,11 @@ class Fails(unittest.TestCase):
     def files(self, folder):
         """Each file and folder, but not the times that git notes and sets."""
         found = {}
-        for path in (*folder.glob("tree/**/*"), *folder.glob("result/**/*")):
+        for path in folder.rglob("*"):
             name, status = str(path.relative_to(folder)), path.lstat()
             has_time = not path.is_dir() and not name.startswith("tree/.git/objects/")
             found[name] = status.st_mode, *((status.st_size, status.st_mtime_ns) if has_time else ())
-        found.pop("tree/.git/index", None)
-        return found
+        return {name: facts for name, facts in found.items() if name != "tree/.git/index" and name.split("/")[0] not in OWN}
 
     def state(self, folder):
         """What a line may change: the files that it makes, the program, and the repository."""

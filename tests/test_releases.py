@@ -70,10 +70,14 @@ class Case(unittest.TestCase):
         subprocess.run([ROOT / "package", "--build"], check=True, stderr=subprocess.DEVNULL)
 
     def setUp(self):
-        self.work = Path(tempfile.mkdtemp())
+        self.work = Path(tempfile.mkdtemp(dir=program.memory()))
         self.addCleanup(shutil.rmtree, self.work)
         self.tree = self.work / "tree"
-        self.environment = stand_in.toolchain(self.work / "tools", *self.HIDDEN) | {"AGEP_CPU": "x86-64"}
+        (self.work / "temporary").mkdir()
+        tools = stand_in.toolchain(self.work / "tools", "xz", *self.HIDDEN)
+        self.environment = tools | {"AGEP_CPU": "x86-64", "TMPDIR": f"{self.work}/temporary"}
+        if shutil.which("xz"):
+            stand_in.tool(self.work / "tools/xz", f'exec {shutil.which("xz")} "$@" -0')
         stand_in.tool(self.work / "tools/dpkg-buildpackage", ': >"../agep_$(dpkg-parsechangelog -S Version)_amd64.deb"')
         run("git", "clone", "-q", files_at_hand(), self.tree)
         self.git("config", "user.name", "Name")
