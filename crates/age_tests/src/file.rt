@@ -209,7 +209,7 @@ fn too_many_chunks_are_refused_in_both_directions(rt: HostRuntime) {
     assert_eq!(rt; front.len(), 65_536);
 }
 
-/// Stanzas of a caller's types are kept unchanged in both directions.
+/// A stanza of a caller's type is written, and skipped by other identities; the MAC covers it.
 #[test]
 fn foreign_stanzas_are_written_and_skipped(rt: HostRuntime) {
     let alloc = rt.alloc();

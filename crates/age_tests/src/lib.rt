@@ -1,9 +1,9 @@
 #![tactic(auto)]
 
-//! Tests the libraries through their public names, in a crate of their own because a crate with
-//! tests is proved twice. They show what no clause says: that compiled code meets the vectors of
-//! the RFCs, that calls succeed, and what they do if memory, a read or a write is refused, or an
-//! object of the caller answers. The tests of the program show the rest.
+//! Tests of the libraries through their public names, in a crate of their own because a crate with
+//! tests is proved twice. They show mostly what no clause says: that compiled code meets the
+//! vectors of the RFCs, that calls succeed, and what they do if memory, a read or a write is
+//! refused, or with a caller's recipients and identities. The tests of the program show the rest.
 
 #[cfg(test)]
 mod cipher;

@@ -8,7 +8,7 @@ use Rattle.age_file.specs.Words.{Bytes, IsPassError}
 use Rattle.round_trip.specs.declared.pairs.TripError.{TripError}
 use Rattle.round_trip.specs.declared.pairs.TripError.TheVariants.{Unpaired, Memory, Encrypting, Decrypting}
 
--- an allocation was refused; if it was one of the sink, the fault is `Write`
+-- the faults of a refused allocation: `Write` if it was one of the sink
 abbrev pub IsMemoryFault : Fault → Type 0
 IsMemoryFault fault = (fault ≡ OutOfMemory) ⊎ (fault ≡ Write)
 

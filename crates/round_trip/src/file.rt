@@ -28,8 +28,8 @@ pub fn encrypted(
     ensures file { IfOk result (λ file. (stanzas : List StanzaParts)
         × (wraps recipient fresh.now.file_key ≡ Ok stanzas)
         × AgeFile limits.now fresh.now.file_key stanzas plain.now file.items) }
-    // Fails only if an allocation was refused, perhaps one of the sink, if the plaintext has more
-    // chunks than the limit, or if the recipient's stanzas make no header.
+    // The only faults are `OutOfMemory`, `Write`, `TooManyChunks` if the plaintext has more chunks
+    // than the limit, and those of a recipient whose stanzas make no header.
     ensures lost { let refuses = IsRefusal limits.now fresh.now.file_key
         (Gathered (wraps recipient fresh.now.file_key ∷ []) (the_labels recipient ∷ [])) in
         IfErr result (IsUnwritten refuses limits.now plain.now) }
@@ -63,7 +63,7 @@ pub fn decrypted(
     ensures text { IfOk result (λ text. (plain : Bytes)
         → IsVerdict limits.now (λ s. meaning identity s ∷ []) file.now (whole plain)
         → text.items ≡ plain) }
-    // With such a verdict fails only if an allocation was refused, perhaps one of the sink.
+    // With such a verdict the only faults are `OutOfMemory` and `Write`.
     ensures lost { IfErr result (λ fault. (plain : Bytes)
         → IsVerdict limits.now (λ s. meaning identity s ∷ []) file.now (whole plain)
         → IsMemoryFault fault) }

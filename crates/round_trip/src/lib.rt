@@ -11,7 +11,7 @@
 //! list of calls works over any source.
 //!
 //! Limits: a round trip has one recipient. The only errors of a passphrase's or a key's round trip
-//! are work factors out of range, too many chunks, and a refused allocation.
+//! are work factors out of range, too many chunks, `OutOfMemory` and `Write`.
 #![tactic(auto)]
 
 mod file;

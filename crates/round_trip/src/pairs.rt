@@ -48,9 +48,9 @@ pub fn there_and_back<M: Matched>(
         ≡ M.I.meaning (M.the_identity pair.now) }
     // The pair's identity decrypts what was encrypted for its recipient to the same plaintext.
     ensures back { IfOk result (λ text. text.items ≡ plain.now) }
-    // Encrypting fails only if an allocation was refused, perhaps one of the sink, if the plaintext
-    // has more chunks than the limit, or if the recipient's stanzas make no header. After that, the
-    // call fails only if an allocation was refused.
+    // Encrypting fails only with `OutOfMemory`, `Write`, `TooManyChunks` if the plaintext has more
+    // chunks than the limit, or the fault of a recipient whose stanzas make no header. Decrypting
+    // fails only with `OutOfMemory` or `Write`.
     ensures lost { let refuses = IsRefusal limits.now fresh.now.file_key
         (Gathered (M.R.wraps (M.the_recipient pair.now) fresh.now.file_key ∷ [])
         ((⟦<dyn Recipient as Recipient>⟧ recipient.vtable).the_labels recipient.value ∷ [])) in
@@ -88,8 +88,8 @@ fn are_bounds(limits: &Limits)
 /// The same for the pair of a passphrase, as `PassPair::new` makes it.
 ///
 /// # Errors
-/// `Unpaired` as for `PassPair::new`, else those of `there_and_back`. `Encrypting` comes only with
-/// `TooManyChunks`, `OutOfMemory`, or `Write` if an allocation of the sink was refused.
+/// `Unpaired` as for `PassPair::new`, `Memory`, else those of `there_and_back`, `Encrypting` only
+/// with `TooManyChunks`, `OutOfMemory`, or `Write` if an allocation of the sink was refused.
 pub fn pass_there_and_back(
     alloc: Global,
     pass: &[u8],
@@ -102,9 +102,8 @@ pub fn pass_there_and_back(
 ) -> Result<Vec<u8>, TripError>
     // The pair's identity decrypts what was encrypted for its recipient to the same plaintext.
     ensures back { IfOk result (λ text. text.items ≡ plain.now) }
-    // Encrypting fails only if an allocation was refused, perhaps one of the sink, or if the
-    // plaintext has more chunks than the limit. After that, the call fails only if an allocation
-    // was refused.
+    // Encrypting fails only with `OutOfMemory`, `Write`, or `TooManyChunks` if the plaintext has
+    // more chunks than the limit; decrypting only with `OutOfMemory` or `Write`.
     ensures lost { IfErr result (IsLoss none limits.now plain.now) }
     // Returns `Unpaired(WorkFactor)` exactly if the work factor or its maximum is out of range, or
     // the work factor exceeds the maximum.
@@ -135,8 +134,8 @@ pub fn pass_there_and_back(
 /// The same for the pair of a key.
 ///
 /// # Errors
-/// Those of `there_and_back`. `Encrypting` comes only with `TooManyChunks`, `OutOfMemory`, or
-/// `Write` if an allocation of the sink was refused.
+/// `Memory`, and those of `there_and_back`, `Encrypting` only with `TooManyChunks`, `OutOfMemory`,
+/// or `Write` if an allocation of the sink was refused.
 pub fn key_there_and_back(
     alloc: Global,
     key: [u8; 32],
@@ -147,9 +146,8 @@ pub fn key_there_and_back(
 ) -> Result<Vec<u8>, TripError>
     // The pair's identity decrypts what was encrypted for its recipient to the same plaintext.
     ensures back { IfOk result (λ text. text.items ≡ plain.now) }
-    // Encrypting fails only if an allocation was refused, perhaps one of the sink, or if the
-    // plaintext has more chunks than the limit. After that, the call fails only if an allocation
-    // was refused.
+    // Encrypting fails only with `OutOfMemory`, `Write`, or `TooManyChunks` if the plaintext has
+    // more chunks than the limit; decrypting only with `OutOfMemory` or `Write`.
     ensures lost { IfErr result (IsLoss none limits.now plain.now) }
     // Never returns `Unpaired`.
     ensures paired { IfErr result IsPaired }

@@ -1,5 +1,5 @@
-//! The constructors of `age_file` without the device that their error holds, A call such as
-//! `expect` cannot take two references, that of the result and that of the error.
+//! The constructors of `age_file` without the device that their error holds, because a call such
+//! as `expect` cannot take two references, that of the result and that of the error.
 
 use age_file::{
     Decryptor, Encryptor, Fault, Identity, Limits, RangeReader, ReadAt, Sink, Source, StreamReader,

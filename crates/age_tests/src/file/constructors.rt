@@ -9,8 +9,8 @@ use age_header::Source;
 use std::alloc::Global;
 use std::cell::Cell;
 
-/// The header and the nonce have 172 bytes. Each write failed in turn: the failed write is the
-/// last, and is counted once.
+/// The header and the nonce have 172 bytes. Each write fails in turn: the failed write is the last,
+/// and is counted once.
 #[test]
 fn failed_write_of_the_front_is_the_last(rt: HostRuntime) {
     let alloc = rt.alloc();
@@ -44,8 +44,8 @@ fn read_fault<S: Source>(alloc: Global, source: &mut S, identities: &Identities)
     }
 }
 
-/// The header is read byte by byte, and the nonce at once. Each read failed in turn: the failed
-/// read is the last, and is counted once.
+/// The header is read byte by byte, and the nonce at once. Each read fails in turn: the failed read
+/// is the last, and is counted once.
 #[test]
 fn failed_read_of_the_front_is_the_last(rt: HostRuntime) {
     let alloc = rt.alloc();

@@ -53,8 +53,8 @@ fn reads_until(
     (source.reads, if failing == 0 { whole } else { failed })
 }
 
-/// Decrypting two chunks, with each read failing in turn: a prefix of the plaintext is written, and
-/// nothing more is read.
+/// Decrypting two chunks, with each read but the last failing in turn: a prefix of the plaintext is
+/// written, and nothing more is read.
 #[test]
 fn failing_read_leaves_a_beginning_of_the_plaintext(rt: HostRuntime) {
     let alloc = rt.alloc();
@@ -143,8 +143,8 @@ fn opens_or_starves(alloc: Global, identities: &Identities) -> bool {
     opened == Ok(0) || opened == Err(Fault::OutOfMemory) && dev.given() <= 156
 }
 
-/// The calls in steps return Ok or out of memory, and nothing else; their set-up may also be out of
-/// memory. tests/test_libraries.py refuses each allocation in turn.
+/// The calls in steps, and opening ranges, return Ok or out of memory, or `Write` if the sink's
+/// allocation was refused. tests/test_libraries.py refuses each allocation in turn.
 #[test]
 fn whole_or_out_of_memory(rt: HostRuntime) {
     let alloc = rt.alloc();

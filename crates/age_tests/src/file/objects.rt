@@ -6,7 +6,7 @@ use std::alloc::{AllocError, Global};
 use std::cell::Cell;
 use std::rc::Rc;
 
-/// Returns a stanza of a type that no other identity knows.
+/// Returns a stanza of a type that no identity knows.
 #[derive(Drop)]
 pub(super) struct ForeignRecipient;
 

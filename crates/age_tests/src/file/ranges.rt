@@ -34,8 +34,8 @@ fn file_of(rt: &impl Abort, alloc: Global) -> Vec<u8> {
     file
 }
 
-/// Reads this many bytes from offset `at` on into a buffer of bytes 255: what is returned, and how
-/// many bytes of the plaintext are at the buffer's front; the others are still 255.
+/// A read of `len` bytes from offset `at` on into a buffer of bytes 255 must return `answer`, and
+/// put `filled` bytes of the plaintext at the buffer's front; the others must still be 255.
 fn expect_range<T: Abort, D: ReadAt>(
     rt: &T,
     alloc: Global,

@@ -51,7 +51,7 @@ fn file_and_text(rt: &impl Abort, alloc: Global) -> (Vec<u8>, Vec<u8>) {
     (file, plain)
 }
 
-/// Each read fails in turn: the whole chunks before it were written.
+/// Each read fails in turn: only whole chunks were written, from the first one on.
 #[test]
 fn failing_read_leaves_what_was_saved(rt: HostRuntime) {
     let alloc = rt.alloc();
