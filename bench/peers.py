@@ -7,7 +7,7 @@ usage: bench/peers.py [--mib 1024] [--runs 7] [--files 1000] [--cpu LEVEL] [--on
 The programs are built for each level of processor given by --cpu, and else for this machine's and, if
 that is x86-64-v4, for x86-64-v3. --only leaves out the rows without this word, and the second table;
 --svg draws the second table. The script needs the toolchain, a C compiler, openssl, age, gpg and GNU
-time. TMPDIR names the folder for the files, which need up to ten times the size.
+time. TMPDIR names the folder for the files, which need up to ten times --mib.
 """
 
 import argparse

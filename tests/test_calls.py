@@ -242,7 +242,7 @@ class UnreadChunks(CallCase):
         self.each_call("read", IO_ERROR, self.job, "-o", judge)
 
     def test_places(self):
-        """A part of the file can never be read, or all from an offset on."""
+        """Each read of one part of the file fails, or each from an offset on."""
         for first in (HEAD, HEAD + 1, HEAD + 8000, HEAD + SEALED - 1, HEAD + SEALED, HEAD + SEALED + 1, HEAD + 2 * SEALED, FILE - 2, FILE - 1):
             for last in (first + 1, first + 4096, first + SEALED, FILE):
                 last = min(last, FILE)
@@ -307,8 +307,7 @@ ENDS = {
     **{("fsync", role): ("Write", "syncing made") for role in ("OUT", "NEW")}, ("rename", "NEW"): ("Write", "replacing made"),
     ("open", "folder"): ("Write", "syncing ."), ("fsync", "folder"): ("Write", "OUT was replaced; syncing its folder ."),
 }
-# Endings of their own: a new file may exist, not every folder can be read or synced, and the name or the folder of OUT may
-# be wrong.
+# Errors of calls that end a run in another way than in ENDS; with None it goes on.
 OWN = {
     **dict.fromkeys((("open", "NEW", errno.EEXIST), ("open", "folder", errno.EPERM), ("open", "folder", errno.EACCES), ("fsync", "folder", errno.EINVAL))),
     ("statx", "OUT", errno.ENOENT): None, ("statx", "NEW", errno.ENOENT): ("OutputIsBusy: made", None), ("read", "secret", errno.ENOMEM): ("OutOfMemory", None),

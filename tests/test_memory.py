@@ -20,7 +20,7 @@ COMMANDS = [
 
 class Allocations(ProgramCase):
     def refusals(self, *words):
-        """The runs with an allocation refused, up to the first run without a refusal, which is the last one."""
+        """A run for each allocation, which is refused, and then one run without a refusal."""
         for number in range(1, 10000):
             if os.path.exists("refused"):
                 os.remove("refused")

@@ -61,7 +61,7 @@ def run(line, **environment):
     ).stdout
 
 
-# The test that runs each block of a page, by the language of the block, in order. tests/cli.sh
+# For each block of a page, in order: its language, and the test that runs it. tests/cli.sh
 # runs the blocks `console` of README.md and docs/USE.md.
 RUN_BY = {
     "README.md": ("sh test_packages.Packages.test_the_wheel", "sh Typed.test_lines", "python test_library.Document.test_python"),
@@ -536,7 +536,7 @@ class Header(ProgramCase):
 
 
 class Systemd(unittest.TestCase):
-    # The folders where systemd looks for a program without a path.
+    # Folders where systemd looks for a program without a path.
     FOLDERS = "/usr/local/bin:/usr/bin:/bin"
 
     def test_service(self):

@@ -125,7 +125,7 @@ class Locked(io.FileIO):
 
     def close(self) -> None:
         if not self.closed and self._process == os.getpid():
-            # Only the parent unlocks, and must: a forked child's descriptor would keep the lock.
+            # Unlocks, because the descriptor of a forked child would keep the lock. A child does not.
             with contextlib.suppress(OSError):
                 fcntl.flock(self.fileno(), fcntl.LOCK_UN)
         super().close()

@@ -421,7 +421,7 @@ class Devices(unittest.TestCase):
                 self.assertEqual(in_time(lambda: self.opened_in_pieces(front[:cut], front[cut:]), 5).code, code)
 
     def test_a_great_header_by_single_bytes(self):
-        """Its last byte decides, and that takes seconds and not minutes."""
+        """A header of 65,536 single bytes is read in less than 10 s."""
         head = b"age-encryption.org/v1\n" + b"-> a\n\n" * 10911 + b"--- " + b"A" * 43 + b"\n"
         found = agefile.inspect(head)
         self.assertEqual((len(found.stanzas), found.length, found.mac), (10911, len(head), bytes(32)))
