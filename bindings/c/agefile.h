@@ -59,7 +59,7 @@ extern "C" {
 #define AGEFILE_SEALED_CHUNK 65552 /* the same with its tag */
 #define AGEFILE_FRONT 65552        /* bytes at a file's start that contain its header and nonce */
 /* generated: version of the header, one line */
-#define AGEFILE_VERSION 0x000600   /* 0.6.0: major, minor and patch, a byte each */
+#define AGEFILE_VERSION 0x000700   /* 0.7.0: major, minor and patch, a byte each */
 #define AGEFILE_STANZA_ROOM 128    /* bytes for a stanza of agefile_wrap_passphrase or _key */
 #define AGEFILE_HEADER_ROOM 256    /* bytes for a header with one such stanza, and its nonce */
 

@@ -1,2 +1,2 @@
 # generated: version of the package, one line
-__version__ = "0.6.0"
+__version__ = "0.7.0"

@@ -78,7 +78,7 @@ const ABOUT: &str = "Encrypt and decrypt files in the age v1 format";
 
 /// The newest version in `CHANGELOG.md`.
 // generated: version of the program, one line
-const VERSION: &str = "0.6.0";
+const VERSION: &str = "0.7.0";
 
 /// The whole command line.
 pub(crate) fn whole_command<'a>(alloc: Global) -> Result<Command<'a>, AllocError>

@@ -2,10 +2,10 @@
 
 ghost use Rattle.std.specs.Prelude.{◌≡◌};
 
-/// The version, 0.6.0: the major number times 65,536, the minor times 256, and the patch.
+/// The version, 0.7.0: the major number times 65,536, the minor times 256, and the patch.
 #[unsafe(no_mangle)]
 pub extern "C" fn agefile_version() -> u32
-    ensures { result ≡ 1536 }
+    ensures { result ≡ 1792 }
 {
-    0x00_06_00
+    0x00_07_00
 }
