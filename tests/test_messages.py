@@ -28,15 +28,27 @@ def numbered(text):
     return re.sub(r"\{\w+\}", lambda _: f"{{{next(count)}}}", text)
 
 
+FAULTS = ("age_file/src/fault.rt", "age_job/src/fault.rt")
+# agep encrypts to one recipient, which refuses nothing, and no disk holds 2^88 chunks.
+NOT_BY_AGEP = {"NoRecipients", "Refused", "IncompatibleRecipients", "TooManyChunks"}
+
+
+def source(name):
+    """The text of a file of the crates. A string that goes on in the next line is one line."""
+    return re.sub(r"\\\n *", "", text_of(f"{ROOT}/crates/{name}"))
+
+
+def texts_of_faults(*files):
+    """The names and texts of the faults in these files."""
+    for file in files:
+        for name, text in re.findall(r'Fault::(\w+)[^"]*"(.*)"', source(file).split("impl fmt::Display for ")[1]):
+            yield name, numbered(text)
+
+
 def texts_of_code():
     """The names and texts of the faults, of their parts, and of the roles of files."""
-    crates = ROOT + "/crates"
-    for source in ("age_file/src/fault.rt", "age_recipient/src/unwrapped.rt", "age_job/src/fault.rt"):
-        shown = text_of(f"{crates}/{source}").split("impl fmt::Display for ")[1]
-        for name, text in re.findall(r'Fault::(\w+)[^"]*"(.*)"', shown):
-            yield name, numbered(text)
-    roles = text_of(crates + "/age_job/src/file_names.rt")
-    for name, text in re.findall(r'Role::(\w+) => "(.*)"', roles):
+    yield from texts_of_faults(*FAULTS, "age_recipient/src/unwrapped.rt")
+    for name, text in re.findall(r'Role::(\w+) => "(.*)"', source("age_job/src/file_names.rt")):
         yield name, text if name == "Input" else f"the {text}"
 
 
@@ -61,6 +73,20 @@ class Code(unittest.TestCase):
         expected = {(fault.code, fault.name) for fault in of_files} | {(0, "Other")}
         expected |= {(number, part.name) for number, part in codes.parts(root).items()}
         self.assertEqual({(number, name) for number, name, _ in numbers()}, expected)
+
+
+class Page(unittest.TestCase):
+    def test_each_message_is_explained(self):
+        """docs/USE.md has a row for each message: faults that agep may return, lines about lost chunks, and those of
+        main.rt."""
+        table = text_of(ROOT + "/docs/USE.md").split("\n## Messages\n")[1]
+        explained = re.findall(r"`(.*?)`", "".join(re.findall(r"^\| (`.*?) \| ", table, re.MULTILINE)))
+        rows = [re.sub(r"\b(?!OUT\b)[A-Z]+\b(\\.agep\\-new)?|\\\.\\\.", ".+", re.escape(text)) for text in explained]
+        texts = [text for name, text in texts_of_faults(*FAULTS) if name not in NOT_BY_AGEP]
+        texts += re.findall(r'"([a-z]+ [^"]*)"', source("age_cli/src/lines.rt").replace("{TAG_SIZE}", "16"))
+        texts += re.findall(r'"agep: (.*)"', source("agep/src/main.rt"))
+        self.assertGreater(len(texts), 50)
+        self.assertEqual([text for text in texts if not any(re.fullmatch(row, text) for row in rows)], [])
 
 
 class Manual(unittest.TestCase):
