@@ -1,5 +1,5 @@
-"""`--atomic` and `--no-clobber`: whatever fails, OUT is the old file or the complete new one, and no other
-file stays."""
+"""`--atomic` and `--no-clobber`: whatever fails, OUT is the old file or the complete new one, and no new
+file is left, except where a test says otherwise."""
 
 import fcntl
 import itertools
@@ -18,7 +18,7 @@ from test_files import Files
 
 class Calls(CallCase):
     def test_saved(self):
-        """If after a failed read the folder cannot be synced, both faults are told, and OUT has what was saved."""
+        """If a read fails and OUT's folder cannot be synced, both faults are shown, and OUT has what was saved."""
         write("made", YESTERDAY)
         os.link("key.age", "IN.age")
         env = {"LD_PRELOAD": preload("calls"), "BAD": "70000 200000", "CALL": "fsync", "NUMBER": "2", "DO": IO_ERROR}
@@ -28,8 +28,8 @@ class Calls(CallCase):
         self.assert_file("made", LONG_PLAIN[:65536])
 
     def test_order(self):
-        """The new file gets its owner, then its permissions, and then its contents. The folder to which a link leads is
-        synced."""
+        """The new file gets its owner, then its permissions, and then its contents. If OUT is a link, the folder of the
+        link's target is synced."""
         os.mkdir("other")
         write("other/target", YESTERDAY)
         os.symlink("other/target", "linked")
@@ -77,7 +77,7 @@ class Runs(ProgramCase):
         self.assertFalse(os.path.exists(NEW))
 
     def test_two(self):
-        """Two short runs, 200 times, half of them beside what a killed run left: one succeeds, or both."""
+        """Two runs at once, 200 times, half the times beside a killed run's file: one or both succeed."""
         for count in range(200):
             write("made", YESTERDAY)
             if count % 2:
@@ -90,7 +90,7 @@ class Runs(ProgramCase):
             self.assertFalse(os.path.exists(NEW))
 
     def each_call(self, what):
-        """Runs the program until it makes no more calls, while this happens before each call in turn."""
+        """Yields runs with this shell command before the first call, before the second, and so on."""
         for number in itertools.count(1):
             for name in (NEW, "made", "met"):
                 self.run_agep("-rf", name, program="rm")
@@ -113,10 +113,10 @@ class Runs(ProgramCase):
             fcntl.flock(file, fcntl.LOCK_EX)
             kept = os.stat("theirs")
             for what in ("", f"ln theirs {NEW}", f"ln -s theirs {NEW}", f"mkdir {NEW}"):
-                unseen = 0
+                unseen = []
                 for ran in self.each_call(f"rm -f {NEW}; {what}"):
                     if read("made") == b"theirs":
-                        unseen += ran.status
+                        unseen.append(ran.status)
                         continue
                     self.assert_file("made", YESTERDAY if ran.status else HELLO)
                     self.assertEqual(os.path.lexists(NEW), bool(what))
@@ -125,7 +125,7 @@ class Runs(ProgramCase):
                     found = os.stat("theirs")
                     self.assertEqual((found.st_mode, found.st_uid, found.st_gid), (kept.st_mode, kept.st_uid, kept.st_gid))
                     self.assert_file("theirs", b"theirs")
-                self.assertEqual(unseen, int(what.startswith("ln ")))
+                self.assertEqual(unseen, [1] if what.startswith("ln ") else [])
 
 
 class Atomic(Files):
@@ -176,10 +176,10 @@ class Atomic(Files):
 
     @unittest.skipUnless(os.geteuid() == 0 and shutil.which("setfacl"), "needs root and acl")
     def test_acl(self):
-        """What docs/USE.md says of ACLs: only with --atomic, the group gets the rights of OUT's mask, or those whom the
-        folder's default ACL names get the rights of the group."""
+        """What docs/USE.md says of ACLs: only with --atomic, the group gets the rights of the mask of OUT's ACL, and
+        users named in the folder's default ACL get their rights as far as the group has them."""
         def readers(out, options):
-            """Who may read OUT after a run: group 100, and user 65534."""
+            """Whether group 100, and whether user 65534, can read OUT after a run."""
             self.assert_ended(self.run_line(f"decrypt -k key {options}-o {out} key.age"))
             ids = (("user", 1234), ("group", 100)), (("user", 65534), ("group", 65534))
             return [subprocess.run(["cat", out], capture_output=True, extra_groups=[], **dict(each)).returncode == 0 for each in ids]
@@ -201,7 +201,7 @@ class Atomic(Files):
             shutil.rmtree("acl")
 
     def test_special(self):
-        """A name of a folder or of standard output is refused, and so is one under which no file can be created."""
+        """A name of a folder or of standard output is refused, and so is one for which no new file can be made."""
         for name in ("folder/", ".", "/dev/stdout"):
             with self.subTest(name):
                 self.changes_nothing(f"OutputIsSpecial: {name}", f"decrypt -k key --atomic -o {name} key.age")

@@ -1,6 +1,6 @@
 """Runs each command with each of its reads and writes cut short, and each of its calls on files failing, in turn.
-A short call changes nothing. After a failing call the run goes on, or ends with the call's message, status 1 and a
-prefix of the right output; status 0 never comes with an incomplete file."""
+A short call changes nothing. After a failing call the run goes on (`salvage` may lose a chunk), or ends with its
+message, status 1, and a prefix of the output or OUT as it was; status 0 never comes with an incomplete file."""
 
 import copy
 import errno
@@ -27,21 +27,21 @@ PART = PLAIN[65530 : 65530 + 65550]
 # The sizes of the header with the nonce, and of the whole file.
 HEAD, FILE = 172, 172 + 2 * SEALED + 117
 YESTERDAY = b"".join(b"%d\n" % i for i in range(1, 50001))
-# The system's errors for calls on files.
+# Errors of the system, most of which calls on files can return.
 ERRORS = (
     *range(1, 41), errno.ENODATA, errno.EOVERFLOW, errno.EOPNOTSUPP, errno.ETIMEDOUT, errno.ESTALE, errno.EREMOTEIO, errno.EDQUOT,
 )
 
 
 class Job:
-    """A command line without -o and IN, the file that it reads, and the expected output."""
+    """A command line without -o and IN, the name of IN, and the expected output."""
 
     def __init__(self, words, name, expected, reads, writes):
         self.words = words.split()
         self.name = name
         self.expected = expected
-        # how many calls it makes at least
-        self.least = {"read": reads, "write": writes, "lseek": 3}
+        # the least number of calls of each kind
+        self.least = {"read": reads, "write": writes}
         self.has_out = self.words[0] != "inspect"
 
     def __str__(self):
@@ -53,7 +53,7 @@ class Job:
 
 def jobs():
     key_age = fixture.for_keys(LONG_PLAIN, KEY)
-    # one LF at the end of the file does not belong to it
+    # an LF at the end of a passphrase file does not belong to the passphrase
     pass_age = reference.age_file(SEED, [reference.passphrase_stanza(LONG_PASSPHRASE[:-1], 4, SALT)], LONG_PLAIN)
     header = key_age[:156]
     return [
@@ -80,8 +80,8 @@ class CallCase(ProgramCase):
         write("key.age", fixture.for_keys(LONG_PLAIN, KEY))
 
     def run_job(self, job, form, **call):
-        """Runs a job with one of its calls changed. Sets `self.made` to its output, and `self.met` to whether
-        there was such a call."""
+        """Runs a job with these variables for calls.c. Sets `self.made` to the output, and
+        `self.met` to whether DO happened."""
         for name in ("met", "trace"):
             if os.path.exists(name):
                 os.remove(name)
@@ -102,7 +102,7 @@ class CallCase(ProgramCase):
         return ran
 
     def changes(self, trace="trace"):
-        """The calls that changed files: the kind, the file and the result of each."""
+        """The traced calls but statx, open, flock, read and lseek: kind, file, result of each."""
         rows = [line.split() for line in read(trace).decode().splitlines()]
         return [(kind, name, int(result)) for kind, name, result in rows if kind not in ("statx", "open", "flock", "read", "lseek")]
 
@@ -120,8 +120,8 @@ class CallCase(ProgramCase):
         return judge
 
     def each_call(self, kind, what, job, form, judge):
-        """Changes all calls of a kind at once, unless these are interrupted or of any kind, then each in turn, until a
-        run has no such call; that run must be complete."""
+        """Changes all calls of a kind in one run, unless DO interrupts them or the kind is any. Then changes the first
+        call, in the next run the second, and so on, until a run has no such call; that run must be complete."""
         with self.subTest(f"{job} {form}, each {kind} in turn, DO={what}"):
             for number in range(what == INTERRUPTED or kind == "any", 1000):
                 ran = self.run_job(job, form, call=kind, number=number, do=what)
@@ -137,12 +137,12 @@ class CallCase(ProgramCase):
 
 class Order(CallCase):
     def calls(self):
-        """The calls that change OUT."""
+        """The calls of `changes` on OUT: the kind and the result of each."""
         return [(kind, result) for kind, name, result in self.changes() if name == "made"]
 
     def test_order(self):
-        """OUT is truncated, then written, then synced; the writes add up to the whole output. Those of `rewrap`
-        begin at pages from the third on."""
+        """OUT is truncated, then written, then synced; the writes add up to the whole output. From
+        the third on, each write of `rewrap` begins at a multiple of 65,536."""
         for job in self.jobs:
             if job.has_out:
                 with self.subTest(str(job)):
@@ -156,7 +156,7 @@ class Order(CallCase):
                         self.assertEqual(ends[1:], [*range(65536, ends[-1], 65536), ends[-1]], "each write begins at a page")
 
     def test_no_byte(self):
-        """If there is no output, OUT is truncated and synced; after a fault it is left alone."""
+        """If there is no output, OUT is truncated and synced; with a wrong key it is left alone."""
         for words, name in ("decrypt -k key", "empty.age"), ("salvage -k key", "empty.age"), ("range -k key 3 0", "key.age"):
             job = Job(words, name, b"", 5, 0)
             self.is_whole(self.run_job(job, "-o"), job, "-o")
@@ -178,7 +178,7 @@ class ShortCalls(CallCase):
                         self.each_call(kind, what, job, form, self.is_whole)
 
     def test_nothing_saved(self):
-        """If every chunk is lost, nothing is saved, even if the zeros are written in parts: the old OUT stays."""
+        """With --atomic, if every chunk is lost, the old OUT stays, even if the zeros are written in parts."""
         write("lost.age", functools.reduce(fixture.changed, (180, 65800, 131300), read("key.age")))
         self.run_job(Job("salvage -k key --atomic", "lost.age", b"", 5, 3), "-o", call="write", number=0, do="half")
         self.assertTrue(self.met)
@@ -202,7 +202,7 @@ class ShortCalls(CallCase):
 
 
 class UnreadChunks(CallCase):
-    """salvage goes on after a part of a file that cannot be read, if the file is given by name."""
+    """salvage goes on after a part of a chunk that cannot be read, if the file is given by name."""
 
     def setUp(self):
         super().setUp()
@@ -226,7 +226,7 @@ class UnreadChunks(CallCase):
         self.assert_bytes(self.made, text)
 
     def test_in_turn(self):
-        """Each read fails once: that costs the rest of its chunk, or ends the run at the header, the nonce or the end."""
+        """Each read fails once: a failed read in a chunk costs that chunk; any other one ends the run."""
         def judge(ran, job, form):
             sizes = [int(row.split()[2]) for row in read("trace").decode().splitlines() if row.startswith("read IN.age ")]
             if -1 not in sizes:
@@ -296,8 +296,8 @@ class UnreadChunks(CallCase):
         self.each_call("read", IO_ERROR, whole, "", self.has_failed(message("Read")))
 
 
-# What ends a run if a call fails, by its kind and the role of its file: the fault, and what the second line of -v begins
-# with. After any other call the run goes on.
+# How a run ends if a call fails, unless OWN or `ending` says otherwise, by the kind of the call and the role of
+# its file: the fault, and the start of the second line of -v. After any other call the run goes on.
 ENDS = {
     **{(kind, role): ("CannotOpen: {name}", "opening {name}") for kind, role in (("open", "secret"), ("open", "IN"), ("lseek", "IN"))},
     **{("statx", role): ("Unidentified: {name}", "identifying {name}") for role in ("secret", "IN", "OUT")},
@@ -307,7 +307,7 @@ ENDS = {
     **{("fsync", role): ("Write", "syncing made") for role in ("OUT", "NEW")}, ("rename", "NEW"): ("Write", "replacing made"),
     ("open", "folder"): ("Write", "syncing ."), ("fsync", "folder"): ("Write", "OUT was replaced; syncing its folder ."),
 }
-# Errors of calls that end a run in another way than in ENDS; with None it goes on.
+# Errors after which a run ends in another way than in ENDS, or goes on if there is None.
 OWN = {
     **dict.fromkeys((("open", "NEW", errno.EEXIST), ("open", "folder", errno.EPERM), ("open", "folder", errno.EACCES), ("fsync", "folder", errno.EINVAL))),
     ("statx", "OUT", errno.ENOENT): None, ("statx", "NEW", errno.ENOENT): ("OutputIsBusy: made", None), ("read", "secret", errno.ENOMEM): ("OutOfMemory", None),
@@ -325,7 +325,7 @@ class FailingCalls(CallCase):
         return "IN" if name == job.name else "secret" if name in job.words else "OUT" if name.startswith("pipe:") else "stream"
 
     def ending(self, job, form, error):
-        """The fault of the run of which a call failed, and the second line of -v; or None if it goes on."""
+        """The fault with which the run must end, and the second line of -v; None if the run must go on."""
         kind, name = read("met").decode().split()
         role, why = self.role(job, name), os.strerror(error)
         before = read("trace").decode().partition(f"\n{kind} {name} -1\n")[0]
@@ -335,7 +335,7 @@ class FailingCalls(CallCase):
         if kind == "statx" and role in ("OUT", "NEW") and "\nftruncate " in before:
             is_gone = error == errno.ENOENT and looks % 2 == 0
             return "Write", f"replacing made: {'its new file was removed' if is_gone else why}"
-        # A file must be told from an existing OUT, once it is open; but OUT may be IN with --atomic, except for salvage.
+        # A file that was opened must be told from an existing OUT; but OUT may be IN with --atomic, except for salvage.
         is_asked = f"\nopen {name} 0" in before and form and (role == "secret" or form == "-o" or job.words[0] == "salvage")
         if kind == "statx" and role in ("secret", "IN") and not is_asked:
             return None
@@ -351,8 +351,8 @@ class FailingCalls(CallCase):
         return fault and (fault.format(**shown), f"{more.format(**shown)}: {why}")
 
     def judge(self, ran, job, form, error=int(IO_ERROR)):
-        """It goes on, or ends with its fault; OUT is the old or the new file or, without --atomic, the start of that, and
-        there is no new file."""
+        """The run goes on, or ends with the fault of the failed call. OUT has its old contents, the new ones or, without
+        --atomic, the start of the new ones; OUT.agep-new does not exist, unless another run has locked it."""
         (kind, name), trace = read("met").decode().split(), read("trace").decode()
         if (kind, name, error) == ("flock", NEW, errno.EAGAIN):
             os.remove(NEW)  # it is another run's
@@ -390,7 +390,7 @@ class FailingCalls(CallCase):
             self.each_call("any", error, job, ATOMIC, lambda *ran: self.judge(*ran, error))
 
     def test_no_byte(self):
-        """A write that writes nothing."""
+        """A write that takes no bytes counts as failed."""
         for job in self.jobs:
             for form in job.forms():
                 self.each_call("write", "none", job, form, self.has_failed(message("Write")))

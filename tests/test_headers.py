@@ -18,7 +18,7 @@ def header_in(file):
 
 
 def table(header, is_right=None):
-    """The table of a header, computed from its lines; with a file key, it says whether the MAC is right."""
+    """The table of a header, computed from its lines; `is_right` is None if no file key is given."""
     version, *lines, mac, _ = header.decode().split("\n")
     stanzas = []
     for line in lines:
@@ -77,7 +77,7 @@ class Tables(ProgramCase):
     def test_great_headers(self):
         """Headers with many lines and with many arguments, up to the limit and above it."""
         rows = [
-            ("65,536 bytes in 21,822 lines", header_of("-> a\n\n" * 10911), 65536, None),
+            ("65,536 bytes in 21,824 lines", header_of("-> a\n\n" * 10911), 65536, None),
             ("65,537 bytes", header_of("-> a\n\n" * 10910 + "-> aa\n\n"), 65537, message("HeaderTooLarge")),
             ("10,912 stanzas", header_of("-> a\n\n" * 10912), 65542, message("HeaderTooLarge")),
             ("30,000 arguments", header_of("->" + " a" * 30000 + "\n\n"), 60074, None),
@@ -101,7 +101,7 @@ class Tables(ProgramCase):
 
 class Limits(ProgramCase):
     def test_limit(self):
-        """Headers around the size given by -H, and lines that continue beyond it."""
+        """Headers around the size given by -H, and lines cut right before or at it."""
         start = b"age-encryption.org/v1\n-> "
         exact, longer = header_of(f"-> {'a' * 949}\n\n"), header_of(f"-> {'a' * 950}\n\n")
         self.assertEqual((len(exact), len(longer)), (1024, 1025))

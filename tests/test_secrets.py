@@ -177,7 +177,7 @@ class Passphrases(ProgramCase):
                 self.says(message("WrongKey"), "decrypt", "-p", "secret", "pass.age")
 
     def test_lengths(self):
-        """Each byte counts, even the last one, around 64 bytes, the size of a block of the hash."""
+        """Each byte counts, even the last one, at lengths such as 64 bytes, a block of the hash."""
         text = b" ".join(b"%d" % i for i in range(1, 20001))
         for size in (1, 63, 64, 65, 127, 128, 129, 4096, 65535, 65536):
             prefix = text[: size - 1]
@@ -257,22 +257,23 @@ class KeyFiles(ProgramCase):
                 self.says(message("WrongKey"), "decrypt", "-k", "near", "key.age")
 
     def test_many(self):
-        """Each of a dozen keys or passphrases counts, wherever several may be given."""
+        """Each of a dozen keys gets a stanza; the first, a middle and the last of a dozen secrets open a file."""
         keys = [bytes([number]) * 32 for number in range(12)]
         for number, key in enumerate(keys):
             write(f"key.{number}", key)
             write(f"pass.{number}", b"%d" % number)
-        write("made.key", reference.age_file(SEED, [reference.key_stanza(keys[-1], SALT)], HELLO))
-        write("made.pass", fixture.for_passphrase(HELLO, b"11", 1))
         named = lambda letter, name: [word for number in range(12) for word in (letter, f"{name}.{number}")]
         expected = reference.age_file(SEED, [reference.key_stanza(key, SALT) for key in keys], HELLO)
         self.writes(expected, "encrypt", *named("-k", "key"), "-s", "seed", "hello")
         self.writes(expected, "rewrap", "-k", "key", *named("-K", "key"), "-s", "seed", "key.age")
-        for letter, name in (("-k", "key"), ("-p", "pass")):
-            for command, *more in (["decrypt"], ["range", "0", "9"], ["salvage"]):
-                with self.subTest(f"{command} {letter}"):
-                    self.writes(HELLO, command, *named(letter, name), *more, f"made.{name}")
-            self.writes(read("key.age"), "rewrap", *named(letter, name), "-K", "key", "-s", "seed", f"made.{name}")
+        for number in 0, 5, 11:
+            write("made.key", reference.age_file(SEED, [reference.key_stanza(keys[number], SALT)], HELLO))
+            write("made.pass", fixture.for_passphrase(HELLO, b"%d" % number, 1))
+            for letter, name in (("-k", "key"), ("-p", "pass")):
+                for command, *more in (["decrypt"], ["range", "0", "9"], ["salvage"]):
+                    with self.subTest(f"{command} {letter}, {number}"):
+                        self.writes(HELLO, command, *named(letter, name), *more, f"made.{name}")
+                self.writes(read("key.age"), "rewrap", *named(letter, name), "-K", "key", "-s", "seed", f"made.{name}")
 
 
 class Seeds(ProgramCase):

@@ -17,8 +17,9 @@ fn refuse(reason: &str) -> ! {
 }
 
 fn main() {
-    println!("cargo:rerun-if-env-changed=AGEFILE_LIB_DIR");
-    println!("cargo:rerun-if-env-changed=PKG_CONFIG_PATH");
+    for name in ["AGEFILE_LIB_DIR", "PKG_CONFIG_PATH", "PKG_CONFIG_LIBDIR"] {
+        println!("cargo:rerun-if-env-changed={name}");
+    }
     let target = |part: &str| env::var(format!("CARGO_CFG_TARGET_{part}")).unwrap_or_default();
     if (target("OS"), target("ARCH"), target("ENV")) != ("linux".into(), "x86_64".into(), "gnu".into()) {
         refuse("the library is for Linux on x86-64 with the GNU C library alone");

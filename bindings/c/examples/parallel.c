@@ -1,5 +1,5 @@
-/* Decrypts a file on N threads, or encrypts it with -e: parallel [-e] KEY_FILE N IN OUT. The 32
- * bytes of KEY_FILE are the key. Use OUT only after status 0. cc -O2 -pthread -o parallel
+/* Decrypts a file on up to N threads, or encrypts it with -e: parallel [-e] KEY_FILE N IN OUT. The
+ * 32 bytes of KEY_FILE are the key. Use OUT only after status 0. cc -O2 -pthread -o parallel
  * parallel.c $(pkg-config --cflags --libs agefile) */
 #define _FILE_OFFSET_BITS 64
 #define _POSIX_C_SOURCE 200809L
@@ -15,8 +15,8 @@
 #define MAX_THREADS 64
 
 /* The chunks of one thread: a part of the payload, or the payload itself with the rest. `from` and
- * `to` are the offsets of its next chunk in both files, `left` is the number of bytes that IN has
- * from there on. */
+ * `to` are the offsets of the next chunk in IN and in OUT; `left` is the number of bytes of IN from
+ * `from` on. */
 struct work {
     pthread_t thread;
     bool is_sealing, is_part, is_done;
@@ -52,12 +52,12 @@ static bool read_at(uint8_t *bytes, size_t len, uint64_t at)
 static bool write_at(const uint8_t *bytes, size_t len, uint64_t at)
 {
     for (ssize_t n; len > 0; bytes += n, at += n, len -= n)
-        if ((n = pwrite(out, bytes, len, (off_t)at)) < 0)
+        if ((n = pwrite(out, bytes, len, (off_t)at)) <= 0)
             return fail("write failed");
     return true;
 }
 
-/* Seals or opens a chunk of `len` bytes of IN. */
+/* Seals or opens a chunk of `len` bytes of IN, and writes it to OUT. */
 static bool convert(struct work *work, uint8_t *chunk, size_t len, bool is_last)
 {
     agefile_report report;
@@ -92,7 +92,7 @@ static void *run(void *argument)
     return NULL;
 }
 
-/* Makes the header of OUT, whose length is then all->to, or reads that of IN. */
+/* Makes header and nonce of OUT, all->to bytes in `front`, or opens the payload of IN. */
 static bool start(struct work *all, const uint8_t key[32])
 {
     uint8_t fresh[48], stanza[AGEFILE_STANZA_ROOM]; /* a file key, a nonce and a salt */
@@ -114,7 +114,7 @@ static bool start(struct work *all, const uint8_t key[32])
     return true;
 }
 
-/* Opens OUT, which must not be a file that is read, and truncates it. */
+/* Opens OUT, which must be neither IN nor KEY_FILE, and truncates it if it is a regular file. */
 static bool open_out(const char *name, const struct stat *source, int key)
 {
     struct stat sink, other;

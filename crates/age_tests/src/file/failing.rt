@@ -13,7 +13,7 @@ use age_recipient::{KeyIdentity, KeyRecipient};
 use std::alloc::Global;
 use std::process::Abort;
 
-/// A sink over a slice of each length gets as long a prefix of the file as fits.
+/// A sink over a slice, of each length in turn, is filled with a prefix of the file.
 #[test]
 fn failing_sink_gets_a_beginning_of_the_file(rt: HostRuntime) {
     let alloc = rt.alloc();
@@ -35,8 +35,8 @@ fn failing_sink_gets_a_beginning_of_the_file(rt: HostRuntime) {
     }
 }
 
-/// The number of reads, of at most 1,000 bytes, that decrypting makes if the read with this number
-/// fails.
+/// The number of reads, of at most 1,000 bytes, that decrypting makes if read `failing` fails (0:
+/// none), and whether the result and the output are then as expected.
 fn reads_until(
     rt: &impl Abort,
     alloc: Global,
@@ -53,8 +53,8 @@ fn reads_until(
     (source.reads, if failing == 0 { whole } else { failed })
 }
 
-/// Decrypting two chunks, with each read but the last failing in turn: a prefix of the plaintext is
-/// written, and nothing more is read.
+/// Decrypting two chunks, with each read failing in turn: a prefix of the plaintext is written, and
+/// nothing more is read.
 #[test]
 fn failing_read_leaves_a_beginning_of_the_plaintext(rt: HostRuntime) {
     let alloc = rt.alloc();
@@ -62,15 +62,16 @@ fn failing_read_leaves_a_beginning_of_the_plaintext(rt: HostRuntime) {
     let (_, file) = encrypted(alloc, plain.as_slice(), &key_recipients(&rt, alloc, 3));
     let (reads, whole) = reads_until(&rt, alloc, file.as_slice(), plain.as_slice(), 0);
     assert!(rt; whole && reads > 156 + 65);
-    for failing in 1..reads {
+    for earlier in 0..reads {
+        let failing = earlier + 1;
         let (met, failed) = reads_until(&rt, alloc, file.as_slice(), plain.as_slice(), failing);
         assert!(rt; failed, "read {failing}");
         assert_eq!(rt; met, failing);
     }
 }
 
-/// A failing source of a plaintext of two chunks: nothing is written before the first chunk is
-/// full, after 66 reads of at most 1,000 bytes; after that a prefix of the file is.
+/// A source of a plaintext of two chunks fails. Before 66 reads of at most 1,000 bytes have filled
+/// the first chunk, nothing is written; after a later failure the output is a prefix of the file.
 #[test]
 fn failing_plaintext_leaves_a_beginning_of_the_file(rt: HostRuntime) {
     let alloc = rt.alloc();
@@ -91,12 +92,12 @@ fn failing_plaintext_leaves_a_beginning_of_the_file(rt: HostRuntime) {
     }
 }
 
-/// The file of the empty plaintext for the key of 32 bytes 3, made by tests/reference.py.
+/// The file of the empty plaintext for the key that is 32 times 3, made by tests/reference.py.
 pub(super) const FILE: &[u8] =
     b"age-encryption.org/v1\n-> example.org/key ICEiIyQlJicoKSorLC0uLw\nV4z9dcExmsj4rOYyl6enYhk5Msw0sZuovpzKf+BEY6Y\n--- vTjtX063xQZt7OcXF0O+SrfCT1OR+JXStLMiFO1M3/E\n\x10\x11\x12\x13\x14\x15\x16\x17\x18\x19\x1a\x1b\x1c\x1d\x1e\x1f\x50\x15\x09\x65\x52\xfe\x30\x35\x66\x48\x70\x85\x54\xcb\x9c\x28";
 
-/// Whether starting a file writes its header and nonce, or is out of memory with nothing written. A
-/// write fails if the sink's own allocation was refused.
+/// Whether starting a file writes its header and nonce, or returns out of memory with nothing
+/// written, or a failed write, which means that the sink's own allocation was refused.
 fn starts_or_starves(alloc: Global, recipients: &Recipients) -> bool {
     let mut out = MemSink::new(Vec::new(alloc));
     let started = match Encryptor::new(alloc, recipients.as_slice(), &FRESH, &Limits::default()) {
@@ -115,8 +116,8 @@ fn starts_or_starves(alloc: Global, recipients: &Recipients) -> bool {
     }
 }
 
-/// Whether a file is unlocked and its chunk read, or the call is out of memory having read at most
-/// the header: the payload has 32 bytes.
+/// Whether a file is unlocked and its chunk read, or a call returns out of memory, with at least
+/// the 32 bytes of the payload still unread.
 fn reads_or_starves(alloc: Global, identities: &Identities) -> bool {
     let mut source = MemSource::new(FILE);
     let decryptor = match begin_decryptor(alloc, &mut source) {
@@ -133,7 +134,7 @@ fn reads_or_starves(alloc: Global, identities: &Identities) -> bool {
     }
 }
 
-/// Whether a file opens for ranges, or the call is out of memory having read at most the header.
+/// Whether a file opens for ranges, or the call returns out of memory and read at most the header.
 fn opens_or_starves(alloc: Global, identities: &Identities) -> bool {
     let mut dev = MemAt::new(FILE);
     let opened = match opened(alloc, &mut dev, identities.as_slice(), &Limits::default()) {
