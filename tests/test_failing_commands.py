@@ -1,4 +1,4 @@
-"""The scripts in a tree whose tools are stand-ins, while each command that they run fails in turn."""
+"""The scripts, with stand-ins for build tools, while commands fail in turn; stale generated texts."""
 
 import concurrent.futures
 import os
@@ -28,7 +28,7 @@ read -r number how <"$run/fails"
 case $how-$name in nothing-* | *-mktemp) exit 1 ;; esac
 (trap "" XFSZ; ulimit -f 0; "$name" "$@") | head -c 100
 exit 1"""
-# With these the stand-ins write the sums of what they read into what they make, so no difference is lost.
+# With these, stand-ins write the sums of what they read into what they make, so that other contents show.
 SUMS = """sums() { find "$@" -type f ! -path "*/.git/*" -exec cksum {} + | sed "s|/[^ ]*/||" | sort; }
 derived() { for word; do file=${word##*=}; [ ! -f "$file" ] || cksum <"$file"; echo "${word##*/}"; done; }
 """
@@ -70,7 +70,7 @@ def make_tree(tree):
     for name in run("git", *HERE, "ls-files", "-co", "--exclude-standard", *USED, cwd=ROOT).splitlines():
         (tree / name).parent.mkdir(parents=True, exist_ok=True)
         shutil.copy2(ROOT / name, tree / name)
-    run("git", "init", "-q", tree)
+    run("git", "init", "-q", "--template=", tree)
     run("git", "add", "-A", cwd=tree)
 
 
@@ -120,7 +120,7 @@ class Fails(unittest.TestCase):
         return done.returncode, done.stdout + done.stderr
 
     def files(self, folder):
-        """Each file and folder, but not the times that git notes and sets."""
+        """The mode of each path, and the size and time of each file, without what git sets anew."""
         found = {}
         for path in folder.rglob("*"):
             name, status = str(path.relative_to(folder)), path.lstat()
@@ -145,7 +145,7 @@ class Fails(unittest.TestCase):
         status, said = self.ran(folder, line, number, how)
         call = read(folder / f"calls/{number}").decode().strip() if (folder / f"calls/{number}").exists() else "rm"
         after = self.state(folder)
-        # Others than ./install may delete what was there before they put the new files.
+        # Commands other than ./install may delete old files before they put the new ones.
         names = {*after, *old, *new} if "install" in line else {*after}
         wrong = {name for name in names if after.get(name) not in (old.get(name), new.get(name))}
         if status == 0:
@@ -160,9 +160,9 @@ class Fails(unittest.TestCase):
         return f"{how} of {call}", wrong, said
 
     def test_each(self):
-        """The first call of each kind fails in turn; calls that differ only in names of files are of one kind. A line
-        that ends with status 0 has made all that a good one makes. After another status each file is as before or as
-        after a good one, nothing temporary is left, and the line succeeds if it is run again."""
+        """The first call of each kind but `python -c` fails in turn; calls that differ only in paths are of one kind.
+        A line with status 0 made what a good run makes. After another status each file is as before, as after a good
+        run or, unless ./install ran, missing; a second run succeeds. Temporary files stay only if removal failed."""
         for line, before in ROWS:
             source = self.copied(self.kit / "made")
             status, said = self.ran(source, before, is_counted=False)

@@ -32,6 +32,8 @@ import model
 
 ROOT = Path(__file__).resolve().parent.parent
 SECRET = ROOT / "tests/data/passphrase.age"
+# With these variables, cargo takes less time for a build that a test runs once.
+QUICK = {"CARGO_PROFILE_DEV_DEBUG": "0", "CARGO_INCREMENTAL": "0"}
 # The tests of the package for Python. These two files take as long as all the others.
 PYTHON_TESTS, LONG = ROOT / "bindings/python/tests", {"test_ways.py", "test_whole.py"}
 # The oldest glibc for the programs and for the library, as docs/PACKAGES.md says.
@@ -161,8 +163,8 @@ class Packages(unittest.TestCase):
         return files, folders
 
     def test_contents(self):
-        """Each file of each package has its line in packaged.txt, with mode, owner, link target and contents.
-        Folders have mode 755."""
+        """Each file of each package except the source package has a line in packaged.txt, with its mode, link
+        target and perhaps contents. Files and folders belong to root. Folders have mode 755."""
         self.maxDiff = None
         for pattern, rows in listed():
             files, folders = self.installed(pattern)
@@ -191,9 +193,9 @@ class Packages(unittest.TestCase):
                 yield pattern, path
 
     def test_instructions(self):
-        """Each program has builds for newer processors, and one without any instruction that a processor of the level
-        x86-64 may lack: more than a fifth of the program's instructions follow each other without any such. In the
-        archives each export with such an instruction also occurs without any."""
+        """Each program has instructions that a processor of the level x86-64 may lack, and a build without these: a
+        stretch without them has more than a fifth of all instructions. In the archives each export with such
+        instructions also occurs without them."""
         for name, path in self.programs():
             with self.subTest(f"{name}: {path.name}"):
                 row, newer, every = instructions_of(path)
@@ -235,13 +237,13 @@ class Packages(unittest.TestCase):
 
     @needs("lintian")
     def test_lintian(self):
-        """lintian prints nothing except what an override explains, and each override is used."""
+        """lintian prints nothing about the Debian packages and the source package."""
         packages = [*sorted(self.dist.glob("*.deb")), *self.dist.glob("*.dsc")]
         self.assertEqual(run("lintian", "--display-info", "--tag-display-limit", "0", *packages), "")
 
     def test_source_package(self):
-        """With the toolchain, it builds exactly the bytes of the Debian packages; without, it says what it needs. It
-        refuses a function that its list of symbols lacks. Its target clean removes all that a build makes."""
+        """With a stand-in for the toolchain, the source package builds the bytes of the Debian packages; without,
+        it says what it needs. It refuses a function not in its list of symbols. `clean` removes all of a build."""
         tree = self.work / "unpacked"
         run("dpkg-source", "-x", self.one("*.dsc"), tree)
         sources = sorted(tree.rglob("*"))
@@ -260,7 +262,7 @@ class Packages(unittest.TestCase):
         self.assertEqual(sorted(tree.rglob("*")), sources)
 
     def test_documents(self):
-        """The links of each page lead somewhere in its package, and each package has the license."""
+        """In each package with pages, relative links lead to its files, and the license is there."""
         whole = ("agep_*.deb", 5), ("agep-*.tar.xz", 5), ("libagefile-dev*.deb", 5)
         for name, pages in *whole, ("python3-agefile*.deb", 1), ("*.crate", 1), ("*.whl", 0):
             with self.subTest(name):
@@ -275,8 +277,8 @@ class Packages(unittest.TestCase):
                 self.assertEqual({path.name for path in tree.rglob("*.md")} >= {"USE.md", "CHANGELOG.md"}, pages == 5)
 
     def test_relations(self):
-        """The relations of each Debian package: the C library of docs/PACKAGES.md, and the library of its own
-        version. The source package names the architectures, and needs the packages of the tools of ./package."""
+        """The program and the library depend on the glibc of docs/PACKAGES.md, other packages on the library.
+        The source package names their architectures, and needs the packages of the tools that make them."""
         expected = {
             "agep": "Depends: libc6 (>= 2.34)\nSuggests: age\n",
             "libagefile1": "Depends: libc6 (>= 2.14)\nMulti-Arch: same\n",
@@ -382,7 +384,7 @@ class Packages(unittest.TestCase):
         run("cc", "-std=c11", "-fsyntax-only", f"-I{include}", source)
 
     def by_the_readme(self, start, folder):
-        """Runs the line of README.md that begins so, in a folder that has the packages."""
+        """Copies the packages to a folder, and runs there the line of README.md with this start."""
         line = re.search(f"^{start} .*$", (ROOT / "README.md").read_text(), re.MULTILINE)[0]
         for path in self.dist.iterdir():
             shutil.copy(path, folder)
@@ -408,7 +410,7 @@ class Packages(unittest.TestCase):
         self.assertEqual(said, f"{self.for_python}\n")
 
     def test_the_crate(self):
-        """A project takes it by the commands in its README.md, and the programs there run."""
+        """A project adds the crate by the commands of the crate's README.md, whose programs run."""
         root = self.unpacked("libagefile-dev*.deb", "libagefile[0-9]*.deb")
         tree = Path(tempfile.mkdtemp(dir=self.work))
         shutil.copy(self.one("*.crate"), tree)
@@ -420,7 +422,7 @@ class Packages(unittest.TestCase):
         environment = os.environ | {
             "AGEFILE_LIB_DIR": str(root / "usr/lib/x86_64-linux-gnu"),
             "CARGO_TARGET_DIR": str(tree / "target"),
-        }
+        } | QUICK
         run("sh", "-ec", re.search(r"^```sh\n(.*?)^```$", page, re.M | re.S)[1], cwd=tree, env=environment)
 
         def said_by(name, **options):
@@ -436,7 +438,7 @@ class Packages(unittest.TestCase):
         self.assertEqual(((tree / "notes").read_bytes(), (tree / "saved").stat().st_size), (b"hello\n", 1500000))
 
     def test_the_tarball(self):
-        """The commands of README.md and docs/PACKAGES.md install the tarball in a home, link a program, and remove it."""
+        """The commands of README.md and docs/PACKAGES.md install the tarball in a home, link a program, and uninstall."""
         home = self.work / "home"
         home.mkdir()
         self.by_the_readme("mkdir -p", home)
@@ -454,7 +456,7 @@ class Packages(unittest.TestCase):
     @needs("buildah")
     @unittest.skipUnless(can_mount(), "no mount namespace")
     def test_container(self):
-        """The command in share/Containerfile makes an image, in which agep runs."""
+        """buildah, with the arguments in share/Containerfile, makes an image in which agep runs."""
         (tree,) = self.unpacked("agep-*.tar.xz").iterdir()
         page = (tree / "share/doc/agep/Containerfile").read_text()
         words = re.search(r"^# +podman build (.*)$", page, re.MULTILINE)[1].split()
@@ -549,22 +551,21 @@ def made_one(what, pattern):
 
 
 class WithPython(unittest.TestCase):
-    """The tests of the package for Python, in an environment that has the wheel."""
+    """The tests of the package for Python, over the contents of the wheel."""
 
     @classmethod
     def setUpClass(cls):
         wheel = made_one("the wheel", "*.whl")
-        cls.environment_folder = Path(tempfile.mkdtemp())
-        cls.addClassCleanup(shutil.rmtree, cls.environment_folder)
-        run("/usr/bin/python3", "-m", "venv", "--system-site-packages", cls.environment_folder)
-        run(cls.environment_folder / "bin/pip", "install", "--no-index", "--no-deps", wheel)
-        cls.environment = {k: v for k, v in os.environ.items() if k not in ("AGEFILE_LIBRARY", "PYTHONPATH")}
+        cls.folder = Path(tempfile.mkdtemp())
+        cls.addClassCleanup(shutil.rmtree, cls.folder)
+        shutil.unpack_archive(wheel, cls.folder, "zip")
+        cls.environment = {k: v for k, v in os.environ.items() if k != "AGEFILE_LIBRARY"} | {"PYTHONPATH": str(cls.folder)}
 
     def run_tests(self, *names):
         for name in names:
             with self.subTest(name):
-                words = [self.environment_folder / "bin/python", "-m", "unittest", "discover", "-v", "-s", PYTHON_TESTS, "-p", name]
-                done = subprocess.run(words, capture_output=True, text=True, env=self.environment, cwd=self.environment_folder)
+                words = ["/usr/bin/python3", "-m", "unittest", "discover", "-v", "-s", PYTHON_TESTS, "-p", name]
+                done = subprocess.run(words, capture_output=True, text=True, env=self.environment, cwd=self.folder)
                 self.assertEqual(done.returncode, 0, done.stdout + done.stderr)
                 skipped = re.findall(r"skipped '(.*)'|SkipTest: (.*)", done.stderr)
                 if skipped:
@@ -578,7 +579,7 @@ class ForPython(WithPython):
     @needs("mypy")
     def test_annotations(self):
         run("mypy", "--strict", "--config-file", ROOT / "bindings/python/pyproject.toml", ROOT / "bindings/python/agefile",
-            "--cache-dir", self.environment_folder / "cache")
+            "--cache-dir", self.folder / "cache")
 
 
 class LongForPython(WithPython):
@@ -598,7 +599,7 @@ class ForRust(unittest.TestCase):
             "AGEFILE_LIB_DIR": str(cls.tree / "lib"),
             "CARGO_TARGET_DIR": str(cls.tree / "target"),
             "RUSTDOCFLAGS": "-D warnings",
-        }
+        } | QUICK
 
     def cargo(self, *words):
         run("cargo", *words, "--offline", "--all-features", cwd=ROOT / "bindings/rust", env=self.environment)
@@ -642,7 +643,7 @@ class ForRust(unittest.TestCase):
                     self.assertEqual((done.returncode, done.stdout, done.stderr), (0, plain, b""))
 
     def test_vectors(self):
-        """Each way of opening returns what each test vector and each damaged file says."""
+        """Each way of opening returns what test vectors and the cases of damaged files expect."""
         for way in (testkit.in_rust(self.converter(), kind) for kind in ("whole", "stream", "ranges", "threads")):
             with self.subTest(way.name):
                 self.assertEqual(test_vectors.differences(way), {})
@@ -680,7 +681,8 @@ class ForRust(unittest.TestCase):
         # Each variable changes once by itself, after a successful build.
         rows = [
             ({"AGEFILE_LIB_DIR": own}, own), ({"PKG_CONFIG_PATH": first}, f"{first}/../../lib"), ({"PKG_CONFIG_PATH": second}, f"{second}/../../lib"),
-            ({"PKG_CONFIG_PATH": second, "AGEFILE_LIB_DIR": "/absent"}, "/absent"), ({"PKG_CONFIG_LIBDIR": "/absent"}, "/usr/local/lib"),
+            ({"PKG_CONFIG_PATH": second, "AGEFILE_LIB_DIR": "/absent"}, "/absent"),
+            ({"PKG_CONFIG_LIBDIR": first}, f"{first}/../../lib"), ({"PKG_CONFIG_LIBDIR": "/absent"}, "/usr/local/lib"),
         ]
         for variables, folder in rows:
             with self.subTest(variables):
@@ -709,7 +711,7 @@ class ForRust(unittest.TestCase):
 
     @needs("/usr/bin/cargo", "/usr/bin/rustc")
     def test_debians_compiler(self):
-        """It compiles the crate, its tests and its example; that of Debian 12 is the oldest that Cargo.toml allows."""
+        """Debian's compiler accepts the crate, its tests and its example; that of Debian 12 is the oldest allowed."""
         environment = self.environment | {"RUSTC": "/usr/bin/rustc", "CARGO_TARGET_DIR": str(self.tree / "debian")}
         run("/usr/bin/cargo", "check", "--offline", "--all-features", "--all-targets", cwd=ROOT / "bindings/rust", env=environment)
 
@@ -729,7 +731,7 @@ class ForRust(unittest.TestCase):
         self.assertEqual(sorted(re.sub(r".*::", "", name) for name in called), sorted(names), called)
 
     def test_passphrases(self):
-        """The crate opens a passphrase file of tests/reference.py, which makes the crate's file again from its random bytes."""
+        """The crate opens reference.py's file for a passphrase; reference.py makes the crate's file from its random bytes."""
         (self.tree / "pass").write_bytes(fixture.PASSPHRASE)
         self.assertEqual(self.convert("stream", "decrypt", "-p", "pass", file=fixture.for_passphrase(b"hello\n")), b"hello\n")
         made = self.convert("stream", "encrypt", "-p", "pass", file=b"hello\n")
@@ -742,8 +744,8 @@ class ForRust(unittest.TestCase):
             cwd=ROOT / "bindings/rust", env=self.environment)
 
     def test_documentation(self):
-        """It builds without a warning. Each public type has an example, which the tests run, or names a type
-        that has one."""
+        """The documentation builds without a warning. Each public type has an example, which the tests run,
+        or names a type that has one."""
         self.cargo("doc")
         types = [
             (documentation, name) for path in (ROOT / "bindings/rust/src").glob("*.rs") if path.name not in ("ffi.rs", "front.rs")

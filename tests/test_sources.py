@@ -1,7 +1,6 @@
-"""Rules for the texts of the repository: blocks of code and links in documents, the sentence of each clause, the
-clause of each planted bug, programs that the compiler must refuse."""
+"""Rules for the texts of the repository, such as blocks of code and links in documents, the sentence of each
+clause, the clause of each planted bug, where code may fail, programs that the compiler must refuse."""
 
-import concurrent.futures
 import glob
 import importlib.machinery
 import importlib.util
@@ -33,7 +32,7 @@ def anchors(page):
 
 class Documents(unittest.TestCase):
     def test_code(self):
-        """Each block of Rust or of a proof in these pages occurs in a source."""
+        """Each block of Rust or of a proof in README.md and docs/PROOFS.md occurs in a source."""
         pages = text_of(ROOT + "/README.md") + text_of(ROOT + "/docs/PROOFS.md")
         for kind, files in (("rust", "src/**/*.rt"), ("antt", "proofs/**/*.antt")):
             sources = "".join(text_of(name) for name in sorted(glob.glob(f"{ROOT}/crates/*/{files}", recursive=True)))
@@ -54,8 +53,8 @@ class Documents(unittest.TestCase):
         self.assertEqual((len(shown), [clause for clause in shown if clause not in clauses]), (3, []))
 
     def test_links(self):
-        """In the packages with the documents, each link leads to a page, and to a heading of it. The packages
-        for Python and Rust contain only their README.md, so its links must be absolute."""
+        """In the packages with the documents, relative links lead to files, and anchors to headings. Those
+        for Python and Rust contain no page but README.md, so its links must be absolute."""
         stage = re.search(r"^stage_documents\(\) \{\n.*?^\}\n", text_of(ROOT + "/package"), re.MULTILINE | re.DOTALL)[0]
         folder = scratch()
         subprocess.run(["bash", "-euc", f'{stage}stage_documents "$0"', folder], env={**os.environ, "root": ROOT}, check=True)
@@ -79,8 +78,8 @@ class Documents(unittest.TestCase):
         self.assertEqual(listed, [first.lower() + rest for first, rest in recipes])
 
     def test_paths(self):
-        """Each path that a page names exists in the repository or in a crate, unless it is one of an installation or
-        of a release to come."""
+        """Each path that a page names exists in the repository or in a crate, unless it has NAME or CRATE in it, or
+        is one of an installation or of a release to come."""
         for page in sorted(glob.glob(ROOT + "/*.md") + glob.glob(ROOT + "/*/*.md")):
             names = set(re.findall(r"`((?:crates|tests|docs|share|bindings|bench|specs|src|proofs|must-fail)/[\w./*-]+)`", text_of(page)))
             names = [name for name in sorted(names - {"share/man", "share/signers"}) if not re.search("NAME|CRATE|^share/doc/", name)]
@@ -103,7 +102,7 @@ class Documents(unittest.TestCase):
             self.assertIn(f"class {case}", text_of(f"{TESTS}/{module}.py"))
 
     def test_faults(self):
-        """The name that docs/FORMAT.md gives each fault also occurs in its text, which says when it is returned."""
+        """Each fault's name in the table of docs/FORMAT.md also occurs in the page's text, outside of tables."""
         document = text_of(ROOT + "/docs/FORMAT.md")
         terms = re.findall(r"^\| \d+ \| `\w+` \| (.*?)(?: \(.*\))? \| `.*` \|$", document, re.MULTILINE)
         text = " ".join(line for line in document.lower().split("\n") if not line.startswith("|"))
@@ -126,7 +125,7 @@ PLAIN = {"bound", "err", "handed_back", "len", "none", "ok", "same_reference", "
 
 class Promises(unittest.TestCase):
     def test_words(self):
-        """Each public clause has a sentence, above it or above the relation that it cites, or a plain label."""
+        """Each public `ensures` has a plain label, or a sentence above it, its function or a cited relation."""
         every = PROMISES.modules()
         for folder in sorted(glob.glob(ROOT + "/crates/*/src/lib.rt")):
             crate = folder.split("/")[-3]
@@ -136,7 +135,7 @@ class Promises(unittest.TestCase):
                 self.assertEqual(silent, [])
 
     def test_each_is_seen(self):
-        """The script finds each clause of the sources."""
+        """share/promises finds each `ensures` and each law of a trait in the sources."""
         for folder in sorted(glob.glob(ROOT + "/crates/*/src/lib.rt")):
             crate = folder.split("/")[-3]
             sources = "".join(text_of(name) for name in glob.glob(f"{ROOT}/crates/{crate}/src/**/*.rt", recursive=True))
@@ -144,7 +143,7 @@ class Promises(unittest.TestCase):
                 self.assertEqual(len(list(PROMISES.clauses(crate))), len(re.findall(r"^ *(?:ensures|ghost \w+: \{ \()", sources, re.MULTILINE)))
 
     def test_reading(self):
-        """The counts of definitions in docs/PROOFS.md are those that the script prints."""
+        """The counts of definitions in docs/PROOFS.md are those that share/promises prints."""
         said = re.findall(r"^- `(\w+::\w+)` rests on (\d+ definitions in \d+ lines)", text_of(ROOT + "/docs/PROOFS.md"), re.MULTILINE)
         self.assertEqual(len(said), 3)
         for name, count in said:
@@ -153,8 +152,8 @@ class Promises(unittest.TestCase):
                 self.assertEqual(done.stdout.split("\n")[-2].replace(", ", " in "), count)
 
     def test_named(self):
-        """Each clause and law that these pages name exists, and each contract in the table of README.md is in a
-        crate named beside it."""
+        """Each clause and law named in README.md, docs/PROMISES.md or docs/PROOFS.md exists, and each contract
+        in the table of README.md is in a crate named beside it."""
         crates = [folder.split("/")[-3] for folder in glob.glob(ROOT + "/crates/*/src/lib.rt")]
         clauses = {(f"`{crate}`", clause.function, clause.label) for crate in crates for clause in PROMISES.clauses(crate)}
         named = set()
@@ -218,7 +217,7 @@ class PlantedBugs(unittest.TestCase):
 
 
 def code_of(text):
-    """A source without comments, clauses, imports and types of results."""
+    """A source without comments, clauses, ghost items, imports, result types and out_of_memory."""
     text = re.sub(r"//.*", "", text)
     text = re.sub(r"^fn out_of_memory.*?^}$", "", text, flags=re.MULTILINE | re.DOTALL)
     text = re.sub(r"^ *(ghost |pub )*use .*?;", "", text, flags=re.MULTILINE | re.DOTALL)
@@ -261,8 +260,8 @@ def sources():
 
 
 class OutOfMemory(unittest.TestCase):
-    """Out of memory is returned only in the error arm of a call that allocates. No clause can say so, because
-    no clause knows when an allocation is refused."""
+    """Out of memory is returned only in the error arm of a call that allocates, or in a block of OTHERS. No
+    clause can say so, because no clause knows when an allocation is refused."""
 
     NAMES = r"\b(?:OutOfMemory|OUT_OF_MEMORY|Memory|AllocError(?=\))|out_of_memory(?=\(\)\)))"
     # A call that takes an allocator, or grows a vector or a text.
@@ -276,9 +275,9 @@ class OutOfMemory(unittest.TestCase):
         r"(Err\()?([\w:]+::)?(Memory|OutOfMemory)\)?$"
         r"|Err\(reason\) if reason\.kind\(\) == ErrorKind::OutOfMemory$"
     )
-    # The arms in which a function returns it for a reason that is checked elsewhere.
+    # The blocks in which a function returns out of memory for a reason that is checked elsewhere.
     OTHERS = {
-        # The vector has another capacity than requested, which the standard library never does.
+        # A capacity other than the one requested, which the standard library never returns.
         "if bytes.capacity() != CHUNK_BUF_SIZE",
         # An error of the parser or of the arguments, whose kind is out of memory.
         "if error.kind() == ErrorKind::OutOfMemory", "if kind == io::ErrorKind::OutOfMemory",
@@ -298,7 +297,7 @@ class OutOfMemory(unittest.TestCase):
         return all(re.search(f"(?:{self.ALLOCATES}).*[.]is_err[(][)]$", part) for part in parts)
 
     def test_arms(self):
-        """Each place of each source."""
+        """Each place that names out of memory is in such an arm or a pattern or in a list above."""
         for name, code in sources():
             for found in re.finditer(self.NAMES, code):
                 before, after = code[: found.start()], code[found.end() :]
@@ -314,7 +313,7 @@ class OutOfMemory(unittest.TestCase):
     ROOM = rf"with_capacity\(alloc, {SIZE}(, \w+)?\)|vec!\[in [\w.()]+; (\w+; {SIZE}|[^;]+)\]"
 
     def test_sizes(self):
-        """A call requests the capacity that it needs, and never too much for particular counts only."""
+        """A call requests the capacity that it needs; no condition makes it larger for some counts."""
         for name, code in sources():
             for line in re.findall(".*(?:with_capacity|vec!).*", code):
                 with self.subTest(f"{name}: {line.strip()}"):
@@ -332,7 +331,7 @@ class FailedCalls(unittest.TestCase):
         r"match (self\.(reader|file)\.(read|seek)\(.*\)|self\.writer\.(write\(piece\)|flush\(\))"
         r"|read_from\(.*\)|self\.out\.extend_from_slice\(piece\))$"
     )
-    # An Ok that is also a failure: no bytes, although some were requested before the end.
+    # First arms after which every other Ok is a failure: no bytes, although some were requested.
     REFUSED = {
         "Ok(n) if n > 0 || piece.is_empty()",
         "Ok(n) if n > 0 || buf.is_empty() || self.size.is_none_or(|size| size <= at)",
@@ -364,35 +363,32 @@ class MustNotCompile(unittest.TestCase):
     """The compiler refuses each program of tests/must_not_compile/ before any proof: the first line of
     its file is `// ` and the error's name."""
 
-    def compile(self, name, folder):
-        """The output of the compiler for the program, as a crate of its own over a copy of the libraries, where it
-        stops at the error. The copy includes what is built of them, so that nothing is proved again."""
+    def test_refused(self):
+        """The compiler refuses each program with this error alone, and `rt` proves nothing after the error, but may
+        say before that it proved a library. Each program is a crate over one copy of the libraries and their builds,
+        so that nothing is proved again."""
+        room = scratch()
         for library in LIBRARIES:
             for part in ("src", "specs", "proofs", "out/rlib"):
                 if os.path.isdir(f"{ROOT}/crates/{library}/{part}"):
-                    shutil.copytree(f"{ROOT}/crates/{library}/{part}", f"{folder}/crates/{library}/{part}")
-        os.makedirs(folder + "/crates/refused/src")
+                    shutil.copytree(f"{ROOT}/crates/{library}/{part}", f"{room}/crates/{library}/{part}")
         lines = [line for line in text_of(ROOT + "/crates.txt").split("\n") if line.split(":")[0] in LIBRARIES]
-        with open(folder + "/crates.txt", "w", encoding="utf-8") as crates:
-            crates.write("\n".join([*lines, "refused: age_header age_recipient age_stream age_file", ""]))
-        shutil.copy(f"{TESTS}/must_not_compile/{name}.txt", folder + "/crates/refused/src/lib.rt")
-        done = subprocess.run(
-            ["rt", "check"], cwd=folder + "/crates/refused", stdin=subprocess.DEVNULL,
-            stdout=subprocess.PIPE, stderr=subprocess.STDOUT, timeout=300,
-        )
-        return done.returncode, done.stdout.decode("utf-8", "replace")
-
-    def test_refused(self):
-        """The compiler refuses each, with this error alone, and proves nothing after it. Before it `rt` may say
-        that it proved a library."""
-        names = sorted(os.path.basename(name)[:-4] for name in glob.glob(TESTS + "/must_not_compile/*.txt"))
-        room = scratch()
-        self.assertTrue(names)
-        with concurrent.futures.ThreadPoolExecutor() as pool:
-            said = list(pool.map(lambda name: self.compile(name, f"{room}/{name}"), names))
-        for name, (status, text) in zip(names, said):
+        programs = {os.path.basename(name)[:-4]: text_of(name) for name in sorted(glob.glob(TESTS + "/must_not_compile/*.txt"))}
+        self.assertTrue(programs)
+        for name, text in programs.items():
+            lines.append(f"{name}: age_header age_recipient age_stream age_file")
+            os.makedirs(f"{room}/crates/{name}/src")
+            with open(f"{room}/crates/{name}/src/lib.rt", "w", encoding="utf-8") as source:
+                source.write(text)
+        with open(room + "/crates.txt", "w", encoding="utf-8") as crates:
+            crates.write("\n".join([*lines, ""]))
+        for name, text in programs.items():
             with self.subTest(name):
-                error = text_of(f"{TESTS}/must_not_compile/{name}.txt").split("\n")[0].removeprefix("// ")
-                self.assertEqual(set(re.findall(r"error\[[a-z0-9-]+\]", text)), {error}, text)
-                self.assertNotIn("proved", text[text.index("error[") :])
-                self.assertNotEqual(status, 0)
+                done = subprocess.run(
+                    ["rt", "check"], cwd=f"{room}/crates/{name}", stdin=subprocess.DEVNULL,
+                    stdout=subprocess.PIPE, stderr=subprocess.STDOUT, encoding="utf-8", errors="replace", timeout=300,
+                )
+                error = text.split("\n")[0].removeprefix("// ")
+                self.assertEqual(set(re.findall(r"error\[[a-z0-9-]+\]", done.stdout)), {error}, done.stdout)
+                self.assertNotIn("proved", done.stdout[done.stdout.index("error[") :])
+                self.assertNotEqual(done.returncode, 0)
