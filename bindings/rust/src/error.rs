@@ -26,7 +26,7 @@ pub enum Error {
     // generated: variants of errors
     /// The first bytes are not a prefix of the version line.
     NotAge,
-    /// From this line on the text cannot be a header. The version line is line 1.
+    /// The lines up to this one cannot begin a header. The version line is line 1.
     BadLine(u64),
     /// The input ends within its header.
     HeaderTruncated,
@@ -48,7 +48,7 @@ pub enum Error {
     NonceTruncated,
     /// This sealed chunk, the last, is shorter than a tag, 16 bytes.
     ChunkShort(u64),
-    /// This chunk, the last and not the first, has an empty plaintext.
+    /// This sealed chunk, the last and not the first, has only a tag, 16 bytes.
     EmptyFinal(u64),
     /// No plaintext seals to this chunk at its number: its tag is wrong.
     BadChunk(u64),
@@ -66,9 +66,9 @@ pub enum Error {
     UntypedPassphrase,
     /// A work factor is not 1 to 30.
     WorkFactor,
-    /// An argument of a stanza is empty, or has a character other than `!` to `~`.
+    /// A stanza has no argument, or one that is empty or has a character other than `!` to `~`.
     BadArguments,
-    /// A caller's own recipient or identity refused, or the system returned no random bytes.
+    /// A caller's own recipient or identity refused, or the system returned no random salt.
     Refused,
     /// An earlier write failed, so the file cannot be completed.
     Incomplete,

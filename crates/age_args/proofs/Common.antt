@@ -1,4 +1,4 @@
--- The names that the proofs of this crate cite, passed on from one place.
+-- Names for the proofs of this crate, re-exported from one place.
 pub use Rattle.age_job.specs.Job.{IsBetween, NamesInput}
 pub use Rattle.age_job.specs.declared.job.Command.{Command}
 pub use Rattle.age_job.specs.declared.job.Command.TheVariants.{Decrypt, Encrypt, Inspect, Range, Rewrap, Salvage}

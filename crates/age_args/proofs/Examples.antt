@@ -1,4 +1,4 @@
--- Command lines that are written out.
+-- Examples: command lines, and the values or the faults that `clap` finds in them.
 use Rattle.age_args.proofs.Common.{◌≡◌, ℕ, refl, codes, List, [], ◌∷◌, Option, Some, option_map, Row, Text, fault_of, subcommand_of, ValueValidation, MissingRequiredArgument, agep, number_or, rest_of}
 use Rattle.clap.proofs.OnLiterals.{clap_on_literals}
 use Rattle.clap.specs.Words.{first_of}

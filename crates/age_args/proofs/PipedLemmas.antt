@@ -1,4 +1,4 @@
--- The job of words that name no file for input and output.
+-- The job of words that name neither IN nor OUT.
 use Rattle.age_args.proofs.Common.{arith, ◌≡◌, ◌∙◌, sym, List, None, Text, IsPiped, Makes, header_limit, Command, Job}
 use Rattle.age_args.proofs.TakenLemmas.{pair_same}
 

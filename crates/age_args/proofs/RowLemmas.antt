@@ -1,4 +1,4 @@
--- What the values of options make of a job's fields.
+-- How the values of options become a job's fields.
 use Rattle.age_args.proofs.Common.{◌≡◌, ℕ, ◌+◌, ◌<◌, ◌≤◌, Bool, false, List, [], ◌∷◌, ◌++◌, length, map, take, get_or, Bor, Option, Some, None, Result, IfSome, codes, option_map, unwrap_or, arith, refl, String, Global, option_map_or, bytes_eq, ParsesBool, ParsesUnsigned, string_bytes, get_or-map, map_push, length-map, take_more, bytes_eq-Decides, IsUnsignedIn, ReadsOne, Text, IsBetween, NamesInput, Command}
 use Rattle.std.specs.Str.Parse.{digits_value, without_leading_plus}
 

@@ -1,5 +1,5 @@
--- Where `clap` finds no fault in the words, a subcommand of the program was named, and its values
--- make a job.
+-- If `clap` finds no fault in the words, the subcommand that they name is a command of the program,
+-- and its values are as `IsTaken` says.
 use Rattle.age_args.proofs.Common.{◌≡◌, ◌∙◌, ◌<◌, ◌⊎◌, inl, inr, ℕ, Bool, cond, true, false, true≢false, not, ◌&&◌, ◌||◌, ◌==◌, refl, sym, ap, subst, List, [], ◌∷◌, ◌++◌, length, Option, Some, None, IfSome, codes, arith, nat_lt, length-append, ltb-true, bytes_eq-Decides, if◌then◌else◌, is_some, slice_get, option_and_then, option_map, ⊤, find, list_all, list_any, option_map_or, bytes_eq, action_fault, entered_fault, is_simple_and_free, given_default_fault, level_fault, values_fault, Kinds, range_kinds, values_kinds, argument_words, built, entered, is_simple, label_of, names_of, rows_at, IsUnsignedIn, is_request, Rule, action_of, answers_to, at_row, default_rows, first_of, most_values, nothing_held, reading_by, row_text, rows_after, stop_after, used_as, values_or_missing, with_values, used, with_default, agep, HasNumber, IsTaken, name_of, Command, Range}
 use Rattle.clap.specs.Facts.{explicit_source, parser_of_value, unwrap_or_range}
 use Rattle.clap.specs.Faults.{fault_of}
@@ -32,7 +32,7 @@ parser_for id =
 abbrev Passes : Text → Text → Type 0
 Passes id v = accepts false (parser_for id) v ≡ true
 
--- the values of a row pass, there is one, and it is read as it is written
+-- a row has one or more values, which pass and are read as they are written
 abbrev RowPasses : Row → Type 0
 RowPasses r = (r.reading ≡ AsWritten) × (0 < length r.values) × Each (Passes r.id) r.values
 
@@ -89,7 +89,7 @@ values_pass : (id : Text) (parser : ValueParser) (values : List Text) → covers
 values_pass id parser [] fits e = tt
 values_pass id parser (v ∷ vs) fits e = grind (arith, accepts_too, both_none, values_pass id parser vs fits)
 
--- what the test says of a rule
+-- what it means that `is_good` is true of a rule
 record IsGood (a : Rule) : Type 0 where
   covered : covers (parser_for a.id) (parser_of_value a.parser) ≡ true
   exact : a.ignore_case ≡ false
@@ -183,7 +183,7 @@ wants command s = true
 abbrev is_good_for : Command → Shape → Bool
 is_good_for command s = not s.subcommand_negates_reqs && (list_all is_good s.rules && wants command s)
 
--- the subcommand is `help`, or makes a job
+-- the subcommand is `help`, or a command of the program whose rules pass the test (`is_good_for`)
 abbrev Makes : Shape → Type 0
 Makes s = (s.name ≡ codes "help") ⊎ ((command : Command) × (s.name ≡ name_of command) × (is_good_for command s ≡ true))
 
@@ -261,7 +261,7 @@ at_stop None h e f = cc
 at_stop (Some p) h e f = at_shape p h _ (found_where _ (λ s. answers_to p.0 (label_of s)) (built agep).subs all_make) e f
 
 -- where there is no fault, the subcommand that was named is a command of the program, and its values
--- make a job
+-- are as `IsTaken` says
 pub taken : (words : List Text) {name : Text} {rows : List Row} → fault_of agep words ≡ []
     → subcommand_of agep words ≡ Some (name, rows) → Taken name rows
 taken words none is = at_stop _ (no_help (argument_words agep words) _ _ none) (both_none (both_none none).1).0 is

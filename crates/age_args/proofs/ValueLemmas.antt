@@ -1,4 +1,4 @@
--- What the value of a result or of an option is equal to, and what tests say of their parts.
+-- What the value of a result or of an option is equal to.
 use Rattle.age_args.proofs.Common.{◌≡◌, Option, Result, option_map, unwrap_or, IfOk, arith}
 
 pub IfOk-equal_to : {X T E : Type 0} (r : Result T E) (f : T → X) {y z : X} → IfOk r (λ t. f t ≡ y) → y ≡ z

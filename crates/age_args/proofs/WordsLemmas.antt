@@ -8,7 +8,7 @@ use Rattle.age_args.specs.declared.fault.WordsFault.{WordsFault}
 use Rattle.age_args.proofs.SubcommandLemmas.{subcommand_is}
 use Rattle.age_args.proofs.TakenLemmas.{Taken, agep_is_free, agep_is_simple, taken}
 
--- the words name this subcommand with these values, and nothing is wrong with them
+-- the words have no fault, and name this subcommand with these values, of which `Taken` holds
 pub record Named (words : List Text) (name : Text) (rows : List Row) : Type 0 where
   pub is : subcommand_of agep words ≡ Some (name, rows)
   pub faultless : fault_of agep words ≡ []

@@ -117,6 +117,6 @@ agep = record {
   subs = encrypt ∷ decrypt ∷ inspect ∷ range ∷ rewrap ∷ salvage ∷ [];
 }
 
--- the argument has this rule, and no other command takes it
+-- the argument has this rule and is not global: subcommands do not inherit it
 abbrev pub IsArg : (rule : Rule) (arg : Arg) → Type 0
 IsArg rule arg = (rule_of arg ≡ rule) × (arg.global ≡ false)

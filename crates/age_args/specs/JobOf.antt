@@ -32,7 +32,7 @@ name_of Salvage = codes "salvage"
 abbrev pub rest_of : (id : Text) (rows : List Row) → List Text
 rest_of id rows = drop 1 (unwrap_or (all_of id rows) [])
 
--- the number of an option, or `default` if the command lacks the option
+-- the number of an option, or `default` if the rows have no value of the option
 abbrev pub number_or : (default : ℕ) (id : Text) (rows : List Row) → ℕ
 number_or default id rows =
     option_map_or (λ text. digits_value 10 (without_leading_plus text)) (one_of id rows) default
@@ -40,7 +40,7 @@ number_or default id rows =
 abbrev pub is_set : (id : Text) (rows : List Row) → Bool
 is_set id rows = option_map_or (λ text. bytes_eq text (codes "true")) (one_of id rows) false
 
--- each field has the value of its option
+-- each field but `command` is its option's first value, later values, number, flag, or the default
 pub record JobOf (rows : List Row) (job : Job) : Type 0 where
   pub pass : option_map string_bytes job.pass ≡ first_of (codes "passphrase") rows
   pub more_passes : map string_bytes job.more_passes.items ≡ rest_of (codes "passphrase") rows
@@ -75,8 +75,8 @@ abbrev pub AsksForHelp : (words : List Text) → Type 0
 AsksForHelp words = (program option : Text) × (words ≡ program ∷ codes "help" ∷ option ∷ [])
     × ((option ≡ codes "--help") ⊎ (option ≡ codes "-h"))
 
--- the result of parsing the words: their job; or memory was refused, or `clap` refused the words
--- for one of its reasons
+-- the result of parsing the words: their job; `Memory`, which says nothing about them; or an error
+-- with one of the reasons for which `clap` refuses them
 abbrev pub Reads : (words : List Text) (result : Result Job WordsFault) → Type 0
 Reads words (Ok job) = Makes words job
 Reads words (Err Memory) = ⊤
@@ -88,7 +88,7 @@ IsPiped command words =
     (rows : List Row) × (subcommand_of agep words ≡ Some (name_of command, rows))
     × (first_of (codes "input") rows ≡ None) × (first_of (codes "output") rows ≡ None)
 
--- the maximum size of a header that the words set
+-- the maximum size of a header that the words set, or else the default
 abbrev pub header_limit : (words : List Text) → ℕ
 header_limit words =
     option_map_or (λ named. number_or DEFAULT_MAX_HEADER (codes "max-header") named.1)

@@ -1,2 +1,2 @@
--- The names of `clap` that callers' clauses cite.
+-- The name of `clap` that callers' clauses cite.
 pub use Rattle.clap.specs.Walk.{texts}

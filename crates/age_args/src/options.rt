@@ -52,26 +52,26 @@ pub(crate) const LEN: &str = "len";
 
 pub(crate) const VERBOSE: &str = "verbose";
 
-/// Of `decrypt`. No job has it.
+/// The flag `-d` of `decrypt`, which does nothing: no field of a job has its value.
 const DECRYPT: &str = "decrypt";
 
 /// The work factor that `encrypt` and `rewrap` write by default, as text for `clap`.
 pub(crate) const DEFAULT_WORK_TEXT: &str = "18";
 
-/// The same as a number, for the job of a command without this option.
+/// That default as a number, for the job of a command without this option.
 pub(crate) const DEFAULT_WORK: u8 = 18;
 
 /// The maximum work factor that `decrypt`, `range`, `rewrap` and `salvage` accept by default, as
 /// text for `clap`.
 pub(crate) const DEFAULT_MAX_WORK_TEXT: &str = "22";
 
-/// The same as a number, for the job of a command without this option.
+/// That default as a number, for the job of a command without this option.
 pub(crate) const DEFAULT_MAX_WORK: u8 = 22;
 
-/// The default of the maximum size of a header, as text for `clap`.
+/// The default of the maximum size of a header in bytes, as text for `clap`.
 pub(crate) const DEFAULT_MAX_HEADER_TEXT: &str = "65536";
 
-/// The same as a number.
+/// That default as a number.
 pub(crate) const DEFAULT_MAX_HEADER: u64 = 65536;
 
 const ABOUT: &str = "Encrypt and decrypt files in the age v1 format";
@@ -109,7 +109,7 @@ fn bare_command<'a>(alloc: Global) -> Command<'a>
         .propagate_version(true)
 }
 
-/// The program with one more command, which has no global argument.
+/// Adds a command to the program. The clause is about a plain command (`is_plain` of `clap`).
 fn with_subcommand<'a>(
     command: Result<Command<'a>, AllocError>,
     subcommand: Result<Command<'a>, AllocError>,
@@ -122,7 +122,7 @@ fn with_subcommand<'a>(
     command?.subcommand(subcommand?)
 }
 
-/// A command, without its options. Its version is that of the program.
+/// A command, without its options. Its version text names the program, not the command.
 fn bare_subcommand<'a>(
     alloc: Global,
     name: &'a str,
@@ -183,7 +183,7 @@ fn decrypt_command<'a>(alloc: Global) -> Result<Command<'a>, AllocError>
     with_arg(command, input_word(alloc))
 }
 
-/// The options of the commands that unlock a file.
+/// Adds the options of the commands that unlock a file.
 fn with_opening_options<'a>(
     alloc: Global,
     command: Result<Command<'a>, AllocError>,
@@ -200,7 +200,7 @@ fn with_opening_options<'a>(
     with_arg(command, verbose_option(alloc))
 }
 
-/// The options of the commands that write OUT.
+/// Adds the options of the commands that write OUT.
 fn with_output_options<'a>(
     alloc: Global,
     command: Result<Command<'a>, AllocError>,
@@ -296,7 +296,7 @@ fn pass_option<'a>(alloc: Global) -> Arg<'a>
     text_option(alloc, PASS, 'p', "FILE", PASS_HELP)
 }
 
-/// The same where a file is read.
+/// The passphrase option of the commands that unlock a file: it may be given several times.
 fn passes_option<'a>(alloc: Global) -> Arg<'a>
     ensures { IsArg (line.several line.pass) result }
 {

@@ -28,9 +28,9 @@ use std::alloc::{AllocError, Global};
 /// `Memory` if an allocation was refused.
 #[tactic(auto, using(crate::proofs::WordsLemmas::help_read))]
 pub fn read_words(alloc: Global, words: &[&str]) -> Result<Job, WordsFault>
-    // Returns a job only if `clap` has no reason to refuse the words. The job's command is the one
-    // that they name, and each field is the value, the values, the number or the flag of its
-    // option, or the default. A refusal has one of `clap`'s reasons.
+    // Returns a job only if `clap` has no reason to refuse the words. The words name the job's
+    // command; each other field is the first value, the values after it, the number or the flag of
+    // its option, or else the default. A refusal has one of `clap`'s reasons.
     ensures reads { Reads (texts words.now) result }
     // Each number of the job is in its range, and the job of `range` names a file to read.
     ensures ranges { IfOk result IsInRange }
@@ -52,7 +52,7 @@ fn parse(alloc: Global, words: &[&str]) -> Result<Job, WordsFault>
     Ok(job_of(alloc, command_named(name), matches)?)
 }
 
-/// Whether the words ask for help on `help`. `clap` would take such an option for a command's name.
+/// Whether the words ask for help on `help`: `clap` takes the `-h` of `agep help -h` for a command.
 fn asks_for_help(words: &[&str]) -> bool
     ensures { result ≡ true → AsksForHelp (texts words.now) }
 {
@@ -74,8 +74,8 @@ fn command_named(name: &str) -> Command
     }
 }
 
-/// The job of this command. An option that the command lacks has no value here, so its field has
-/// the default, or none.
+/// The job of this command. An option that the command lacks has no value in `matches`, so its
+/// field has the default or is empty.
 fn job_of(alloc: Global, command: Command, matches: &ArgMatches<'_>) -> Result<Job, AllocError>
     requires { IsTaken command (rows_of (found_of matches.now)) }
     ensures command { IfOk result (λ job. job.command ≡ command) }
@@ -109,7 +109,7 @@ fn job_of(alloc: Global, command: Command, matches: &ArgMatches<'_>) -> Result<J
     })
 }
 
-/// The files that these options name for a passphrase, and for a first key and more keys.
+/// The files of the first passphrase, of the first key and of the other keys, by these options.
 fn secret_files(
     alloc: Global,
     matches: &ArgMatches<'_>,
@@ -136,7 +136,7 @@ fn seed_of(alloc: Global, matches: &ArgMatches<'_>) -> Result<String, AllocError
     String::from_str(alloc, matches.get_str(SEED).unwrap_or(DEFAULT_SEED))
 }
 
-/// The number of this option, or `default` where the command lacks the option.
+/// The number of this option, or `default` if `matches` has no value of the option.
 fn number_or(matches: &ArgMatches<'_>, id: &str, default: u64) -> u64
     requires { IfSome (one_of id.now (rows_of (found_of matches.now)))
         (λ text. (least most : ℕ) × IsUnsignedIn least most text) }
@@ -152,7 +152,7 @@ fn is_set(matches: &ArgMatches<'_>, id: &str) -> bool
     matches.get_one(id).unwrap_or(false)
 }
 
-/// The first value of this option.
+/// The first value of this option, if it has one.
 fn text_of(alloc: Global, matches: &ArgMatches<'_>, id: &str) -> Result<Option<String>, AllocError>
     ensures { IfOk result
         (λ text. option_map string_bytes text ≡ first_of id.now (rows_of (found_of matches.now))) }

@@ -1,8 +1,8 @@
--- Vectors as rows, words as bytes, and texts xored piece by piece.
+-- Words as bytes, lanes as blocks, and texts xored piece by piece.
 use Rattle.age_cipher.proofs.Common.{flat_map-append, le_bytes, ◌≡◌, ℕ, suc, ◌+◌, ◌-◌, ◌*◌, ◌/◌, ◌%◌, ◌^◌, ◌<◌, ◌≤◌, List, [], ◌∷◌, ◌++◌, length, take, drop, slice_index, slice_index_or, bit_xor, arith, refl, ap, ◌∙◌, number_l, digits_l, zip2, cases_lt, length-zip2, get_or-zip2, Bytes, Words, start, block_words, block, stream_byte, lane, bytes, column, lane_byte, Each1, put_chunk, get_or_append_left, get_or-append_right, length-chunk, get_or-chunk, get_or-put_chunk_below, get_or-put_chunk_at, get_or-put_chunk_above, IsXored, rules}
 use Rattle.age_cipher.proofs.LaneLemmas.{lane_written}
 
--- the bytes of a vector of words
+-- the number that words spell has the bytes of the words as its digits to the base 256
 pub digits_bytes : (words : Words) → Each1 (λ w. w < 2 ^ 32) words
     → digits_l 256 (4 * length words) (number_l (2 ^ 32) words) ≡ bytes words
 digits_bytes [] below = refl
@@ -27,7 +27,7 @@ pub xored_on : {at m next n : ℕ} {f : ℕ → ℕ} {old half new : Bytes} → 
     → IsXored at m f old half → IsXored next n f half new → IsXored at (m + n) f old new
 xored_on {at} {m} {next} {n} {f} {old} {half} {new} e first then = search (rules, cases_lt)
 
--- the same stream by another name
+-- a stream replaced by one that agrees with it on these bytes
 pub xored_by : {at n : ℕ} {f g : ℕ → ℕ} {old new : Bytes} → ((j : ℕ) → at ≤ j → j < at + n → f j ≡ g j)
     → IsXored at n f old new → IsXored at n g old new
 xored_by {at} {n} {f} {g} {old} {new} same xored = search rules
@@ -49,7 +49,7 @@ chunk_xored n at buf {digits} stream e long room =
       after = λ j above. search (rules, length-chunk, length-zip2, get_or-put_chunk_above);
     }
 
--- the bytes of some words xored, and those of the words after them
+-- two pieces xored, one with the bytes of x and the next with the bytes of y
 pub xored_next : {at m next n : ℕ} (x y : Words) {old half new : Bytes} → 4 * length x ≡ m → next ≡ at + m
     → IsXored at m (λ j. slice_index (bytes x) (j - at)) old half
     → IsXored next n (λ j. slice_index (bytes y) (j - next)) half new
@@ -62,7 +62,7 @@ four_words words k i =
     column k (slice_index_or words i []) (slice_index_or words (i + 1) []) (slice_index_or words (i + 2) [])
     (slice_index_or words (i + 3) [])
 
--- a block xored is lane k of sixteen vectors, at its place among all lanes from `at` on
+-- a text xored with lane k of sixteen vectors, as a part of the bytes of all lanes from `at` on
 pub block_xored : (words : List Words) (at k : ℕ) {place : ℕ} {a b c d : Words} {old new : Bytes}
     → length words ≡ 16 → place ≡ at + 64 * k
     → a ≡ four_words words k 0 → b ≡ four_words words k 4 → c ≡ four_words words k 8 → d ≡ four_words words k 12
@@ -83,7 +83,7 @@ unfolding block
 xored_with_lanes words key nonce counter {at} {n} each xored =
     xored_by (λ j low below. ap (λ w. slice_index (bytes w) ((j - at) % 64)) (each ((j - at) / 64) (omega arith))) xored
 
--- a piece that begins with a whole block, as a part of the whole text
+-- a piece that begins where a block begins, as a part of the whole text
 pub xored_as_part : (key nonce : Bytes) (counter : ℕ) {number at n : ℕ} {old new : Bytes}
     → at % 64 ≡ 0 → number ≡ counter + at / 64
     → IsXored at n (λ j. stream_byte key nonce number (j - at)) old new

@@ -1,4 +1,4 @@
--- The names that the proofs of this crate cite, passed on from one place.
+-- Names that the proofs of this crate cite, re-exported from one place.
 pub use Rattle.std.proofs.Common.{List, None, Some, [], add-one, ap, append_assoc, ap₂, arith, bit_and, bit_or, bit_xor, drop, get_or, inl, inr, length, length-append, map, refl, replicate, rules, set, slice_index, slice_index_or, suc, sym, take, w32, zero, zero-add, ℕ, ◌%◌, ◌*◌, ◌++◌, ◌+◌, ◌-◌, ◌/◌, ◌<◌, ◌^◌, ◌↔◌, ◌∙◌, ◌∷◌, ◌≡◌, ◌≢◌, ◌≤◌, length-take}
 pub use Rattle.std.proofs.Math.Nat.{add-mul-mod_self_left, mod-eq_of_lt, pow-suc, pow-zero}
 pub use Rattle.std.proofs.Math.Seq.{take-append_seam, set-append_seam}

@@ -4,7 +4,7 @@ pub use Rattle.std.proofs.lemmas.List.FromFn.{get_or-range_with_len}
 pub use Rattle.std.proofs.lemmas.Simd.{shifts_fit_splat}
 use Rattle.age_cipher.proofs.Common.{map, range_with_len, ◌≡◌, ℕ, ◌-◌, ◌*◌, ◌/◌, ◌%◌, ◌^◌, ◌<◌, List, [], ◌∷◌, length, set, replicate, slice_index, slice_index_or, arith, refl, sym, ap, ◌∙◌, w32, rotate_left, zip2, fill_by_all, get_or-zip2, zip2_splat, length-zip2, Words, add_words, add_xor_rotate, quarter_round, double_round, start, lane, bit_or, get_or-map, map-set, length-replicate}
 
--- a word of a lane is a lane of a word
+-- word k of lane j is lane j of vector k
 pub lane_word : (state : List Words) (j k : ℕ) → k < length state
     → slice_index (lane j state) k ≡ slice_index (slice_index_or state k []) j
 lane_word state j k inside = get_or-map (λ vector. slice_index vector j) state k [] 0 inside
@@ -14,7 +14,7 @@ pub lane_set : (state : List Words) (j k : ℕ) (vector : Words)
     → lane j (set state k vector) ≡ set (lane j state) k (slice_index vector j)
 lane_set state j k vector = map-set (λ v. slice_index v j) state k vector
 
--- an operator with one number in each of n lanes
+-- an operator whose second operand has the same number in each of n lanes
 pub with_splat : (n : ℕ) (f : ℕ → ℕ → ℕ) (x : Words) (m j : ℕ) → length x ≡ n → j < n
     → slice_index (zip2 f x (replicate n m)) j ≡ f (slice_index x j) m
 with_splat n f x m j long inside =

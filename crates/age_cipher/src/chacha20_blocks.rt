@@ -51,7 +51,7 @@ fn four_lanes<const N: usize>(vector: &Simd<u32, N>, q: usize) -> u32x4
     u32x4::from_slice(&lanes[4 * q..])
 }
 
-// Lanes 4 * q to 4 * q + 3 of four vectors.
+// Lanes 4 * q to 4 * q + 3, each as one vector of its words in a, b, c and d.
 #[inline(always)]
 fn columns<const N: usize>(
     a: &Simd<u32, N>,
@@ -73,7 +73,7 @@ fn columns<const N: usize>(
     (first, second, third, fourth)
 }
 
-// XORs 256 bytes with lanes 4 * q to 4 * q + 3, in a text where lane 0 begins at `at`.
+// XORs the 256 bytes from `at + 256 * q` on with lanes 4 * q to 4 * q + 3, one after another.
 #[inline(always)]
 fn xor_four_lanes<const N: usize>(buf: &mut [u8], at: usize, words: &[Simd<u32, N>; 16], q: usize)
     requires lanes { 4 * q + 4 ≤ N }
@@ -90,7 +90,7 @@ fn xor_four_lanes<const N: usize>(buf: &mut [u8], at: usize, words: &[Simd<u32, 
     xor_block(buf, at + 256 * q + 192, a3, b3, c3, d3);
 }
 
-// XORs the text from `at` on with the lanes, one after another, four at a time.
+// XORs 256 * (N / 4) bytes from `at` on with the lanes in order, four in each turn of the loop.
 #[inline(always)]
 fn xor_lanes<const N: usize>(buf: &mut [u8], at: usize, words: &[Simd<u32, N>; 16])
     requires { at + 64 * N ≤ length buf.old }
@@ -101,7 +101,7 @@ fn xor_lanes<const N: usize>(buf: &mut [u8], at: usize, words: &[Simd<u32, N>; 1
     }
 }
 
-// The first states of the next sixteen blocks.
+// Replaces the initial states of sixteen blocks by those of the next sixteen.
 #[inline(always)]
 #[tactic(auto, using(crate::proofs::LaneLemmas::advance))]
 fn advance(first: &mut [u32x16; 16])
@@ -112,8 +112,8 @@ fn advance(first: &mut [u32x16; 16])
     first[12] = plus(first[12], u32x16::splat(16));
 }
 
-/// XORs the whole pieces of 1024 bytes with the key stream from block `counter` on, and returns how
-/// many bytes these are.
+/// XORs all whole pieces of 1024 bytes of `buf` with the key stream from block `counter` on, and
+/// returns how many bytes these pieces have.
 #[inline(never)]
 pub(crate) fn xor_sixteens(key: &[u8; 32], nonce: &[u8; 12], counter: u32, buf: &mut [u8]) -> usize
     requires { counter + (length buf.old + 63) / 64 ≤ 2 ^ 32 }

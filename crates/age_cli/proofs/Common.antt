@@ -1,4 +1,4 @@
--- The names that the proofs of this crate cite, passed on from one place.
+-- Names that the proofs of this crate cite, re-exported from one place.
 pub use Rattle.age_cli.specs.Program.{AnswersRefusal, FailsBeside, IsDevice, IsTaskOf, OfWork, Runs, RunsOn, Works, word_limits}
 pub use Rattle.age_commands.specs.Output.{Ends}
 pub use Rattle.age_commands.specs.Task.{OfKnown, Performs, PerformsQuietly, SalvagesAll, without_counts}

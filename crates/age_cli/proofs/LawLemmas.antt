@@ -27,11 +27,11 @@ use Rattle.age_args.proofs.PipedLemmas.{piped}
 use Rattle.age_cli.proofs.ProgramLemmas.{alone}
 use Rattle.age_commands.specs.Secret.{answers_of, gathering_of, limits_of}
 
--- the output ends with what was appended
+-- the output has what it had before, and after it what was appended
 grown : (xs more : Bytes) (taken new : Known) → Appends (Some xs) taken more → Keeps taken new → new ≡ Some (xs ++ more)
 grown xs more taken new a k = grind arith
 
--- what an output has after work that succeeded
+-- if the result is Ok, the work succeeded and the output still has what it had
 ended : (taken new : Known) {work : Result ⊤ Fault} → Ends taken new work (Ok tt) → (work ≡ Ok tt) × Keeps taken new
 ended taken new e = grind arith
 
@@ -166,7 +166,7 @@ done_range job from xs new one (task.Range secret, is, (taken, work, (lost, r), 
     ranged job secret from xs taken new lost work r ends
 done_range job from xs new one (task, is, w) = absurd (cc (one, is.0))
 
--- a job of words that name no file
+-- a job of words that name neither IN nor OUT has their command and limits, and is as `Runs` says
 pub words_job : {F : Type 0} (remaining contents : F → Known) (words : List Bytes) (c : Command) (job : Job)
     (from : Known) (sink : Moved) (result : Result ⊤ Fault) → IsPiped c words → Makes words job
     → RunsOn remaining contents job from sink result

@@ -1,4 +1,4 @@
--- The result of a job, from the result of its task.
+-- The result of a job from that of its task, and what the status after a refusal says.
 use Rattle.age_cli.proofs.Common.{◌≡◌, ◌⊎◌, ℕ, List, arith, subst, sym, None, Result, Err, ⊤, Bytes, Known, Moved, Stays, move_by, move_of, Fault, Job, AreWrong, AskForText, Makes, Reads, Task, AnswersRefusal, FailsBeside, IsDevice, IsTaskOf, OfWork, Runs, RunsOn, Works}
 use Rattle.std.proofs.KnownBytes.{Keeps-refl}
 use Rattle.age_args.specs.declared.fault.WordsFault.{WordsFault}
@@ -35,7 +35,7 @@ performs contents job task from unread sink target r o works = grind arith
 pub stays_known : {old new : Known} → new ≡ old → Stays (move_of old new)
 stays_known {old} e = subst (λ (k : Known). Stays (move_of old k)) (sym e) (Keeps-refl old)
 
--- what is done from standard input to standard output
+-- a job that names neither IN nor OUT runs from standard input to standard output
 pub alone : {F : Type 0} (remaining contents : F → Known) (job : Job) {from : Known} {sink : Moved}
     {result : Result ⊤ Fault} → job.input ≡ None
     → job.output ≡ None → RunsOn remaining contents job from sink result → Runs job from sink result
@@ -59,7 +59,7 @@ pub unused : (words : List Bytes) (unread unwritten used : Type 0) (fault : Word
     → (AskForText words × unread) ⊎ ((unread × unwritten) ⊎ used)
 unused words unread unwritten used fault status h a kept = grind (arith, shown)
 
--- the status of words that make no job
+-- the status after a refusal: 2, or 1 with nothing written; or the words ask for a text
 pub wrong_status : (words : List Bytes) {unwritten : Type 0} (fault : WordsFault) (status : ℕ) → Reads words (Err fault)
     → AnswersRefusal fault status unwritten → AskForText words ⊎ ((status ≡ 2) ⊎ ((status ≡ 1) × unwritten))
 wrong_status words fault status h a = grind (arith, shown)

@@ -38,21 +38,21 @@ Prints err line =
     Took err.bytes line
     ⊎ (WritesPart err.bytes line × (err.after ≡ min (err.before + 1) (2 ^ 64 - 1)))
 
--- A line was printed, whole if all went well: this one, if it is known, or that of refused memory.
+-- A line was printed, whole if `all`; if the text is known, this text or refused memory's line.
 abbrev pub Says : (known : Known) (err : Stream) (all : Bool) → Type 0
 Says known err all =
     (line : Bytes) × Prints err line × (all ≡ true → Took err.bytes line)
     × IfSome known (λ said. (line ≡ said) ⊎ (line ≡ error_line (codes "out of memory")))
 
--- The line of this text, or of refused memory, was printed, or with `--verbose` the line and more.
--- So if no write failed, something was printed.
+-- The line of this text, or of refused memory, was printed (`Prints`), or with `--verbose` the line
+-- and more. So if no write failed, something was printed.
 abbrev pub Tells : (verbose : Bool) (text : Bytes) (err : Stream) → Type 0
 Tells verbose text err =
     (line : Bytes) × IsLineOf text line
     × (Prints err line ⊎ ((more : Bytes) × Took err.bytes (line ++ more) × (verbose ≡ true)))
 
--- The job failed, and standard error got the line of its fault: of the fault of its work, or of a
--- failure before or after it. Of `salvage`, which also prints lines on chunks, nothing is said.
+-- The job failed in its work, or before or after it, and standard error got the line of the failure
+-- as `Tells` says. Of `salvage`, which also prints lines on chunks, nothing is said.
 abbrev pub Told : {F : Type 0} (remaining contents : F → Known) (job : Job) (from : Known)
     (unread : Type 0) (sink : Moved) (err : Stream) → Type 0
 Told remaining contents job from unread sink err = job.command ≢ command.Salvage →

@@ -26,8 +26,8 @@ use std::rt::Files;
 /// the header at the start of the input, as its text with `-r`, otherwise as a table. `range`: at
 /// most as many bytes as the job requests. Nothing else was appended.
 ///
-/// The same holds for a `run` that ended with status 0, if its arguments name no file: by `words`
-/// its job has the command and the limits that they set. (Those of `range` name a file.)
+/// The same holds for a `run` with status 0 whose arguments make a job and name neither IN nor OUT:
+/// by `words` this job has the command and the limits that they set. (Those of `range` name IN.)
 #[tactic(auto, using(crate::proofs::LawLemmas::jobs_done))]
 pub fn done_jobs<F: Files>()
     ensures decrypt { (job : Job) (b xs : Bytes) (new : Known)

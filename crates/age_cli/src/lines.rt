@@ -1,4 +1,4 @@
-//! The lines about chunks that `salvage` lost.
+//! The lines of `salvage` about lost chunks and a damaged file.
 
 use crate::failure::Failure;
 use crate::messages::{say, tell};
@@ -14,14 +14,14 @@ use std::fmt;
 
 /// A receiver of reports that knows whether something was saved.
 pub(crate) trait Saving: Report {
-    /// Whether, of this many bytes written, one is of a chunk that was saved.
+    /// Whether any of the `written` bytes is of a chunk that was saved.
     fn has_saved(&self, written: u64) -> bool;
 
-    /// Receives a failure of the work, unless its lost chunks were reported in place of it.
+    /// Receives a failure of the job. `BadChunk` is not printed, because the damage was reported.
     fn fail(&mut self, failure: &Failure<'_>);
 }
 
-/// Prints a line for each run of lost chunks as soon as it ends.
+/// Prints each run of lost chunks when the next run begins or the work ends, and lines on the file.
 #[derive(Drop)]
 pub(crate) struct LossLines<'a, 'b, E> {
     pub(crate) alloc: Global,
@@ -97,7 +97,7 @@ impl<'a, 'b, E: Sink> LossLines<'a, 'b, E> {
         );
     }
 
-    /// Prints why a chunk that is marked as the last may not be.
+    /// Prints why a chunk that is marked as the last may not be the last.
     fn early(&mut self, chunk: u128, saved: &Salvaged) {
         match saved.last {
             Saved::Early => self.print(&format_args!(
@@ -136,7 +136,7 @@ impl<'a, 'b, E: Sink> LossLines<'a, 'b, E> {
         }
     }
 
-    /// Prints the last run.
+    /// Prints the run of lost chunks that is not printed yet, if there is one.
     fn end(&mut self) {
         if let Some(run) = self.run {
             self.run = None;

@@ -39,12 +39,12 @@ const REFUSED: u8 = 2;
 /// Runs `agep` on these arguments, the first of which is the program's name, and returns its exit
 /// status: 0 for success, 1 after a fault, 2 for a refused command line.
 ///
-/// Reads `input` if the arguments name no file. When it checks whether two files are the same, it
-/// takes `input` and `out` to be `/proc/self/fd/0` and `/proc/self/fd/1`. Writes the output of the
-/// command, and the texts of help and version, to `out`. Writes to `err` one line for a fault, with
+/// Reads `input` if the arguments do not name IN. Writes the output of the command to `out` if they
+/// do not name OUT, and the texts of help and version. Writes to `err` one line for a fault, with
 /// `--verbose` a second one on the file, the lines of `salvage` on lost chunks, and the text for a
-/// refused command line. If `/dev/stderr` is a terminal, `--verbose` also shows there how much was
-/// read, in a line that is erased at the end.
+/// refused command line. If `/dev/stderr` is a terminal that can erase a line, and the output is
+/// not a terminal, `--verbose` also shows there how much was read, in a line erased at the end. To
+/// compare files, takes `input` and `out` to be `/proc/self/fd/0` and `/proc/self/fd/1`.
 pub fn run<F: Files + Clock + Env + AllocGlobal, R: Read, W: Write + IsTerminal, E: Sink>(
     rt: &F,
     words: &[&str],
@@ -59,37 +59,36 @@ where
     // Status 2: the words are wrong, the input was not read, and the output is unchanged.
     ensures refused { result ≡ 2 → (input.new ≡ input.old) × (out.new ≡ out.old)
         × AreWrong (texts words.now) }
-    // Wrong words: the status is 2; or memory was refused, and it is 1 and the output is unchanged.
-    // If `clap` could also take them to ask for a text, that text may be shown instead.
+    // Wrong words: the status is 2, or it is 1 and the output is unchanged. If `clap` could also
+    // take the words to ask for a text, nothing is said.
     ensures refuses { AreWrong (texts words.now)
         → AskForText (texts words.now)
         ⊎ ((result ≡ 2) ⊎ ((result ≡ 1) × (out.new ≡ out.old))) }
     // Status 0: `err` is unchanged. No clause covers the line on how much was read.
     ensures quiet { result ≡ 0 → err.new ≡ err.old }
     // Status 0: the words ask for a text of `clap`, or they make a job and a task of its command
-    // was performed from its IN to its OUT. Unless named, these are standard input and standard
-    // output. A named one is some value of the file type, not tied to the file opened.
+    // was performed from its IN to its OUT. Unless named, these are `input` and `out`. A named IN
+    // or OUT is some value of the file type, not tied to the file opened.
     ensures finishes { result ≡ 0 → AskForText (texts words.now)
         ⊎ ((job : Job) × Makes (texts words.now) job × RunsOn F.File.remaining F.File.contents job
         (R.remaining input.old) (move_by W.contents out.old out.new) (Ok tt)) }
-    // Status 1: the words ask for a text that could not be written, the output is as it was, or the
+    // Status 1: the words ask for a text, the contents of `out` are unchanged if known, or the
     // words make a job of which a task ended with a fault.
     ensures begins { result ≡ 1 → AskForText (texts words.now)
         ⊎ (Stays (move_by W.contents out.old out.new)
         ⊎ ((job : Job) × Makes (texts words.now) job
         × ((fault : Fault) × RunsOn F.File.remaining F.File.contents job
         (R.remaining input.old) (move_by W.contents out.old out.new) (Err fault)))) }
-    // Status 1: the words ask for a text, or `err` got the line of refused memory, or that of the
-    // fault that ended the job of these words: of its work or, if `out` is unchanged, one that its
-    // options allow; then `input` is unread too, or OUT is named.
+    // Status 1: the words ask for a text; or `err` got the line of refused memory, or a prefix if a
+    // write failed; or the words make a job for which the clause `told` of `run_job` is true.
     ensures told { let err = stream_by E.taken E.failed err.old err.new in
         result ≡ 1 → AskForText (texts words.now)
         ⊎ (Tells false (codes "out of memory") err
         ⊎ ((job : Job) × Makes (texts words.now) job × Told F.File.remaining F.File.contents job
         (R.remaining input.old) (input.new ≡ input.old) (move_by W.contents out.old out.new)
         err)) }
-    // If the words make a job, `input` is not read if it names IN, and nothing is written to `out`
-    // if it names OUT. Otherwise `input` is not read, and only a text that they ask for is written.
+    // If the words make a job, `input` is unread if the job names IN, and `out` is unchanged if the
+    // job names OUT. Otherwise `input` is unread, and `out` unchanged unless they ask for a text.
     ensures streams { (AskForText (texts words.now) × (input.new ≡ input.old))
         ⊎ (((input.new ≡ input.old) × (out.new ≡ out.old))
         ⊎ ((job : Job) × Makes (texts words.now) job × (job.input ≢ None → input.new ≡ input.old)
@@ -117,24 +116,24 @@ where
     // Status 0: `err` is unchanged. No clause covers the line on how much was read.
     ensures quiet { result ≡ 0 → err.new ≡ err.old }
     // Status 0: a task of the job's command was performed from its IN to its OUT, with some secret
-    // of the kind that the options name and some seed. If the contents of both are known, exactly
-    // what the library writes was appended. Of the IN of a range nothing is known: the clause
-    // bounds the number of bytes written.
+    // of the kind that the options name and some seed. If the contents of IN and OUT are known,
+    // exactly what the library writes was appended; but for `range` the clause only bounds the
+    // number of bytes written.
     ensures finishes { result ≡ 0 → RunsOn F.File.remaining F.File.contents job.now
         (R.remaining input.old) (move_by W.contents out.old out.new) (Ok tt) }
     // If the job names IN, `input` is not read.
     ensures input { job.now.input ≢ None → input.new ≡ input.old }
     // If the job names OUT, nothing is written to standard output.
     ensures output { job.now.output ≢ None → out.new ≡ out.old }
-    // Status 1: the output is as it was, or such a task ended with a fault: what the library says
-    // was written with this fault, or with the result after which the flush failed.
+    // Status 1: `out`, if known, is unchanged; or a task of the job ended with a fault, and OUT has
+    // what the library writes with this fault or, if the flush failed, with the work's result.
     ensures begins { result ≡ 1 → Stays (move_by W.contents out.old out.new)
         ⊎ ((fault : Fault) × RunsOn F.File.remaining F.File.contents job.now
         (R.remaining input.old) (move_by W.contents out.old out.new) (Err fault)) }
-    // Status 1, but not of `salvage`: `err` got the line of the fault that ended the job: of its
-    // work or, if `out` is unchanged, one that its options allow; then `input` is unread too, or
-    // OUT is named. After a failed write it has a prefix of that line, and with `--verbose` more
-    // may follow the line.
+    // Status 1, but not of `salvage`: `err` got the line of the fault that ended the job, or of
+    // refused memory: a prefix if a write failed, and with `--verbose` maybe more after it. That
+    // fault is one of the work; or it is a refusal with `input` unread, or a fault at the end of
+    // OUT, and `out`, if known, is unchanged.
     ensures told { result ≡ 1 → Told F.File.remaining F.File.contents job.now
         (R.remaining input.old) (input.new ≡ input.old) (move_by W.contents out.old out.new)
         (stream_by E.taken E.failed err.old err.new) }
@@ -182,7 +181,7 @@ struct Work<'a> {
     ghost in_place: { job.now.atomic ≡ false → target.now ≡ InPlace },
 }
 
-/// Reads the small files, opens the input, creates the output, performs the task, in this order.
+/// Reads the small files, opens IN and OUT if they are named, performs the task, in this order.
 fn perform<'a, F: Files + Clock + AllocGlobal, R: Read, W: Write + IsTerminal, L: Saving>(
     rt: &F,
     work: &mut Work<'a>,
@@ -214,14 +213,14 @@ where
             let mut watched = Watched::new(rt, job, &work.read, Pipe(input), work.is_shown);
             let done = perform_on(rt, work, task, &mut watched, out, lines);
             let input = watched.reader.0;
-            // For the proof alone (docs/PROOFS.md, "How to read a clause"): whether it was read.
+            // For the proof alone (docs/PROOFS.md, "How to read a clause"): whether IN was read.
             let _ = &*input;
             done
         }
     }
 }
 
-/// Makes the task of a job, with the secrets that its options name, unless they forbid OUT.
+/// Checks the options about OUT, and makes the job's task with the secrets that its options name.
 #[tactic(auto, using(crate::proofs::ProgramLemmas::task_of))]
 fn task_of<'a, F: Files + AllocGlobal, W: IsTerminal>(
     rt: &F,
@@ -257,7 +256,7 @@ fn seed_from(bytes: &[u8; SEED_LEN]) -> Seed {
     seed
 }
 
-/// Creates the output, and performs the task on this input.
+/// Opens or creates OUT if it is named, performs the task on this input, and finishes OUT.
 fn perform_on<'a, F: Files + AllocGlobal, R: Input, W: Write, L: Saving>(
     rt: &F,
     work: &Work<'a>,
@@ -296,7 +295,7 @@ where
     Err(Failure::Job(failure))
 }
 
-/// Whether what was written takes the place of OUT after this result.
+/// Whether the output is kept after this result, and not discarded.
 fn is_kept(done: &Result<(), Failure<'_>>, has_saved: bool) -> bool
     ensures { result ≡ keeps_output done.now has_saved }
 {

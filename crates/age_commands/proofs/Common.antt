@@ -1,4 +1,4 @@
--- The names that the proofs of this crate cite, passed on from one place.
+-- Names that the proofs of this crate cite, re-exported from one place.
 pub use Rattle.age_commands.specs.Inspect.{Inspecting, InspectsText, IsShown, IsTable, OfShown, check_of, first_lines, last_lines, row, rows, spaced_arguments}
 pub use Rattle.age_commands.specs.Range.{IsPartFault, OfBytes, RangingAny, WritesAny, WritesBytes, WritesVerified}
 pub use Rattle.age_commands.specs.Secret.{answers_of, gathering_of, guesses_of, keys_unwrap, labels_of, limits_of, passes_unwrap, recipient_of, wraps_of}

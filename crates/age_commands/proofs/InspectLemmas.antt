@@ -1,4 +1,4 @@
--- What reading a header returns, as what `inspect` says of it.
+-- The result of `inspect` from that of reading a header, and its table from the parts.
 use Rattle.age_commands.proofs.Common.{◌≡◌, ◌∙◌, ◌++◌, ◌∷◌, ◌+◌, ◌<◌, ℕ, List, ap, arith, get_or, length, take, Option, Bool, Ok, Err, refl, [], subst, sym, append_assoc, append-nil, length-take-le, take_more, ⊤, ◌^◌, ◌-◌, OnOk, Result, codes, min, Appends, Appends-trans, Keeps-refl, Bytes, Flow, Known, OfGiven, Seen, flow, move_of, Head, HeaderParts, StanzaParts, of_any, of_map, of_more, Fault, Bounds, header_fault, Inspecting, InspectsText, IsShown, IsTable, OfShown, check_of, first_lines, last_lines, row, rows}
 use Rattle.age_header.specs.declared.fault.HeaderFault.{HeaderFault}
 use Rattle.age_header.specs.declared.fault.HeaderFault.TheVariants as header
@@ -16,14 +16,14 @@ missed_of limits raw key b old header.Read h = Keeps-refl old
 missed_of limits raw key b old header.Memory h = Keeps-refl old
 missed_of limits raw key b old e h = (e, h, refl, Keeps-refl old)
 
--- there is no header
+-- if no header was read, `inspect` returns the reader's fault, and nothing was written
 pub missed : {limits l : Bounds} (raw : Bool) (key : Option Bytes) {from to : Seen} (old : Known) {fault : Fault}
     → l ≡ limits → Inspects l (flow from to) (Err fault)
     → Inspecting limits raw key (flow from to) (move_of old old) (Err fault)
 missed {limits} raw key old same (e, is, reads) =
     rw is (of_map (rw same at reads) (λ b refuses. missed_of limits raw key b old e refuses))
 
--- what was shown of a header that was read
+-- a header that was read, with what was shown of it, is as `OfShown` says
 pub shown_of : {limits l : Bounds} (raw : Bool) (key : Option Bytes) {from to : Seen} {h : HeaderParts}
     {checked : Check} (P : Check → Bytes → Type 0) (text : Bytes) → l ≡ limits → Inspects l (flow from to) (Ok h)
     → checked ≡ check_of key h → IsShown raw h checked text → P checked text
@@ -53,7 +53,7 @@ rows_more old mid new xs {x} d {i} low is before one =
     grind (arith, take_more xs i d low, rows_push 0 (take i xs) x, length-take-le) in
     rw at (Appends-trans old mid new (rows 0 (take i xs)) (row i x) before one)
 
--- the parts of a table, one after the other
+-- the parts of a table, written one after the other, are the table
 pub tabled : {E : Type 0} {header : HeaderParts} (checked : Check) (one two three four five six : Known)
     (characters : Bytes) {text : Bytes} {n : ℕ} (r : Result ⊤ E)
     → n ≡ min (length text) (2 ^ 64 - 1) → IsBase64 header.mac characters → Head header.stanzas header.mac text

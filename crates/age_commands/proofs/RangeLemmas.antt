@@ -11,13 +11,13 @@ nothing P at old none = record {
   appends = Appends-nil old;
 }
 
--- what holds of each byte holds of those of a prefix
+-- what holds of each byte of a list holds of each byte of a prefix
 prefix : (P : ℕ → ℕ → Type 0) (at n : ℕ) (xs : Bytes) → OfBytes P at xs → OfBytes P at (take n xs)
 prefix P at n xs holds k lt =
     let l : length (take n xs) ≡ min n (length xs) = length-take n xs in
     subst (P (at + k)) (sym (get_or-take n xs k 0 (omega arith))) (holds k (omega arith))
 
--- and of two parts that follow one another
+-- what holds of each byte of two lists holds of each byte of the two joined
 both : (P : ℕ → ℕ → Type 0) (at : ℕ) (xs ys : Bytes) → OfBytes P at xs → OfBytes P (at + length xs) ys
     → OfBytes P at (xs ++ ys)
 both P at xs ys one more k lt =

@@ -1,4 +1,4 @@
--- What salvaging comes to from a source that may skip what cannot be read.
+-- The result of salvaging from a source that may skip bytes that cannot be read.
 use Rattle.age_commands.proofs.Common.{arith, append-nil, ◌≡◌, ◌⊎◌, ◌∙◌, ◌++◌, [], ap, subst, cond, false, true, Bool, ℕ, Option, None, Result, Ok, Err, OnOk, IfOk, inl, inr, sym, refl, ◌&&◌, ⊤, IfSome, is_some, Consumes-whole, Bytes, CountsIf, Known, Moved, OfGiven, Seen, flow, KnownLosses, is_whole_to, losses_of, Fault, BadChunk, SalvagedFile, Bounds, IsQuiet, is_write, SalvagesFile, is_whole_file, Answering, SalvagesAll, if_whole, of_any, gave_none, of_all, reports_none, Consumes, Consumes-kept, Consumes-nil, Consumes-trans, IsAtEnd, Keeps}
 use Rattle.std.proofs.lemmas.Bool.Decides.{nat_tests}
 use Rattle.age_commands.specs.declared.skipping.Reached.{Reached}
@@ -12,7 +12,7 @@ pub read_more : (reached next : Reached) (failed : Type 0) (start before after :
 read_more reached next failed start before after past bytes more end stays read =
     grind (arith, Consumes-trans)
 
--- after a failed read nothing more was returned, and the reader has what it had unless it counted a failure
+-- a failed read returns no bytes, and the reader loses none, unless it counted a failure
 pub read_no_more : (reached : Reached) {next : Reached} {failed : Type 0} (skips : Bool) (start : Known) {R : Type 0}
     (remaining : R → Known) (before : R) {mid after : R} (past : Bytes) → next ≡ Failure
     → Keeps (remaining before) (remaining mid) → (after ≡ mid) ⊎ ((skips ≡ true) × failed)
@@ -20,13 +20,13 @@ pub read_no_more : (reached : Reached) {next : Reached} {failed : Type 0} (skips
 read_no_more reached {next} {failed} skips start remaining before {mid} {after} past is keeps moved read =
     grind (arith, Consumes-kept, append-nil)
 
--- and it took none of the known bytes
+-- a failed read takes none of the known bytes
 pub come_no_more : {failed : Type 0} (skips : Bool) {R : Type 0} (remaining : R → Known) (before : R) {mid after : R}
     → Keeps (remaining before) (remaining mid) → (after ≡ mid) ⊎ ((skips ≡ true) × failed)
     → Consumes (come_by skips (remaining before)) (come_by skips (remaining after)) []
 come_no_more skips remaining before {mid} keeps moved = grind (arith, Consumes-kept, Consumes-nil)
 
--- what holds of the bytes that a source returned holds of those that its reader had, if it skips none or has read all
+-- what holds of the bytes returned holds of the reader's, if none may be skipped or all were read
 pub read_of : {A : Type 0} (input : Option A) (reached : Reached) {failed : Type 0} (start now : Known) {old new : Seen}
     {P : Bytes → Type 0} → old.to_come ≡ come_by (is_some input) start → old.gave []
     → ((past : Bytes) → new.gave past → HasRead reached failed start now past) → OfGiven (flow old new) P
@@ -74,7 +74,7 @@ salvages_from {A} {limits} {answers} input reached now done {failed} {start} {fr
 abbrev succeeded : Result ⊤ Fault
 succeeded = Ok tt
 
--- what a result says of devices and reports, the command's says too
+-- the command's result says the same of devices and reports as the library's
 pub quiet_whole : {W : Type 0} (old new : W) (is_read : Bool) (done : Result SalvagedFile Fault)
     {result : Result ⊤ Fault} → result ≡ if_whole is_read done → IsQuiet old new done → IsQuiet old new result
 quiet_whole old new is_read done is h = grind arith

@@ -1,4 +1,4 @@
--- A list of one recipient or identity, and one that is known by its meaning.
+-- Lists of one recipient or identity of a known meaning, and the loops over keys or passphrases.
 use Rattle.age_commands.proofs.Common.{arith, ◌≡◌, ◌∙◌, ◌+◌, ◌<◌, ◌++◌, [], ◌∷◌, List, ap, get_or, drop, length, map, sym, take, Result, get_or_default, map_push, take_more, ℕ, Bytes, Flow, Known, OfGiven, Seen, flow, move_of, of_any, gave_none, StanzaParts, decision_from, Fault, Bounds, Answering, Secret, gathering_of, labels_of, recipient_of, wraps_of, Encrypting}
 use denote.Param.Object.{Made, read_made}
 use denote.Param.Table.{Entry, Table}
@@ -29,7 +29,7 @@ pub gathering_meant : {w : FileKey → Result (List StanzaParts) ℕ} {l : Label
 gathering_meant (Passphrase pass others) work salt wraps labels = rw (wraps, labels)
 gathering_meant (Keys keys) work salt wraps labels = rw (wraps, labels)
 
--- what holds of any bytes, where nothing was read
+-- what holds of any bytes holds of those read, if nothing was read
 pub unread : (a : Seen) {P : Bytes → Type 0} → ((b : Bytes) → P b) → OfGiven (flow a a) P
 unread a p = of_any ([], gave_none) p
 
@@ -38,7 +38,7 @@ pub encrypting_meant : {f g : FileKey → Gathering} {limits : Bounds} {fresh : 
     → Encrypting limits fresh (g fresh.file_key) source (move_of old new) r
 encrypting_meant same h = rw same at h
 
--- what is decided by the remaining secrets, after the next one
+-- once the next secret has answered, the remaining ones lead to the same decision
 pub answers_step : {A : Type 0} (f : A → Unwrapped) (xs : List A) {i : ℕ} {x : A} (so_far : Unwrapped)
     {answer all : Unwrapped} (next : List Unwrapped → Unwrapped) → i < length xs → x ≡ get_or xs i x → answer ≡ f x
     → ((more : List Unwrapped) → decision_from so_far (answer ∷ more) ≡ next more)
@@ -54,7 +54,7 @@ pub keys_step : (f : Bytes → Unwrapped) (keys : List Bytes) {i : ℕ} (so_far 
 keys_step f keys {i} so_far next low is step before =
     answers_step f keys so_far next low (get_or_default keys i [] (get_or keys i []) low) is step before
 
--- one more is made for the next key
+-- with the stanza of key i added, the list has those of the first i + 1 keys
 pub wrapped_more : {S : Type 0} (f : Bytes → S) (keys : List Bytes) (i : ℕ) {old one new : List S} → i < length keys
     → new ≡ old ++ one → one ≡ f (get_or keys i []) ∷ [] → old ≡ map f (take i keys) → new ≡ map f (take (i + 1) keys)
 wrapped_more f keys i low added is before =

@@ -31,7 +31,7 @@ stopped {gave} {s} at left {most} {old} le is stops =
       (0, omega arith, nothing (IsVerifiedByte gave s.layout) at old refl),
     )
 
--- a fault of a later part is one of the whole
+-- a fault of a later part of a range is a fault of the whole range
 part_of_whole : (s t : RangeState) (begin len at left : ℕ) (fault : Fault) → t.layout ≡ s.layout
     → at + left ≡ begin + len → begin ≤ at → IsPartFault t at left fault → IsPartFault s begin len fault
 part_of_whole s t begin len at left fault el end low p = grind arith
@@ -46,7 +46,7 @@ joined {early} {late} {layout} {same} at k from n m stays el ef em one more =
     (λ x byte h. byte_stays early late layout x byte stays h)
     (λ x byte h. subst (λ l. IsVerifiedByte late l x byte) el h) ef em one more
 
--- a range that fails after a part
+-- a range that fails after a part of it was written
 pub failed_on : {early late : ℕ → ℕ → Type 0} (s t : RangeState) (begin len at left : ℕ) {old mid new : Known}
     {fault : Fault} → StaysGiven early late → t.layout ≡ s.layout → at + left ≡ begin + len → begin ≤ at
     → at - begin ≤ range_len s begin len
@@ -63,7 +63,7 @@ failed_on {early} {late} s t begin len at left {old} {mid} {new} {fault} stays e
       ),
     )
 
--- a source that was opened
+-- `RangingAny` for a source that was opened
 pub ranged : {D : Type 0} {gave : D → ℕ → ℕ → Type 0} {found : D → Option ℕ} {limits : Bounds}
     {f answers : Answering} {at len : ℕ} (source : D) {new : D} {s : RangeState} {old taken : Known}
     {r : Result ⊤ Fault} → f ≡ answers → BeginsFile limits f (gave source) (found source) s
@@ -76,13 +76,13 @@ ranged {gave} {found} {limits} source {s} means begins writes = inr (record {
   writes = writes;
 })
 
--- one that was not
+-- `RangingAny` for a source that was not opened
 pub unopened : {D : Type 0} {gave : D → ℕ → ℕ → Type 0} {found : D → Option ℕ} {limits : Bounds} {answers : Answering}
     (at len : ℕ) {new : D} {old : Known} {fault : Fault} → IsOpenFault fault
     → RangingAny gave found limits answers at len new (move_of old old) (Err fault)
 unopened at len {old} named = inl (named, Keeps-refl old)
 
--- a range of a source of which proofs know only the size
+-- `Performs` for a range of a source of which proofs know only the size
 pub ranges_unseen : {D : Type 0} {found : D → Option ℕ} (job : Job) (secret : Secret) (from : Known) {new : D}
     {sink : Moved} (lost : LossesMoved) {r : Result ⊤ Fault}
     → RangingAny (λ source at byte. ⊤) found (limits_of job) (answers_of secret job.max_work) job.at job.len new sink r
@@ -93,7 +93,7 @@ ranges_unseen {found} job secret from lost (inr o) = (
   inr (record { source = found o.source; state = o.state; begins = o.begins; writes = o.writes }),
 )
 
--- an opened file ends with a fault before which something may have been written
+-- a fault after a file was opened is one before which something may have been written
 pub quiet_part : {W : Type 0} (gave : ℕ → ℕ → Type 0) (s : RangeState) (at len : ℕ) (sink : Moved) (old new : W)
     (r : Result ⊤ Fault) → WritesAny gave s at len sink r → IsQuiet old new r
 quiet_part gave s at len sink old new r h = grind arith

@@ -75,9 +75,9 @@ pub record OfShown (limits : Bounds) (raw : Bool) (key : Option Bytes) (b : Byte
   pub is : IsShown raw header (check_of key header) shown
   pub holds : P (check_of key header) shown
 
--- The result of `inspect` for the bytes b, and its output: the text for the header, even if the
--- check fails; a prefix of it if a write failed; otherwise nothing. Any other fault is the
--- header's.
+-- The result of `inspect` for the bytes b, and its output: the text for the header, even if the MAC
+-- is wrong; a prefix of this text if a write failed. On any other fault the output is empty; the
+-- fault is then a failed read, refused memory, or the header's.
 abbrev pub InspectsText : (limits : Bounds) (raw : Bool) (key : Option Bytes) (b : Bytes)
     (sink : Moved) (result : Result ⊤ Fault) → Type 0
 InspectsText limits raw key b sink (Ok _) =

@@ -10,7 +10,7 @@ use Rattle.age_file.specs.Ranges.{BeginsFile, IsOpenFault}
 abbrev pub OfBytes : (P : (at byte : ℕ) → Type 0) (at : ℕ) (xs : Bytes) → Type 0
 OfBytes P at xs = (k : ℕ) → k < length xs → P (at + k) (slice_index xs k)
 
--- n bytes from offset `at` on were written, of each of which P holds
+-- n bytes from offset `at` on were written, and P holds of each
 pub record WritesBytes (P : (at byte : ℕ) → Type 0) (at n : ℕ) (sink : Moved) : Type 0 where
   pub part : Bytes
   pub size : length part ≡ n
@@ -35,7 +35,7 @@ IsPartFault s at len fault =
     ((i : ℕ) × (fault ≡ BadChunk i) × HasBytesOf s at len i)
     ⊎ ((fault ≡ Read) ⊎ (fault ≡ Write))
 
--- Of an opened file at most `len` bytes from `at` on were written: all of them, or some.
+-- Of a range of at most `len` bytes from `at` on, all were written on Ok, a prefix on a fault.
 abbrev pub WritesAny : (gave : (at byte : ℕ) → Type 0) (s : RangeState) (at len : ℕ)
     (sink : Moved) (result : Result ⊤ Fault) → Type 0
 WritesAny gave s at len sink (Ok _) =
@@ -44,7 +44,7 @@ WritesAny gave s at len sink (Err fault) =
     IsPartFault s at len fault
     × ((n : ℕ) × (n ≤ range_len s at len) × WritesVerified gave s.layout at n sink)
 
--- the same for the next bytes, all in one chunk
+-- the next n bytes were written; or at most `left`, as for `WritesAny`, and a fault occurred
 abbrev pub WritesNextAny : (gave : (at byte : ℕ) → Type 0) (s : RangeState) (at left : ℕ)
     (sink : Moved) (result : Result ℕ Fault) → Type 0
 WritesNextAny gave s at left sink (Ok n) = WritesVerified gave s.layout at n sink

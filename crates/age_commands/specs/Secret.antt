@@ -23,20 +23,20 @@ use Rattle.age_job.specs.declared.secret.Secret.TheVariants.{Passphrase, Keys}
 abbrev pub limits_of : Job → Bounds
 limits_of job = record { max_header = job.max_header; max_chunks = 2 ^ 88 }
 
--- passphrases to try in order, each with the greatest work factor
+-- passphrases to try in order, each with this maximum work factor
 abbrev pub guesses_of : (first : Bytes) (others : List (Vec ℕ Global)) (max_work : ℕ)
     → List PassGuess
 guesses_of first others max_work =
     record { pass = first; max = max_work }
     ∷ map (λ other. record { pass = other.items; max = max_work }) others
 
--- the answer of passphrases that are called in order
+-- the decision of the identities of these passphrases, called in order
 abbrev pub passes_unwrap : (guesses : List PassGuess) (stanzas : List StanzaParts) → Unwrapped
 passes_unwrap guesses stanzas =
     decision (map (λ guess. decision (map (pass_answer guess.pass guess.max) stanzas)) guesses)
 
--- The answers of a secret to a header's stanzas, as one identity: the first answer that decides, of
--- its passphrases in order with the job's greatest work factor, or of its keys in order.
+-- The answer of a secret to a header's stanzas, as one identity: the decision of its passphrases in
+-- order, each with this maximum work factor, or of its keys in order.
 abbrev pub answers_of : (secret : Secret) (max_work : ℕ) → Answering
 answers_of (Passphrase first others) max_work =
     λ stanzas. passes_unwrap (guesses_of first.items others.items max_work) stanzas ∷ []
@@ -52,9 +52,9 @@ gathering_of (Passphrase pass others) work salt file_key =
 gathering_of (Keys keys) work salt file_key =
     Gathered (Ok (map (λ key. keyed_stanza key salt file_key) keys.items) ∷ []) (Names [] ∷ [])
 
--- ---- the same of the types that hold a secret
+-- ---- the same for `SecretIdentity` and `SecretRecipient`, the types that hold a secret
 
--- the answer of keys that are called in order
+-- the decision of the identities of these keys, called in order
 abbrev pub keys_unwrap : (keys : List Bytes) (stanzas : List StanzaParts) → Unwrapped
 keys_unwrap keys stanzas = decision (map (λ key. key_unwraps key stanzas) keys)
 
@@ -63,7 +63,7 @@ abbrev pub unwraps_of : (identity : SecretIdentity) (stanzas : List StanzaParts)
 unwraps_of (identity.Passphrases guesses) stanzas = passes_unwrap guesses.items stanzas
 unwraps_of (identity.Keys keys) stanzas = keys_unwrap keys.items stanzas
 
--- whether a stanza is of the type of a secret's identity
+-- whether one of these stanzas has the type that a secret's identity tries
 abbrev pub has_own : (identity : SecretIdentity) (stanzas : List StanzaParts) → Bool
 has_own (identity.Passphrases guesses) stanzas = list_any (is_of scrypt_type) stanzas
 has_own (identity.Keys keys) stanzas = list_any (is_of keyed_type) stanzas

@@ -5,17 +5,17 @@ use Rattle.age_commands.specs.declared.skipping.Reached.{Reached}
 use Rattle.age_commands.specs.declared.skipping.Reached.TheVariants.{Place, End, Failure}
 use Rattle.age_commands.specs.declared.skipping.Unread.{Unread}
 
--- the bytes to come of a reader, if they are known; unknown where zeros may be returned for them
+-- the bytes to come of a reader, if they are known; None if zeros may be returned for some of them
 abbrev pub come_by : (skips : Bool) (from : Known) → Known
 come_by skips from = if skips then None else from
 
--- A reader of this type counts more failures than before. Code that is generic over the type has
--- such a reader only after a failed read.
+-- There is a reader of this type that counts more than `before` failures. Code that is generic over
+-- the type has such a reader only after a failed read.
 abbrev pub HasFailed : {R : Type 0} (failures : R → ℕ) (before : ℕ) → Type 0
 HasFailed {R} failures before = (later : R) × (before < failures later)
 
--- What was returned of a reader that began with the bytes `start`, of which `now` are to come:
--- those before them. Only if a read `failed`, others may have been returned.
+-- A reader that held `start` has `now` still to come, and the bytes before `now` were returned as
+-- `past`; at the end none are to come. Only if a read `failed`, `past` may be other bytes.
 abbrev pub HasRead : (reached : Reached) (failed : Type 0) (start now : Known) (past : Bytes)
     → Type 0
 HasRead Place failed start now past = Consumes start now past
@@ -36,8 +36,8 @@ unread_len (Some unread) = unread.bytes
 abbrev pub IsFirst : (from : Known) (bytes : Bytes) → Type 0
 IsFirst from bytes = (left : Known) × Consumes from left bytes
 
--- P holds of the bytes that were read: the first of those to come, unless a read `failed`. It holds
--- of all bytes to come, if they are known and IN is not named or was read to its end.
+-- P holds of the bytes that were read: the first of those to come, unless a read `failed`. If IN is
+-- not named, or was read to its end, P holds of all bytes to come, if they are known.
 abbrev pub OfRead : {A : Type 0} (input : Option A) (is_read : Bool) (failed : Type 0)
     (from : Known) (P : Bytes → Type 0) → Type 0
 OfRead input is_read failed from P =

@@ -21,20 +21,20 @@ abbrev pub without_counts : Result Done Fault → Result ⊤ Fault
 without_counts (Ok _) = Ok tt
 without_counts (Err fault) = Err fault
 
--- the result and the output of `encrypt`, and how much it reads
+-- the result and the output of `encrypt`; a fault that refuses the header is the first that applies
 pub record Encrypting (limits : Bounds) (fresh : Fresh) (gathered : Gathering) (source : Flow)
     (sink : Moved) (done : Result Done Fault) : Type 0 where
   pub encrypts : EncryptsGiven limits fresh gathered source sink done
   pub refused : IfErr done (RefusesFirst limits fresh.file_key gathered)
 
--- the result of salvaging: Ok only if everything is read and saved
+-- the result of the command: Ok exactly if the file is whole (`is_whole_file`) and all was read
 abbrev pub if_whole : (is_read : Bool) → Result SalvagedFile Fault → Result ⊤ Fault
 if_whole is_read (Ok s) =
     if is_whole_file s && is_read then Ok tt else Err (BadChunk s.payload.chunks)
 if_whole is_read (Err fault) = Err fault
 
--- the result, the output and the reports of `salvage`, for an input with the bytes `from`, of which
--- a read may have failed
+-- the result, the output and the reports of `salvage`, for an input with the bytes `from`; `failed`
+-- holds if a read of the input failed
 abbrev pub SalvagesAll : {A : Type 0} (limits : Bounds) (answers : Answering) (input : Option A)
     (failed : Type 0) (from : Known) (sink : Moved) (lost : LossesMoved) (result : Result ⊤ Fault)
     → Type 0
@@ -47,8 +47,8 @@ abbrev pub OfKnown : (from : Known) (P : Bytes → Type 0) → Type 0
 OfKnown from P = (given : Bytes) × P given × IfSome from P
 
 -- The result, the output, and for `salvage` the reports, for an input with the bytes `from`. Only
--- for `salvage` it matters whether a read `failed`. Of the input of a range nothing is known: only
--- the number of bytes written and the kind of fault are bounded.
+-- for `salvage` does it matter whether a read `failed`. Of the input of a range nothing is known:
+-- only the number of bytes written and the kind of fault are bounded.
 abbrev pub Performs : (job : Job) (task : Task) (failed : Type 0) (from : Known) (sink : Moved)
     (lost : LossesMoved) (result : Result ⊤ Fault) → Type 0
 Performs job (Encrypt secret seed) failed from sink lost result =
@@ -70,8 +70,8 @@ Performs job (Range secret) failed from sink lost result =
     (size : Option ℕ) × RangingAny (λ _ _ _. ⊤) (λ found. found) (limits_of job)
     (answers_of secret job.max_work) job.at job.len size sink result
 
--- a task that ends with a fault which is not late leaves the output unchanged, whether or not its
--- contents are known; but `inspect` writes a header whose MAC is wrong
+-- a fault leaves the output unchanged, even one of unknown contents, unless it is a chunk's fault,
+-- `TooManyChunks`, `Read` or `Write`; but `inspect` writes a header whose MAC is wrong
 abbrev pub PerformsQuietly : {W : Type 0} (task : Task) (old new : W) (result : Result ⊤ Fault)
     → Type 0
 PerformsQuietly (Inspect key) old new result = (result ≡ Err BadMac) ⊎ IsQuiet old new result

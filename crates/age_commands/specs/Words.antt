@@ -1,4 +1,4 @@
--- The names that most files of this crate cite, passed on from one place.
+-- Names of other files and crates, re-exported for the files of this crate.
 pub use Rattle.age_file.specs.AgeFile.{Bounds}
 pub use Rattle.age_file.specs.NewFile.{EncryptsGiven, EncryptsText, Gathered, Gathering, RefusesFirst}
 pub use Rattle.age_file.specs.Verdict.{Answering, finding, header_fault}

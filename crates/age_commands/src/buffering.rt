@@ -10,8 +10,8 @@ use age_job::{Input, Job};
 use std::alloc::Global;
 use std::io::{BufReader, Read, Seek};
 
-/// The size of the buffer through which a header is read before its payload. Bytes of the payload in
-/// it are copied; the rest of the payload is read directly into the buffer in which it is opened.
+/// The size of the buffer through which a header is read before its payload. Bytes of the payload
+/// in this buffer are copied; longer reads after them go directly into the buffer of the library.
 pub(crate) const HEADER_BUFFER_LEN: usize = 8_192;
 
 /// Returns the limits of this job.
@@ -26,8 +26,8 @@ pub fn limits_of(job: &Job) -> Limits
     limits
 }
 
-/// Makes a source over this reader, for a damaged file. If `skips`, it continues after what cannot
-/// be read.
+/// Makes a source over this reader, for a damaged file. If `skips`, it continues after bytes that
+/// cannot be read.
 pub(crate) fn skipping_source<'a, R: Input, K: Begun>(
     alloc: Global,
     input: &'a mut R,

@@ -12,7 +12,7 @@ use age_job::{Job, Secret};
 use std::alloc::Global;
 
 /// Decrypts the source to the sink with the identity of this secret, as `age_file::decrypt` does.
-/// On a fault of the payload the plaintext of the chunks before it was written.
+/// On a fault of a chunk the plaintext of the chunks before that chunk was written.
 #[tactic(auto, using(crate::proofs::SecretLemmas::unread))]
 pub(crate) fn decrypt<S: Source, W: Sink>(
     alloc: Global,

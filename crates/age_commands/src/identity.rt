@@ -12,7 +12,7 @@ use age_file::{Identity, KeyIdentity, PassError, PassIdentity, Stanza, Unwrapped
 use age_job::{Job, Secret};
 use std::alloc::{AllocError, Global};
 
-/// The identity for a secret: those of its passphrases, or those of its keys, called in order.
+/// The identity for a secret: the identities of its passphrases or of its keys, called in order.
 #[derive(Drop)]
 pub(crate) enum SecretIdentity {
     Passphrases(Vec<PassIdentity>),
@@ -87,7 +87,7 @@ fn pass_identity(alloc: Global, job: &Job, passphrase: &[u8]) -> Result<PassIden
     }
 }
 
-/// The first answer of these passphrases that decides.
+/// The first answer of these passphrases that decides; if none does, `Failed` or `NotMine`.
 fn unwrap_by_passphrases(
     alloc: Global,
     identities: &[PassIdentity],
@@ -106,7 +106,7 @@ fn unwrap_by_passphrases(
     Ok(so_far)
 }
 
-/// The first answer of these keys that decides.
+/// The first answer of these keys that decides; if none does, `Failed` or `NotMine`.
 fn unwrap_by_keys(
     alloc: Global,
     keys: &[[u8; 32]],

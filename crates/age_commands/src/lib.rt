@@ -2,16 +2,16 @@
 //! failed write.
 //!
 //! ```
-//! let task = Task::Decrypt(Secret::Passphrase(passphrase));
-//! let result = age_commands::perform_between(alloc, &job, task, &mut input, &mut out);
+//! let task = Task::Decrypt(Secret::Passphrase(passphrase, Vec::new(alloc)));
+//! let done = age_commands::perform_between(alloc, &job, task, &mut input, &mut out, &mut report);
 //! ```
 //!
-//! A command with its secrets is a `task`, and each command has a module of its own. `seed` has the
+//! `task` has a command with its secrets, and each command has a module of its own. `seed` has the
 //! random bytes of a new file, `recipient` and `identity` say what a secret means to a command, and
 //! `buffering` has a job's limits and the sources over its input. `skipping` is the source of
 //! `salvage`, and `watched_sink` a sink over any writer.
 //!
-//! Nothing here opens a file or prints: the crate `age_cli` does both.
+//! Nothing here opens a file or prints: `age_job` opens the files, and `age_cli` prints.
 //!
 //! *What a contract sees.* A task is a command with its secrets. `specs/Secret.antt` says which
 //! recipient or identity a secret means. The input is a reader: the bytes to come, if they are

@@ -16,9 +16,9 @@ use age_file::{CHUNK_SIZE, Fault, Identity, RangeReader, ReadAt, Sink, open_rang
 use age_job::{Job, Secret};
 use std::alloc::Global;
 
-/// Writes the plaintext of the source from the job's offset on to the sink, at most as many bytes
-/// as the job requests. On a chunk's fault the plaintext before that chunk was written. The key,
-/// the header and the last chunk are checked even if the job requests no bytes.
+/// Writes to the sink the plaintext of the source from the job's offset on, at most as many bytes
+/// as the job requests. First it checks the header, the key and the last chunk, even for no bytes.
+/// If a chunk of the range then does not open, the bytes of the range before it were written.
 pub(crate) fn range_of<D: ReadAt, W: Sink>(
     alloc: Global,
     job: &Job,
@@ -27,9 +27,9 @@ pub(crate) fn range_of<D: ReadAt, W: Sink>(
     out: &mut W,
 ) -> Result<(), Fault>
     requires { IsInRange job.now }
-    // Each byte written was verified at its offset; the bytes are in order from the
-    // job's offset on, at most as many as requested, on Ok all of them. A fault is one of opening,
-    // after which nothing was written, a damaged chunk, or a failed read or write.
+    // The bytes written are those from the job's offset on, each verified at its offset: on Ok as
+    // many as requested or up to the end of the plaintext, on a fault perhaps fewer. A fault is one
+    // of opening, after which nothing was written, a damaged chunk, or a failed read or write.
     ensures any { RangingAny D.gave D.found (limits_of job.now)
         (answers_of secret job.now.max_work) job.now.at job.now.len input.new
         (move_by W.taken out.old out.new) result }
@@ -80,9 +80,9 @@ fn write_range<D: ReadAt, W: Sink>(
     Ok(())
 }
 
-/// Writes, of the `left` bytes from offset `at` on, those in the chunk there, and returns their
-/// number. No read crosses the end of a chunk, so a failed read leaves nothing in the buffer to
-/// write.
+/// Writes those of the `left` bytes from offset `at` on that are in the chunk of `at`, and returns
+/// their number. No read crosses the end of a chunk, so a failed read leaves nothing in the buffer
+/// to write.
 fn write_next<D: ReadAt, W: Sink>(
     reader: &mut RangeReader<'_, D>,
     at: u64,

@@ -11,8 +11,8 @@ use age_file::{
 use age_job::{Job, Secret};
 use std::alloc::{AllocError, Global};
 
-/// The recipient for a secret: that of its passphrase, or those of its keys in order. All share one
-/// salt, because the keys differ, and so do the wrap keys. It is one object because a function that
+/// The recipient for a secret: its first passphrase, or its keys in order. The keys can share one
+/// salt, because different keys make different wrap keys. It is one object because a function that
 /// returns a list of boxes that it made cannot be proved.
 #[derive(Drop)]
 pub(crate) enum SecretRecipient {

@@ -18,20 +18,20 @@ use std::alloc::Global;
 
 /// A receiver of the reports of `salvage`.
 pub trait Report: Losses {
-    /// Receives what was saved of a file that is not whole, after its lost chunks.
+    /// Receives, after all lost chunks, what was saved, if IN is not whole or was not all read.
     fn damaged(&mut self, saved: &SalvagedFile)
         // The lost chunks reported so far are unchanged.
         ensures { Self.lost self.new ≡ Self.lost self.old };
 
-    /// Receives which bytes of IN could not be read, if there are any. Zeros stood in their place.
+    /// Receives which bytes of IN became zeros because of failed reads, if there are any.
     fn unread(&mut self, unread: &Unread)
         // The lost chunks reported so far are unchanged.
         ensures { Self.lost self.new ≡ Self.lost self.old };
 }
 
-/// Saves the damaged file in the reader to the sink, with the identity of this secret. If IN is
-/// named, continues after what cannot be read. Reports each lost chunk. If the result is not whole,
-/// or not all was read, reports that too; the fault is then `BadChunk` with the number of pieces.
+/// Saves the damaged file to the sink, with the identity of this secret. If IN is named, continues
+/// after bytes that cannot be read. Reports each lost chunk. If there is no other fault, but the
+/// file is not whole or not all read, reports that, and returns `BadChunk` with the piece count.
 #[tactic(auto, using(crate::proofs::TaskLemmas::no_source))]
 pub(crate) fn salvage_all<R: Input, W: Sink, L: Report, K: Begun>(
     alloc: Global,
@@ -47,7 +47,7 @@ pub(crate) fn salvage_all<R: Input, W: Sink, L: Report, K: Begun>(
     ensures salvages { SalvagesAll (limits_of job.now) (answers_of secret job.now.max_work)
         job.now.input (HasFailed R.failed (R.failed input.old)) (R.remaining input.old)
         (move_by W.taken out.old out.new) (losses_by L.lost report.old report.new) result }
-    // If everything is read and saved, nothing was reported.
+    // On Ok nothing was reported.
     ensures silent { OnOk result (report.new ≡ report.old) }
     ensures quiet { IsQuiet out.old out.new result }
     ensures writes { CountsIf is_write (W.failed out.old) (W.failed out.new) result }
@@ -60,8 +60,8 @@ pub(crate) fn salvage_all<R: Input, W: Sink, L: Report, K: Begun>(
     judged(report, done, source.is_read(), source.unread())
 }
 
-/// The result of the command. Reports what was saved, if that is not the whole file, and which
-/// bytes could not be read.
+/// The result of the command. Reports what was saved, if the file is not whole or not all was read,
+/// and for which bytes zeros were returned, if there are any.
 fn judged<L: Report>(
     report: &mut L,
     done: Result<SalvagedFile, Fault>,
@@ -103,7 +103,7 @@ fn salvage<S: Source, W: Sink, L: Losses>(
     ensures salvages { SalvagesFile (limits_of job.now) (answers_of secret job.now.max_work)
         (flow_by S.to_come S.gave input.old input.new) (move_by W.taken out.old out.new)
         (losses_by L.lost losses.old losses.new) result }
-    // If no chunk is lost, none was reported.
+    // On Ok, if no chunk is lost, none was reported.
     ensures silent { IfOk result (λ s. s.payload.lost ≡ 0 → losses.new ≡ losses.old) }
     // On a fault other than a chunk's, `TooManyChunks`, `Read` and `Write` the sink is unchanged.
     ensures quiet { IsQuiet out.old out.new result }

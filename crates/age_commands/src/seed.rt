@@ -14,8 +14,8 @@ pub struct Seed {
     pub salt: [u8; 16],
 }
 
-/// Makes a seed of 48 bytes: the first 16 are the file key, the next 16 the nonce, and the last 16
-/// the salt. Returns `None` for any other length.
+/// Makes a seed from 48 bytes: 16 each for the file key, the nonce and the salt, in this order.
+/// Returns `None` for any other length.
 pub fn seed_of(bytes: &[u8]) -> Option<Seed>
     // The first 16 bytes are the file key, the next 16 the nonce, the last 16 the salt.
     ensures some { IfSome result (λ seed. (seed.fresh.file_key.0 ≡ take 16 bytes.now)

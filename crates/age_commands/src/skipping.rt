@@ -1,4 +1,4 @@
-//! A source that continues after what cannot be read.
+//! A source that continues after bytes that cannot be read.
 ghost use Rattle.std.specs.Prelude.{◌≡◌, ◌≤◌, ◌<◌, ◌+◌, ◌-◌, ◌^◌, ◌⊎◌, []};
 ghost use Rattle.std.specs.Prelude.{None, Some, true, min, IfSome, length, replicate, take};
 ghost use Rattle.std.specs.Io.Buffered.{reader_inner};
@@ -11,8 +11,8 @@ use std::io;
 use std::io::{BufReader, ErrorKind, Read, Seek, SeekFrom};
 use std::marker::{Brand, PhantomData};
 
-/// What a reader holds at its start, and its count of failed reads, for a proof. It ties what a
-/// `SkippingSource` has returned to what its reader held.
+/// For proofs, what a reader holds at its start, and its count of failed reads then. It relates
+/// what a `SkippingSource` has returned to what its reader held.
 pub(crate) trait Begun {
     ghost use Rattle.std.specs.Prelude.{ℕ};
 
@@ -27,14 +27,14 @@ impl Begun for Brand {
     ghost failed = { 0 };
 }
 
-/// The bytes of a file for which zeros were returned, because they could not be read.
+/// The bytes of a file for which zeros were returned, because a read failed in their chunk.
 #[derive(Clone, Copy, Drop)]
 pub struct Unread {
     /// The offset of the first.
     pub first: u64,
     /// Their number.
     pub bytes: u64,
-    /// Why the last of them could not be read.
+    /// Why the last of these reads failed.
     pub reason: io::Error,
 }
 
@@ -49,8 +49,8 @@ pub(crate) enum Reached {
     Failure,
 }
 
-/// A source over a reader. Behind a failed read within the chunks of a payload it goes on, if it
-/// may: it returns zeros for the rest of the chunk.
+/// A source over a reader. If it skips, it continues after a read of a chunk that failed, but was
+/// not interrupted: it returns zeros for the rest of the chunk, or as much of it as the file has.
 #[derive(Drop)]
 pub(crate) struct SkippingSource<'a, R, K: Begun> {
     reader: BufReader<&'a mut R>,
@@ -59,7 +59,7 @@ pub(crate) struct SkippingSource<'a, R, K: Begun> {
     failures: u64,
     /// Whether it continues after a failed read.
     skips: bool,
-    /// Whether a chunk was asked for. A header is read byte by byte.
+    /// Whether a chunk was requested: a header and its nonce are read with shorter buffers.
     is_at_chunks: bool,
     reached: Reached,
     unread: Option<Unread>,
@@ -104,20 +104,20 @@ impl<'a, R: Input, K: Begun> SkippingSource<'a, R, K> {
         self.unread
     }
 
-    /// Continues after a read that failed for this reason, if it may, and counts the bytes for
-    /// which it returns zeros.
+    /// Continues after a read that failed for this reason, if it may: writes zeros into the buffer,
+    /// counts the bytes for which they stand, and returns their number.
     fn skip(&mut self, buf: &mut [u8], reason: io::Error) -> Option<usize>
         ensures zeros { IfSome result
             (λ n. (n ≤ length buf.new) × (take n buf.new ≡ replicate n 0)) }
         ensures noted { IfSome result (λ n. unread_len self.new.unread
             ≡ min (unread_len self.old.unread + n) (2 ^ 64 - 1)) }
         ensures reached { self.new.reached ≡ Reached.Failure }
-        // Only a source that may go on moves the reader, and only if it counted a failed read.
+        // Only a source that skips moves the reader, and only if the reader counted a failed read.
         ensures moved { (self.new.reader ≡ self.old.reader)
             ⊎ ((self.old.skips ≡ true) × HasFailed R.failed K.failed) }
         ensures stays { (self.new.skips ≡ self.old.skips)
             × (self.new.failures ≡ self.old.failures) }
-        // Only a source that may goes on, and only if the reader counted a failed read.
+        // Only a source that skips continues, and only if the reader counted a failed read.
         ensures may { IfSome result
             (λ _. (self.old.skips ≡ true) × HasFailed R.failed K.failed) }
     {
@@ -144,13 +144,13 @@ impl<'a, R: Input, K: Begun> SkippingSource<'a, R, K> {
 }
 
 /// Writes zeros into the buffer in place of the bytes at which a read failed, and moves the reader
-/// past them. Returns the offset of the first and their number, at most one less than there is room
-/// for, because a chunk is read together with the first byte of the next. None at the end of the
-/// file, or if the reader has no offsets.
+/// past them. Returns the offset of the first and their number. Leaves the last byte of the buffer,
+/// unless it is the only one, because a chunk is read together with the first byte of the next.
+/// Returns `None` at the end of the file, for an empty buffer, or if the reader cannot seek.
 fn pass_over<R: Seek>(reader: &mut R, buf: &mut [u8]) -> Option<(u64, usize)>
     ensures zeros { IfSome result
         (λ r. (r.1 ≤ length buf.new) × (take r.1 buf.new ≡ replicate r.1 0)) }
-    // The zeros end within the file, and the reader is then behind them.
+    // The zeros end within the file, and the reader is then at the offset after them.
     ensures within { IfSome (R.stream_position reader.old) (λ at. IfSome (R.stream_bytes reader.old)
         (λ bytes. IfSome result (λ r. (r.0 ≡ at) × (0 < r.1) × (at + r.1 ≤ length bytes)
         × (R.stream_position reader.new ≡ Some (at + r.1))))) }

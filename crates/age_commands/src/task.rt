@@ -33,8 +33,8 @@ pub enum Task {
     Salvage(Secret),
 }
 
-/// Performs this task from this input to this sink. `salvage` reports the lost chunks to `report`.
-/// A range reads its input at offsets, the other tasks read it from start to end.
+/// Performs this task from this input to this sink. Only `salvage` reports anything to `report`.
+/// `range` reads the input at offsets, the other commands in order from its start.
 #[tactic(auto, using(crate::proofs::TaskLemmas::no_memory))]
 pub fn perform_between<R: Input, W: Sink, L: Report>(
     alloc: Global,
@@ -46,9 +46,9 @@ pub fn perform_between<R: Input, W: Sink, L: Report>(
 ) -> Result<(), Fault>
     requires { IsInRange job.now }
     // Returns, writes and reports what the library does for the recipient, the identity and the
-    // limits of the job and its secrets. `encrypt` uses the seed's file key, nonce and salt,
-    // `rewrap` its salt. What `salvage` reads of a named IN are the bytes of IN, unless a read of
-    // it failed, which raised its count.
+    // limits of the job and its secrets; of `range` only how many bytes and which kind of fault.
+    // `encrypt` uses the seed's file key, nonce and salt, `rewrap` the salt of its task. `salvage`
+    // reads the bytes of IN, unless a read of IN failed, which raised the count of failures.
     ensures performs { Performs job.now task (HasFailed R.failed (R.failed input.old))
         (R.remaining input.old) (move_by W.taken out.old out.new)
         (losses_by L.lost report.old report.new) result }

@@ -9,8 +9,8 @@ use std::io;
 use std::io::Write;
 use std::marker::{Brand, PhantomData};
 
-/// The ghost name of the reference that a sink has. The clauses of `Sink` do not mention it, so
-/// after generic code only this says that the sink still has the same writer.
+/// The ghost name of a sink's reference to its writer. The clauses of `Sink` do not mention it, so
+/// after generic code only this name shows that the sink still has the same writer.
 pub trait Borrowed {
     ghost use Rattle.std.specs.Prelude.{ℕ};
 
@@ -21,7 +21,7 @@ impl Borrowed for Brand {
     ghost name = { 0 };
 }
 
-/// A sink over a writer that keeps the reason of its last failed write. No write is tried again.
+/// A sink over a writer. It keeps the reason of the last failed write, and does not retry a write.
 #[derive(Drop)]
 pub struct WatchedSink<'a, W, K: Borrowed> {
     pub writer: &'a mut W,
@@ -36,7 +36,7 @@ impl<'a, W: Write, K: Borrowed> WatchedSink<'a, W, K> {
     /// Makes a sink to this writer.
     pub fn new(writer: &'a mut W) -> WatchedSink<'a, W, K>
         requires { K.name ≡ writer.ghost_name }
-        // What it takes is what the writer takes.
+        // The writer is unchanged.
         ensures { result.writer.now ≡ writer.old }
     {
         WatchedSink {
@@ -47,8 +47,8 @@ impl<'a, W: Write, K: Borrowed> WatchedSink<'a, W, K> {
         }
     }
 
-    /// Ends work with this result: flushes the writer, unless a write has failed. So verified
-    /// chunks arrive after a fault too. A failed flush replaces the fault.
+    /// Flushes the writer after work with this result, unless that is a failed write. So verified
+    /// chunks arrive even after a fault. If the flush fails, returns `Write` instead of the result.
     pub fn finish(&mut self, work: Result<(), Fault>) -> Result<(), Fault>
         ensures ends { Ends (W.contents self.old.writer.now) (W.contents self.new.writer.now) work
             result }

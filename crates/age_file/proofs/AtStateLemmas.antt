@@ -1,7 +1,7 @@
 -- A source read from its first byte on.
 use Rattle.age_file.proofs.Common.{◌≡◌, ℕ, [], refl, ◌++◌, ◌+◌, ◌-◌, ◌^◌, ◌<◌, ◌≤◌, length, take, drop, min, sym, ◌∙◌, ap, arith, subst, IfOk, Option, Some, None, Result, Ok, length-append, length-drop, length-take, length-take-le, drop-drop, drop_all, get_or-append_right, get_or-take, get_or_append_left, take-append-drop, Bytes, Flow, Gave, Gives, Known, flow_by, Consumes, Consumes-nil, IsAtEnd, AtState, GaveFirst, IsWithin, EmptyAtEnd, GaveAt, IsPast, HasOffsets, StaysGiven, option_map}
 
--- what a source gave there is what its known contents have there
+-- xs are the bytes that the known contents have from offset `at` on
 abbrev pub HasThere : (told : Known) (at : ℕ) (xs : Bytes) → Type 0
 HasThere told at xs = (b : Bytes) → told ≡ Some b → xs ≡ take (length xs) (drop at b)
 
@@ -34,7 +34,7 @@ next_there (Some bytes) at at2 n buf p w le next g has =
 pub first_none : (gave : ℕ → ℕ → Type 0) {at : ℕ} → at ≡ 0 → GaveFirst gave at []
 first_none gave start = rw start (refl, λ k lt. absurd (omega (arith, lt)))
 
--- the bytes of one read more
+-- after one more read, the bytes returned are those before it and then its own
 pub first_then : (old new : ℕ → ℕ → Type 0) (at at2 : ℕ) (past more : Bytes) → StaysGiven old new
     → GaveFirst old at past → GaveAt new at more → at2 ≡ min (at + length more) (2 ^ 64 - 1)
     → GaveFirst new at2 (past ++ more)
@@ -65,7 +65,7 @@ module _ {D : Type 0} (told : D → Known) (gave : D → ℕ → ℕ → Type 0)
         rw stay end,
       )
 
-  -- a read that failed returns none
+  -- a read that failed returns no byte
   pub gives_none : new.at ≡ old.at → Gave read_of []
   gives_none at = record {
     consumes = rw (stay, at) (Consumes-nil (option_map (drop old.at) (told old.dev)));

@@ -1,16 +1,16 @@
 -- A source that is copied piece by piece.
 use Rattle.age_file.proofs.Common.{◌≡◌, inr, ℕ, ◌+◌, ◌*◌, ◌^◌, ◌≤◌, true, false, [], ◌++◌, length, refl, sym, arith, Result, Ok, Err, Appends-nil, Appends-trans, Appends, IfErr, Bytes, Flow, Gave, Moved, WritesPart, Known, Seen, flow, move_of, gave_then, of_any, of_ended, of_more, of_then, done_part, done_start, Fault, TooManyChunks, Read, Write, Copies, CopiesAhead, CopiesPiece, GaveAhead, buffer_size, append-nil, length-append}
 
--- a prefix of a text is one of the text and what follows it
+-- a prefix of x is also a prefix of x ++ y
 pub part_more : (sink : Moved) (x y : Bytes) → WritesPart sink x → WritesPart sink (x ++ y)
 part_more sink x y = done_part sink.after x y (done_start (x ++ y)) refl
 
--- a text, and then a prefix of another
+-- x was written, and then a prefix of y: a prefix of x ++ y
 pub part_after : (a b c : Known) (x y : Bytes) → Appends a b x → WritesPart (move_of b c) y
     → WritesPart (move_of a c) (x ++ y)
 part_after a b c x y put = done_part c y [] (record { prefix = x; took = put; is = refl }) (sym (append-nil y))
 
--- a piece was copied, and then the rest
+-- after a copied piece, the result of copying the rest is the result of copying everything
 pub copied_then : {from a : Seen} (b : Seen) (old m n : Known) {x : Bytes} (r : Result (Unit {0}) Fault)
     → Gave (flow from a) x → Appends old m x → Copies (flow a b) (move_of m n) r
     → Copies (flow from b) (move_of old n) r
@@ -23,7 +23,7 @@ copied_then b old m n {x} (Err TooManyChunks) took put ((text, wrote, much), h) 
 )
 copied_then b old m n (Err fault) took put h = absurd h
 
--- a device failed
+-- a device's fault while a piece is copied is a result of copying everything
 pub piece_failed : (size : ℕ) (from to : Seen) (old new : Known) (fault : Fault)
     → CopiesPiece size (flow from to) (move_of old new) (Err fault)
     → Copies (flow from to) (move_of old new) (Err fault)
@@ -32,7 +32,7 @@ piece_failed size from to old new Write (piece, took, part, few) =
     of_more took (λ d end. part_more (move_of old new) piece d part)
 piece_failed size from to old new fault h = absurd h
 
--- k full pieces were copied
+-- the bytes copied, at least as many as k full pieces have
 pub record Copied (from now : Seen) (old new : Known) (k : ℕ) : Type 0 where
   pub bytes : Bytes
   pub took : Gave (flow from now) bytes
@@ -48,7 +48,7 @@ copied_more {old} {m} {n} size c (piece, took, put, full) = record {
   long = omega (arith, length-append c.bytes piece, full, size, c.long);
 }
 
--- the last piece was not full
+-- after full pieces the rest of the source was copied, so everything was
 pub copied_all : (size : ℕ) {from a b : Seen} {old m : Known} (n : Known) {k : ℕ} → Copied from a old m k
     → CopiesPiece size (flow a b) (move_of m n) (Ok false) → Copies (flow from b) (move_of old n) (Ok tt)
 copied_all size {old} {m} n c (piece, took, put, end) =
@@ -66,7 +66,7 @@ copied_beyond {old} {m} beyond c = (
 
 -- ---- how much was read
 
--- x was read and y written before
+-- how far the source was read ahead in all, if x was read and y was written first
 pub ahead_then : {a b c : Seen} {old put new : Known} {x : Bytes} (y : Bytes) (m s : ℕ)
     → Gave (flow a b) x → Appends old put y
     → length x + m ≤ length y + s → GaveAhead m (flow b c) (move_of put new) → GaveAhead s (flow a c) (move_of old new)

@@ -10,7 +10,7 @@ pub found_key : {found : Result FileKey Fault} {k : FileKey}
 found_key (inl is) = absurd (cc)
 found_key (inr is) = sym is
 
--- the outcome of a payload, with the names of faults of files
+-- the result for a payload, with its fault as a `Fault`
 abbrev pub file_result : Result Done StreamFault → Result Done Fault
 file_result (Ok done) = Ok done
 file_result (Err fault) = Err (stream_fault fault)
@@ -22,7 +22,7 @@ file_has_verdict limits answers b =
     let h = some_verdict b limits.max_header in
     (reading_after limits answers b h.0, record { header = h.0; header_verdict = h.1; is = refl })
 
--- a fault before any plaintext
+-- if the verdict is a fault before any plaintext, decrypting may return it and write nothing
 stops_decrypts : {limits : Bounds} {answers : Answering} {b : Bytes} (old : Known) (fault : Fault)
     → IsVerdict limits answers b (stop fault) → DecryptsText limits answers b (move_of old old) (Err fault)
 stops_decrypts old Read v = (stop Read, v, (0, Appends-nil old))
@@ -66,7 +66,7 @@ module _ {limits : Bounds} (answers : Answering) {come mid : Seen} {h : HeaderPa
     is = rw (drop_at i.text rest (length i.text) refl) (ap (reading_under limits rest) (sym key));
   }
 
-  -- no key
+  -- a fault of unlocking the header is a result of decrypting, and nothing is written
   pub locked_decrypts : (old : Known) {fault : Fault}
       → (◌≡◌ {A = Result FileKey Fault} (Err fault) (Err OutOfMemory)) ⊎ (Err fault ≡ header_key answers h)
       → Decrypts limits answers (flow come mid) (move_of old old) (Err fault)
@@ -75,7 +75,7 @@ module _ {limits : Bounds} (answers : Answering) {come mid : Seen} {h : HeaderPa
   locked_decrypts old {fault} (inr key) =
       of_more i.took (λ d end. stops_decrypts old fault (is_under d (sym key)))
 
-  -- the outcome of a payload under its key
+  -- the result for a payload under its key
   payload_text : (c : Bytes) {k : FileKey} (a b : Known) (r : Result Done StreamFault) → header_key answers h ≡ Ok k
       → WritesReading (payload_reading k limits.max_chunks c) (length (pieces (drop 16 c))) (move_of a b) r
       → DecryptsText limits answers (i.text ++ c) (move_of a b) (file_result r)
@@ -90,7 +90,7 @@ module _ {limits : Bounds} (answers : Answering) {come mid : Seen} {h : HeaderPa
   payload_text c a b (Err stream.Memory) key x = tt
   payload_text c a b (Err fault) key x = (_, is_under c key, ap (option_map stream_fault) x.0, x.1)
 
-  -- the pieces were written after the nonce
+  -- once the nonce was read, the result for the pieces is the result of decrypting
   pub written_decrypts : (r : Result Done StreamFault) {at : Seen} (to : Seen) {s : OpenerState} (a b : Known)
       {k : FileKey} → header_key answers h ≡ Ok k → Starts k limits.max_chunks (flow mid at) (Ok s)
       → IfNone s.fault (WritesAll s (flow at to) (move_of a b) r)
@@ -101,7 +101,7 @@ module _ {limits : Bounds} (answers : Answering) {come mid : Seen} {h : HeaderPa
       rw (le-ltb (length (nonce ++ c)) 16 long, take_at nonce c 16 len, drop_at nonce c 16 len) w))
       (λ c w. payload_text c a b r key w)
 
-  -- the nonce is cut short, or was not read
+  -- the fault of a nonce that is cut short or was not read is a result of decrypting
   pub unread_decrypts : (fault : StreamFault) (to : Seen) (old : Known) {k : FileKey}
       → header_key answers h ≡ Ok k → Starts k limits.max_chunks (flow mid to) (Err fault)
       → Decrypts limits answers (flow come to) (move_of old old) (Err (stream_fault fault))
@@ -142,7 +142,7 @@ pub payload_takes : {limits : Bounds} {come : Seen} (mid : Seen) {to : Seen} {a 
 payload_takes mid fault i (inl e) = rw e tt
 payload_takes {limits} mid fault i (inr e) = piece_takes {limits = limits} (headed limits i) fault e
 
--- there is no nonce, or no memory
+-- a fault at the nonce, or `Memory`, is a result of decrypting
 pub missed_decrypts : {S : Type 0} (to_come : S → Known) (gave : S → Bytes → Type 0) (failed : S → ℕ) {limits : Bounds}
     (answers : Answering) {come : Seen} {mid to : S} (old : Known) {h : HeaderParts} {k : FileKey} (fault : StreamFault)
     → IsHeaded limits come (seen_by to_come gave mid) h → header_key answers h ≡ Ok k
@@ -152,7 +152,7 @@ missed_decrypts to_come gave failed answers old fault i key (inl (memory, same))
 missed_decrypts to_come gave failed answers {to = to} old fault i key (inr m) =
     unread_decrypts answers i fault (seen_by to_come gave to) old key m.0
 
--- what was taken, with the nonce
+-- how much was read, the nonce included
 pub payload_ends : (k : FileKey) {max : ℕ} {s : OpenerState} {from mid to : Seen} {a b : Known} {fault : StreamFault}
     → Starts k max (flow from mid) (Ok s) → GaveAtMost 16 (flow from mid)
     → IfNone s.fault
@@ -175,6 +175,6 @@ pub reads_file : (old : ℕ) {new : ℕ} (fault : StreamFault) → CountsFaultIf
 reads_file old stream.Read h = h
 reads_file old fault h = h
 
--- for the crates and files that name it
+-- equal errors have equal faults
 pub err_err : {A : Type 0} (f g : Fault) → ◌≡◌ {A = Result A Fault} (Err f) (Err g) → f ≡ g
 err_err f g e = cc

@@ -1,17 +1,17 @@
--- What a call of `encrypt` has written.
+-- What a call of `encrypt` returns, reads and writes.
 use Rattle.age_file.proofs.Common.{Bool, true, false, ◌≡◌, ℕ, ◌+◌, ◌-◌, ◌*◌, ◌≤◌, List, [], ◌++◌, length, take, ap, refl, arith, None, Result, Ok, Err, append_assoc, length-append, concat, Appends, Appends-nil, Appends-trans, Bytes, GaveAtMost, GaveSome, Moved, WritesPart, Known, Seen, Flow, flow, move_by, move_of, StanzaParts, Head, header_mac, of_any, of_map, of_then, one_text, FileKey, Done, StreamFault, payload, payload_key, sealed_chunks, Fills, FinishesBy, SealerState, SealsAll, Stopped, at_start, chunk_size, filled_finishes, filled_seals, Fault, TooManyChunks, Read, Write, Fresh, Bounds, BegunFile, EncryptsGiven, FailsHeading, Gathering, IsHeading, IsNewHeader, FillsChunk, TookWhileEncrypting, TookChunks, IfNone, inl, inr, stream_fault}
 use Rattle.age_stream.specs.declared.fault.StreamFault.TheVariants as stream
 use Rattle.age_stream.specs.Salvage.{IsOfPieces}
 use Rattle.age_file.proofs.CopiesLemmas.{part_after, part_more}
 use Rattle.age_file.proofs.DecryptLemmas.{file_result}
 
--- the header that was made is the one whose text this is
+-- the text of the header that was made is the text of a new header
 pub new_header : {limits : Bounds} {k : FileKey} {gathered : Gathering} {stanzas : List StanzaParts} {mac text : Bytes}
     → (mac ≡ header_mac k.0 stanzas) × ((made : Bytes) × IsHeading limits k gathered stanzas made)
     → Head stanzas mac text → IsNewHeader limits k gathered text
 new_header {k} {stanzas} {text} (is, (made, heading)) head = grind (arith, one_text stanzas (header_mac k.0 stanzas) made text heading.head (rw is at head))
 
--- a fault that says something of headers, or out of memory
+-- a fault other than a device's and too many chunks
 abbrev pub IsEarly : Fault → Type 0
 IsEarly Read = ⊥
 IsEarly Write = ⊥
@@ -27,12 +27,12 @@ pub filled : {s t : SealerState} {key : Bytes} {m max : ℕ} {more : Bool} {sour
     → m ≡ max → IfNone s.fault (Fills s t source (Ok more)) → Fills (at_start key max) t source (Ok more)
 filled is same h = rw same at (rw is at h)
 
--- it keeps no fault
+-- a sealer that was filled keeps no fault
 kept_none : {key : Bytes} {max : ℕ} (t : SealerState) (more : Bool) (source : Flow)
     → Fills (at_start key max) t source (Ok more) → t.fault ≡ None
 kept_none t more source (x, gave, is, fits, full, ended) = ap (λ (u : SealerState). u.fault) is
 
--- and the source has ended: what it holds is the last chunk
+-- after a first `fill` reached the end of the source, `finish` seals the whole source, or fails
 pub sealed_ended : {key : Bytes} {max : ℕ} {t : SealerState} {from mid : Seen} (a c : Known)
     (r : Result Done StreamFault) → 1 ≤ max → Fills (at_start key max) t (flow from mid) (Ok false)
     → IfNone t.fault (FinishesBy t (move_of a c) r)
@@ -40,7 +40,7 @@ pub sealed_ended : {key : Bytes} {max : ℕ} {t : SealerState} {from mid : Seen}
 sealed_ended {key} {max} {t} {from} {mid} a c r low fills h = filled_finishes key max t from mid a c r low fills
     (rw (kept_none {key = key} {max = max} t false (flow from mid) fills) at h)
 
--- or it has not: what comes follows
+-- after a first full chunk, sealing it and the text to come seals the whole source, or fails
 pub sealed_on : {W : Type 0} (taken : W → Known) {key : Bytes} {max : ℕ} {s t : SealerState} {from mid : Seen}
     (to : Seen) (o old new last : W) (r : Result Done StreamFault) → new ≡ last → o ≡ old → s ≡ t
     → Fills (at_start key max) t (flow from mid) (Ok true)
@@ -50,7 +50,7 @@ sealed_on taken {key} {max} {s} {t} {from} {mid} to o old new last r ends begins
     rw ends at (filled_seals key max t true from mid to (taken old) (taken new) r fills
     (rw (kept_none {key = key} {max = max} t true (flow from mid) fills) at (rw (begins, is) at h)))
 
--- the faults of sealing
+-- a fault of sealing is a failed read, a failed write or too many chunks
 pub stopped_faults : {key : Bytes} {max i j : ℕ} {held : Bytes} {source : Flow} {sink : Moved} {fault : StreamFault}
     → Stopped key max i j held source sink fault → IsOfPieces fault
 stopped_faults {fault = stream.Read} s = tt
@@ -58,7 +58,7 @@ stopped_faults {fault = stream.Write} s = tt
 stopped_faults {fault = stream.TooManyChunks} s = tt
 stopped_faults {fault = fault} s = absurd (s.stops.holds [] (λ end. refl))
 
--- the first chunk was not read, and nothing was written
+-- if reading the first chunk failed, `Read` with nothing written is a result of encrypting
 pub encrypts_unread : {limits : Bounds} (fresh : Fresh) {gathered : Gathering} {text : Bytes}
     → IsNewHeader limits fresh.file_key gathered text → {source : Flow} (old : Known) → GaveSome source
     → EncryptsGiven limits fresh gathered source (move_of old old) (Err Read)
@@ -67,7 +67,7 @@ encrypts_unread fresh {text = text} header old some =
 
 module _ {limits : Bounds} (fresh : Fresh) {gathered : Gathering} {text front : Bytes}
     (header : IsNewHeader limits fresh.file_key gathered text) (spelled : front ≡ text ++ fresh.nonce) where
-  -- a prefix of the header and the nonce was written
+  -- if a write fails within the header and the nonce, `Write` is a result of encrypting
   pub encrypts_begun : {source : Flow} (sink : Moved) → GaveSome source → WritesPart sink front
       → EncryptsGiven limits fresh gathered source sink (Err Write)
   encrypts_begun sink some part = of_any some (λ plain. record {
@@ -90,7 +90,7 @@ module _ {limits : Bounds} (fresh : Fresh) {gathered : Gathering} {text front : 
     gave = (x, gave, omega (arith, rw is at fits));
   }
 
-  -- both were written, and then a prefix of the sealed chunks
+  -- header, nonce and then a prefix of the sealed chunks are a prefix of the file
   begun : {plain : Bytes} (a b c : Known) → Appends a b front
       → WritesPart (move_of b c) (concat (sealed_chunks fresh.file_key fresh.nonce plain))
       → BegunFile limits fresh gathered plain (move_of a c)
@@ -101,7 +101,7 @@ module _ {limits : Bounds} (fresh : Fresh) {gathered : Gathering} {text front : 
         (concat (sealed_chunks fresh.file_key fresh.nonce plain)) (rw spelled at put) part);
   }
 
-  -- the payload after the header and the nonce
+  -- once header and nonce were written, the result of sealing is a result of encrypting
   pub encrypts_payload : (r : Result Done StreamFault) {source : Flow} (a b c : Known) → length fresh.nonce ≡ 16
       → Appends a b front
       → SealsAll (at_start (payload_key fresh.file_key fresh.nonce) limits.max_chunks) source (move_of b c) r
@@ -165,14 +165,14 @@ module _ {limits : Bounds} (fresh : Fresh) {gathered : Gathering} {text front : 
       elim s.gave [ inl e ↦ absurd (cc) | inr gave ↦ took a b c sixteen put chunk s gave ]
   takes_payload fault a b c sixteen put s = absurd (stopped_faults s.1)
 
--- a fault of sealing what comes after the first chunk
+-- a fault of sealing once the first chunk is full is one of `IsOfPieces`
 pub late_faults : {key : Bytes} {max : ℕ} {s t : SealerState} {from mid : Seen} (to : Seen) (a c : Known)
     (fault : StreamFault) → s ≡ t → Fills (at_start key max) t (flow from mid) (Ok true)
     → IfNone s.fault (SealsAll s (flow mid to) (move_of a c) (Err fault)) → IsOfPieces fault
 late_faults {key} {max} {t = t} {from} {mid} to a c fault same fills h =
     stopped_faults (rw (kept_none {key = key} {max = max} t true (flow from mid) fills) at (rw same at h)).1
 
--- a read failed after something was written: the source returned a whole chunk
+-- on any fault of sealing once the first chunk is full, the source returned a whole chunk
 pub read_late : {key : Bytes} {max : ℕ} {s t : SealerState} {from mid : Seen} (to : Seen) (a c : Known)
     (fault : StreamFault) → s ≡ t → Fills (at_start key max) t (flow from mid) (Ok true)
     → IfNone s.fault (SealsAll s (flow mid to) (move_of a c) (Err fault)) → FillsChunk (flow from to)

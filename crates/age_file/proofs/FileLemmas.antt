@@ -1,8 +1,8 @@
--- The verdict is a plaintext only on age files.
+-- The verdict is a plaintext without fault exactly on age files for the key chosen.
 use Rattle.age_file.proofs.Common.{arith, ◌≡◌, ◌↔◌, ◌⊎◌, ℕ, List, [], ◌∷◌, ◌++◌, length, drop, cond, true, false, Bool, sym, ◌∙◌, ap, refl, subst, Option, Some, None, Result, Ok, Err, option_map, result_map_both, bytes_eq, drop_at, none-some, bytes_eq-Decides, Bytes, HeaderFault, StanzaParts, HeaderParts, Head, header_mac, Found, BeginsWith, HeaderVerdict, UnlockFault, Memory, FileKey, Unwrapped, Key, choice, StreamFault, payload, Reading, stop, whole, payload_reading, ok_payload, payload_ok, Fault, MixedPassphrase, BadMac, OutOfMemory, Bounds, AgeFile, is_mixed, Answering, IsVerdict, found_key, header_fault, if_right, unlock_fault, reading_after, parts_of, reading_under, stream_fault, header_key, with_file_fault, IfErr}
 use Rattle.age_header.proofs.VerdictUniqueLemmas as headers
 
--- what is read whole does not stop
+-- no reading is both a plaintext without a fault and a fault without a plaintext
 pub never_stops : (p : Bytes) (f : Fault) → whole p ≡ stop f → ⊥
 never_stops p f h = none-some f (ap (λ (r : Reading Fault). r.fault) h)
 
@@ -10,7 +10,7 @@ pub no_stream_fault : (o : Option StreamFault) → option_map stream_fault o ≡
 no_stream_fault None h = refl
 no_stream_fault (Some f) h = absurd (none-some (stream_fault f) (sym h))
 
--- what a payload was read from
+-- a reading is whole if `with_file_fault` of it is
 pub with_file_fault_whole : {p : Bytes} {r : Reading StreamFault} → whole p ≡ with_file_fault r → r ≡ whole p
 with_file_fault_whole {p} {r} h = grind (arith, no_stream_fault)
 
@@ -21,7 +21,7 @@ pub verdict_after : {limits : Bounds} {answers : Answering} {b : Bytes} {v : Rea
 verdict_after {limits} {answers} {b} r i is = i.is ∙ ap (reading_after limits answers b)
     (headers.one_verdict b limits.max_header i.header r i.header_verdict is)
 
--- a file of the chosen key
+-- b is an age file of p for the file key that the identities choose
 abbrev pub IsChosenFile : (limits : Bounds) (answers : Answering) (p b : Bytes) → Type 0
 IsChosenFile limits answers p b =
     (stanzas : List StanzaParts) × (k : FileKey) × AgeFile limits k stanzas p b × (choice (answers stanzas) ≡ Ok k)
@@ -31,13 +31,13 @@ cond_else_err : {A F : Type 0} (t : Bool) (f : F) (a x : A) → ◌≡◌ {A = R
 cond_else_err true f a x h = (refl, (cc))
 cond_else_err false f a x h = absurd (cc)
 
--- which key a header has
+-- k is the key chosen for an unmixed header (`is_mixed`), whose MAC is right under k
 pub record HasKey (answers : Answering) (h : HeaderParts) (k : FileKey) : Type 0 where
   pub unmixed : is_mixed h.stanzas ≡ false
   pub chosen : choice (answers h.stanzas) ≡ Ok k
   pub mac : h.mac ≡ header_mac k.0 h.stanzas
 
--- the key chosen, and whether the header's MAC is the one under it
+-- the key chosen, and whether the header's MAC is right under that key; or why there is no key
 abbrev pub tested_key : (h : HeaderParts) (chosen : Result FileKey UnlockFault) → Result (FileKey × Bool) Fault
 tested_key h chosen = result_map_both (λ k. (k, bytes_eq h.mac (header_mac k.0 h.stanzas))) unlock_fault chosen
 
@@ -54,7 +54,7 @@ pub key_unlocked : (answers : Answering) (h : HeaderParts) (k : FileKey) → Has
 key_unlocked answers h k has =
     rw (has.unmixed, has.chosen, (bytes_eq-Decides h.mac (header_mac k.0 h.stanzas)).1 has.mac) refl
 
--- what is so of each fault of finding a key is so of a header's
+-- what holds of each fault of finding a key holds of the fault of `header_key`
 pub key_faults : (P : Fault → Type 0) → ((e : UnlockFault) → P (unlock_fault e)) → P BadMac → P MixedPassphrase
     → (answers : Answering) (h : HeaderParts) → IfErr (header_key answers h) P
 key_faults P unlocking mac mixed answers h = go (is_mixed h.stanzas) (choice (answers h.stanzas))
@@ -69,7 +69,7 @@ key_faults P unlocking mac mixed answers h = go (is_mixed h.stanzas) (choice (an
     go false (Err e) = unlocking e
     go false (Ok k) = tested (bytes_eq h.mac (header_mac k.0 h.stanzas)) k
 
--- the outcome of a header whose key was chosen and whose MAC was compared, unless an allocation was refused
+-- the result of `found_key`, from those of `unlock` and `tested`, or out of memory
 pub tested_found : (answers : Answering) (h : HeaderParts) (chosen : Result FileKey UnlockFault)
     (r : Result (FileKey × Bool) Fault) → is_mixed h.stanzas ≡ false
     → (chosen ≡ Err Memory) ⊎ (chosen ≡ choice (answers h.stanzas)) → (r ≡ Err OutOfMemory) ⊎ (r ≡ tested_key h chosen)
@@ -147,7 +147,7 @@ pub one_verdict : (limits : Bounds) (answers : Answering) (b : Bytes) (v w : Rea
     → IsVerdict limits answers b v → IsVerdict limits answers b w → v ≡ w
 one_verdict limits answers b v w h k = verdict_after k.header h k.header_verdict ∙ sym k.is
 
--- one identity that means the key
+-- for one identity that returns its key, an age file reads whole
 pub opens_whole : (limits : Bounds) (meaning : List StanzaParts → Unwrapped) (k : FileKey) (stanzas : List StanzaParts)
     (p b : Bytes)
     → meaning stanzas ≡ Key k → AgeFile limits k stanzas p b → IsVerdict limits (λ s. meaning s ∷ []) b (whole p)

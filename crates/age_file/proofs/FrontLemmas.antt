@@ -1,4 +1,4 @@
--- How much is read of a file of which no key is found.
+-- How much of a file was read at a fault.
 use Rattle.age_file.proofs.Common.{◌≡◌, ◌⊎◌, ◌+◌, [], arith, inl, inr, refl, Result, Err, Ok, Appends-nil, Appends, ⊤, IfErr, Bytes, Flow, GaveAtMost, Known, Moved, Seen, Took, flow, flow_by, move_of, HeaderParts, FileKey, StreamFault, EndsAt, StartsReader, Bounds, Fault, Read, TooManyChunks, Write, Copies, CopiesAhead, GaveAhead, buffer_size, IsLate, Inspects, ReadsFront, TookWhileRewrapping, stream_fault, begins_found, finding, ℕ, NonceTruncated}
 use Rattle.age_stream.specs.declared.fault.StreamFault.TheVariants as stream
 use Rattle.age_file.proofs.CopiesLemmas.{ahead_then}
@@ -10,7 +10,7 @@ front_gave limits source h (text, gave, found) =
 
 -- ---- of a file that is rewrapped
 
--- what was written when no more than a header was read
+-- at most n bytes were read, so at most n + m more than were written
 pub front_ahead : {n : ℕ} (m : ℕ) {source : Flow} {sink : Moved} (written : Bytes) → GaveAtMost n source
     → Took sink written → GaveAhead (n + m) source sink
 front_ahead m written (given, gave, few) took =
@@ -30,7 +30,7 @@ pub read_took : (limits : Bounds) (source : Flow) (old : Known) (fault : Fault) 
 read_took limits source old fault (inl e) = rw e tt
 read_took limits source old fault (inr h) = took_front limits source old fault h
 
--- whatever fault comes after it
+-- a fault after the old header was read and before anything was written
 pub headed_took : (limits : Bounds) (source : Flow) (old : Known) (h : HeaderParts) (r : Result ⊤ Fault)
     → Inspects limits source (Ok h) → IfErr r (TookWhileRewrapping limits source (move_of old old))
 headed_took limits source old h (Ok done) is = tt
@@ -68,7 +68,7 @@ started_front limits to_come gave failed h k max stream.NonceTruncated is (inr m
 started_front limits to_come gave failed h k max stream.Memory is (inr misses) = grind arith
 started_front limits to_come gave failed h k max f is (inr misses) = inl tt
 
--- the fault at which opening a payload ended
+-- a fault of a piece, a read or a write is late (`IsLate`)
 pub ended_late : {max before : ℕ} {source : Flow} {sink : Moved} (f : StreamFault)
     → (f ≡ stream.Read) ⊎ EndsAt max before source sink f → IsLate (stream_fault f)
 ended_late a b = grind arith

@@ -2,7 +2,7 @@
 use Rattle.age_file.proofs.Common.{◌≡◌, ℕ, ◌+◌, ◌<◌, ◌≤◌, List, [], ◌∷◌, ◌++◌, map, drop, length, get_or, sym, ◌∙◌, ap, refl, inl, inr, arith, Result, Ok, Err, append_assoc, append-nil, drop_all, drop_more, drop-map, length-map, AllZip, StanzaParts, WrapFault, WrapsAs, WrapsAll, Labels, MayLabel, first_incompatible, Fault, Refused, Gathered, Gathers, with_stanzas, gathering_from}
 use Rattle.age_recipient.specs.declared.recipient.WrapFault.TheVariants.{Refused as RefusedBy}
 
--- what f gives of the item at index i, and of those after it
+-- the results of f from index i on begin with that of the item at index i
 item_at : {A B : Type 0} (f : A → B) (xs : List A) (i : ℕ) (x : A) → i < length xs → x ≡ get_or xs i x
     → drop i (map f xs) ≡ f x ∷ drop (i + 1) (map f xs)
 item_at f xs i x low is = grind (arith, drop-map, drop_more)
@@ -14,13 +14,13 @@ preceded_twice a b (Err fault) = refl
 
 module _ {A : Type 0} (f : A → Result (List StanzaParts) ℕ) (xs : List A) {i : ℕ} (n : ℕ) {x : A}
     (low : i < length xs) (is : x ≡ get_or xs i x) where
-  -- what the remaining recipients return, if the answer of the first is known
+  -- what the remaining recipients return, if the result of the first of them is known
   gathered_step : {a : Result (List StanzaParts) ℕ} → f x ≡ a
       → gathering_from n (drop i (map f xs)) ≡ gathering_from n (a ∷ drop (i + 1) (map f xs))
   gathered_step answer =
       ap (gathering_from n) (item_at f xs i x low is ∙ ap (λ y. y ∷ drop (i + 1) (map f xs)) answer)
 
-  -- one more recipient has returned its stanzas
+  -- if the recipient at i returns stanzas, appending them to those before keeps the result of all
   pub gathered_more : (all : List StanzaParts) {stanzas joined : List StanzaParts}
       {target : Result (List StanzaParts) Fault} → f x ≡ Ok stanzas → joined ≡ all ++ stanzas
       → with_stanzas all (gathering_from n (drop i (map f xs))) ≡ target
@@ -30,7 +30,7 @@ module _ {A : Type 0} (f : A → Result (List StanzaParts) ℕ) (xs : List A) {i
       ap (λ t. with_stanzas t rest) e ∙ sym (preceded_twice all stanzas rest)
       ∙ ap (with_stanzas all) (sym (gathered_step answer)) ∙ h
 
-  -- one recipient has refused
+  -- if the recipient at i refuses, its refusal is the result of all
   pub gathered_refused : (all : List StanzaParts) {code : ℕ} {target : Result (List StanzaParts) Fault}
       → f x ≡ Err code → with_stanzas all (gathering_from n (drop i (map f xs))) ≡ target
       → target ≡ Err (Refused n code)
@@ -60,7 +60,7 @@ as_meant : (meant : List Labels) → AllZip MayLabel meant meant
 as_meant [] = tt
 as_meant (m ∷ rest) = (inr refl, as_meant rest)
 
--- a refusal comes before any labels
+-- a fault of wrapping is the fault of gathering, whatever the labels
 pub refused_first : (wrapped : List (Result (List StanzaParts) ℕ)) (meant : List Labels) (fault : Fault)
     → WrapsAll (gathering_from 0 wrapped) (Err fault)
     → Gathers (Gathered wrapped meant) (Err fault)

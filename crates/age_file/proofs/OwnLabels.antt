@@ -1,4 +1,4 @@
--- The labels of the recipients of this crate's own kinds.
+-- The labels of passphrase and keyed recipients.
 use Rattle.age_file.proofs.Common.{◌≡◌, ℕ, ◌+◌, zero, suc, not, List, [], ◌∷◌, ◌++◌, replicate, ◌∙◌, ap, refl, inl, inr, arith, Option, Some, None, add-one, AllZip, position_from, Labels, Alone, Names, MayLabel, go_together, first_incompatible, IsIncompatible}
 
 pub one_index : (meant : Labels) (index : Option ℕ) → IsIncompatible (meant ∷ []) index → index ≡ None

@@ -26,7 +26,7 @@ header_gave to_come gave {limits} {old} {new} {h} small start (text, took, verdi
       verdict = verdict;
     }
 
--- it is that of the known contents
+-- a header that was read is the one at the start of the known contents
 pub header_known : (b : Bytes) {gave : ℕ → ℕ → Type 0} {found : Option ℕ} {limits : Bounds} {at : ℕ} {h : HeaderParts}
     → Agrees b gave found → (first : GaveHeader limits gave at h)
     → HeaderVerdict b limits.max_header (Ok (finding first.text h))
@@ -38,7 +38,7 @@ header_known b {limits = limits} {h = h} agrees first =
     subst (λ x. HeaderVerdict x limits.max_header (Ok (finding text h))) all
     (found_again text limits.max_header (finding text h) first.verdict (drop (length text) b))
 
--- how much was read of a header that was refused
+-- how much was read if reading the header ended in a fault
 pub header_most : {D : Type 0} (to_come : AtState D → Known) (gave : D → ℕ → ℕ → Type 0) (limits : Bounds)
     {old new : AtState D} {fault : Fault} (base : ℕ) {given at : ℕ} → old.at ≡ 0
     → ReadsFront limits (flow_by to_come (λ s. GaveFirst (gave s.dev) s.at) old new) fault → at ≡ new.at
@@ -52,7 +52,7 @@ refused : (limits : Bounds) (b : Bytes) (g : HeaderFault) → Refuses b limits.m
     → MissesHeader limits (Some b) (header_fault g)
 refused a b c d = grind arith
 
--- no header
+-- a fault of reading the header is one of `MissesHeader`
 pub header_missed : (limits : Bounds) (told : Known) {a mid : Seen} (fault : Fault)
     → a.to_come ≡ option_map (drop 0) told → Inspects limits (flow a mid) (Err fault)
     → MissesHeader limits told fault
@@ -68,7 +68,7 @@ missed_ranges limits answers told fault (inr (inl e)) = inr (inl e)
 missed_ranges limits answers None fault (inr (inr h)) = inr (inr tt)
 missed_ranges limits answers (Some b) fault (inr (inr h)) = inr (inr (Err h.0, h.1, h.2))
 
--- no key
+-- a fault of unlocking the header is one of `MissesRanges`
 pub locked_ranges : {limits : Bounds} (answers : Answering) (told : Known) {gave : ℕ → ℕ → Type 0} {found : Option ℕ}
     {at : ℕ} {h : HeaderParts} (fault : Fault) → ((b : Bytes) → told ≡ Some b → Agrees b gave found)
     → GaveHeader limits gave at h
@@ -82,7 +82,7 @@ locked_ranges {limits} answers (Some b) {h = h} fault agrees first (inr key) = i
   ap (ranges_under limits (drop (length first.text) b)) (sym key),
 ))
 
--- a payload that was not opened
+-- the fault of a payload that was not opened is one of `MissesRanges`
 pub payload_missed : {limits : Bounds} (answers : Answering) (told : Known) {gave : ℕ → ℕ → Type 0} {found : Option ℕ}
     {at : ℕ} {h : HeaderParts} (k : FileKey) (e : StreamFault) → ((b : Bytes) → told ≡ Some b → Agrees b gave found)
     → GaveHeader limits gave at h
@@ -103,7 +103,7 @@ payload_missed {limits} answers (Some b) {at = at} {h} k e agrees first (inr key
       ))
     ]
 
--- ---- the faults' names
+-- ---- the faults are those of `IsOpenFault`
 
 inspect_open : (g : HeaderFault) → IsOpenFault (header_fault g)
 inspect_open header.NotAge = tt
@@ -126,15 +126,15 @@ pub payload_named : {D : Type 0} {old new : D} (e : StreamFault)
     → IsRefusedMemory old new e ⊎ stream.IsOpenFault e → IsOpenFault (stream_fault e)
 payload_named a b = grind arith
 
--- how much was read, if it was not the payload
+-- how much was read, unless the payload's fault is late (`IsLate`) or `NonceTruncated`
 pub payload_front : {D : Type 0} (given : D → ℕ) {old new : D} {most : ℕ} (e : StreamFault) → given old ≤ most
     → IsRefusedMemory old new e ⊎ stream.IsOpenFault e
     → IsLate (stream_fault e) ⊎ ((stream_fault e ≡ NonceTruncated) ⊎ (given new ≤ most))
 payload_front a b c d = grind arith
 
--- ---- why a file was not opened
+-- ---- the header of a file
 
--- bytes that were returned stay returned
+-- a header that was read still counts as read
 pub header_stays : {limits : Bounds} {old new : ℕ → ℕ → Type 0} {at : ℕ} {h : HeaderParts} → StaysGiven old new
     → GaveHeader limits old at h → GaveHeader limits new at h
 header_stays stays first = grind arith

@@ -25,7 +25,7 @@ pub inspect_rewraps : (limits : Bounds) (answers : Answering) (gathered : FileKe
 inspect_rewraps limits answers gathered old (g, is, h) =
     rw is (of_map h (λ b refuses. no_header limits answers gathered b old g refuses))
 
--- a fault of unlocking is early
+-- a fault of unlocking is not one of a device, nor too many chunks (`IsEarly`)
 early_unlocked : (answers : Answering) (h : HeaderParts) (fault : Fault) → header_key answers h ≡ Err fault
     → IsEarly fault
 early_unlocked answers h fault e = grind (arith, key_faults)
@@ -40,7 +40,7 @@ module _ {limits : Bounds} (answers : Answering) (gathered : FileKey → Gatheri
       (early_unlocked answers h fault (sym is)) (Ok (finding i.text h), i.verdict d, inl (sym is))))
 
   module _ {key : FileKey} (chosen : header_key answers h ≡ Ok key) where
-    -- no new header was made
+    -- a fault with which no new header is made is a result of rewrapping
     pub heading_rewraps : (old : Known) {r : Result (Unit {0}) Fault} (fault : Fault) → r ≡ Err fault
         → FailsHeading limits key (gathered key) fault
         → Rewraps limits answers gathered (flow come mid) (move_of old old) r
@@ -50,7 +50,7 @@ module _ {limits : Bounds} (answers : Answering) (gathered : FileKey → Gatheri
         (Ok (finding i.text h), i.verdict d, inr (key, chosen, refusal))))
 
     module _ {text : Bytes} (new : IsNewHeader limits key (gathered key) text) where
-      -- the file with the new header, if the source returns these bytes
+      -- the file with the new header, if the source returns `bytes` after the old header
       new_file : (bytes : Bytes) → IsRewrapped limits answers gathered (i.text ++ bytes) (text ++ bytes)
       new_file bytes = (
         record {
@@ -68,12 +68,12 @@ module _ {limits : Bounds} (answers : Answering) (gathered : FileKey → Gatheri
         new.heading.gives,
       )
 
-      -- a prefix of the header was written
+      -- if a write fails within the new header, `Write` is a result of rewrapping
       pub begun_rewraps : (a b : Known) → WritesPart (move_of a b) text
           → Rewraps limits answers gathered (flow come mid) (move_of a b) (Err Write)
       begun_rewraps a b part = of_more i.took (λ d end. (text ++ d, new_file d, part_more (move_of a b) text d part))
 
-      -- a prefix of the rest was written after it
+      -- the new header and then a prefix of the bytes to be copied begin the rewrapped file
       copied_part : (a b c : Known) → Appends a b text → (bytes : Bytes) → WritesPart (move_of b c) bytes
           → BeginsRewrapped limits answers gathered (i.text ++ bytes) (move_of a c)
       copied_part a b c front bytes part = (text ++ bytes, new_file bytes, part_after a b c text bytes front part)
@@ -98,14 +98,14 @@ module _ {limits : Bounds} (answers : Answering) (gathered : FileKey → Gatheri
           ))
       copied_rewraps to a b c (Err fault) front copied = absurd copied
 
--- copying ends only with a late fault
+-- a fault of copying is late (`IsLate`)
 pub copies_late : (K : Type 0) (source : Flow) (old new : Known) (r : Result (Unit {0}) Fault)
     → Copies source (move_of old new) r → IfErr r (λ fault. IsLate fault ⊎ K)
 copies_late a b c d e f = grind arith
 
 -- ---- the law
 
--- the reading of a rewrapped file is that of the file
+-- for identities that choose its file key, a rewrapped file has the verdict of the old file
 pub keeps : (limits : Bounds) (old new : Answering) (b c : Bytes) (is : Rewrapped limits old b c)
     → choice (new is.stanzas) ≡ Ok is.key → (v : Reading Fault) → IsVerdict limits old b v ↔ IsVerdict limits new c v
 keeps limits old new b c w chosen v = (

@@ -3,11 +3,11 @@ use Rattle.age_file.proofs.Common.{refl, false, true, ◌≡◌, ◌↔◌, ◌�
 use Rattle.age_stream.specs.declared.fault.StreamFault.TheVariants as stream
 use Rattle.age_file.proofs.FileLemmas.{never_stops, no_stream_fault, verdict_after, with_file_fault_whole}
 
--- the verdict on a file of which a payload was saved: that on the payload, or the MAC is wrong
+-- the verdict on a file whose payload was saved: the payload's if the MAC is right, else `BadMac`
 abbrev verdict_of : (has_right_mac : Bool) (payload : Reading Fault) → Reading Fault
 verdict_of has_right_mac payload = if has_right_mac then payload else stop BadMac
 
--- a payload that was read for the verdict was saved
+-- what was saved of the payload that the verdict v is about
 record SavedOf (limits : Bounds) (v : Reading Fault) (sink : Moved) (lost : LossesMoved) (s : SalvagedFile)
     : Type 0 where
   pub key : FileKey
@@ -22,7 +22,7 @@ under_right : (limits : Bounds) (rest : Bytes) (key : FileKey) (has_right_mac : 
 under_right limits rest key true = refl
 under_right limits rest key false = refl
 
--- all parts were written
+-- if all parts were saved, their texts were written and their losses reported
 written : (ps : List Part) (sink : Moved) (lost : LossesMoved) → Saves (length ps) ps sink lost
     → Took sink (salvaged_text ps) × Reports lost (losses 0 0 ps)
 written ps sink lost h = rw (take_all (length ps) ps (omega arith)) at h
@@ -33,19 +33,19 @@ begins_with : (has_right_mac : Bool) (r : Reading Fault) (text rest : Bytes) →
 begins_with true r text rest is = (rest, is)
 begins_with false r text rest is = (text, refl)
 
--- a verdict without fault is that on the payload, and the MAC is right
+-- a verdict without fault is that on the payload
 right_whole : (has_right_mac : Bool) (r : Reading Fault) (plain : Bytes) → whole plain ≡ verdict_of has_right_mac r
     → whole plain ≡ r
 right_whole true r plain is = is
 right_whole false r plain is = absurd (never_stops plain BadMac is)
 
--- what is whole of a payload is so of its file exactly if the MAC is right
+-- a file is whole exactly if its verdict has no fault, if the same holds of its payload
 exactly_right : (has_right_mac payload : Bool) (r : Reading Fault) → (payload ≡ true) ↔ (r.fault ≡ None)
     → ((has_right_mac && payload) ≡ true) ↔ ((verdict_of has_right_mac r).fault ≡ None)
 exactly_right true payload r same = same
 exactly_right false payload r same = (λ is. absurd (cc), λ is. absurd (cc))
 
--- a fault of a payload of which something may have been saved is late
+-- a fault before which some of a payload may have been saved is late (`IsLate`)
 late_pieces : (g : StreamFault) → IsOfPieces g → IsLate (stream_fault g)
 late_pieces a b = grind arith
 

@@ -7,7 +7,7 @@ use Rattle.age_file.proofs.DecryptLemmas.{IsHeaded, payload_takes}
 saves_none : (old : Known) (lost : KnownLosses) → SavesNone (move_of old old) (losses_of lost lost)
 saves_none old lost = (Appends-nil old, reports_none lost)
 
--- the outcome of a file, if a fault ends the work before its payload
+-- the result for a file, if a fault came before its payload
 stopped : (limits : Bounds) (answers : Answering) (b : Bytes) (old : Known) (lost : KnownLosses) (fault : Fault)
     → SavesFile limits answers b (move_of old old) (losses_of lost lost) (Err fault)
     → SalvagesText limits answers b (move_of old old) (losses_of lost lost) (Err fault)
@@ -31,7 +31,7 @@ inspect_salvages limits answers old lost (g, is, h) =
 
 module _ {limits : Bounds} (answers : Answering) {come mid : Seen} {h : HeaderParts}
     (i : IsHeaded limits come mid h) where
-  -- what follows a header that was read
+  -- the result for the bytes after a header that was read is the result for the file
   after_header : (key : Result (FileKey × Bool) Fault) (rest : Bytes) {sink : Moved} {lost : LossesMoved}
       {r : Result SalvagedFile Fault} → key ≡ found_key answers h → SavesUnder limits rest key sink lost r
       → SavesFile limits answers (i.text ++ rest) sink lost r
@@ -41,7 +41,7 @@ module _ {limits : Bounds} (answers : Answering) {come mid : Seen} {h : HeaderPa
     saves = rw (drop_at i.text rest (length i.text) refl) (subst (λ k. SavesUnder limits rest k sink lost r) is s);
   }
 
-  -- no key
+  -- a fault of finding the key is a result of salvaging, and nothing is written or reported
   pub locked_salvages : (old : Known) (lost : KnownLosses) {fault : Fault}
       → (◌≡◌ {A = Result (FileKey × Bool) Fault} (Err fault) (Err OutOfMemory)) ⊎ (Err fault ≡ found_key answers h)
       → SalvagesFile limits answers (flow come mid) (move_of old old) (losses_of lost lost) (Err fault)

@@ -5,7 +5,7 @@ use Rattle.age_stream.proofs.JudgesLastLemmas.{opened_there}
 use Rattle.age_file.proofs.RangeLemmas.{header_known}
 use Rattle.age_file.proofs.FileLemmas.{never_stops, verdict_after, with_file_fault_whole}
 
--- under the key that was chosen
+-- a payload that reads whole opens for ranges
 none_under : (limits : Bounds) (rest p : Bytes) (fault : Fault) (c : Result FileKey Fault)
     → whole p ≡ reading_under limits rest c → ranges_under limits rest c ≡ Err fault → ⊥
 none_under limits rest p fault (Err g) h is = never_stops p g h
@@ -17,7 +17,7 @@ none_judged limits answers b p fault (Err e) h is = never_stops p (header_fault 
 none_judged limits answers b p fault (Ok found) h is =
     none_under limits (drop (length found.text) b) p fault (header_key answers (parts_of found)) h is
 
--- such a file opens, unless a device failed or memory was refused
+-- the only faults of opening a file without fault are a failed read and out of memory
 pub file_opens : (limits : Bounds) (answers : Answering) (b p : Bytes) (fault : Fault)
     → IsVerdict limits answers b (whole p) → MissesRanges limits answers (Some b) fault
     → (fault ≡ Read) ⊎ (fault ≡ OutOfMemory)
@@ -26,7 +26,7 @@ file_opens limits answers b p fault v (inr (inl e)) = inr e
 file_opens limits answers b p fault v (inr (inr m)) =
     absurd (none_judged limits answers b p fault m.0 (verdict_after m.0 v m.1) m.2)
 
--- its payload reads whole under the reader's key, and its chunks are those of the layout
+-- b's payload reads whole as p; the layout has its key, p's length, and the offset of its pieces
 record IsWholeUnder (max : ℕ) (b p : Bytes) (layout : Layout) : Type 0 where
   key : FileKey
   rest : Bytes

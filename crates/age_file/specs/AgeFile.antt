@@ -41,8 +41,8 @@ is_scrypt (kind ∷ _) = bytes_eq kind scrypt_type
 abbrev pub is_mixed : List StanzaParts → Bool
 is_mixed stanzas = nat_lt 1 (length stanzas) && list_any (λ s. is_scrypt s.args) stanzas
 
--- b is a file of these stanzas and this plaintext under this file key: a header with the right MAC,
--- then a payload
+-- b is a file of these stanzas and this plaintext under this file key, within the limits: a header
+-- with the right MAC and no `scrypt` stanza beside another, then a payload
 pub record AgeFile (limits : Bounds) (k : FileKey) (stanzas : List StanzaParts) (plain b : Bytes)
     : Type 0 where
   pub header : Bytes

@@ -6,15 +6,15 @@ use Rattle.age_stream.specs.Sealing.{WroteAtLeast}
 use Rattle.age_file.specs.declared.fault.Fault.{Fault}
 use Rattle.age_file.specs.declared.fault.Fault.TheVariants.{TooManyChunks, Read, Write}
 
--- the number of bytes that are read and written at once
+-- the greatest number of bytes that are read and written at once
 abbrev pub buffer_size : ℕ
 buffer_size = 65536
 
--- the number of bytes at which a copy gives up, more than any payload has
+-- the fewest bytes after which a copy gives up, more than any payload has
 abbrev pub most_copied : ℕ
 most_copied = 2 ^ 105
 
--- one piece: a full one of this length, or the rest of the source
+-- a full piece of this length was copied, or the rest of the source was; or a device failed
 abbrev pub CopiesPiece : (size : ℕ) (source : Flow) (sink : Moved) (result : Result Bool Fault)
     → Type 0
 CopiesPiece size source sink (Ok true) =
@@ -26,8 +26,8 @@ CopiesPiece size source sink (Err Write) =
     (piece : Bytes) × Gave source piece × WritesPart sink piece × (length piece ≤ size)
 CopiesPiece size source sink (Err _) = ⊥
 
--- everything was copied; if a device failed, a prefix of it; TooManyChunks only after at least
--- 2^105 bytes were written
+-- everything was copied, or on a fault a prefix of it; on `TooManyChunks` at least 2^105 bytes were
+-- written
 abbrev pub Copies : (source : Flow) (sink : Moved) (result : Result (Unit {0}) Fault) → Type 0
 Copies source sink (Ok done) = OfGiven source (λ bytes. Took sink bytes)
 Copies source sink (Err Read) = OfGiven source (λ bytes. WritesPart sink bytes)

@@ -12,12 +12,12 @@ use Rattle.age_file.specs.AgeFile.{Bounds}
 use Rattle.age_file.specs.Verdict.{Answering, IsVerdict}
 use Rattle.age_stream.specs.Sizes.{nonce_size, chunk_size, sealed_chunk_size}
 
--- the pieces of the bytes after the header and the nonce
+-- the pieces of the bytes after the header and the nonce; none if there is no header
 abbrev pub payload_pieces : (b : Bytes) (header : Result Found HeaderFault) → List Bytes
 payload_pieces b (Ok found) = pieces (drop nonce_size (drop (length found.text) b))
 payload_pieces b (Err fault) = []
 
--- returns a verdict's fault, or if it has none the length of its plaintext and the number of pieces
+-- returns a verdict's fault; or, without a fault, its plaintext's length and the number of pieces
 abbrev pub ReturnsVerdict : (verdict : Reading Fault) (n : ℕ) (result : Result Done Fault) → Type 0
 ReturnsVerdict verdict n (Ok done) =
     (verdict.fault ≡ None) × (done.bytes ≡ length verdict.plaintext) × (done.chunks ≡ n)
@@ -37,8 +37,8 @@ BeginsVerdict limits answers b sink =
     (verdict : Reading Fault) × IsVerdict limits answers b verdict
     × WritesPart sink verdict.plaintext
 
--- The result and the output for the bytes b: the verdict, unless a device failed or memory was
--- refused.
+-- The result and the output for the bytes b: the verdict, unless a device failed or the fault is
+-- `OutOfMemory`.
 abbrev pub DecryptsText : (limits : Bounds) (answers : Answering) (b : Bytes) (sink : Moved)
     (r : Result Done Fault) → Type 0
 DecryptsText limits answers b sink (Err Read) = BeginsVerdict limits answers b sink
@@ -52,16 +52,16 @@ abbrev pub Decrypts : (limits : Bounds) (answers : Answering) (source : Flow) (s
 Decrypts limits answers source sink r =
     OfGiven source (λ b. DecryptsText limits answers b sink r)
 
--- from a source with a header at most the header, the nonce, the pieces up to and including number
--- i, and one more byte were read
+-- the source begins with a header, and at most that header, the nonce, the pieces up to and
+-- including piece i, and one more byte were read
 pub record TookThrough (limits : Bounds) (i : ℕ) (source : Flow) : Type 0 where
   pub found : Found
   pub header : OfGiven source (λ b. HeaderVerdict b limits.max_header (Ok found))
   pub gave : GaveAtMost (length found.text + (nonce_size + (sealed_chunk_size * (i + 1) + 1)))
       source
 
--- How much of the source was read if decrypting ended at a piece, or at a write after this many
--- bytes of output.
+-- How much of the source was read if decrypting ended at piece i, or at a write after i full chunks
+-- of output. Nothing is said about other faults.
 abbrev pub TookUpTo : (limits : Bounds) (source : Flow) (sink : Moved) (fault : Fault) → Type 0
 TookUpTo limits source sink (ChunkShort i) = TookThrough limits i source
 TookUpTo limits source sink (EmptyFinal i) = TookThrough limits i source

@@ -1,4 +1,4 @@
--- The meaning of a fault for the devices: which one counts it, and whether something may have been
+-- What a fault means for the devices: which device counts it, and whether something may have been
 -- written. A fault not named here leaves both counts of failures and the sink unchanged.
 use Rattle.std.specs.Prelude.{◌≡◌, ◌⊎◌, ⊤, Bool, true, false, IfErr, Result}
 use Rattle.age_file.specs.declared.fault.Fault.{Fault}
@@ -18,7 +18,7 @@ is_write _ = false
 abbrev pub IsNoDeviceFault : Fault → Type 0
 IsNoDeviceFault fault = (is_read fault ≡ false) × (is_write fault ≡ false)
 
--- a fault before which something may have been written: that of a chunk, or of a device
+-- a fault before which something may have been written: a chunk's, `TooManyChunks`, or a device's
 abbrev pub IsLate : Fault → Type 0
 IsLate (ChunkShort i) = ⊤
 IsLate (EmptyFinal i) = ⊤

@@ -9,7 +9,7 @@ use Rattle.age_file.specs.declared.fault.Fault.TheVariants.{Read}
 use Rattle.age_file.specs.AgeFile.{Bounds}
 use Rattle.age_file.specs.Verdict.{header_fault}
 
--- the result of a reader of headers under these limits, with the file's names of the faults
+-- the result of a reader of headers under these limits, with its fault as a `Fault`
 abbrev pub Inspects : (limits : Bounds) (source : Flow) (r : Result HeaderParts Fault) → Type 0
 Inspects limits source (Ok header) = ReadsHeader source limits.max_header (Ok header)
 Inspects limits source (Err fault) =

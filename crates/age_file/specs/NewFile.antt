@@ -16,7 +16,7 @@ use Rattle.age_file.specs.declared.limits.Fresh.{Fresh}
 use Rattle.age_file.specs.AgeFile.{AgeFile, Bounds, is_mixed}
 use Rattle.age_stream.specs.Sizes.{nonce_size, chunk_size, sealed_chunk_size}
 
--- these stanzas, then those after them
+-- these stanzas followed by `more`; if `more` is a fault, that fault
 abbrev pub with_stanzas : (stanzas : List StanzaParts) (more : Result (List StanzaParts) Fault)
     → Result (List StanzaParts) Fault
 with_stanzas stanzas (Ok more) = Ok (stanzas ++ more)
@@ -29,15 +29,15 @@ gathering_from i [] = Ok []
 gathering_from i (Ok stanzas ∷ more) = with_stanzas stanzas (gathering_from (i + 1) more)
 gathering_from i (Err code ∷ more) = Err (Refused i code)
 
--- the stanzas, unless a recipient's labels do not go together with those of recipient 0
+-- the refusal gathered; else `IncompatibleRecipients` if there is an index; else the stanzas
 abbrev pub unless_incompatible : (gathered : Result (List StanzaParts) Fault) (index : Option ℕ)
     → Result (List StanzaParts) Fault
 unless_incompatible (Err fault) index = Err fault
 unless_incompatible (Ok stanzas) (Some i) = Err (IncompatibleRecipients i)
 unless_incompatible (Ok stanzas) None = Ok stanzas
 
--- the first recipient that does not go together with recipient 0, by labels that recipients with
--- these meanings may return
+-- `index` is the first recipient that does not go together with recipient 0, if there is one, by
+-- labels that recipients with these meanings may return
 abbrev pub IsIncompatible : (meant : List Labels) (index : Option ℕ) → Type 0
 IsIncompatible meant index =
     (labels : List Labels) × AllZip MayLabel meant labels × (index ≡ first_incompatible labels)
@@ -50,7 +50,7 @@ Gathered wrapped meant gathered =
     (index : Option ℕ) × IsIncompatible meant index
     × (gathered ≡ unless_incompatible (gathering_from 0 wrapped) index)
 
--- the results that a list of recipients may have, like `Gathered wrapped meant`
+-- a predicate: the results that a list of recipients may have, such as `Gathered wrapped meant`
 abbrev pub Gathering : Type 1
 Gathering = Result (List StanzaParts) Fault → Type 0
 
@@ -70,7 +70,7 @@ pub record IsHeading (limits : Bounds) (k : FileKey) (gathered : Gathering)
   pub head : Head stanzas (header_mac k.0 stanzas) text
   pub fits : length text ≤ limits.max_header
 
--- the same of some stanzas
+-- the text of the header of a new file, for some stanzas
 pub record IsNewHeader (limits : Bounds) (k : FileKey) (gathered : Gathering) (text : Bytes)
     : Type 0 where
   pub stanzas : List StanzaParts
@@ -97,7 +97,7 @@ IsRefusal limits k gathered MixedPassphrase =
 IsRefusal limits k gathered HeaderTooLarge = IsTooLarge limits k gathered
 IsRefusal limits k gathered _ = ⊥
 
--- the file written: that of these stanzas, this plaintext, and the file key and nonce passed
+-- the file written: that of the gathered stanzas, this plaintext, and this file key and nonce
 pub record NewFile (limits : Bounds) (fresh : Fresh) (gathered : Gathering) (plain : Bytes)
     (gained : Bytes) : Type 0 where
   pub text : Bytes
@@ -105,8 +105,8 @@ pub record NewFile (limits : Bounds) (fresh : Fresh) (gathered : Gathering) (pla
   pub spelled : gained ≡ text ++ payload fresh.file_key fresh.nonce plain
   pub file : AgeFile limits fresh.file_key header.stanzas plain gained
 
--- The beginning of a file of too many chunks: the header, the nonce and the sealed chunks with an
--- index below the limit less one.
+-- The beginning of a file of too many chunks: the header, the nonce and the first limit - 1 sealed
+-- chunks.
 pub record FileBelowLimit (limits : Bounds) (fresh : Fresh) (gathered : Gathering) (plain : Bytes)
     (gained : Bytes) : Type 0 where
   pub text : Bytes
@@ -125,8 +125,8 @@ pub record BegunFile (limits : Bounds) (fresh : Fresh) (gathered : Gathering) (p
   pub header : IsNewHeader limits fresh.file_key gathered text
   pub part : WritesPart sink (text ++ payload fresh.file_key fresh.nonce plain)
 
--- The result and the output of `encrypt` for the plaintext `plain`. `gathered` is the results that
--- the recipients may have.
+-- The result and the output of `encrypt` for the plaintext `plain`. `gathered` holds of the results
+-- that the recipients may have.
 abbrev pub EncryptsText : (limits : Bounds) (fresh : Fresh) (gathered : Gathering) (plain : Bytes)
     (sink : Moved) (result : Result Done Fault) → Type 0
 EncryptsText limits fresh gathered plain sink (Ok done) =
@@ -146,7 +146,7 @@ abbrev pub EncryptsGiven : (limits : Bounds) (fresh : Fresh) (gathered : Gatheri
 EncryptsGiven limits fresh gathered source sink r =
     OfGiven source (λ plain. EncryptsText limits fresh gathered plain sink r)
 
--- a fault with which no header was made is the first one; about any other result this says nothing
+-- the fault is the first of `IsRefusal`, or a device's, `TooManyChunks` or `OutOfMemory`
 abbrev pub RefusesFirst : (limits : Bounds) (k : FileKey) (gathered : Gathering) (fault : Fault)
     → Type 0
 RefusesFirst limits k gathered TooManyChunks = ⊤
@@ -180,8 +180,8 @@ FailsHeading limits k gathered fault = (fault ≡ OutOfMemory) ⊎ IsRefusal lim
 abbrev pub FillsChunk : (source : Flow) → Type 0
 FillsChunk source = OfGiven source (λ text. chunk_size ≤ length text)
 
--- How much of the source was read at most: if n full sealed chunks were written after the header
--- and the nonce, n + 2 chunks of text.
+-- At most n + 2 chunks of plaintext were read from the source, for an n such that at least n full
+-- sealed chunks were written after the header and the nonce.
 pub record TookChunks (limits : Bounds) (fresh : Fresh) (gathered : Gathering)
     (source : Flow) (sink : Moved) : Type 0 where
   pub text : Bytes

@@ -21,7 +21,7 @@ pub record AtState (D : Type 0) : Type 0 where
   pub dev : D
   pub at : ℕ
 
--- these bytes were read from offset 0 on, and `at` is the next offset, at most the largest u64
+-- `at` is the number of these bytes, at most the largest u64; that many were read from offset 0 on
 abbrev pub GaveFirst : (gave : (at byte : ℕ) → Type 0) (at : ℕ) (bytes : Bytes) → Type 0
 GaveFirst gave at bytes = (at ≡ min (length bytes) (2 ^ 64 - 1)) × GaveAt gave 0 (take at bytes)
 
@@ -45,13 +45,12 @@ pub record GaveHeader (limits : Bounds) (gave : (at byte : ℕ) → Type 0) (at 
   pub read : GaveAt gave 0 text
   pub verdict : HeaderVerdict text limits.max_header (Ok (finding text h))
 
--- the known bytes do not begin with a header, and this is the fault; or a read failed, or memory
--- was refused
+-- the fault is `Read`, `OutOfMemory`, or that of the header at the start of the known bytes
 abbrev pub MissesHeader : (limits : Bounds) (told : Known) (fault : Fault) → Type 0
 MissesHeader limits told fault = (fault ≡ Read) ⊎ ((fault ≡ OutOfMemory) ⊎ IfSome told (λ b.
     (e : HeaderFault) × HeaderVerdict b limits.max_header (Err e) × (fault ≡ header_fault e)))
 
--- the result of opening the bytes after a header for ranges under the file key
+-- the result of opening the bytes after a header for ranges, given the file key or a fault
 abbrev pub ranges_under : (limits : Bounds) (rest : Bytes) (result : Result FileKey Fault)
     → Result Bytes Fault
 ranges_under limits rest (Err fault) = Err fault
@@ -66,7 +65,7 @@ IsRangeFault limits answers b (Ok found) fault =
     ranges_under limits (drop (length found.text) b) (header_key answers (parts_of found))
     ≡ Err fault
 
--- the first fault of the known bytes; or a read failed, or memory was refused
+-- the fault is the first of the known bytes, or `Read`, or `OutOfMemory`
 abbrev pub MissesRanges : (limits : Bounds) (answers : Answering) (told : Known) (fault : Fault)
     → Type 0
 MissesRanges limits answers told fault =
@@ -76,9 +75,9 @@ MissesRanges limits answers told fault =
     × HeaderVerdict b limits.max_header header
     × IsRangeFault limits answers b header fault))
 
--- A reader was opened, whether or not the source's contents are known: under the key chosen for the
--- header read, and for the nonce read after it. Its pieces end where the source does, and the piece
--- read last gave the last chunk.
+-- A reader was opened, whether or not the source's contents are known. Its key is derived from the
+-- file key chosen for the header read and from the nonce read after it. Its pieces end where the
+-- source does, and the last piece, as it was read, opens to the chunk kept.
 pub record BeginsFile (limits : Bounds) (answers : Answering) (gave : (at byte : ℕ) → Type 0)
     (size : Option ℕ) (chunks : RangeState) : Type 0 where
   pub header : HeaderParts
@@ -89,8 +88,8 @@ pub record BeginsFile (limits : Bounds) (answers : Answering) (gave : (at byte :
   pub begins : BeginsRanges key limits.max_chunks at gave size chunks
 
 -- Opening a file for ranges failed with the first fault of the known bytes, a failed read or out of
--- memory. The contents are unchanged, and a failed read was counted. On a fault of the header or
--- its key, and out of memory, at most as many bytes were read as a header may have.
+-- memory. The contents are unchanged, and a failed read was counted. On a fault of the header or of
+-- its key, or on `OutOfMemory`, at most as many bytes were read as a header may have.
 pub record RefusesRanges (limits : Bounds) (answers : Answering) (source : Moved)
     (given given2 failed failed2 : ℕ) (fault : Fault) : Type 0 where
   pub misses : MissesRanges limits answers source.before fault
@@ -100,9 +99,9 @@ pub record RefusesRanges (limits : Bounds) (answers : Answering) (source : Moved
   pub stay : source.after ≡ source.before
   pub counted : CountsFaultIf is_read failed failed2 fault
 
--- The result of opening a file for ranges, and its effect on the source: a reader, which keeps the
--- last chunk, or the fault. At most the header, the nonce and the last piece were read.
--- `StartsRanges` of age_stream explains the functions.
+-- The result of opening a file for ranges, and its effect on the source: the fault; or a reader
+-- that keeps the last chunk, for which at most the header, the nonce and the last piece were read.
+-- `StartsRanges` of age_stream explains the functions that are parameters here.
 abbrev pub StartsFileRanges : {D : Type 0} (told : D → Known) (given failed : D → ℕ)
     (gave : D → (at byte : ℕ) → Type 0) (found : D → Option ℕ) (limits : Bounds)
     (answers : Answering) (old new : D) (r : Result RangeState Fault) → Type 0

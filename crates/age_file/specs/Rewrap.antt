@@ -35,7 +35,7 @@ abbrev pub IsRewrapped : (limits : Bounds) (answers : Answering) (gathered : Fil
 IsRewrapped limits answers gathered b c =
     (new : Rewrapped limits answers b c) × gathered new.key (Ok new.stanzas)
 
--- the first fault of b's header up to the MAC, or else that of the new header
+-- the first fault of an old header with this verdict, up to the MAC, or else the new header's
 abbrev pub IsRefusedBy : (limits : Bounds) (answers : Answering) (gathered : FileKey → Gathering)
     (result : Result Found HeaderFault) (fault : Fault) → Type 0
 IsRefusedBy limits answers gathered (Err e) fault = fault ≡ header_fault e
@@ -80,9 +80,9 @@ abbrev pub Rewraps : (limits : Bounds) (answers : Answering) (gathered : FileKey
 Rewraps limits answers gathered source sink r =
     OfGiven source (λ b. RewrapsText limits answers gathered b sink r)
 
--- How much of the source was read at a fault: at most as many bytes as a header may have; at a
--- failed write, or too many chunks, at most these, as many as were written, and one buffer. Nothing
--- is said about a failed read.
+-- How much of the source was read at a fault: at a failed write, or too many chunks, at most
+-- `max_header` + 65,536 bytes more than were written; at any other fault except a failed read, at
+-- most `max_header` bytes.
 abbrev pub TookWhileRewrapping : (limits : Bounds) (source : Flow) (sink : Moved) (fault : Fault)
     → Type 0
 TookWhileRewrapping limits source sink Read = ⊤

@@ -18,7 +18,7 @@ use Rattle.age_file.specs.Verdict.{Answering, header_fault, parts_of, stream_fau
 abbrev pub SavesNone : (sink : Moved) (lost : LossesMoved) → Type 0
 SavesNone sink lost = Took sink [] × Reports lost []
 
--- what was saved of a file, with the header's MAC right or wrong
+-- the result for a file: whether the header's MAC is right, and the result for its payload
 abbrev pub salvaged_file : (has_right_mac : Bool) (payload : Salvaged) → SalvagedFile
 salvaged_file has_right_mac payload =
     record { has_right_mac = has_right_mac; payload = payload }
@@ -28,7 +28,7 @@ abbrev pub is_whole_file : (s : SalvagedFile) → Bool
 is_whole_file s = s.has_right_mac && is_whole s.payload
 
 -- the bytes after a header were saved under the file key, whether or not the header's MAC is right;
--- or the fault of a missing key is returned
+-- or there is no key: the fault of finding it is returned, and nothing was written or reported
 abbrev pub SavesUnder : (limits : Bounds) (rest : Bytes) (key : Result (FileKey × Bool) Fault)
     (sink : Moved) (lost : LossesMoved) (r : Result SalvagedFile Fault) → Type 0
 SavesUnder limits rest (Err fault) sink lost r = (r ≡ Err fault) × SavesNone sink lost
@@ -54,8 +54,8 @@ pub record SavesFile (limits : Bounds) (answers : Answering) (b : Bytes) (sink :
   pub header_verdict : HeaderVerdict b limits.max_header header
   pub saves : SavesAfter limits answers b header sink lost r
 
--- The result, the output and the reports for the bytes b: nothing is written or reported if memory
--- was refused, or if a read of the header failed.
+-- The result, the output and the reports for the bytes b: those of `SavesFile`; but nothing was
+-- written or reported on `OutOfMemory`, and perhaps nothing on `Read`.
 abbrev pub SalvagesText : (limits : Bounds) (answers : Answering) (b : Bytes) (sink : Moved)
     (lost : LossesMoved) (r : Result SalvagedFile Fault) → Type 0
 SalvagesText limits answers b sink lost (Err OutOfMemory) = SavesNone sink lost

@@ -26,8 +26,8 @@ pub record EncryptorState : Type 0 where
   pub limits : Bounds
 
 -- The result of starting a file, and its effect on the sink: the header and then the nonce were
--- written, and the sealer is before chunk 0; or memory was refused, and nothing was written; or a
--- write failed, and a prefix of both was written.
+-- written, and the sealer is before chunk 0; or the fault is `OutOfMemory`, and the sink is
+-- unchanged; or a write failed, which was counted, and a prefix of header and nonce was written.
 abbrev pub StartsFile : {W : Type 0} (taken : W → Known) (failed : W → ℕ) (s : EncryptorState)
     (old new : W) (r : Result SealerState Fault) → Type 0
 StartsFile taken failed s old new (Ok sealer) =
@@ -42,7 +42,7 @@ StartsFile taken failed s old new (Err fault) =
     × WritesPart (move_by taken old new) (text ++ s.fresh.nonce))
     × CountsFaultIf is_write (failed old) (failed new) fault)
 
--- a file whose header was read: the source of the rest, the header, and the limits
+-- the parts of a `Decryptor`: the source after the header, the header, and the limits
 abbrev pub input_of : {S H : Type 0} → Decryptor S H → MutBor S
 input_of d = d.input
 
@@ -52,9 +52,9 @@ header_of d = d.header
 abbrev pub limits_of : {S H : Type 0} → Decryptor S H → Bounds
 limits_of d = d.limits
 
--- The result of reading a header, and its effect on the source: exactly a header was read that has
--- no `scrypt` stanza beside another; or there is no such header, at most as many bytes were read as
--- a header may have, and a failed read was counted.
+-- Reading a header. On Ok exactly its bytes were read, and no `scrypt` stanza is beside another. A
+-- fault is that of `Inspects`, or `MixedPassphrase`; then at most as many bytes were read as a
+-- header may have, unless a read failed, which was counted.
 abbrev pub StartsDecryptor : {S : Type 0} (to_come : S → Known) (gave : S → Bytes → Type 0)
     (failed : S → ℕ) (limits : Bounds) (old new : S) (r : Result HeaderParts Fault) → Type 0
 StartsDecryptor to_come gave failed limits old new (Ok header) =
@@ -68,9 +68,9 @@ StartsDecryptor to_come gave failed limits old new (Err fault) =
     × ((header : HeaderParts) × Inspects limits (flow_by to_come gave old new) (Ok header)
     × (is_mixed header.stanzas ≡ true))))
 
--- The result of opening the payload after a header, whose file key is `found`, and its effect on
--- the source: a reader of the payload; or there is no key, or memory was refused, and nothing was
--- read; or the nonce was not read.
+-- The result of opening a payload, and its effect on the source. `found` is the file key, or the
+-- fault of unlocking. A reader was made; or the fault is that of `found`, or `OutOfMemory`, and
+-- nothing was read; or the nonce was not read.
 abbrev pub StartsUnder : {S : Type 0} (to_come : S → Known) (gave : S → Bytes → Type 0)
     (failed : S → ℕ) (limits : Bounds) (found : Result FileKey Fault) (old new : S)
     (r : Result OpenerState Fault) → Type 0

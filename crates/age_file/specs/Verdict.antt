@@ -21,7 +21,7 @@ use Rattle.age_file.specs.declared.fault.Fault.{Fault}
 use Rattle.age_file.specs.declared.fault.Fault.TheVariants.{NotAge, BadLine, HeaderTruncated, HeaderTooLarge, MixedPassphrase, NoMatch, WrongKey, Malformed, BadMac, NonceTruncated, ChunkShort, EmptyFinal, BadChunk, TooManyChunks, Read, Write, OutOfMemory}
 use Rattle.age_file.specs.AgeFile.{Bounds, is_mixed}
 
--- the file's name of a fault of its header
+-- the `Fault` for a fault of the header
 abbrev pub header_fault : HeaderFault → Fault
 header_fault header.NotAge = NotAge
 header_fault (header.BadLine n) = BadLine n
@@ -30,14 +30,14 @@ header_fault header.TooLarge = HeaderTooLarge
 header_fault header.Read = Read
 header_fault header.Memory = OutOfMemory
 
--- the file's name of the reason why no key was found
+-- the `Fault` for the reason why no key was found
 abbrev pub unlock_fault : UnlockFault → Fault
 unlock_fault unlock.NoMatch = NoMatch
 unlock_fault unlock.WrongKey = WrongKey
 unlock_fault (unlock.Malformed fault) = Malformed fault
 unlock_fault unlock.Memory = OutOfMemory
 
--- the file's name of a fault of its payload
+-- the `Fault` for a fault of the payload
 abbrev pub stream_fault : StreamFault → Fault
 stream_fault stream.NonceTruncated = NonceTruncated
 stream_fault (stream.ChunkShort i) = ChunkShort i
@@ -56,7 +56,7 @@ parts_of found = record { stanzas = found.stanzas; mac = found.mac }
 abbrev pub finding : (text : Bytes) (h : HeaderParts) → Found
 finding text h = record { stanzas = h.stanzas; mac = h.mac; text = text }
 
--- a payload's reading, with the file's name of its fault
+-- a payload's reading, with its fault as a `Fault`
 abbrev pub with_file_fault : Reading StreamFault → Reading Fault
 with_file_fault r = record { plaintext = r.plaintext; fault = option_map stream_fault r.fault }
 
@@ -69,19 +69,19 @@ abbrev pub answers_by : {I : Type 0} (identities : List I)
     (meaning : I → List StanzaParts → Unwrapped) → Answering
 answers_by identities meaning = λ stanzas. map (λ i. meaning i stanzas) identities
 
--- the key that the identities choose for a header, and whether the header's MAC is the one under it
+-- the key chosen for a header, and whether its MAC is right under that key; or why there is no key
 abbrev pub found_key : (answers : Answering) (h : HeaderParts) → Result (FileKey × Bool) Fault
 found_key answers h = if is_mixed h.stanzas then Err MixedPassphrase
     else result_map_both (λ k. (k, bytes_eq h.mac (header_mac k.0 h.stanzas))) unlock_fault
     (choice (answers h.stanzas))
 
--- Out of memory is a possible answer only if one of the identities up to the one that decides may
--- run out, or if they choose a key, because the MAC under it is then computed.
+-- Unlocking may return out of memory only if an identity may run out and none before it decides, or
+-- if the identities choose a key, because the MAC is then computed under that key.
 abbrev pub MayLackMemory : (answers : List Unwrapped) (may_run_out : List Bool) → Type 0
 MayLackMemory answers may_run_out =
     (lacks_memory answers may_run_out ≡ true) ⊎ ((k : FileKey) × (choice answers ≡ Ok k))
 
--- the key found, if the MAC is right
+-- the key found if the MAC is right under it, and `BadMac` if not; or the fault of finding it
 abbrev pub if_right : Result (FileKey × Bool) Fault → Result FileKey Fault
 if_right (Err fault) = Err fault
 if_right (Ok found) = if found.1 then Ok found.0 else Err BadMac
@@ -90,7 +90,7 @@ if_right (Ok found) = if found.1 then Ok found.0 else Err BadMac
 abbrev pub header_key : (answers : Answering) (h : HeaderParts) → Result FileKey Fault
 header_key answers h = if_right (found_key answers h)
 
--- the reading of the bytes after a header under the file key
+-- the reading of the bytes after a header, given the file key or a fault
 abbrev pub reading_under : (limits : Bounds) (rest : Bytes) (result : Result FileKey Fault)
     → Reading Fault
 reading_under limits rest (Err fault) = stop fault
@@ -103,7 +103,7 @@ reading_after limits answers b (Err fault) = stop (header_fault fault)
 reading_after limits answers b (Ok found) =
     reading_under limits (drop (length found.text) b) (header_key answers (parts_of found))
 
--- The verdict on b: the first fault, if there is one, and the plaintext of the chunks before it.
+-- The verdict on b: the whole plaintext, or the first fault and the plaintext before it.
 pub record IsVerdict (limits : Bounds) (answers : Answering) (b : Bytes) (verdict : Reading Fault)
     : Type 0 where
   pub header : Result Found HeaderFault

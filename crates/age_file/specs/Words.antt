@@ -1,4 +1,4 @@
--- The names of the crates below that callers' clauses and objects cite, re-exported in one place.
+-- Re-exports names from the crates below, for the clauses and objects of callers.
 pub use Rattle.age_header.specs.Device.{Bytes, Known}
 pub use Rattle.age_header.specs.Header.{StanzaParts}
 pub use Rattle.age_header.specs.declared.file_key.FileKey.{FileKey}

@@ -8,12 +8,12 @@ ghost use Rattle.age_file.specs.Device.{is_read, is_write};
 use crate::fault::Fault;
 use age_header::{Sink, Source, fill_from, write_all};
 
-/// The size in bytes of the buffer of `rewrap`, and of each full piece that it writes but the
-/// first, which ends at a multiple of it in the new file.
+/// The size in bytes of the buffer of `rewrap`, which copies a piece up to a multiple of this size
+/// in the new file, then pieces of this size, and at last what is left.
 pub const BUFFER_SIZE: usize = 65_536;
 
-/// The most full pieces that are copied, 2^105 bytes in all. No payload has as many; the bound is
-/// there so that the loop ends.
+/// The most full pieces that `copy_pieces` copies, 2^105 bytes in all. No payload has as many; the
+/// bound is there so that the loop ends.
 const MAX_PIECES: u128 = 1 << 89;
 
 /// Copies all bytes left in the source: a piece of `first` bytes, and then pieces of the buffer's

@@ -43,18 +43,18 @@ pub fn decrypt<S: Source, W: Sink>(
     limits: &Limits,
 ) -> Result<Done, Fault>
     // Returns the verdict on the bytes read from the source and writes its plaintext, unless a
-    // device failed or memory was refused. On Ok the counts are the length of the plaintext and the
-    // number of the payload's pieces. If a device failed, a prefix of that plaintext was written.
+    // device failed or the fault is `OutOfMemory`. On Ok the counts are the length of the plaintext
+    // and the number of pieces. If a device failed, a prefix of the plaintext was written.
     ensures decrypts { Decrypts limits.now (answers_by identities.now (λ i s. meaning i s))
         (flow_by S.to_come S.gave input.old input.new) (move_by W.taken out.old out.new) result }
     ensures quiet { IsQuiet out.old out.new result }
     ensures reads { CountsIf is_read (S.failed input.old) (S.failed input.new) result }
     ensures writes { CountsIf is_write (W.failed out.old) (W.failed out.new) result }
-    // On a fault at piece i, or of a write after 65,536 i bytes: at most the header, the nonce, the
-    // pieces up to and including piece i, and one more byte were read.
+    // On a fault at piece i, or on `Write` after i full chunks of output: at most the header, the
+    // nonce, the pieces up to and including piece i, and one more byte were read.
     ensures took { IfErr result (TookUpTo limits.now (flow_by S.to_come S.gave input.old input.new)
         (move_by W.taken out.old out.new)) }
-    // On a fault before the nonce is read, at most as many bytes were read as a header may have.
+    // On any fault before the nonce but `Read`, at most `max_header` bytes were read.
     ensures front { IfErr result (λ fault. IsLate fault ⊎ ((fault ≡ Fault.NonceTruncated)
         ⊎ GaveAtMost limits.now.max_header (flow_by S.to_come S.gave input.old input.new))) }
 {

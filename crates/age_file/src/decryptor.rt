@@ -27,7 +27,7 @@ impl<'a, S: Source> Decryptor<'a, S> {
     ghost use Rattle.age_file.specs.States.{StartsDecryptor, StartsUnder};
     ghost use Rattle.age_file.specs.States.{header_of, input_of, limits_of};
 
-    /// Makes a file of this header. The source returns the bytes after it.
+    /// Makes the `Decryptor` of this header. The source must be at the first byte after it.
     fn over(input: &'a mut S, header: Header, limits: &Limits) -> Decryptor<'a, S>
         ensures same_reference { (input_of result).ghost_name ≡ input.entry.ghost_name }
         ensures unchanged { (input_of result).now ≡ input.old }
@@ -53,10 +53,10 @@ impl<'a, S: Source> Decryptor<'a, S> {
     ) -> Result<Decryptor<'a, S>, Refused<'a, S, Fault>>
         ensures same_reference { IfOk result
             (λ d. (input_of d).ghost_name ≡ input.entry.ghost_name) }
-        // It holds the header that `inspect` returns, in which a `scrypt` stanza is alone.
+        // The `Decryptor` holds the header of `inspect`, with no `scrypt` stanza beside another.
         ensures starts { IfOk result (λ d. StartsDecryptor S.to_come S.gave S.failed limits.now
             input.old (input_of d).now (Ok (header_of d))) }
-        // It keeps the limits.
+        // The `Decryptor` keeps the limits.
         ensures limits { IfOk result (λ d. limits_of d ≡ limits.now) }
         ensures handed_back { IfErr result
             (λ refused. (device_of refused).ghost_name ≡ input.entry.ghost_name) }
@@ -103,14 +103,14 @@ impl<'a, S: Source> Decryptor<'a, S> {
             (input_of self.entry).now (source_of reader).now (Ok (opener_of reader))) }
         ensures handed_back { IfErr result
             (λ refused. (device_of refused).ghost_name ≡ (input_of self.entry).ghost_name) }
-        // The fault is the first one up to the MAC, or that of a nonce that was not read, or out of
+        // The fault is that of `unlock_header`, that of a nonce that was not read, or out of
         // memory.
         ensures misses { IfErr result
             (λ refused. StartsUnder S.to_come S.gave S.failed (limits_of self.entry)
             (header_key (answers_by identities.now (λ i s. meaning i s)) (header_of self.entry))
             (input_of self.entry).now (device_of refused).now (Err (fault_of refused))) }
-        // Returns `OutOfMemory` only if an identity may run out, up to the one that decides, or if
-        // the identities choose a key.
+        // Returns `OutOfMemory` only if an identity may run out of memory and no identity before
+        // it decides, or if the identities choose a key.
         ensures memory { IfErr result (λ refused. fault_of refused ≡ Fault.OutOfMemory
             → MayLackMemory
             (answers_by identities.now (λ i s. meaning i s) (header_of self.entry).stanzas)

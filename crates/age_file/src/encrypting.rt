@@ -1,4 +1,4 @@
-//! Encrypting a whole file.
+//! Encrypting a whole file, and writing the header and the nonce that begin one.
 
 ghost use Rattle.std.specs.Prelude.{◌≡◌, ◌⊎◌, ◌++◌, Err, IfErr};
 ghost use Rattle.age_header.specs.Device.{Bytes, Counts, CountsIf, Writes, flow_by, move_by};
@@ -18,7 +18,7 @@ use std::alloc::Global;
 /// Writes the age file (C2SP `age.md`) of a plaintext, which is all bytes left in the source, for
 /// these recipients. Allocates everything before it writes the first byte. Writes the header and
 /// the nonce once the first chunk is full or the source has ended, and each chunk as soon as a byte
-/// after it was read.
+/// after it was read, or the source has ended.
 ///
 /// `fresh` and the salts of the recipients must be random and used only for this file, because
 /// using them again repeats the keys of a file. A passphrase recipient takes 2^work KiB of memory
@@ -34,9 +34,9 @@ use std::alloc::Global;
 /// - `HeaderTooLarge`.
 ///
 /// On these, and on `OutOfMemory`, nothing was read or written. `TooManyChunks` if the plaintext
-/// has more chunks than are allowed: the header, the nonce and the sealed chunks with an index
-/// below the limit less one were written. `Read` and `Write` if a device failed: a prefix of the
-/// file was written, and on `Read` before the first chunk was full, nothing.
+/// has more chunks than the limit: the header, the nonce and the first limit - 1 sealed chunks were
+/// written. `Read` and `Write` if a device failed: a prefix of the file was written, and on `Read`
+/// before the first chunk was full, nothing.
 #[tactic(auto, using(crate::proofs::EncryptLemmas::encrypts_unread))]
 pub fn encrypt<S: Source, W: Sink>(
     alloc: Global,
@@ -47,15 +47,15 @@ pub fn encrypt<S: Source, W: Sink>(
     limits: &Limits,
 ) -> Result<Done, Fault>
     // On Ok the file of the recipients' stanzas, the plaintext, the file key and the nonce was
-    // written, and the counts are the length of the plaintext and the number of its chunks. Ok is
-    // not returned if a reason of [refused] applies. If a device failed, a prefix of that file was
-    // written.
+    // written, and the counts are the length of the plaintext and the number of its chunks. On
+    // `Read` and `Write` a prefix of the file was written, and on `TooManyChunks` the header, the
+    // nonce and the first limit - 1 sealed chunks.
     ensures encrypts { EncryptsGiven limits.now fresh.now
         (gathering_by recipients.now (λ r k. wraps r k) (λ r. the_labels r) fresh.now.file_key)
         (flow_by S.to_come S.gave plain.old plain.new) (move_by W.taken out.old out.new) result }
-    // The fault is the first that applies: a refusal, with its index; the least index above 0 whose
-    // labels do not go together with those of recipient 0; no stanza; a `scrypt` stanza that is not
-    // alone; a header over the limit. The labels are some that the recipients may have returned.
+    // The fault is `Read`, `Write`, `TooManyChunks`, `OutOfMemory`, or the first that applies: a
+    // refusal; a recipient not going together with recipient 0, by labels that they may return; no
+    // stanza; a `scrypt` stanza that is not alone; a header over the limit.
     ensures refused { IfErr result (RefusesFirst limits.now fresh.now.file_key
         (gathering_by recipients.now (λ r k. wraps r k) (λ r. the_labels r) fresh.now.file_key)) }
     ensures quiet { IsQuiet out.old out.new result }
@@ -64,8 +64,8 @@ pub fn encrypt<S: Source, W: Sink>(
         → (out.new ≡ out.old) ⊎ FillsChunk (flow_by S.to_come S.gave plain.old plain.new) }
     ensures reads { CountsIf is_read (S.failed plain.old) (S.failed plain.new) result }
     ensures writes { CountsIf is_write (W.failed out.old) (W.failed out.new) result }
-    // On a fault of a write or too many chunks, after n full sealed chunks were written: at most
-    // 65,536 (n + 2) bytes of plaintext were read. On any other but `Read` nothing was read.
+    // On `Write` and `TooManyChunks`, if n full sealed chunks were written, at most 65,536 (n + 2)
+    // bytes of plaintext were read. On any other fault except `Read` nothing was read.
     ensures took { IfErr result (TookWhileEncrypting limits.now fresh.now
         (gathering_by recipients.now (λ r k. wraps r k) (λ r. the_labels r) fresh.now.file_key)
         (flow_by S.to_come S.gave plain.old plain.new) (move_by W.taken out.old out.new)) }
@@ -95,7 +95,7 @@ pub fn write_header_and_nonce<W: Sink>(
     nonce: &[u8; 16],
     out: &mut W,
 ) -> Result<(), DeviceFault>
-    // Writes the header and then the nonce; on an error a prefix of both.
+    // Writes the header and then the nonce; on an error a prefix of these bytes.
     ensures text { (text : Bytes) × Head header.now.stanzas header.now.mac text
         × Writes (move_by W.taken out.old out.new) result (text ++ nonce.now) }
     ensures count { Counts (W.failed out.old) (W.failed out.new) result }

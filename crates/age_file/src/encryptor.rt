@@ -38,16 +38,16 @@ impl Encryptor {
     /// Makes the header of a new file for these recipients.
     ///
     /// # Errors
-    /// `Refused`, `IncompatibleRecipients`, `NoRecipients`, `MixedPassphrase` or `HeaderTooLarge`,
-    /// the first that applies, as for `encrypt`. `OutOfMemory` if an allocation was refused.
+    /// As for `encrypt`: `Refused`, `IncompatibleRecipients`, `NoRecipients`, `MixedPassphrase`,
+    /// `HeaderTooLarge`. `OutOfMemory` if an allocation was refused or a recipient returned it.
     pub fn new(
         alloc: Global,
         recipients: &[Box<dyn Recipient>],
         fresh: &Fresh,
         limits: &Limits,
     ) -> Result<Encryptor, Fault>
-        // It holds the header that `encrypt` writes for the same recipients, fresh values and
-        // limits.
+        // The `Encryptor` keeps the fresh values and the limits, and holds the header that
+        // `encrypt` writes for them and these recipients.
         ensures ok { IfOk result (λ e. (e.fresh ≡ fresh.now) × (e.limits ≡ limits.now)
             × (e.header.mac ≡ header_mac fresh.now.file_key.0 e.header.stanzas)
             × ((text : Bytes) × IsHeading limits.now fresh.now.file_key

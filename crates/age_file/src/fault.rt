@@ -8,12 +8,12 @@ use std::error::Error;
 use std::fmt;
 
 /// Why a file was not written, or a plaintext not read. Chunks and recipients are counted from 0,
-/// header lines from 1. The program prints these texts.
+/// header lines from 1. The program prints the texts of `Display`.
 #[derive(Clone, Copy, Debug, Drop, PartialEq, Eq)]
 pub enum Fault {
     /// The first bytes are not a prefix of the version line.
     NotAge,
-    /// From this line on the text cannot be a header. The version line is line 1.
+    /// The lines up to this one cannot begin a header. The version line is line 1.
     BadLine(u64),
     /// The input ends within its header.
     HeaderTruncated,
@@ -35,7 +35,7 @@ pub enum Fault {
     NonceTruncated,
     /// This sealed chunk, the last, is shorter than a tag, 16 bytes.
     ChunkShort(u128),
-    /// This chunk, the last and not the first, has an empty plaintext.
+    /// This sealed chunk, the last and not the first, has only a tag, 16 bytes.
     EmptyFinal(u128),
     /// No plaintext seals to this chunk at its number: its tag is wrong.
     BadChunk(u128),

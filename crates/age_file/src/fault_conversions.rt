@@ -1,4 +1,4 @@
-//! Conversions of the errors of headers, keys and payloads to `Fault`.
+//! Conversions of other errors to `Fault`.
 
 ghost use Rattle.std.specs.Prelude.{◌≡◌};
 

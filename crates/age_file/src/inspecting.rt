@@ -17,7 +17,7 @@ use std::alloc::Global;
 /// The first that applies of `NotAge`, `BadLine`, `HeaderTruncated` and `HeaderTooLarge`, as for
 /// `HeaderReader`. `Read` if the source failed, `OutOfMemory` if an allocation was refused.
 pub fn inspect<S: Source>(alloc: Global, input: &mut S, limits: &Limits) -> Result<Header, Fault>
-    // Returns the header verdict, unless a read failed or memory was refused. On Ok exactly the
+    // Returns the header verdict, unless the fault is `Read` or `OutOfMemory`. On Ok exactly the
     // header's bytes were read.
     ensures verdict { Inspects limits.now (flow_by S.to_come S.gave input.old input.new) result }
     ensures reads { CountsIf is_read (S.failed input.old) (S.failed input.new) result }

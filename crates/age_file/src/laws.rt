@@ -1,4 +1,4 @@
-//! Laws: facts about the definitions alone, each the contract of a function that does nothing.
+//! Laws: facts about the definitions, each the contract of a function that does nothing.
 
 ghost use Rattle.std.specs.Prelude.{◌≡◌, ◌↔◌, ◌⊎◌, ◌<◌, ℕ, ◌+◌, ◌*◌, List, [], ◌∷◌, ◌++◌};
 ghost use Rattle.std.specs.Prelude.{replicate, length, take, drop, Option, Some, None, Ok, Err};
@@ -29,8 +29,8 @@ use age_recipient::{Labels, Matched};
 use age_stream::ReadAt;
 pub use age_stream::laws::given_is_known;
 
-/// The verdict is this plaintext without fault exactly on the age files of this plaintext for the
-/// file key that the identities choose. All bytes have exactly one verdict.
+/// The verdict on bytes is a plaintext without fault exactly if they are an age file of that
+/// plaintext for the file key that the identities choose. Any bytes have exactly one verdict.
 #[tactic(auto, using(crate::proofs::DecryptLemmas::file_has_verdict))]
 pub fn ok_is_age_file()
     ensures ok { (limits : Bounds) (answers : Answering) (b plain : Bytes)
@@ -42,8 +42,8 @@ pub fn ok_is_age_file()
         → (v : Reading Fault) × IsVerdict limits answers b v }
 {}
 
-/// An age file whose stanzas a pair's recipient wrapped has, for the pair's identity alone, the
-/// verdict "this plaintext, no fault".
+/// If a pair's recipient wrapped the stanzas of an age file, the verdict on the file, for the
+/// pair's identity alone, is its plaintext without fault.
 pub fn pair_opens<M: Matched>(pair: &M)
     ensures { (limits : Bounds) (k : FileKey) (stanzas : List StanzaParts) (plain b : Bytes)
         → IsFileKey k → M.R.wraps (M.the_recipient pair.now) k ≡ Ok stanzas
@@ -51,11 +51,11 @@ pub fn pair_opens<M: Matched>(pair: &M)
         → IsVerdict limits (λ s. M.I.meaning (M.the_identity pair.now) s ∷ []) b (whole plain) }
 {}
 
-/// Bytes whose verdict is this plaintext (by `ok_is_age_file`, an age file of it for the key that
-/// the identities choose) open for ranges: the only faults are a failed read and out of memory. The
-/// length of a reader opened on a source of these bytes is the plaintext's, and each slice is a
-/// part of the plaintext. Each chunk opens to its part of the plaintext, so no chunk is bad. The
-/// first clause holds of all known bytes: a header that was read is the one at their start.
+/// If the verdict on bytes is a plaintext without fault (by `ok_is_age_file`, if they are an age
+/// file of it for the key chosen), they open for ranges: the only faults are a failed read and out
+/// of memory. A reader opened on these bytes has the plaintext's length, every slice is that part
+/// of the plaintext, and every chunk opens to its part. The first clause holds of any bytes known
+/// to be in the source: a header that was read is the one at their start.
 pub fn file_is_sliced<D: ReadAt>()
     ensures header { (dev : D) (limits : Bounds) (b : Bytes) (at : ℕ) (h : HeaderParts)
         (first : GaveHeader limits (D.gave dev) at h) → D.bytes dev ≡ Some b
@@ -81,16 +81,15 @@ pub fn file_is_sliced<D: ReadAt>()
         ≡ Some (take chunk_size (drop (chunk_size * i) plain)) }
 {}
 
-/// Which of this crate's own recipients go together. For a single recipient, and for keyed ones,
-/// this holds whatever labels their boxes return. The last two clauses are about the labels that
-/// the recipients mean.
+/// Which passphrase and keyed recipients go together. The first two clauses hold whatever labels
+/// the boxes return; the last two are about the labels that the recipients mean.
 #[tactic(auto, using(crate::proofs::OwnLabels::own_recipients))]
 pub fn own_recipients()
     // A single recipient, even a caller's own, is not incompatible.
     ensures one { (meant : Labels) (index : Option ℕ)
         → IsIncompatible (meant ∷ []) index → index ≡ None }
-    // Of several that mean no names, such as keyed ones, none is incompatible, whatever their boxes
-    // return.
+    // Of recipients that mean an empty set of names, such as keyed recipients, none is
+    // incompatible, whatever their boxes return.
     ensures keyed { (n : ℕ) (index : Option ℕ)
         → IsIncompatible (replicate n (Labels.Names [])) index → index ≡ None }
     // If recipient 0 is a passphrase recipient, recipient 1 is incompatible, whatever it is.
@@ -102,8 +101,8 @@ pub fn own_recipients()
         ≡ Some (n + 1) }
 {}
 
-/// To identities that find its file key, a rewrapped file is what the old file was to those that
-/// found the key before: the same plaintext, or the same fault after the same plaintext.
+/// To identities that choose its file key, a rewrapped file has the verdict that the old file had
+/// for the old identities: the same plaintext, or the same fault after the same plaintext.
 #[tactic(auto, using(crate::proofs::RewrapLemmas::keeps))]
 pub fn rewrap_keeps()
     ensures { (limits : Bounds) (old new : Answering) (b c : Bytes) (is : Rewrapped limits old b c)
@@ -111,15 +110,14 @@ pub fn rewrap_keeps()
         → IsVerdict limits old b v ↔ IsVerdict limits new c v }
 {}
 
-/// Salvaging a file is whole exactly if decrypting it returns no fault, and then writes the same.
-/// If salvaging any other file returns Ok, what it writes begins with what decrypting writes before
-/// its fault.
+/// If salvaging a file returns Ok, what it writes begins with what decrypting the file writes. The
+/// result is whole exactly if decrypting returns no fault, and then both write the same.
 pub fn salvage_is_verdict()
     // On Ok, if the verdict is a plaintext without fault, that plaintext was written.
     ensures whole { (limits : Bounds) (answers : Answering) (b plain : Bytes) (sink : Moved)
         (lost : LossesMoved) (s : SalvagedFile) → IsVerdict limits answers b (whole plain)
         → SavesFile limits answers b sink lost (Ok s) → Took sink plain }
-    // Then no chunk is reported.
+    // On Ok, if the verdict is a plaintext without fault, no chunk was reported as lost.
     ensures none { (limits : Bounds) (answers : Answering) (b plain : Bytes) (sink : Moved)
         (lost : LossesMoved) (s : SalvagedFile) → IsVerdict limits answers b (whole plain)
         → SavesFile limits answers b sink lost (Ok s) → Reports lost [] }
@@ -128,8 +126,8 @@ pub fn salvage_is_verdict()
         (sink : Moved) (lost : LossesMoved) (s : SalvagedFile) → IsVerdict limits answers b v
         → SavesFile limits answers b sink lost (Ok s)
         → (is_whole_file s ≡ true) ↔ (v.fault ≡ None) }
-    // A fault before anything was written is the verdict's, or out of memory; or the header was
-    // changed, and salvaging went on under the key that fits.
+    // A fault other than a late one (`IsLate`) is the verdict's, or out of memory; or the verdict
+    // is `BadMac`, and salvaging went on under the key that the identities choose.
     ensures fault { (limits : Bounds) (answers : Answering) (b : Bytes) (v : Reading Fault)
         (sink : Moved) (lost : LossesMoved) (fault : Fault) → IsVerdict limits answers b v
         → SavesFile limits answers b sink lost (Err fault)

@@ -13,15 +13,15 @@
 //!
 //! - `encrypt` and `decrypt` take recipients and identities in boxes. `Fresh` is 32 random bytes,
 //!   which must never be used for two files.
-//! - `Encryptor` and `Decryptor` do the same in steps: the first takes the plaintext piece by
-//!   piece, the second returns it chunk by chunk.
+//! - `Encryptor` and `Decryptor` do the same in steps: a writer takes the plaintext piece by piece,
+//!   a reader returns it chunk by chunk.
 //! - `rewrap` gives a file another passphrase or key.
-//! - `open_ranges` reads any part of a plaintext.
+//! - `open_ranges` opens a file for reading any part of its plaintext.
 //! - `salvage` saves what it can of a damaged file.
 //! - `inspect` reads a header.
 //!
-//! One definition, the verdict (`specs/Verdict.antt`), says what bytes are to given identities. The
-//! contracts and the laws in `laws` cite it. docs/DESIGN.md, "Words", defines the terms.
+//! One definition, the verdict (`specs/Verdict.antt`), says what bytes are to given identities.
+//! Contracts, and laws in `laws`, cite it. docs/DESIGN.md, "Words", defines the terms.
 //!
 //! The texts of the errors are in `fault`, the limits of a header and of the number of chunks in
 //! `limits`, the chunk size in `age_stream` (`src/sizes.rt`, `specs/Sizes.antt`), the range of work
@@ -29,13 +29,13 @@
 //! factors in `age_args` (`src/options.rt`). CONTRIBUTING.md, "Where a change goes", says what
 //! else changes with each.
 //!
-//! *What a contract sees.* `Limits` is the record `Bounds`, a header `HeaderParts`, and `Fresh` its
-//! two lists of bytes. An `Encryptor` is the record `EncryptorState` of its header, fresh values
-//! and limits. `input_of`, `header_of`, `source_of` and `sink_of` give the parts of a `Decryptor`,
-//! a reader or a writer. Recipients and identities are their meanings, in order.
+//! *What a contract sees.* `Limits` is the record `Bounds`, a header `HeaderParts`, and `Fresh` a
+//! file key and a nonce. An `Encryptor` is the record `EncryptorState` of its header, fresh values
+//! and limits. Functions such as `input_of`, `source_of` and `sink_of` give the parts of a
+//! `Decryptor`, a reader or a writer. A list of recipients or identities is that of their meanings.
 //!
-//! Limits: those of `Limits`. A source is read to its end. What is written before an error is
-//! genuine but incomplete.
+//! Limits: those of `Limits`. `encrypt`, `decrypt`, `rewrap` and `salvage` read the source to its
+//! end unless they fail. What `decrypt` writes before an error is genuine but incomplete.
 #![tactic(auto)]
 
 mod at_source;

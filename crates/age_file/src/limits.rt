@@ -70,7 +70,7 @@ impl Limits {
     /// The maximum size of a header in bytes.
     pub fn max_header(&self) -> usize
         ensures value { result ≡ self.now.max_header }
-        // It is in the range that `new` accepts.
+        // Both limits are in the ranges that `new` accepts.
         ensures range { IsBounds self.now }
     {
         self.max_header
@@ -79,7 +79,7 @@ impl Limits {
     /// The maximum number of chunks of a payload.
     pub fn max_chunks(&self) -> u128
         ensures value { result ≡ self.now.max_chunks }
-        // It is in the range that `new` accepts.
+        // Both limits are in the ranges that `new` accepts.
         ensures range { IsBounds self.now }
     {
         self.max_chunks
@@ -90,7 +90,7 @@ impl Default for Limits {
     ghost is_default = { λ limits.
         limits ≡ record { max_header = default_max_header; max_chunks = most_chunks } };
 
-    /// A header of 65,536 bytes, and a payload of 2^88 chunks.
+    /// Allows a header of 65,536 bytes, and a payload of 2^88 chunks.
     fn default() -> Limits {
         Limits {
             max_header: DEFAULT_MAX_HEADER,

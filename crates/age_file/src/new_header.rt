@@ -20,15 +20,15 @@ use std::alloc::{AllocError, Global};
 /// Makes the header of a new file for these recipients, with its MAC under the file key.
 ///
 /// # Errors
-/// `Refused`, `IncompatibleRecipients`, `NoRecipients`, `MixedPassphrase` or `HeaderTooLarge`, the
-/// first that applies, as for `encrypt`. `OutOfMemory` if an allocation was refused.
+/// As for `encrypt`: `Refused`, `IncompatibleRecipients`, `NoRecipients`, `MixedPassphrase`,
+/// `HeaderTooLarge`. `OutOfMemory` if an allocation was refused or a recipient returned it.
 pub fn header_for(
     alloc: Global,
     recipients: &[Box<dyn Recipient>],
     key: &FileKey,
     limits: &Limits,
 ) -> Result<Header, Fault>
-    // It is the header that `encrypt` writes.
+    // Returns the header that `encrypt` writes.
     ensures ok { IfOk result (λ h. (h.mac ≡ header_mac key.now.0 h.stanzas)
         × ((text : Bytes) × IsHeading limits.now key.now
         (gathering_by recipients.now (λ r k. wraps r k) (λ r. the_labels r) key.now)
@@ -54,7 +54,7 @@ pub fn header_for(
     Ok(header)
 }
 
-/// The text of a header (C2SP `age.md`, "Header").
+/// The text of a header (C2SP `age.md`, "Header"), or an error if an allocation was refused.
 pub fn header_text(alloc: Global, header: &Header) -> Result<Vec<u8>, AllocError>
     ensures { IfOk result (λ text. Head header.now.stanzas header.now.mac text.items) }
 {
@@ -151,7 +151,7 @@ fn wrap_by(
     recipient.wrap(alloc, key)
 }
 
-/// Calls one recipient's `labels`. It is separate for the same reason.
+/// Calls one recipient's `labels`, in a function of its own for the same reason as `wrap_by`.
 fn labels_of(alloc: Global, recipient: &Box<dyn Recipient>) -> Result<Labels, AllocError>
     ensures { IfOk result (MayLabel (the_labels recipient.now)) }
 {

@@ -19,7 +19,7 @@ use age_stream::{RangeReader, ReadAt, Refused};
 use std::alloc::Global;
 use std::marker::Brand;
 
-/// A header, its source, and the offset of the first byte after it.
+/// A header, the source that it was read from, and the offset of the first byte after the header.
 struct HeaderAt<'a, D> {
     header: Header,
     dev: &'a mut D,
@@ -57,7 +57,7 @@ fn header_at<'a, D: ReadAt, K: Origin>(
     let mut source: AtSource<'a, D, K> = AtSource::new(dev);
     match inspect(alloc, &mut source, limits) {
         Ok(header) => {
-            // For the proof alone (docs/PROOFS.md, "How to read a clause"): it fits a u64.
+            // For the proof alone (docs/PROOFS.md, "How to read a clause"): the limit fits a u64.
             let _ = limits.max_header();
             let (dev, at) = source.into_parts();
             Ok(HeaderAt { header, dev, at })
@@ -90,19 +90,19 @@ pub fn open_ranges<'a, D: ReadAt>(
 ) -> Result<RangeReader<'a, D>, Refused<'a, D, Fault>>
     ensures same_reference { IfOk result
         (λ reader. reader.dev.ghost_name ≡ dev.entry.ghost_name) }
-    // The reader has the payload after the file's header, under the key that the identities choose,
-    // with its length. It keeps the last chunk; at most header, nonce and last piece were read.
-    // Even of a file, the header was read from byte 0 on, and the piece read last gave the last
-    // chunk under that key.
+    // The reader has the payload after the header, under the key that the identities choose, and
+    // ends where the source does. It keeps the last chunk; at most header, nonce and last piece
+    // were read. Even if the contents are not known, the header was read from byte 0 on, and the
+    // last piece, as it was read, opens to the last chunk under that key.
     ensures ranges { IfOk result (λ reader. StartsFileRanges D.bytes D.given D.failed D.gave
         D.found limits.now (answers_by identities.now (λ i s. meaning i s)) dev.old
         reader.dev.now (Ok reader.chunks)) }
     ensures handed_back { IfErr result
         (λ refused. (device_of refused).ghost_name ≡ dev.entry.ghost_name) }
-    // The fault is the first that applies: those of `decrypt` up to a truncated nonce, too many
-    // chunks, the last chunk's. A failed read, which is counted, or out of memory may come before.
-    // On a fault of the header or its key, and out of memory, at most as many bytes were read as a
-    // header may have. Even of a file, it is never a recipient's refusal or a failed write.
+    // The fault is the first that applies: those of `decrypt` up to `NonceTruncated`,
+    // `TooManyChunks`, the last piece's; or it is `Read`, which is counted, or `OutOfMemory`. On a
+    // fault of the header or its key, or on `OutOfMemory`, at most as many bytes were read as a
+    // header may have. The fault is never a recipient's or a write's, even if contents are unknown.
     ensures refuses { IfErr result (λ refused. StartsFileRanges D.bytes D.given D.failed D.gave
         D.found limits.now (answers_by identities.now (λ i s. meaning i s)) dev.old
         (device_of refused).now (Err (fault_of refused))) }

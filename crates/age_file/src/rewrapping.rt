@@ -28,8 +28,8 @@ use std::alloc::Global;
 ///   `HeaderTooLarge`, as for `encrypt`.
 ///
 /// On these, and on `OutOfMemory`, nothing was written. `Read` and `Write` if a device failed: a
-/// prefix of the new file was written. `TooManyChunks` if the source returns 2^105 bytes or more,
-/// which no payload has.
+/// prefix of the new file was written. `TooManyChunks` only if the source returns 2^105 bytes or
+/// more, which no payload has.
 pub fn rewrap<S: Source, W: Sink>(
     alloc: Global,
     input: &mut S,
@@ -41,15 +41,15 @@ pub fn rewrap<S: Source, W: Sink>(
     // On Ok the header of the new stanzas, with their MAC under the same file key, was written,
     // then every byte that followed the old header. The fault is the first that applies: for the
     // old header those of `decrypt` up to the MAC, for the new one those of `encrypt`; or out of
-    // memory. If a device failed, nothing or a prefix was written.
+    // memory. On `Read`, `Write` and `TooManyChunks` a prefix of this, or nothing, was written.
     ensures rewraps { Rewraps limits.now (answers_by identities.now (λ i s. meaning i s))
         (gathering_by recipients.now (λ r k. wraps r k) (λ r. the_labels r))
         (flow_by S.to_come S.gave input.old input.new) (move_by W.taken out.old out.new) result }
     ensures quiet { IsQuiet out.old out.new result }
     ensures reads { CountsIf is_read (S.failed input.old) (S.failed input.new) result }
     ensures writes { CountsIf is_write (W.failed out.old) (W.failed out.new) result }
-    // At most as many bytes were read as a header may have; on `Write` and `TooManyChunks` at most
-    // these, as many as were written, and 65,536. Nothing is said about `Read`.
+    // On `Write` and `TooManyChunks` at most `max_header` + 65,536 more bytes were read than were
+    // written; on any other fault except `Read` at most `max_header` bytes were read.
     ensures took { IfErr result (TookWhileRewrapping limits.now
         (flow_by S.to_come S.gave input.old input.new) (move_by W.taken out.old out.new)) }
 {
@@ -60,7 +60,7 @@ pub fn rewrap<S: Source, W: Sink>(
     let Ok(()) = write_all(out, text.as_slice()) else {
         return Err(Fault::Write);
     };
-    // After this first piece, each write begins at a page of the new file.
+    // After this first piece, each write begins at a multiple of the buffer's size in the new file.
     let first = BUFFER_SIZE - text.len() % BUFFER_SIZE;
     copy_all(input, out, buf.as_mut_slice(), first)
 }

@@ -27,8 +27,8 @@ pub struct SalvagedFile {
 }
 
 impl SalvagedFile {
-    /// Whether the header was not changed and the payload is whole: exactly then `decrypt` finds
-    /// no fault.
+    /// Whether the header's MAC is right and the payload is whole: exactly then `decrypt` finds no
+    /// fault.
     pub fn is_whole(&self) -> bool
         ensures { result ≡ is_whole_file self.now }
     {
@@ -37,9 +37,9 @@ impl SalvagedFile {
 }
 
 /// Saves what it can of a damaged file (C2SP `age.md`), which is all bytes left in the source.
-/// Writes, at its offset, the plaintext of every chunk that opens, and zeros in place of every
-/// chunk that does not, which it reports to `losses`. If a key fits but the header was changed, it
-/// goes on under that key, because each chunk has its own tag.
+/// Writes the plaintext of every chunk that opens, and zeros in place of every chunk that does not,
+/// so that each byte keeps its offset. Reports the lost chunks to `losses`. If a key fits but the
+/// header was changed, `salvage` goes on under that key, because each chunk has its own tag.
 ///
 /// Each chunk that was saved is genuine, and stands where it stood in its plaintext. The plaintext
 /// as a whole is genuine exactly if the result is whole (`SalvagedFile::is_whole`): exactly then
@@ -60,8 +60,8 @@ pub fn salvage<S: Source, W: Sink, L: Losses>(
     limits: &Limits,
 ) -> Result<SalvagedFile, Fault>
     // Judges the header and its key as `decrypt` does, and says whether the header's MAC is right.
-    // Then writes, at its offset, every chunk that opens and zeros in place of every chunk that
-    // does not, and reports each lost chunk, in order. On a fault only a beginning of this.
+    // Then writes every chunk that opens, and zeros in place of every chunk that does not, and
+    // reports each lost chunk, in order. On a fault a first part of this was written and reported.
     ensures salvages { SalvagesFile limits.now (answers_by identities.now (λ i s. meaning i s))
         (flow_by S.to_come S.gave input.old input.new) (move_by W.taken out.old out.new)
         (losses_by L.lost losses.old losses.new) result }
@@ -70,12 +70,12 @@ pub fn salvage<S: Source, W: Sink, L: Losses>(
     ensures quiet { IsQuiet out.old out.new result }
     ensures reads { CountsIf is_read (S.failed input.old) (S.failed input.new) result }
     ensures writes { CountsIf is_write (W.failed out.old) (W.failed out.new) result }
-    // On a fault at piece i, or of a write after 65,536 i bytes: at most the header, the nonce, the
-    // pieces up to and including piece i, and one more byte were read.
+    // On a fault at piece i, or on `Write` after i full chunks of output: at most the header, the
+    // nonce, the pieces up to and including piece i, and one more byte were read.
     ensures took { IfErr result (TookUpTo limits.now (flow_by S.to_come S.gave input.old input.new)
         (move_by W.taken out.old out.new)) }
-    // On a fault before the nonce is read, at most as many bytes were read as a header may have,
-    // unless memory was refused.
+    // On a fault of the header or its key except `Read` and `OutOfMemory`, at most as many bytes
+    // were read as a header may have.
     ensures front { IfErr result (λ fault. IsLate fault
         ⊎ ((fault ≡ Fault.NonceTruncated) ⊎ ((fault ≡ Fault.OutOfMemory)
         ⊎ GaveAtMost limits.now.max_header (flow_by S.to_come S.gave input.old input.new)))) }

@@ -32,12 +32,12 @@ pub fn unlock_header(
     // otherwise the first fault, or out of memory.
     ensures key { (result ≡ Err Fault.OutOfMemory)
         ⊎ (result ≡ header_key (answers_by identities.now (λ i s. meaning i s)) header.now) }
-    // The fault is not one of a device.
+    // The fault is neither `Read` nor `Write`.
     ensures no_device { IfErr result IsNoDeviceFault }
     // If a scrypt stanza is not alone, the fault is `MixedPassphrase`, and never `OutOfMemory`.
     ensures mixed { is_mixed header.now.stanzas ≡ true → result ≡ Err Fault.MixedPassphrase }
-    // Returns `OutOfMemory` only if an identity may run out, up to the one that decides, or if the
-    // identities choose a key.
+    // Returns `OutOfMemory` only if an identity may run out of memory and no identity before it
+    // decides, or if the identities choose a key.
     ensures memory { result ≡ Err Fault.OutOfMemory → MayLackMemory
         (answers_by identities.now (λ i s. meaning i s) header.now.stanzas)
         (map (λ i. may_run_out i header.now.stanzas) identities.now) }
@@ -94,7 +94,7 @@ pub fn is_mixed(stanzas: &[Stanza]) -> bool
     stanzas.len() > 1 && has_scrypt(stanzas)
 }
 
-/// Whether a stanza is of type `scrypt`.
+/// Whether one of the stanzas is of type `scrypt`.
 fn has_scrypt(stanzas: &[Stanza]) -> bool
     ensures { result ≡ list_any (λ s. is_scrypt s.args) stanzas.now }
 {

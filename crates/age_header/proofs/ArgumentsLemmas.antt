@@ -11,7 +11,7 @@ visible_ascii (c ∷ a) h (suc i) = visible_ascii a h.1 i
 abbrev pub spaced : List Bytes → Bytes
 spaced args = flat_map (λ a. 32 ∷ a) args
 
--- a line that spells some arguments, or none
+-- an argument line, without its LF, and a line that is not one
 abbrev pub SpellsArguments : Bytes → Type 0
 SpellsArguments text = (args : List Bytes) × AreArguments args × (line text ≡ argument_line args)
 
@@ -28,7 +28,7 @@ pub record Parsed (text : Bytes) (az : List Bytes) (rest : Bytes) : Type 0 where
 line_text : (text : Bytes) (bs : List Bytes) → line text ≡ argument_line bs → text ≡ codes "->" ++ spaced bs
 line_text text bs e = append_cancel_right text (codes "->" ++ spaced bs) (10 ∷ []) e
 
--- a run of visible characters ends where none follows
+-- a text begins with one longest run of visible characters
 visible_cut : (a b x y : Bytes) → AllByRecursion IsVisible a → AllByRecursion IsVisible b → NoVisible x → NoVisible y
     → a ++ x ≡ b ++ y → (a ≡ b) × (x ≡ y)
 visible_cut [] [] x y h k n m e = (refl, e)
@@ -60,7 +60,7 @@ no_arrow text none bs h e = none (spaced bs) (line_text text bs e)
 pub parsed_none : (text rest : Bytes) → text ≡ codes "->" ++ rest → Parsed text [] rest
 parsed_none text rest is = search (rules, append_cancel_left, line_text)
 
--- where the rest begins with no argument, the line has none
+-- a nonempty rest that does not begin with a space and an argument: not an argument line
 pub stuck_space : (text : Bytes) (az : List Bytes) (rest : Bytes) → Parsed text az rest → rest ≢ []
     → ((x : Bytes) → rest ≢ 32 ∷ x) → SpellsNone text
 stuck_space text az rest p some none bs h e = let (more, _, is) = p.only bs h e in here more is
@@ -96,7 +96,7 @@ parsed_more text az rest tail w r p space cut some seen end =
     here (a ∷ more) h e =
         let (_, rest) = visible_cut w a r _ seen h.0.1 end (spaced_ends more) cc in (more, h.1, rest)
 
--- the end of the line
+-- at the end of the line: with arguments it is an argument line, with none it is not
 pub parsed_all : (text : Bytes) (az : List Bytes) → Parsed text az [] → az ≢ []
     → AreArguments az × (line text ≡ argument_line az)
 parsed_all text az p some = ((some, p.each), ap line (rw append-nil at p.spelled))

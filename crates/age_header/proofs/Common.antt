@@ -1,4 +1,4 @@
--- The names that the proofs of this crate cite, passed on from one place.
+-- Names that the proofs of this crate cite, re-exported from one place.
 pub use Rattle.base64.proofs.EngineFacts.{front_bytes}
 pub use Rattle.base64.proofs.RoundTrip.{length-encode_symbols}
 pub use Rattle.base64.proofs.Tables.{all_below_at}

@@ -7,7 +7,7 @@ grew_none a past h = rw append-nil h
 grew_then : (a b c : Seen) (x y : Bytes) → Grew (flow a b) x → Grew (flow b c) y → Grew (flow a c) (x ++ y)
 grew_then a b c x y g h past p = rw append_assoc at (h (past ++ x) (g past p))
 
--- no read gives nothing
+-- without a read, a source returned no bytes
 pub gave_none : {a : Seen} → Gave (flow a a) []
 gave_none {a} = record { consumes = Consumes-nil a.to_come; grew = grew_none a }
 
@@ -21,21 +21,21 @@ pub gave_more : (a b c : Seen) (n m : ℕ) → GaveAtMost n (flow a b) → GaveA
     → GaveAtMost (n + m) (flow a c)
 gave_more a b c n m (x, first, low) (y, rest, few) = (x ++ y, gave_then first rest, omega (arith, length-append x y))
 
--- what holds whatever follows these bytes
+-- what holds of these bytes, whatever follows them, holds as `OfGiven`
 pub of_more : {a b : Seen} {x : Bytes} {P : Bytes → Type 0} → Gave (flow a b) x
     → ((d : Bytes) → (IsAtEnd b.to_come → d ≡ []) → P (x ++ d)) → OfGiven (flow a b) P
 of_more {x = x} g p = record { given = x; gave = g; holds = p }
 
--- what holds of any bytes
+-- what holds of any bytes holds as `OfGiven`
 pub of_any : {a b : Seen} {P : Bytes → Type 0} → GaveSome (flow a b) → ((b : Bytes) → P b) → OfGiven (flow a b) P
 of_any (x, g) p = of_more g (λ d end. p (x ++ d))
 
--- what holds of the bytes up to the end of the source
+-- what holds of the bytes up to the end of the source holds as `OfGiven`
 pub of_ended : {a b : Seen} {x : Bytes} {P : Bytes → Type 0} → Gave (flow a b) x → IsAtEnd b.to_come → P x
     → OfGiven (flow a b) P
 of_ended g end p = of_more g (λ d none. rw (none end, append-nil) p)
 
--- what holds of these bytes and those that follow them
+-- `OfGiven` of later bytes gives `OfGiven` of these bytes and the later ones, joined
 pub of_then : {a b c : Seen} {x : Bytes} {P Q : Bytes → Type 0} → Gave (flow a b) x → OfGiven (flow b c) Q
     → ((y : Bytes) → Q y → P (x ++ y)) → OfGiven (flow a c) P
 of_then {x = x} g h p =
@@ -45,7 +45,7 @@ pub of_map : {a b : Seen} {P Q : Bytes → Type 0} → OfGiven (flow a b) Q → 
     → OfGiven (flow a b) P
 of_map h p = of_more h.gave (λ d end. p (h.given ++ d) (h.holds d end))
 
--- what holds of the bytes that a source gave holds of its known bytes
+-- what holds of the bytes that a source gave, whatever follows them, holds of its known bytes
 all_known : (P : Bytes → Type 0) (given : Bytes) (told left : Known) → Consumes told left given
     → ((d : Bytes) → (IsAtEnd left → d ≡ []) → P (given ++ d)) → IfSome told P
 all_known a b c d e f = grind arith
@@ -64,7 +64,7 @@ of_told b = record { to_come = Some b; gave = λ past. ⊤ }
 pub gave_told : (b x n : Bytes) → b ≡ x ++ n → Gave (flow (of_told b) (of_told n)) x
 gave_told b x n is = record { consumes = is; grew = λ past h. tt }
 
--- of the whole text a prefix was written, and what is left stands after it
+-- a prefix of the whole text was written, and `left` is the rest of the text
 pub record Done (a b : Known) (whole left : Bytes) : Type 0 where
   pub prefix : Bytes
   pub took : Appends a b prefix
@@ -87,7 +87,7 @@ done_part {a} {b} c {whole} x y d e (m, took) =
     rw (d.is, e, take-append-add d.prefix, part) refl in
     (length d.prefix + n, rw cut (Appends-trans a b c d.prefix (take m x) d.took took))
 
--- what the last call did to what was left, it did to the whole
+-- after a last call, which writes the rest or on an Err part of it, the whole or a prefix was taken
 pub writes_last : {T E : Type 0} {a b : Known} (c : Known) (r : Result T E) {whole left : Bytes} → Done a b whole left
     → Writes (move_of b c) r left → Writes (move_of a c) r whole
 writes_last {a} {b} c (Ok x) {whole} {left} d h = rw d.is (Appends-trans a b c d.prefix left d.took h)

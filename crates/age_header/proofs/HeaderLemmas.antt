@@ -1,4 +1,4 @@
--- Stanzas and a MAC have one text, which has one reading, begins no other, and is the one that a writer writes.
+-- Stanzas and a MAC have one text, which has one reading and is not a prefix of another header.
 use Rattle.age_header.proofs.Common.{◌≡◌, ◌<◌, List, [], ◌∷◌, ◌++◌, length, length-append, take, drop, sym, ap, arith, ◌∙◌, append_assoc, flat_map, codes, inl, inr, ◌⊎◌, ℕ, refl, ◌-◌, take_at, append-nil, append_cancel_left, flat_map_more, AllByRecursion, concat, cases_lt, Bytes, StanzaParts, Head, IsStanza, AreStanzas, IsFullLine, argument_line, line, version_line, line_size, IsBase64, State, between, within, Step, Leads, IsLineText, lines_text, IsWhole, IsHeaderValue, signed_text, mac_end, drop_at, rules}
 use Rattle.age_header.proofs.Base64Lemmas.{IsBase64-only, IsBase64-injective, IsBase64-bytes}
 use Rattle.age_header.proofs.LinesLemmas.{All-append, lines_prefix, no_line, characters_text}
@@ -60,17 +60,17 @@ head_path {ss} {mac} k =
       mac_text = k.mac_text;
     }
 
--- an end line leads nowhere
+-- between stanzas, an end line leads nowhere
 no_step : (ss : List StanzaParts) (characters : Bytes) (s : State) → Step (between ss) (end_text characters) s → ⊥
 no_step ss characters (between ts) h = h
 no_step ss characters (within ts args body) h = search (rules)
 
--- a path that goes on after an end line is none
+-- no path continues after an end line
 pub past_end : (ls more : List Bytes) (ss : List StanzaParts) (p : Bytes) (t : State)
     → Leads (between []) ls (between ss) → Leads (between []) (ls ++ end_text p ∷ more) t → ⊥
 past_end ls more ss p t h k = search (rules, Leads-split, no_step, Leads-once)
 
--- the last of a list
+-- if ls and then e begin a list, e is its last element or stands before the last
 last_one : (ms : List Bytes) (f : Bytes) (ls : List Bytes) (e : Bytes) (more : List Bytes)
     → ms ++ f ∷ [] ≡ (ls ++ e ∷ []) ++ more
     → ((more ≡ []) × (ms ≡ ls) × (f ≡ e)) ⊎ ((rest : List Bytes) × (ms ≡ ls ++ e ∷ rest))
@@ -85,7 +85,7 @@ last_one (m ∷ ms) f (l ∷ ls) e more h =
       | inr w ↦ let same : ms ≡ ls ++ e ∷ w.0 = w.1 in inr (w.0, cc)
     ]
 
--- the same header, or none
+-- a header that begins with a header is that header
 pub reading : (ss ts : List StanzaParts) (m n h x : Bytes) → Head ss m h → Head ts n (h ++ x)
     → (x ≡ []) × (ss ≡ ts) × (m ≡ n)
 reading ss ts m n h x a b =
@@ -125,11 +125,11 @@ whole_stanzas : (ss : List StanzaParts) (text : Bytes) → AreStanzas ss text �
 whole_stanzas [] text h = tt
 whole_stanzas (s ∷ ss) text h = ((h.2.arguments, search (IsBase64-bytes, h.2.body)), whole_stanzas ss h.1 h.3)
 
--- what a header spells is a value that has a text
+-- the stanzas and the MAC of a header are a value that has a text
 pub head_value : (ss : List StanzaParts) (mac h : Bytes) → Head ss mac h → IsHeaderValue ss mac
 head_value ss mac h k = search (rules, whole_stanzas, IsBase64-bytes)
 
--- the header without its last 45 bytes
+-- `signed_text` is the header without its last 45 bytes
 pub signed_prefix : (ss : List StanzaParts) (mac h : Bytes) → Head ss mac h → signed_text ss ≡ take (length h - 45) h
 signed_prefix ss mac h k =
     let is = one_text ss mac h (signed_text ss ++ mac_end mac) k (header_text_is ss mac (head_value ss mac h k)) in

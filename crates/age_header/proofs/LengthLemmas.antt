@@ -1,4 +1,4 @@
--- How long the texts are that a writer writes.
+-- The lengths of the texts that a writer writes.
 use Rattle.age_header.proofs.Common.{◌≡◌, ℕ, zero, suc, ◌+◌, ◌-◌, ◌*◌, ◌/◌, ◌%◌, ◌≤◌, List, [], ◌∷◌, ◌++◌, length, length-append, length-take, length-drop, take, drop, min, refl, arith, flat_map, Bytes, StanzaParts, argument_line, line, version_line, version_size, line_size, bytes_of_a_line, mac_size, base64_of, body_lines, body_text, stanza_text, signed_text, mac_end, rules}
 use Rattle.age_header.proofs.TextLemmas.{signs_size}
 
@@ -46,7 +46,7 @@ pub header_size : (ss : List StanzaParts) (mac : Bytes) → length mac ≡ mac_s
 unfolding signed_text
 header_size ss mac n = omega (arith, length-append {A = ℕ}, mac_end_size mac n, length-version_line)
 
--- sums that stay at the largest number
+-- the saturating sum of two saturated numbers is the saturated sum of the numbers themselves
 pub sum_stays : (top r p q a b : ℕ) → p ≡ min a top → q ≡ min b top → r ≡ min (p + q) top → r ≡ min (a + b) top
 sum_stays top r p q a b e f g = omega arith
 

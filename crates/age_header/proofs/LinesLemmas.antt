@@ -10,7 +10,7 @@ line_split {a = a ∷ az} {b = b ∷ bs} {x} {y} ha hb e =
     let tail : az ++ 10 ∷ x ≡ bs ++ 10 ∷ y = cc in
     let (same, rest) = line_split {a = az} {b = bs} ha.1 hb.1 tail in (cc, rest)
 
--- the fewer lines at the start of one text are the first of the more
+-- of two lists of first lines of one text, the shorter is a prefix of the longer
 pub lines_prefix : (ks ls : List Bytes) (x y : Bytes) → AllByRecursion IsLineText ks → AllByRecursion IsLineText ls
     → lines_text ks ++ x ≡ lines_text ls ++ y → length ks ≤ length ls
     → (more : List Bytes) × (ls ≡ ks ++ more) × (x ≡ lines_text more ++ y)
@@ -21,7 +21,7 @@ lines_prefix (k ∷ ks) (l ∷ ls) x y hk hl e n =
     let (more, same, rest) = lines_prefix ks ls x y hk.1 hl.1 tail (omega arith) in
     (more, cc, rest)
 
--- where no LF follows, no whole line does
+-- a text without an LF has no whole line
 pub no_line : (more : List Bytes) (rest tail : Bytes) → IsLineText tail → tail ≡ lines_text more ++ rest → more ≡ []
 no_line [] rest tail h e = refl
 no_line (m ∷ more) rest tail h e = absurd (here m (lines_text more ++ rest) tail h (simp append_assoc at e))
@@ -69,7 +69,7 @@ characters_text (a ∷ b ∷ c ∷ bytes) (p ∷ q ∷ r ∷ s ∷ characters)
     search (rules, no_lf, characters_text bytes characters more)
 characters_text bytes characters h = absurd h
 
--- the lines whose join has no LF
+-- if lines, joined, have no LF, none of them has one
 pub lines_of : (full : List Bytes) → IsLineText (concat full) → AllByRecursion IsLineText full
 lines_of [] h = tt
 lines_of (f ∷ full) h =

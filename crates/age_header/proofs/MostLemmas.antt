@@ -8,12 +8,12 @@ pub within : {a b c : Seen} {x : Bytes} (k n : ℕ) → Gave (flow a b) x → Ga
     → GaveAtMost n (flow a c)
 within {x} k n g h low = (x ++ h.0, gave_then g h.1, omega (arith, length-append x h.0, h.2, low))
 
--- a line that was read under a limit
+-- for a line read under a limit, the source returned at most as many bytes as the limit
 pub line_most : (end : LineEnd) (text : Bytes) (k n : ℕ) (left : Option Bytes) (source : Flow)
     → Gave source (line_bytes text end) → IsEnd end (length text) k left → k ≤ n → GaveAtMost n source
 line_most a b c d e f g h i = grind (arith, length-append)
 
--- what follows a path, within the room that is left
+-- if what is read after a path is within the room left, all that is read is within the limit
 pub reached_within : {a mid : Seen} (new : Seen) {max room count : ℕ} {s : State}
     → Reached a mid max room count s → GaveAtMost room (flow mid new) → GaveAtMost max (flow a new)
 reached_within new {max} {room} p h =
@@ -29,7 +29,7 @@ pub reached_most : (e : HeaderFault) {a mid : Seen} (new : Seen) {max room count
 reached_most Read new p h = tt
 reached_most e new p h = reached_within new p h
 
--- a line behind a path
+-- a path and a line read after it are within the limit
 pub line_within : {a mid : Seen} (new : Seen) {max room count : ℕ} {s : State} (end : LineEnd) (text : Bytes)
     → Reached a mid max room count s → Gave (flow mid new) (line_bytes text end)
     → IsEnd end (length text) room new.to_come → GaveAtMost max (flow a new)

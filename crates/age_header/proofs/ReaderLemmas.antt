@@ -5,7 +5,7 @@ use Rattle.age_header.proofs.DeviceLemmas.{of_any}
 refused : (b : Bytes) (max : ℕ) (e : HeaderFault) → IsOutside e → Refuses b max e
 refused a b c d = grind arith
 
--- what a line's own fault says
+-- a failed read or refused memory, after any bytes, is a result that a reader may return
 pub outside : {a new : Seen} (max : ℕ) (e : HeaderFault) → IsOutside e → GaveSome (flow a new)
     → ReadsHeader (flow a new) max (Err e)
 outside max e h some = of_any some (λ b. refused b max e h)

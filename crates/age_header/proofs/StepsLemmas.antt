@@ -1,4 +1,4 @@
--- Lines that lead from state to state: joined, only one way, those of a header, and the text that a state stands for.
+-- The one state, if any, to which lines lead; the lines of a header; and the text of a state.
 use Rattle.age_header.proofs.Common.{◌≡◌, ◌*◌, List, [], ◌∷◌, ◌++◌, length, refl, sym, ap, append_assoc, ◌∙◌, ◌+◌, ◌<◌, line_size, arith, codes, flat_map, inl, inr, ◌≢◌, length-append, append-nil, append_cancel_left, append_cancel_right, flat_map_more, AllByRecursion, concat, Bytes, IsBase64, StanzaParts, AreArguments, IsFullLine, argument_line, line, IsStanza, AreStanzas, version_line, State, between, within, Step, Leads, IsLineText, lines_text, concat-append, flat_map-append, IsHeaderPrefix, IsOpenStanza, rules}
 use Rattle.age_header.proofs.ArgumentsLemmas.{args_once}
 use Rattle.age_header.proofs.Base64Lemmas.{IsBase64-append, IsBase64-split, IsBase64-injective}
@@ -44,13 +44,13 @@ pub no_base64 : (ss : List StanzaParts) (args : List Bytes) (body l : Bytes) (s 
 no_base64 ss args body l (between ts) none h = none h.0 h.2
 no_base64 ss args body l (within ts args' body') none h = none h.0 h.4
 
--- nor does one that is too long
+-- a line that is too long leads nowhere within a stanza
 pub too_long : (ss : List StanzaParts) (args : List Bytes) (body l : Bytes) (s : State) → line_size < length l
     → Step (within ss args body) l s → ⊥
 too_long ss args body l (between ts) long h = absurd (omega arith)
 too_long ss args body l (within ts args' body') long h = absurd (omega arith)
 
--- a line leads one way
+-- a line leads to at most one state
 pub Step-once : (s : State) (l : Bytes) (t u : State) → Step s l t → Step s l u → t ≡ u
 Step-once (between ss) l (within ts args body) (within us brgs cody) (e0, e1, a, is) (f0, f1, b, also) =
     let same : args ≡ brgs = args_once args brgs a.1 b.1
@@ -70,7 +70,7 @@ Leads-once s t u (l ∷ ls) h k =
     let m : h.0 ≡ k.0 = Step-once s l h.0 k.0 h.1 k.1 in
     Leads-once h.0 t u ls h.2 (rw m k.2)
 
--- a stanza is lines that lead from between to between
+-- the lines of a stanza lead from `between` to `between`
 stanza_lead : (ss : List StanzaParts) (s : StanzaParts) (text : Bytes) → IsStanza s text
     → (ls : List Bytes) × (text ≡ lines_text ls) × AllByRecursion IsLineText ls
     × Leads (between ss) ls (between (ss ++ s ∷ []))
@@ -93,7 +93,7 @@ stanza_lead ss s text h =
       ),
     )
 
--- the lines of stanzas, one after the other
+-- the lines of stanzas lead from `between` to `between`, with these stanzas added
 pub stanzas_lead : (pre ss : List StanzaParts) (text : Bytes) → AreStanzas ss text
     → (ls : List Bytes) × (text ≡ lines_text ls) × AllByRecursion IsLineText ls
     × Leads (between pre) ls (between (pre ++ ss))
@@ -108,7 +108,7 @@ stanzas_lead pre (s ∷ ss) text (x, y, one, more, is) =
           (rw (append_assoc pre (s ∷ []) ss) at on),
     )
 
--- the lines of an unfinished stanza
+-- the lines of an incomplete stanza lead from `between` to some state
 open_lead : (pre : List StanzaParts) (text : Bytes) → IsOpenStanza text
     → (ls : List Bytes) × (s : State) × (text ≡ lines_text ls) × AllByRecursion IsLineText ls × Leads (between pre) ls s
 open_lead pre text h =
@@ -135,7 +135,7 @@ pub record Path (text : Bytes) : Type 0 where
   pub each : AllByRecursion IsLineText lines
   pub leads : Leads (between []) lines state
 
--- every prefix of a header is such a path
+-- every text that is `IsHeaderPrefix` is such a path
 pub prefix_path : {text : Bytes} → IsHeaderPrefix text → Path text
 prefix_path h =
     let (ls, whole, each, leads) = stanzas_lead [] h.stanzas h.whole h.stanza_text in
@@ -211,7 +211,7 @@ step_spells (within ss args body) l (between ts) text h (more, short, is, stanza
     rw (stanzas, text_is) (stanzas_more ss h.whole h.stanza_text one)
 step_spells s l t text h k = absurd assumption
 
--- what a state stands for is a prefix of a header
+-- the text of a state, after the version line, is a prefix of a header
 pub spells_prefix : (s : State) (text : Bytes) → Spells s text → IsHeaderPrefix (version_line ++ text)
 spells_prefix (between ss) text h = search (rules, append-nil)
 spells_prefix (within ss args body) text h = grind (arith, append_assoc h.whole (argument_line args) (flat_map line h.full), append_assoc version_line h.whole (argument_line args ++ flat_map line h.full))

@@ -2,7 +2,7 @@
 use Rattle.age_header.proofs.Common.{◌≡◌, ℕ, zero, suc, ◌+◌, ◌*◌, ◌/◌, ◌<◌, ◌≤◌, List, [], ◌∷◌, ◌++◌, length, length-take, length-drop, get_or, take, drop, take-append-drop, map, refl, sym, ap, arith, append_assoc, ◌∙◌, codes, flat_map, take_at, concat, AllByRecursion, encoded_size_of, GeneralPurpose, Bytes, IsBase64, alphabet, base64_of, StanzaParts, Head, IsStanza, AreStanzas, IsFullLine, argument_line, line, line_size, bytes_of_a_line, IsWhole, IsHeaderValue, body_lines, body_text, stanza_text, signed_text, mac_end, at_drop_more, flat_map-map, front_bytes, get_or-drop, length-encode_symbols, IsBytes, IsEncodedOver, IsPlain, common_steps, rules}
 use Rattle.age_header.proofs.Base64Lemmas.{IsBase64-encode, encode_of_unpadded, IsBase64-append}
 
--- what the engine wrote into a buffer
+-- what the engine wrote into a buffer is the base64 of the bytes
 pub encoded : {e : GeneralPurpose} (m old : Bytes) {new : Bytes} {len : ℕ} → IsPlain e → IsEncodedOver e m old new
     → len ≡ encoded_size_of e (length m)
     → take len new ≡ base64_of m

@@ -1,5 +1,5 @@
 -- The MAC of a header written by the program `age` (tests/data/passphrase.age), computed from the
--- definitions: with a wrong label, or another layout of a header, this line does not check.
+-- definitions: with a wrong label, or another layout of a header, the proof at the end fails.
 use Rattle.std.proofs.Common.{◌≡◌, ◌∷◌, [], refl}
 use Rattle.std.specs.Prelude.{List, codes}
 use Rattle.sha2.specs.Sha256.{sha256, digest_bytes, hash_after, compress, rounds, schedule, first_words}

@@ -10,7 +10,7 @@ line_open : (cap : Bytes) → IsLineText cap → IsUndecided cap
 line_open cap text [] d = both d.decided (inl refl) no_empty
 line_open cap text (k ∷ ks) d = let none = no_line (k ∷ ks) d.lines.rest cap text d.lines.prefix in cc
 
--- what begins the version line, with no LF, begins its text
+-- a prefix of a line, if it has no LF, is a prefix of the line's text
 prefix_text : (v f d : Bytes) → IsLineText f → v ++ 10 ∷ [] ≡ f ++ d → (x : Bytes) × (v ≡ f ++ x)
 prefix_text v [] d h e = (v, refl)
 prefix_text [] (c ∷ f) d h e = absurd (h.0 cc)
@@ -20,7 +20,7 @@ version_is_line : version_line ≡ version_text ++ 10 ∷ []
 unfolding version_line version_text
 version_is_line = refl
 
--- the first 22 bytes under the limit, where a first line of these was read
+-- the first 22 of the first max bytes are the first `min max 22` bytes
 pub cap_prefix : (b : Bytes) (max : ℕ) → take version_size (take max b) ≡ take (min max version_size) b
 cap_prefix b max = elim (cases_lt max version_size) [
   | inl low ↦
@@ -31,7 +31,7 @@ cap_prefix b max = elim (cases_lt max version_size) [
       rw e (take-take version_size max b high)
 ]
 
--- so many first bytes of a text that is age begin the version line
+-- the first bytes of a text that begins as age, at most `min max 22`, begin the version line
 begins_version : (x n : Bytes) (max : ℕ) → length x ≤ min max version_size → BeginsAsAge (take max (x ++ n))
     → (d : Bytes) × (version_line ≡ x ++ d)
 begins_version x n max low age =
@@ -46,13 +46,13 @@ not_age : (first n : Bytes) (max : ℕ) → IsLineText first → length first �
     → ((x : Bytes) → version_text ≢ first ++ x) → BeginsAsAge (take max (first ++ n)) → ⊥
 not_age first n max text low none age = search (rules, begins_version, prefix_text, version_is_line)
 
--- no prefix of the version line's text
+-- a first line that is not a prefix of the version line's text is refused with `NotAge`
 pub no_prefix : {a new : Seen} (first : Bytes) (end : LineEnd) (max : ℕ) → Gave (flow a new) (line_bytes first end)
     → IsLineText first → IsEnd end (length first) (min max version_size) new.to_come
     → ((x : Bytes) → version_text ≢ first ++ x) → ReadsHeader (flow a new) max (Err NotAge)
 no_prefix a b c d e f g = grind (arith, of_more, append_assoc, not_age)
 
--- a line that ends too early
+-- a whole first line that is a proper prefix of the version line's text is refused with `NotAge`
 pub short_line : {a new : Seen} (first : Bytes) {rest : Bytes} (max : ℕ) → Gave (flow a new) (line first)
     → IsLineText first → length first < min max version_size → version_text ≡ first ++ rest → rest ≢ []
     → ReadsHeader (flow a new) max (Err NotAge)
@@ -67,13 +67,13 @@ prefix_size : (first rest : Bytes) → version_text ≡ first ++ rest → length
 unfolding version_text
 prefix_size first rest is = omega (arith, ap length is, length-append first rest)
 
--- a first line that goes on decides nothing
+-- a prefix of the version line's text begins as age and decides nothing
 first_open : (first rest cap : Bytes) → cap ≡ first → IsLineText first → version_text ≡ first ++ rest
     → BeginsAsAge cap × IsUndecided cap
 first_open first rest cap same text is =
     search (rules, version_is_line, append_assoc, prefix_size, take_all, take_at, line_open)
 
--- at the end of the input, or under the limit
+-- a prefix of the version line's text: `Truncated` at the end of the input, `TooLarge` at the limit
 pub short_input : {a new : Seen} {first : Bytes} (rest : Bytes) {max : ℕ} → Gave (flow a new) first → IsLineText first
     → (length first < min max version_size) × IsAtEnd new.to_come → version_text ≡ first ++ rest
     → ReadsHeader (flow a new) max (Err Truncated)
@@ -85,7 +85,7 @@ pub short_room : {a new : Seen} {first : Bytes} (rest : Bytes) {max : ℕ} → G
     → length first ≡ min max version_size → version_text ≡ first ++ rest → ReadsHeader (flow a new) max (Err TooLarge)
 short_room {first} rest {max} took text full is = grind (arith, of_more, prefix_size, take_at, first_open, length-append)
 
--- the version line
+-- a first line with the whole text of the version line is that line, and the limit has room for it
 pub version_read : {a new : Seen} (first : Bytes) {rest : Bytes} {max : ℕ} → Gave (flow a new) (line first)
     → length first < min max version_size
     → version_text ≡ first ++ rest → rest ≡ [] → (version_size ≤ max) × Gave (flow a new) version_line

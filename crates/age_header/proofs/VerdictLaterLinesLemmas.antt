@@ -8,7 +8,7 @@ use Rattle.age_header.proofs.StepsLemmas.{Leads-once, Leads-split, Leads-append,
 use Rattle.age_header.proofs.LinesLemmas.{same_lines}
 use Rattle.age_header.proofs.LengthLemmas.{length-version_line}
 
--- what a line at the end of the input, or under the limit, says of a path
+-- an unfinished line after a path: `Truncated` at the end of the input, `TooLarge` at the limit
 pub path_truncated : {a mid new : Seen} {max room count : ℕ} {s : State} {text : Bytes}
     → Reached a mid max room count s → Gave (flow mid new) text → IsLineText text
     → (length text < room) × IsAtEnd new.to_come → ReadsHeader (flow a new) max (Err Truncated)
@@ -43,7 +43,7 @@ pub record IsEndLine (s : State) (l : Bytes) : Type 0 where
   pub spelled : l ≡ codes "--- " ++ characters
   pub is : IsBase64 mac characters
 
--- what an end line says of a path
+-- a path and an end line are a header
 pub path_header : {a mid new : Seen} {max room count : ℕ} {s : State} {text : Bytes}
     → Reached a mid max room count s → Gave (flow mid new) (line text) → IsLineText text → length text < room
     → (e : IsEndLine s text) → ReadsHeader (flow a new) max (Ok (record { stanzas = e.stanzas; mac = e.mac }))
@@ -63,7 +63,7 @@ path_header {max} {text} p took is low e =
     let whole = sym (append-nil all) in
     (all, q.read, found_begins all max _ (record { rest = []; head = head; prefix = whole; fits = path_fits q }))
 
--- a line that leads nowhere and is not an end line
+-- after a path, a line that leads nowhere and is not an end line is a bad line
 pub path_bad : {a mid new : Seen} {max room count : ℕ} {s : State} {text : Bytes}
     → Reached a mid max room count s → Gave (flow mid new) (line text) → IsLineText text → length text < room
     → (IsEndLine s text → ⊥) → ((t : State) → Step s text t → ⊥)
@@ -103,7 +103,7 @@ path_bad {max} {s} {text} p took is low no_end no_step =
         Leads-split (between []) q.state p.ls (text ∷ []) (rw (← lines) at q.leads) in
         no_step next (rw (Leads-once (between []) mid s p.ls there p.leads) at step)
 
--- a line that leads on
+-- a path and a line that leads on are a path
 pub path_more : {a mid new : Seen} {max room count : ℕ} {s t : State} (text : Bytes)
     → Reached a mid max room count s → Gave (flow mid new) (line text) → IsLineText text → length text < room
     → Step s text t → Reached a new max (room - (length text + 1)) (count + 1) t
@@ -119,7 +119,7 @@ path_start wide took = record {
   leads = refl;
 }
 
--- as many lines as bytes at most
+-- a text has at most as many lines as bytes
 lines_le : (ls : List Bytes) → length ls ≤ length (lines_text ls)
 lines_le [] = omega arith
 lines_le (l ∷ ls) = omega (arith, lines_le ls, length-append (line l) (lines_text ls), length-append l (10 ∷ []))

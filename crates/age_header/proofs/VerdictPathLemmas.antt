@@ -30,7 +30,7 @@ leads_spell s t (l ∷ ls) text h k =
 leads_viable : (ls : List Bytes) (s : State) → Leads (between []) ls s → IsViable (version_line ++ lines_text ls)
 leads_viable ls s h = inr (spells_prefix s (lines_text ls) (leads_spell (between []) s ls [] h refl))
 
--- and no header
+-- lines that lead somewhere are not a header
 leads_no_header : (ls : List Bytes) (s : State) → AllByRecursion IsLineText ls → Leads (between []) ls s
     → IsHeader (version_line ++ lines_text ls) → ⊥
 leads_no_header ls s each h (stanzas, mac, head) =
@@ -59,7 +59,7 @@ line_read text p took is low = record {
   lines = omega (arith, p.lines, length-append p.ls (text ∷ []));
 }
 
--- and where they lead
+-- the lines read, and the state to which they lead
 pub record Reached (a mid : Seen) (max room count : ℕ) (s : State) : Type 0 where
   pub so_far : LinesRead a mid max room count
   pub open so_far use *
@@ -70,7 +70,7 @@ pub no_empty : IsHeader [] → ⊥
 unfolding version_line
 no_empty (stanzas, mac, head) = let is = head.spelled in cc
 
--- fewer lines of a path are viable and no header
+-- any number of first lines of a path, even all, are viable and not a header
 path_first : (ls : List Bytes) (s : State) (cap tail : Bytes) → AllByRecursion IsLineText ls
     → Leads (between []) ls s → cap ≡ (version_line ++ lines_text ls) ++ tail
     → (ks : List Bytes) → AreLines ks cap → length ks ≤ length ls + 1
@@ -114,7 +114,7 @@ path_open ls s cap tail each leads is text =
 pub take_past : (x n : Bytes) (m : ℕ) → length x ≤ m → take m (x ++ n) ≡ x ++ take (m - length x) n
 take_past x n m h = grind (arith, take-append-add x n (m - length x))
 
--- one more whole line: where the lines through it are a header or not viable, they decide
+-- if a path with one more whole line is a header or not viable, these lines decide
 pub path_decides : (ls : List Bytes) (s : State) (text b n : Bytes) (max : ℕ)
     → AllByRecursion IsLineText (ls ++ text ∷ []) → Leads (between []) ls s
     → b ≡ (version_line ++ lines_text (ls ++ text ∷ [])) ++ n

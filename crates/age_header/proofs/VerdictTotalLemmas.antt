@@ -173,7 +173,7 @@ path_verdict (suc n) b m max room count s low p text Lf rest is took ends =
       ]
     ]
 
--- a first line that the version line begins with
+-- the verdict on a text whose first line begins the version line
 begun_verdict : (b : Bytes) (max : ℕ) (text : Bytes) (end : LineEnd) (rest behind : Bytes) → IsLineText text
     → b ≡ line_bytes text end ++ rest → IsEnd end (length text) (min max version_size) (Some rest)
     → version_text ≡ text ++ behind → HasVerdict b max

@@ -1,4 +1,4 @@
--- One text has one header verdict, and it is a header exactly where that header begins the text within the limit.
+-- A text has one header verdict: a header exactly if the text begins with it and it fits the limit.
 use Rattle.age_header.proofs.Common.{inl, ◌≡◌, ℕ, ◌<◌, List, [], ◌∷◌, ◌++◌, length, length-append, length-take, take, drop, take-append-drop, refl, sym, ap, arith, append_assoc, ◌∙◌, Ok, Err, append-nil, nil_from_length, cases_order, Result, Bytes, HeaderFault, NotAge, BadLine, Truncated, TooLarge, version_line, between, lines_text, AreLines, Decides, Found, HeaderVerdict, Finds, IsFault, BeginsWith, rules}
 use Rattle.age_header.proofs.LinesLemmas.{lines_prefix}
 use Rattle.age_header.proofs.HeaderLemmas.{head_path, end_text, one_parts}
@@ -8,11 +8,11 @@ use Rattle.age_header.proofs.VerdictPathLemmas.{version_text, path_decides, whol
 not_fewer : (b : Bytes) (ks ls : List Bytes) → Decides ks b → Decides ls b → length ks < length ls → ⊥
 not_fewer b ks ls d e fewer = let (viable, no_header) = e.first ks d.lines fewer in both d.decided viable no_header
 
--- as many lines of one text are the same lines
+-- two equally long lists of first lines of one text are equal
 as_many : (b : Bytes) (ks ls : List Bytes) → AreLines ks b → AreLines ls b → length ks ≡ length ls → ks ≡ ls
 as_many b ks ls d e size = search (rules, lines_prefix, nil_from_length, length-append, append-nil)
 
--- one list of lines decides
+-- at most one list of lines decides
 decides_once : (b : Bytes) (ks ls : List Bytes) → Decides ks b → Decides ls b → ks ≡ ls
 decides_once b ks ls d e = search (rules, cases_order, as_many, not_fewer)
 

@@ -47,7 +47,7 @@ IsBase64 _ _ = ⊥
 unfoldable pub base64_of : Bytes → Bytes
 base64_of bytes = encode_symbols alphabet bytes
 
--- the value of a character
+-- the value of a character of the alphabet, and 64 for any other
 unfoldable pub value_of : ℕ → ℕ
 value_of c = position_or_len (λ b. b == c) alphabet
 

@@ -17,12 +17,12 @@ pub record Moved : Type 0 where
 abbrev pub move_of : (before after : Known) → Moved
 move_of before after = record { before = before; after = after }
 
--- the same by the ghost member that has the bytes
+-- the known bytes of a device before and after a call, by a ghost member such as `taken`
 abbrev pub move_by : {D : Type 0} (told : D → Known) (old new : D) → Moved
 move_by told old new = move_of (told old) (told new)
 
--- a source at one moment: the bytes to come, if they are known, and a property of the bytes that it
--- may have returned so far
+-- a source at one moment: the bytes to come, if they are known, and the predicate that holds of the
+-- bytes that it may have returned so far
 pub record Seen : Type 1 where
   pub to_come : Known
   pub gave : Bytes → Type 0
@@ -47,7 +47,7 @@ flow_by to_come gave old new = flow (seen_by to_come gave old) (seen_by to_come 
 abbrev pub Grew : (source : Flow) (bytes : Bytes) → Type 0
 Grew source bytes = (past : Bytes) → source.before.gave past → source.after.gave (past ++ bytes)
 
--- the source returned these bytes, which are the next of the known ones
+-- the source returned these bytes, which are its next ones if the bytes to come are known
 pub record Gave (source : Flow) (bytes : Bytes) : Type 0 where
   pub consumes : Consumes source.before.to_come source.after.to_come bytes
   pub grew : Grew source bytes
@@ -81,7 +81,7 @@ CountsIf is_own old new r = MatchResult r (λ _. new ≡ old) (CountsFaultIf is_
 abbrev pub Counts : {A E : Type 0} (old new : ℕ) (r : Result A E) → Type 0
 Counts old new r = CountsIf (λ _. true) old new r
 
--- Ok(n) returns the next n bytes, and 0 for a nonempty buffer only at the end; an Err returns none
+-- on Ok(n) the source returned n bytes, 0 only at its end or for an empty buffer; on an Err, none
 abbrev pub Gives : {E : Type 0} (source : Flow) (r : Result ℕ E) (buf : Bytes) → Type 0
 Gives source r buf =
     MatchResult r
@@ -101,8 +101,8 @@ WritesPart sink text = (n : ℕ) × Took sink (take n text)
 abbrev pub Writes : {A E : Type 0} (sink : Moved) (r : Result A E) (text : Bytes) → Type 0
 Writes sink r text = MatchResult r (λ _. Took sink text) (λ _. WritesPart sink text)
 
--- P holds of the bytes that the source returned, whatever follows them. Nothing does at the end, nor
--- if the bytes to come are unknown.
+-- P holds of the bytes that the source returned, followed by any bytes; at the end of the source,
+-- or if its bytes to come are unknown, followed by none.
 pub record OfGiven (source : Flow) (P : Bytes → Type 0) : Type 0 where
   pub given : Bytes
   pub gave : Gave source given

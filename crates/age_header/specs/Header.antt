@@ -46,7 +46,7 @@ IsArgument a = (a ≢ []) × AllByRecursion IsVisible a
 abbrev pub AreArguments : List Bytes → Type 0
 AreArguments args = (args ≢ []) × AllByRecursion IsArgument args
 
--- `->`, and each argument after a space
+-- `->`, each argument after a space, and an LF
 abbrev pub argument_line : List Bytes → Bytes
 argument_line args = line (codes "->" ++ flat_map (λ a. 32 ∷ a) args)
 
@@ -55,7 +55,7 @@ abbrev pub IsFullLine : Bytes → Type 0
 IsFullLine characters = length characters ≡ line_size
 
 -- The text of a stanza: its argument line, full lines, and a last line of fewer than 64 characters.
--- The characters of these lines, concatenated, are the base64 of the body.
+-- The full lines and the last line, concatenated without their LFs, are the base64 of the body.
 pub record IsStanza (s : StanzaParts) (text : Bytes) : Type 0 where
   pub full : List Bytes
   pub last : Bytes

@@ -14,7 +14,7 @@ line_bytes text Lf = text ++ 10 ∷ []
 line_bytes text Input = text
 line_bytes text Room = text
 
--- the end of a line of at most `max_len` bytes, and the bytes still to come
+-- a line of len bytes has this end: max_len for `Room`, else fewer; no bytes to come for `Input`
 abbrev pub IsEnd : (end : LineEnd) (len max_len : ℕ) (left : Option Bytes) → Type 0
 IsEnd Lf len max_len left = len < max_len
 IsEnd Input len max_len left = (len < max_len) × IsAtEnd left

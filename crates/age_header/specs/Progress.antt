@@ -11,6 +11,6 @@ abbrev state_with : (ss : List StanzaParts) (begun : Option StanzaParts) → Sta
 state_with ss None = between ss
 state_with ss (Some s) = within ss s.args s.body
 
--- the state of a progress
+-- the state that contracts see in place of a `Progress`
 abbrev pub state_of : Inside → State
 state_of p = state_with p.stanzas.items p.open

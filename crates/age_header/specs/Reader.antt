@@ -1,4 +1,4 @@
--- The result of a reader of headers.
+-- The state of a reader of headers between two calls, and the result of its call.
 use Rattle.std.specs.Prelude.{ℕ, ⊤, Bool, true, false}
 use Rattle.std.specs.declared.option.Option.{Option}
 use Rattle.std.specs.declared.option.Option.TheVariants.{None, Some}
@@ -11,7 +11,7 @@ use Rattle.age_header.specs.declared.fault.HeaderFault.TheVariants.{Read, Memory
 use Rattle.age_header.specs.Header.{HeaderParts}
 use Rattle.age_header.specs.Verdict.{HeaderVerdict, IsFault}
 
--- b is refused with its fault; or memory was refused or a read failed, which says nothing about b
+-- b is refused with its fault; or the fault is `Memory` or `Read`, which says nothing about b
 abbrev pub Refuses : (b : Bytes) (max : ℕ) (fault : HeaderFault) → Type 0
 Refuses b max Read = ⊤
 Refuses b max Memory = ⊤
@@ -22,8 +22,8 @@ abbrev pub ReadAtMost : (n : ℕ) (source : Flow) (fault : HeaderFault) → Type
 ReadAtMost n source Read = ⊤
 ReadAtMost n source fault = GaveAtMost n source
 
--- The result of a reader under a limit of max bytes: the header verdict on the bytes read from the
--- source. If that is a header, they are exactly the header's, and it is found whatever follows.
+-- The result of a reader under a limit of max bytes. On Ok the source returned exactly the text of
+-- this header. On an Err `Refuses` holds of the bytes returned and any that may follow (`OfGiven`).
 abbrev pub ReadsHeader : (source : Flow) (max : ℕ) (r : Result HeaderParts HeaderFault) → Type 0
 ReadsHeader source max (Ok h) =
     (text : Bytes) × Gave source text
@@ -35,7 +35,7 @@ abbrev pub is_read : HeaderFault → Bool
 is_read Read = true
 is_read _ = false
 
--- a reader between calls: its limit, and the fault that it keeps
+-- a reader between calls: its limit, and the fault that it keeps, if there is one
 pub record ReaderState : Type 0 where
   pub max : ℕ
   pub fault : Option HeaderFault

@@ -4,8 +4,7 @@ use Rattle.age_kdf.specs.Bytes.{Bytes}
 use Rattle.age_header.specs.Base64.{IsBase64}
 use Rattle.age_header.specs.Header.{StanzaParts, AreArguments, IsFullLine, argument_line, line, line_size}
 
--- between two stanzas, or within one: the complete stanzas, and the arguments of the open one with
--- the bytes of its body so far
+-- the complete stanzas and, within an incomplete stanza, its arguments and the body's bytes so far
 pub data State : Type 0 where
   between : List StanzaParts → State
   within : List StanzaParts → List Bytes → Bytes → State
@@ -22,7 +21,7 @@ Step (within ss args body) l (between ts) =
     (more : Bytes) × (length l < line_size) × IsBase64 more l
     × (ts ≡ ss ++ record { args = args; body = body ++ more } ∷ [])
 
--- these lines lead from one state to another
+-- these lines, in order, lead from the state s to t
 abbrev pub Leads : (s : State) (lines : List Bytes) (t : State) → Type 0
 Leads s [] t = s ≡ t
 Leads s (l ∷ ls) t = (m : State) × Step s l m × Leads m ls t

@@ -1,4 +1,4 @@
--- The text of a header, part by part.
+-- The text of a header, part by part, its base64 engine, and the stanzas and MACs that have a text.
 use Rattle.std.specs.Prelude.{◌≡◌, ◌≢◌, ℕ, zero, suc, ◌/◌, false, List, [], ◌∷◌, ◌++◌, length, take, drop, codes, flat_map}
 use Rattle.std.specs.List.{AllByRecursion}
 use Rattle.age_kdf.specs.Bytes.{Bytes}
@@ -7,7 +7,7 @@ use Rattle.base64.specs.declared.engine.general_purpose.GeneralPurpose.{GeneralP
 use Rattle.age_header.specs.Base64.{alphabet, base64_of}
 use Rattle.age_header.specs.Header.{StanzaParts, AreArguments, argument_line, line, version_line, bytes_of_a_line, mac_size}
 
--- an engine for this alphabet, without padding, that decodes canonical text only
+-- an engine for the standard alphabet, without padding, that decodes canonical text only
 pub record IsPlain (e : GeneralPurpose) : Type 0 where
   pub strict : IsStrict e
   pub unpadded : config_padding (engine_config e) ≡ false

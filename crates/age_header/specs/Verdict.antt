@@ -29,7 +29,7 @@ pub record IsHeaderPrefix (text : Bytes) : Type 0 where
   pub rest_text : (rest ≡ []) ⊎ IsOpenStanza rest
   pub spelled : text ≡ version_line ++ whole ++ rest
 
--- complete lines that a header may begin with, or nothing yet
+-- complete lines, perhaps none, that more lines could make a header
 abbrev pub IsViable : Bytes → Type 0
 IsViable text = (text ≡ []) ⊎ IsHeaderPrefix text
 
@@ -45,15 +45,14 @@ IsLineText text = AllByRecursion (λ c. c ≢ 10) text
 abbrev pub lines_text : List Bytes → Bytes
 lines_text ls = flat_map line ls
 
--- The first complete lines of b. They are a list, and not a number of LFs, so that "fewer lines"
--- needs no arithmetic.
+-- the first complete lines of b, each without its LF
 pub record AreLines (ls : List Bytes) (b : Bytes) : Type 0 where
   pub rest : Bytes
   pub each : AllByRecursion IsLineText ls
   pub prefix : b ≡ lines_text ls ++ rest
 
--- The first lines of b, as few as are a header or not viable: any fewer are viable and not a
--- header.
+-- The fewest first lines of b that are a header or not viable: any fewer first lines are viable and
+-- not a header.
 pub record Decides (ls : List Bytes) (b : Bytes) : Type 0 where
   pub lines : AreLines ls b
   pub decided : IsHeader (lines_text ls) ⊎ (IsViable (lines_text ls) → ⊥)

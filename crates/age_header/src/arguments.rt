@@ -84,7 +84,7 @@ impl Arguments {
     }
 }
 
-/// The text after this prefix, if it begins with the prefix.
+/// The rest of the text after this prefix, or `None` if the text does not begin with the prefix.
 pub(crate) fn strip_prefix<'a>(text: &'a [u8], prefix: &[u8]) -> Option<&'a [u8]>
     ensures { MatchOption result ((x : Bytes) → text.now ≢ prefix.now ++ x)
         (λ x. text.now ≡ prefix.now ++ x.now) }

@@ -12,11 +12,11 @@ use base64::alphabet::Alphabet;
 use base64::engine::general_purpose::{GeneralPurpose, NO_PAD};
 use std::alloc::{AllocError, Global};
 
-// spelled out because a contract has to state it: the crate only tests its own alphabets
+// spelled out because the contract of `engine` has to state these characters
 const ALPHABET: &str = "ABCDEFGHIJKLMNOPQRSTUVWXYZabcdefghijklmnopqrstuvwxyz0123456789+/";
 
-/// Makes the engine for canonical base64 without padding. The engine holds a table: make one for
-/// many lines.
+/// Makes the engine for canonical base64 without padding. The engine holds a table, so make one
+/// engine for many lines.
 pub fn engine() -> GeneralPurpose
     // The engine has the standard alphabet and no padding, and decodes canonical text only.
     ensures { IsPlain result }
@@ -27,18 +27,18 @@ pub fn engine() -> GeneralPurpose
     GeneralPurpose::new(&alphabet, NO_PAD)
 }
 
-/// Decodes base64. Returns the bytes whose base64 the characters are, or `None` if there are none.
+/// Returns the bytes whose base64 the characters are, or `None` if there are no such bytes.
 pub fn decode(
     alloc: Global,
     engine: &GeneralPurpose,
     text: &[u8],
 ) -> Result<Option<Vec<u8>>, AllocError>
     requires { IsPlain engine.now }
-    // Returns the bytes whose base64 the characters are, if there are such bytes.
+    // On Ok: the bytes whose base64 the characters are, or `None` if there are no such bytes.
     ensures value { IfOk result (λ o. option_map (λ v. v.items) o ≡ decoded_bytes text.now) }
     // The characters are the base64 of the bytes returned.
     ensures some { IfOk result (λ o. IfSome o (λ v. IsBase64 v.items text.now)) }
-    // The characters are not the base64 of any bytes.
+    // On `None` the characters are not the base64 of any bytes.
     ensures none { IfOk result (λ o. IfNone o ((b : Bytes) → IsBase64 b text.now → ⊥)) }
 {
     match engine.decode(alloc, text) {
@@ -48,7 +48,7 @@ pub fn decode(
     }
 }
 
-/// Encodes these bytes.
+/// Returns the canonical base64 of these bytes, without padding.
 pub fn encode(alloc: Global, engine: &GeneralPurpose, bytes: &[u8]) -> Result<String, AllocError>
     requires { IsPlain engine.now }
     ensures { IfOk result (λ text. string_bytes text ≡ base64_of bytes.now) }

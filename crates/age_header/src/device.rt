@@ -11,7 +11,7 @@ ghost use Rattle.age_header.specs.MemSink.{spare_of};
 
 use std::io::{Read, Write};
 
-/// A read or a write failed, and the device counted one more failure.
+/// A call of a device failed, and the device counted this failure, saturating.
 #[derive(Clone, Copy, Debug, Drop, PartialEq, Eq)]
 pub struct DeviceFault;
 
@@ -23,7 +23,7 @@ pub trait Source {
     // The bytes still to come, if proofs know the contents.
     ghost to_come: { Self → Known };
 
-    // Whether the source may have returned exactly these bytes so far. The default says nothing.
+    // Whether the source may have returned exactly these bytes so far. The default is always true.
     ghost gave: { Self → Bytes → Type 0 } = { λ _ _. ⊤ };
 
     /// Reads the next bytes into the start of `buf`, and returns their number.
@@ -32,10 +32,10 @@ pub trait Source {
     /// end. After an error nothing is known about the bytes in `buf`.
     fn read(&mut self, buf: &mut [u8]) -> Result<usize, DeviceFault>
         ensures bound { ReadsAtMost result buf.new }
-        // An error raises the count of failures. On Ok the count is unchanged.
+        // An error adds 1 to the count of failures, saturating. On Ok the count is unchanged.
         ensures count { Counts (failed self.old) (failed self.new) result }
-        // On Ok the source has returned the next bytes, which are at the start of the buffer, on an
-        // error none. A nonempty buffer gets none only at the end.
+        // On Ok(n) the source returned its next n bytes, into the start of the buffer; for a
+        // nonempty buffer, n is 0 only at the end. On an error the source returned no bytes.
         ensures gave { Gives (flow_by to_come gave self.old self.new) result buf.new };
 
     /// The number of failed reads, saturating at the largest `u64`.
@@ -55,10 +55,10 @@ pub trait Sink {
     /// error nothing was written.
     fn write(&mut self, piece: &[u8]) -> Result<usize, DeviceFault>
         ensures bound { IfOk result (λ n. n ≤ length piece.now) }
-        // An error raises the count of failures. On Ok the count is unchanged.
+        // An error adds 1 to the count of failures, saturating. On Ok the count is unchanged.
         ensures count { Counts (failed self.old) (failed self.new) result }
-        // On Ok the first n bytes were appended, at least one of a nonempty piece. On an error
-        // nothing was.
+        // On Ok(n) the first n bytes of the piece were appended; n is at least 1 for a nonempty
+        // piece. On an error nothing was appended.
         ensures bytes { Takes (move_by taken self.old self.new) result piece.now };
 
     /// The number of failed writes, saturating at the largest `u64`.
@@ -71,7 +71,7 @@ pub trait Sink {
 pub fn write_all<W: Sink>(out: &mut W, piece: &[u8]) -> Result<(), DeviceFault>
     // On Ok the whole piece was written, on an error a prefix of it.
     ensures text { Writes (move_by W.taken out.old out.new) result piece.now }
-    // A failed write raised the sink's count of failures by one. Otherwise the count is unchanged.
+    // A failed write added 1 to the sink's count of failures, saturating; else it is unchanged.
     ensures count { Counts (W.failed out.old) (W.failed out.new) result }
 {
     let mut at = 0;
@@ -81,7 +81,7 @@ pub fn write_all<W: Sink>(out: &mut W, piece: &[u8]) -> Result<(), DeviceFault>
     Ok(())
 }
 
-/// Counts one more failure.
+/// Adds 1 to the count of failures, saturating, and returns the fault.
 fn count_failure(failures: &mut u64) -> DeviceFault
     ensures { failures.new ≡ min (failures.old + 1) (2 ^ 64 - 1) }
 {
@@ -89,7 +89,7 @@ fn count_failure(failures: &mut u64) -> DeviceFault
     DeviceFault
 }
 
-/// A source over bytes in memory, which never fails.
+/// A source over bytes in memory. Its reads never fail.
 #[derive(Drop)]
 pub struct MemSource<'a> {
     rest: &'a [u8],
@@ -166,17 +166,17 @@ impl Sink for MemSink {
 
     fn write(&mut self, piece: &[u8]) -> Result<usize, DeviceFault>
         ensures bound { IfOk result (λ n. n ≤ length piece.now) }
-        // An error raises the count of failures. On Ok the count is unchanged.
+        // An error adds 1 to the count of failures, saturating. On Ok the count is unchanged.
         ensures count { Counts self.old.failures self.new.failures result }
-        // On Ok the first n bytes were appended, at least one of a nonempty piece. On an error
-        // nothing was.
+        // On Ok(n) the first n bytes of the piece were appended; n is at least 1 for a nonempty
+        // piece. On an error nothing was appended.
         ensures bytes { Takes (move_of (Some self.old.out.items) (Some self.new.out.items))
             result piece.now }
         // On Ok the whole piece was written.
         ensures whole { IfOk result (λ n. n ≡ length piece.now) }
         // A write fails only if the piece is longer than the room.
         ensures full { OnErr result (spare_of self.old < length piece.now) }
-        // The room shrinks by at most the number of bytes written.
+        // On Ok the room shrinks by at most the number of bytes written.
         ensures spare { IfOk result (λ n. spare_of self.old ≤ spare_of self.new + n) }
     {
         match self.out.extend_from_slice(piece) {

@@ -19,11 +19,11 @@ pub fn fill_from<S: Source>(
 ) -> Result<usize, DeviceFault>
     requires { start ≤ length buf.old }
     ensures len { length buf.new ≡ length buf.old }
-    // The bytes from `start` to n in the buffer were read from the source; those before are
-    // unchanged.
+    // On Ok(n) the bytes of the buffer from `start` to n were read from the source; those before
+    // are unchanged.
     ensures bytes { IfOk result
         (λ n. Filled start n buf.old buf.new (flow_by S.to_come S.gave input.old input.new)) }
-    // n is less than the buffer's length only at the end of known contents.
+    // If the contents are known, n is less than the buffer's length only at their end.
     ensures end { IfOk result (λ n. n < length buf.old → IsAtEnd (S.to_come input.new)) }
     // On an error the source had returned some bytes, perhaps none.
     ensures lost { OnErr result (GaveSome (flow_by S.to_come S.gave input.old input.new)) }

@@ -38,13 +38,13 @@ impl Header {
         // The header holds the stanzas, of which there are one or more, and the MAC.
         ensures some { IfSome result
             (λ h. (stanzas.items ≢ []) × (h.stanzas ≡ stanzas.items) × (h.mac ≡ mac)) }
-        // There is no stanza.
+        // On `None` there is no stanza.
         ensures none { IfNone result (stanzas.items ≡ []) }
     {
         if stanzas.is_empty() {
             return None;
         }
-        // For the proof alone (docs/PROOFS.md, "How to read a clause"): the invariant of each.
+        // For the proof alone (docs/PROOFS.md, "How to read a clause"): each stanza's invariant.
         for stanza in &stanzas {
             let _ = stanza.args();
             let _ = stanza.body();
@@ -77,7 +77,7 @@ impl Header {
         differences.reduce_or() == 0
     }
 
-    /// Returns the base64 of the MAC, the 43 characters of the end line.
+    /// Returns the base64 of the MAC, 43 characters, as it stands in the end line.
     pub fn mac_signs(&self) -> [u8; MAC_TEXT_SIZE]
         ensures { IsBase64 self.now.mac result }
     {

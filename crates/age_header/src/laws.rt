@@ -39,8 +39,8 @@ pub fn one_verdict()
         → HeaderVerdict b max (Ok found) ↔ BeginsWith b max found }
 {}
 
-/// The text under a header's MAC is the header's text without its last 45 bytes: the space, the 43
-/// characters of the MAC and the LF.
+/// `signed_text` is the header's text without its last 45 bytes: the space, the 43 characters of
+/// the MAC and the LF.
 pub fn signed_prefix()
     ensures { (ss : List StanzaParts) (mac h : Bytes) → Head ss mac h
         → signed_text ss ≡ take (length h - 45) h }

@@ -1,5 +1,5 @@
-//! The header of age v1 files (C2SP `age.md`), and the devices from which bytes are read and to
-//! which they are written.
+//! The header of age v1 files (C2SP `age.md`), their file key, base64, and the devices from which
+//! bytes are read and to which they are written.
 //!
 //! ```
 //! let header = HeaderReader::new(65_536).read_from(alloc, &mut MemSource::new(file))?;
@@ -11,14 +11,14 @@
 //!
 //! *What a contract sees.* A stanza is the record `StanzaParts`: its arguments, each as bytes, and
 //! its body. A header is `HeaderParts`: its stanzas and its MAC. A reader is `ReaderState`: its
-//! limit and the fault that it keeps. Of a device a contract sees the ghost members: the bytes to
-//! come or those taken, if they are known (`Known`), the bytes returned so far (`gave`), and the
-//! count of failures. A call is a `Moved` or a `Flow`, which hold the device before and after it.
+//! limit and the fault that it keeps, if any. Of a device it sees the ghost members: the bytes to
+//! come or taken, if they are known (`Known`), what a source may have returned so far (`gave`), and
+//! the count of failures. `Moved` and `Flow` hold what is known of bytes before and after a call.
 //!
 //! Limits: a reader reads exactly the header's bytes, up to a limit that the caller chooses. It
 //! does not verify the MAC, since that needs the file key: `mac_of` computes it. A stanza lends its
-//! arguments as strings, so the smallest stanza, 6 bytes of a header, takes over 100 bytes of
-//! memory: a header of 65,536 bytes takes 1.2 MB at most.
+//! arguments as strings, so a header can take many times its size in memory: the smallest stanza,
+//! 6 bytes of a header, takes over 100 bytes.
 #![tactic(auto)]
 
 mod arguments;

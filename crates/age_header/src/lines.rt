@@ -22,8 +22,8 @@ pub(crate) enum LineEnd {
     Room,
 }
 
-/// Reads one line of at most `max_len` bytes, including its LF. Reads byte by byte, so that no byte
-/// after the line is read.
+/// Reads one line, at most `max_len` bytes with its LF. Returns it without the LF, and how it
+/// ended. Reads byte by byte, so that no byte after the line is read.
 pub(crate) fn read_line<S: Source>(
     alloc: Global,
     input: &mut S,
@@ -56,7 +56,7 @@ pub(crate) fn read_line<S: Source>(
     Ok((line, LineEnd::Room))
 }
 
-/// Reads one byte, or None at the end.
+/// Reads one byte, and returns `None` at the end of the input.
 fn next_byte<S: Source>(input: &mut S) -> Result<Option<u8>, DeviceFault>
     ensures count { Counts (S.failed input.old) (S.failed input.new) result }
     ensures some { IfOk result (λ next. IfSome next (λ byte.

@@ -15,7 +15,7 @@ use base64::engine::general_purpose::GeneralPurpose;
 use std::alloc::{AllocError, Global};
 use std::marker::Model;
 
-/// The complete stanzas, and the one that a body line may follow.
+/// The complete stanzas, and the open one, whose body is not complete, if there is one.
 #[derive(Drop)]
 pub(crate) struct Progress {
     stanzas: Vec<Stanza>,
@@ -63,7 +63,7 @@ impl Progress {
         header
     }
 
-    /// The progress after one more line, without its LF; `None` if no header continues so.
+    /// The progress after one more line of a stanza, without its LF; `None` for any other line.
     pub(crate) fn step(
         self,
         alloc: Global,
@@ -88,8 +88,8 @@ impl Progress {
     }
 }
 
-/// The progress after one more line of an open stanza's body. After a full line the stanza stays
-/// open; after a shorter one it is complete.
+/// The progress after one more line of an open stanza's body; `None` for any other line. After a
+/// full line the stanza stays open; after a shorter one it is complete.
 fn body_line(
     alloc: Global,
     engine: &GeneralPurpose,

@@ -54,10 +54,10 @@ impl HeaderReader {
     /// header's bytes from the source.
     ///
     /// # Errors
-    /// For the input's first `max` bytes: `NotAge` if their start is not a prefix of the version
-    /// line; else `BadLine(n)` for the least n for which the first n lines are neither a header nor
-    /// a prefix of one; else `Truncated` if the input is shorter than `max`, or `TooLarge` if it is
-    /// not. `Read` if the source failed, `Memory` if an allocation was refused.
+    /// If the input's first `max` bytes do not begin with a header: `NotAge` if the first 22 of
+    /// them, or all if fewer, are not a prefix of the version line; else `BadLine(n)` for the least
+    /// n for which the first n lines are not a prefix of a header; else `Truncated` if the input is
+    /// shorter than `max`, else `TooLarge`. `Read` for a failed read, `Memory` for refused memory.
     pub fn read_from<S: Source>(
         &mut self,
         alloc: Global,
@@ -68,15 +68,15 @@ impl HeaderReader {
             (λ e. (result ≡ Err e) × (input.new ≡ input.old)) }
         // The reader keeps a fault, which it then returns from every call.
         ensures keeps { self.new ≡ record { max = self.old.max; fault = fault_of result } }
-        // Returns `Read` only if the source's count of failures rose by one or is the largest
-        // `u64`. With any other result the count is unchanged.
+        // Without an earlier fault: returns `Read` only if the source's count of failures rose by
+        // one or is the largest `u64`. With any other result the count is unchanged.
         ensures count { IfNone self.old.fault
             (CountsIf is_read (S.failed input.old) (S.failed input.new) result) }
-        // Unless a read failed or memory was refused, the result is the header verdict on the bytes
-        // that the source returned. On Ok these are exactly the header's bytes.
+        // Without an earlier fault, failed read or refused memory, the result is the header verdict
+        // on the bytes that the source returned. On Ok these are exactly the header's bytes.
         ensures verdict { IfNone self.old.fault
             (ReadsHeader (flow_by S.to_come S.gave input.old input.new) self.old.max result) }
-        // On a fault other than `Read`, at most the limit's number of bytes was read.
+        // On a fault other than `Read`, at most `max` bytes were read.
         ensures most { IfNone self.old.fault (IfErr result
             (ReadAtMost self.old.max (flow_by S.to_come S.gave input.old input.new))) }
     {
@@ -151,7 +151,7 @@ fn read_version<S: Source>(alloc: Global, input: &mut S, max: usize) -> Result<(
     }
 }
 
-/// The MAC of an end line, which is passed without its LF.
+/// The MAC in this line, passed without its LF; `None` if it is not an end line.
 fn end_mac(
     alloc: Global,
     engine: &GeneralPurpose,

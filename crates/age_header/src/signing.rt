@@ -1,4 +1,4 @@
-//! A header's MAC, and the text under it.
+//! A header's MAC, and the text over which it is computed.
 
 ghost use Rattle.std.specs.Prelude.{◌≡◌, IfOk};
 ghost use Rattle.age_header.specs.Mac.{header_mac};
@@ -25,8 +25,8 @@ pub fn signed_text(alloc: Global, stanzas: &[Stanza]) -> Result<Vec<u8>, AllocEr
 }
 
 /// Computes the MAC of a header with these stanzas, one or more, under the file key (C2SP `age.md`,
-/// "Header MAC"): HMAC-SHA-256 of `signed_text`, whose key is 32 bytes of HKDF-SHA-256 of the file
-/// key with an empty salt and the info `header`.
+/// "Header MAC"): HMAC-SHA-256 of `signed_text`. The key of the HMAC is 32 bytes of HKDF-SHA-256 of
+/// the file key, with an empty salt and the info `header`.
 pub fn mac_of(alloc: Global, key: &[u8; 16], stanzas: &[Stanza]) -> Result<[u8; 32], AllocError>
     ensures { IfOk result (λ mac. mac ≡ header_mac key.now stanzas.now) }
 {

@@ -48,11 +48,11 @@ impl Stanza {
     /// Makes a stanza with copies of these arguments and of this body.
     ///
     /// # Errors
-    /// `NoArgs`; else for the first bad argument `EmptyArg` or `BadByte`; else `Memory`.
+    /// `NoArgs`; `EmptyArg` or `BadByte` of the first bad argument; `Memory` if memory is refused.
     pub fn new(alloc: Global, args: &[&str], body: &[u8]) -> Result<Stanza, StanzaError>
         // The stanza holds the arguments and the body.
         ensures ok { IfOk result (λ s. (s.args ≡ map (λ a. a.now) args.now) × (s.body ≡ body.now)) }
-        // The fault is the first one of the arguments, or out of memory.
+        // The fault is the first fault of the arguments, or `Memory` if they have none.
         ensures err { IfErr result (IsStanzaError (map (λ a. a.now) args.now)) }
     {
         check_arguments(args)?;
@@ -103,7 +103,7 @@ impl Stanza {
     }
 }
 
-/// Refuses the first bad argument.
+/// Refuses an empty list, or else the first bad argument.
 #[tactic(auto, using(crate::proofs::StanzaLemmas::args_take))]
 fn check_arguments(args: &[&str]) -> Result<(), StanzaError>
     ensures ok { OnOk result (AreArguments (map (λ a. a.now) args.now)) }

@@ -20,7 +20,7 @@ pub fn write_header<W: Sink>(header: &Header, out: &mut W) -> Result<(), DeviceF
     // On Ok the header's text was written; after a failed write, a prefix of it.
     ensures text { (h : Bytes) × Head header.now.stanzas header.now.mac h
         × Writes (move_by W.taken out.old out.new) result h }
-    // A failed write raised the sink's count of failures by one. Otherwise the count is unchanged.
+    // A failed write added 1 to the sink's count of failures, saturating; else it is unchanged.
     ensures count { Counts (W.failed out.old) (W.failed out.new) result }
 {
     let engine = base64_no_pad::engine();

@@ -1,4 +1,4 @@
--- The faults of a job's files are those with which the job may be refused.
+-- A job may be refused with each fault of its files.
 use Rattle.std.specs.Prelude.{String, IsSome}
 use Rattle.std.specs.String.{string_bytes}
 use Rattle.std.proofs.Common.{◌≡◌, ◌≢◌, ◌⊎◌, ◌<◌, ℕ, List, [], Option, None, Some, length, inl, inr, arith, refl}
@@ -23,13 +23,13 @@ of_file job role name (faults.Unidentified named) is h = tt
 of_file job role name (faults.StandardInputTwice one other) is h = tt
 of_file job role name fault is h = absurd h
 
--- a file key or a seed, which must have one length
+-- a fault of the seed file, or of its length
 pub of_seed : (job : Job) (fault : Fault) → MakesHeader job
     → IsFileFault (string_bytes job.seed) fault ⊎ (fault ≡ faults.SeedLength) → MayRefuse job fault
 of_seed job fault makes (inl h) = of_file job roles.Seed (string_bytes job.seed) fault (makes, refl) h
 of_seed job fault makes (inr same) = rw same makes
 
--- what follows from a fault of files of one kind
+-- a fault of files of one kind implies what each of its cases implies
 listed : (refuses : Fault → Type 0) (first : List ℕ) (rest : ℕ) (fault : Fault) {R : Type 0}
     → IsListFault refuses first rest fault → (refuses fault → R) → (IsFileFault first fault → R)
     → (0 < rest → (name : List ℕ) → IsFileFault name fault → R) → R
@@ -38,7 +38,7 @@ listed refuses first rest fault (inl (inr h)) a b c = a h
 listed refuses first rest fault (inr (some, (other, inl h))) a b c = c some other h
 listed refuses first rest fault (inr (some, (other, inr h))) a b c = a h
 
--- what follows from a fault of the files of passphrases or of keys
+-- a fault of the files of a secret implies what each of its cases implies
 choose : {Z : Type 0} (pass : Option (String Z)) (passes : List (String Z)) (key : Option (String Z))
     (keys : List (String Z)) (from : SecretFiles)
     (refuses : Fault → Type 0) (fault : Fault) {R : Type 0} → IsChoice pass passes key keys from
@@ -57,7 +57,7 @@ choose None passes (Some name) keys (files.Passphrase first rest) refuses fault 
 choose None passes None keys from refuses fault is h a b c d = absurd is
 choose (Some name) passes (Some other) keys from refuses fault is h a b c d = absurd is
 
--- a passphrase that is refused
+-- a fault of the contents of a passphrase file
 of_passphrase : (job : Job) (fault : Fault) → MakesHeader job → IsSome job.pass ⊎ IsSome job.new_pass
     → IsPassphraseFault fault → MayRefuse job fault
 of_passphrase job faults.PassphraseLength makes some h = some
@@ -65,12 +65,12 @@ of_passphrase job faults.NoPassphrase makes some h = (makes, some)
 of_passphrase job faults.UntypedPassphrase makes some h = (makes, some)
 of_passphrase job fault makes some h = absurd h
 
--- no choice of a secret, of a command that has one
+-- neither or both of passphrase and key are named, for a command other than `inspect`
 pub of_choice : (job : Job) (fault : Fault) → job.command ≢ command.Inspect
     → (fault ≡ faults.KeyChoice) × IsNoChoice job.pass job.key → MayRefuse job fault
 of_choice job fault has (same, none) = rw same (has, none)
 
--- the secret of such a command
+-- a fault of the secret of a command other than `inspect`
 pub of_secret : (job : Job) (fault : Fault) → job.command ≢ command.Inspect
     → MayRefuse job fault ⊎ ((fault ≡ faults.KeyChoice) × IsNoChoice job.pass job.key) → MayRefuse job fault
 of_secret job fault has (inl may) = may
@@ -86,7 +86,7 @@ of_files job from fault is h =
     (λ name named. of_file job roles.Passphrase name fault named)
     (λ name named. of_file job roles.Key name fault named)
 
--- the same, to make one
+-- a fault of the files of the secret, to make a file, or another that the job allows
 pub of_new_files : (job : Job) (from : SecretFiles) (fault : Fault) → MakesHeader job
     → IsChoice job.pass job.more_passes.items job.key job.more_keys.items from
     → IsFilesFault IsPassphraseFault from fault ⊎ (MakesHeader job → MayRefuse job fault) → MayRefuse job fault

@@ -1,4 +1,4 @@
--- The secret of a job is one that its options name.
+-- A secret read from the files that the options choose is a secret of these options.
 use Rattle.std.proofs.Common.{List, Option, None, Some, arith}
 use Rattle.std.specs.Prelude.{String}
 use Rattle.age_job.specs.declared.secret.Secret.{Secret}

@@ -15,7 +15,7 @@ abbrev pub NamesInput : {A : Type 0} (command : Command) (input : Option A) → 
 NamesInput Range input = IsSome input
 NamesInput _ input = ⊤
 
--- each number is in its range
+-- each number is in its range, and `range` has a file to read
 pub record IsInRange (job : Job) : Type 0 where
   pub work : IsBetween MIN_WORK_FACTOR MAX_WORK_FACTOR job.work
   pub max_work : IsBetween MIN_WORK_FACTOR MAX_WORK_FACTOR job.max_work

@@ -3,16 +3,16 @@ use Rattle.std.specs.Prelude.{◌++◌, ◌||◌, ◌&&◌, ℕ, List, Bool, ◌
 use Rattle.std.specs.Char.{is_control}
 use Rattle.std.specs.Fmt.{digits}
 
--- The characters that set the direction of the text after them (Unicode Standard Annex 9, section
--- 2): 61c, 200e, 200f, 202a to 202e and 2066 to 2069, in hexadecimal digits.
+-- The directional formatting characters (Unicode Standard Annex 9, section 2): 61c, 200e, 200f,
+-- 202a to 202e and 2066 to 2069, in hexadecimal digits.
 abbrev pub directs_writing : (c : ℕ) → Bool
 directs_writing c =
     (c == 1564) || (c == 8206) || (c == 8207) || (nat_lt 8233 c && nat_lt c 8239)
     || (nat_lt 8293 c && nat_lt c 8298)
 
--- The text of a character that keeps a message on one line and in its order: a control character
--- is a backslash with a letter, or with x and its code in two hexadecimal digits, and a character
--- that sets the direction is its code.
+-- A character in a message, which stays on one line and in order: a control character becomes `\n`,
+-- `\r`, `\t` or `\x` and its code in two hexadecimal digits, a directional formatting character
+-- becomes `\u{}` with its code between the braces, and any other stays as it is.
 abbrev pub escaped_char : (c : ℕ) → List ℕ
 escaped_char c =
     if c == 10 then codes "\\n"

@@ -2,7 +2,7 @@
 use Rattle.std.specs.Prelude.{ℕ, ◌-◌, ◌≡◌, ◌<◌, ◌||◌, Bool, false, List, [], ◌∷◌, length, take, if◌then◌else◌, nat_eq, slice_index_or}
 use Rattle.std.specs.List.{ends_with, starts_with}
 
--- the bytes without one LF at their end, whose code is 10
+-- the bytes without one LF (10) at their end
 abbrev pub passphrase_of : (bytes : List ℕ) → List ℕ
 passphrase_of bytes =
     if nat_eq (slice_index_or bytes (length bytes - 1) 0) 10
@@ -19,8 +19,8 @@ abbrev pub ends_in_line_end : (bytes : List ℕ) → Bool
 ends_in_line_end bytes =
     ends_with nat_eq bytes (13 ∷ []) || ends_with nat_eq bytes (10 ∷ [])
 
--- A passphrase for a new file. It is not empty, and whoever types it can open the file: it does not
--- begin with the mark that an editor writes before a text, nor end in the end of a line.
+-- A passphrase for a new file. It is not empty, does not begin with a byte-order mark, and does not
+-- end in CR or LF: an editor writes these, and nobody types them.
 abbrev pub IsNewPassphrase : (bytes : List ℕ) → Type 0
 IsNewPassphrase bytes =
     (0 < length bytes) × (begins_with_mark bytes ≡ false) × (ends_in_line_end bytes ≡ false)

@@ -29,7 +29,7 @@ IsNoChoice _ _ = ⊤
 abbrev pub MakesHeader : (job : Job) → Type 0
 MakesHeader job = (job.command ≡ command.Encrypt) ⊎ (job.command ≡ command.Rewrap)
 
--- A file in this role has this name. That of a passphrase or key after the first may be any.
+-- A file in this role may have this name. A passphrase or key file after the first may have any.
 abbrev pub IsRead : (job : Job) (role : Role) (name : List ℕ) → Type 0
 IsRead job roles.Input name = IsNamed job.input name
 IsRead job roles.Passphrase name = IsNamed job.pass name ⊎ (0 < length job.more_passes.items)
@@ -39,7 +39,7 @@ IsRead job roles.NewKey name = IsNamed job.new_key name ⊎ (0 < length job.more
 IsRead job roles.Seed name = MakesHeader job × (name ≡ string_bytes job.seed)
 IsRead job roles.FileKey name = (job.command ≡ command.Inspect) × IsNamed job.file_key name
 
--- a new OUT may take the place of IN, but not of a secret, nor that of `salvage` of any file
+-- whether OUT may replace a file in this role: IN, except by `salvage`, and never a secret
 abbrev pub may_be_replaced : (command : Command) → Role → Bool
 may_be_replaced command.Salvage _ = false
 may_be_replaced _ roles.Input = true
@@ -54,13 +54,13 @@ IsFileFault name (faults.Unidentified named) = ⊤
 IsFileFault name (faults.StandardInputTwice one other) = ⊤
 IsFileFault name fault = ⊥
 
--- a fault of an OUT of this name, if it may be a file that is read
+-- a fault of an OUT of this name, because it is a file that is read, or may be one
 abbrev pub IsSameFault : (name : List ℕ) (fault : Fault) → Type 0
 IsSameFault name (faults.Unidentified named) = ⊤
 IsSameFault name (faults.OutputIsRead role named) = named.0.now ≡ name
 IsSameFault name fault = ⊥
 
--- the same, or it cannot be replaced
+-- a fault of `IsSameFault`, or a reason why this OUT cannot be replaced
 abbrev pub IsReplacedFault : (name : List ℕ) (fault : Fault) → Type 0
 IsReplacedFault name (faults.OutputIsSpecial named) = named.0.now ≡ name
 IsReplacedFault name (faults.CannotCreate named) = named.0.now ≡ name
@@ -75,8 +75,8 @@ IsPassphraseFault faults.NoPassphrase = ⊤
 IsPassphraseFault faults.UntypedPassphrase = ⊤
 IsPassphraseFault fault = ⊥
 
--- A fault with which the job may be refused. Three things are not tied to the job: which file the
--- system does not identify, the role of the file that is also OUT, and the roles of standard input.
+-- A fault with which the job may be refused. The names in `Unidentified` and `NewFileExists`, the
+-- role in `OutputIsRead`, and the roles in `StandardInputTwice` may be any.
 abbrev pub MayRefuse : (job : Job) (fault : Fault) → Type 0
 MayRefuse job faults.Read = ⊤
 MayRefuse job faults.Write = ⊥
@@ -104,6 +104,6 @@ MayRefuse job faults.NoPassphrase = MakesHeader job × (IsSome job.pass ⊎ IsSo
 MayRefuse job faults.UntypedPassphrase = MakesHeader job × (IsSome job.pass ⊎ IsSome job.new_pass)
 MayRefuse job faults.OutputIsTerminal = (job.output ≡ None) × MakesHeader job
 
--- a fault of OUT after the work
+-- a fault after the work: `Write`, or a fault of `MayRefuse`
 abbrev pub MayEnd : (job : Job) (fault : Fault) → Type 0
 MayEnd job fault = (fault ≡ faults.Write) ⊎ MayRefuse job fault

@@ -1,4 +1,4 @@
--- The secrets that the options of a job name.
+-- The secrets in the files that the options of a job name.
 use Rattle.std.specs.Prelude.{◌≡◌, ◌≤◌, ◌<◌, ◌+◌, ◌⊎◌, ℕ, Bool, false, List, Option, None, Some, IsSome, String, length, vec_len, ⊤}
 use Rattle.std.specs.String.{string_bytes}
 use Rattle.age_job.specs.Refusal.{IsFileFault}
@@ -10,8 +10,8 @@ use Rattle.age_job.specs.declared.secret.Secret.TheVariants.{Passphrase, Keys}
 use Rattle.age_job.specs.declared.small_files.SecretFiles.{SecretFiles}
 use Rattle.age_job.specs.declared.small_files.SecretFiles.TheVariants as files
 
--- passphrases if only passphrase files are named, and no more; if only key files are, one or more
--- keys, and no more
+-- passphrases if only passphrase files are named, one or more keys if only key files are named, at
+-- most one for each file; no secret if both kinds are named, or neither
 abbrev pub IsSecretOf : {A : Type 0} (pass : Option A) (more_passes : List A) (key : Option A)
     (more_keys : List A) (secret : Secret) → Type 0
 IsSecretOf (Some name) more_passes None more_keys (Passphrase bytes others) =
@@ -30,7 +30,7 @@ abbrev pub IsFileKeyOf : {A K : Type 0} (raw : Bool) (name : Option A) (key : Op
 IsFileKeyOf false (Some name) key = IsSome key
 IsFileKeyOf raw name key = key ≡ None
 
--- the files from which a secret is read, which are those that the options name
+-- the files of a secret: the options give their kind, the name of the first and their number
 abbrev pub IsChoice : {Z : Type 0} (pass : Option (String Z)) (more_passes : List (String Z))
     (key : Option (String Z)) (more_keys : List (String Z)) (files : SecretFiles) → Type 0
 IsChoice (Some name) more_passes None more_keys (files.Passphrase first rest) =
@@ -39,7 +39,7 @@ IsChoice None more_passes (Some name) more_keys (files.Keys first rest) =
     (length rest.now ≡ length more_keys) × (first.name.now ≡ string_bytes name)
 IsChoice pass more_passes key more_keys files = ⊥
 
--- a fault of files of one kind, or that the contents of one are refused; a file after the first may
+-- a fault of a file in a list of one kind, or a refusal of its contents; a file after the first may
 -- have any name
 abbrev pub IsListFault : (refuses : Fault → Type 0) (first : List ℕ) (rest : ℕ) (fault : Fault)
     → Type 0
@@ -47,7 +47,7 @@ IsListFault refuses first rest fault =
     (IsFileFault first fault ⊎ refuses fault)
     ⊎ ((0 < rest) × ((name : List ℕ) × (IsFileFault name fault ⊎ refuses fault)))
 
--- a fault of these files, or that the contents of one are refused
+-- a fault of one of these files, or a refusal of its contents
 abbrev pub IsFilesFault : (refuses : Fault → Type 0) (files : SecretFiles) (fault : Fault) → Type 0
 IsFilesFault refuses (files.Passphrase first rest) fault =
     IsListFault refuses first.name.now (length rest.now) fault

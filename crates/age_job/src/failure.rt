@@ -1,4 +1,4 @@
-//! A fault of a job's files, and what `--verbose` prints after it.
+//! A fault of a job, and what `--verbose` prints after it.
 
 ghost use Rattle.std.specs.Prelude.{◌≡◌, Some};
 ghost use Rattle.age_job.specs.declared.fault.Fault.TheVariants.{OutOfMemory};
@@ -12,7 +12,7 @@ use std::alloc::{AllocError, AllocFailed};
 use std::fmt::Write;
 use std::{fmt, io};
 
-/// Why a file was refused or could not be used, and what more is known about it.
+/// Why a job was refused or failed, and what more is known about the fault.
 #[derive(Drop)]
 pub struct Failure<'a> {
     pub fault: Fault<'a>,
@@ -24,9 +24,9 @@ pub struct Failure<'a> {
 pub enum Detail<'a> {
     /// An operation of the system on this file, and the reason why it failed.
     System(Operation, Name<'a>, io::Error),
-    /// The size of a small file in bytes.
+    /// The size of a small file in bytes; 65,537 stands for any size above 65,536.
     Size(Role, Name<'a>, usize),
-    /// The file is not a device.
+    /// The file is not a character device.
     NoDevice(Role, Name<'a>),
     /// The file that the fault is about.
     File(Role, Name<'a>),
@@ -74,7 +74,7 @@ impl<'a> Failure<'a> {
     pub fn with(fault: Fault<'a>, detail: Detail<'a>) -> Failure<'a>
         // The fault that was passed.
         ensures fault { result.fault ≡ fault.entry }
-        // What was passed about it.
+        // The detail that was passed.
         ensures detail { result.detail ≡ Some detail.entry }
     {
         Failure {
@@ -151,7 +151,7 @@ impl fmt::Display for Detail<'_> {
     }
 }
 
-/// Writes the size of a small file, and the size that it must have.
+/// Writes the size of a small file and, unless it holds a passphrase, the size that it must have.
 fn write_size<W: fmt::Write>(
     role: Role,
     name: Name<'_>,

@@ -1,4 +1,4 @@
-//! Why a file of a job was refused or could not be used.
+//! Why a job was refused, or a file of it could not be used.
 
 ghost use Rattle.std.specs.Prelude.{◌≡◌, Some};
 ghost use Rattle.age_job.specs.declared.fault.Fault.TheVariants.{OutOfMemory};
@@ -8,7 +8,7 @@ use crate::file_names::{Name, Role};
 use std::alloc::{AllocError, AllocFailed};
 use std::fmt;
 
-/// Why a file of a job was refused or not usable. Its text follows `agep: ` on standard error.
+/// Why a job was refused, or a file not usable. A fault's text follows `agep: ` on standard error.
 #[derive(Clone, Copy, Drop)]
 pub enum Fault<'a> {
     /// A read failed.
@@ -23,29 +23,29 @@ pub enum Fault<'a> {
     NewKeyChoice,
     CannotOpen(Name<'a>),
     CannotCreate(Name<'a>),
-    /// The system does not identify this file, so it may be another file that is read or written.
+    /// The system does not identify this file, so the job cannot tell whether it may use the file.
     Unidentified(Name<'a>),
     /// `--atomic` without a file to write.
     AtomicAlone,
     /// `--no-clobber`, and the file to write exists.
     OutputExists(Name<'a>),
-    /// `--atomic`, and the file to write is a folder, a device or a pipe.
+    /// `--atomic`, and the file to write is not regular, such as a folder, a device or a pipe.
     OutputIsSpecial(Name<'a>),
-    /// `--atomic`, and the file that is to replace the file to write exists.
+    /// `--atomic`, and the new file, which is to replace the file to write, exists.
     NewFileExists(Name<'a>),
-    /// `--atomic`, and another run has locked that file.
+    /// `--atomic`, and another run or program has locked, or is writing, the file to write.
     OutputIsBusy(Name<'a>),
     /// The file to write is also read.
     OutputIsRead(Role, Name<'a>),
-    /// Standard input has two roles.
+    /// Standard input would be read twice, in these roles.
     StandardInputTwice(Role, Role),
     KeyLength,
     SeedLength,
     FileKeyLength,
     PassphraseLength,
-    /// The passphrase for encrypting is empty.
+    /// The passphrase for a new header is empty.
     NoPassphrase,
-    /// The passphrase for encrypting ends in CR or LF, or begins with a byte-order mark.
+    /// The passphrase for a new header ends in CR or LF, or begins with a byte-order mark.
     UntypedPassphrase,
     /// An age file would be written to a terminal.
     OutputIsTerminal,

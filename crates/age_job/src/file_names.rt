@@ -1,4 +1,4 @@
-//! The names of a job's files in messages.
+//! Parts of messages: the roles and names of files, numbers of bytes, and escaped texts.
 
 ghost use Rattle.std.specs.Prelude.{◌≡◌, Some};
 ghost use Rattle.std.specs.Fmt.{WritesOnOk};
@@ -38,8 +38,8 @@ impl Role {
         }
     }
 
-    /// Whether the new OUT of this command may take the place of the file in this role. A secret
-    /// would be lost, and of `salvage` what could not be read.
+    /// Whether the new OUT of this command may replace the file in this role. A secret must not be
+    /// lost, nor, with `salvage`, the parts of IN that were not saved.
     pub(crate) fn may_be_replaced(self, command: Command) -> bool
         ensures { result ≡ may_be_replaced command self }
     {
@@ -115,7 +115,7 @@ fn write_char<W: fmt::Write>(c: char, f: &mut fmt::Formatter<W>) -> fmt::Result
     }
 }
 
-/// Whether this is the code of a character that sets the direction of the text after it.
+/// Whether this is the code of a directional formatting character (Unicode Standard Annex 9).
 fn directs_writing(code: u32) -> bool
     ensures { result ≡ directs_writing code }
 {
@@ -134,7 +134,7 @@ impl<D: fmt::Display> fmt::Display for Lines<'_, D> {
     }
 }
 
-/// A writer that escapes what it is given.
+/// A writer that escapes what `Lines` escapes.
 #[derive(Drop)]
 struct Escaping<'a, W> {
     f: &'a mut fmt::Formatter<W>,

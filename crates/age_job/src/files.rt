@@ -1,4 +1,4 @@
-//! The files that a job reads, and which of them are the same file.
+//! The files that a job reads, and whether standard input or the file to write is one of them.
 
 ghost use Rattle.std.specs.Prelude.{◌≡◌, ◌⊎◌, codes, take, IfErr, IfOk, IfSome};
 ghost use Rattle.age_job.specs.Refusal.{IsFileFault, IsSameFault};
@@ -13,10 +13,10 @@ use std::io::{ErrorKind, Read, Seek, SeekFrom};
 use std::rt::Files;
 use std::{fs, io};
 
-/// The maximum size of a small file in bytes.
+/// The maximum size of a passphrase file, and the largest size that messages tell, in bytes.
 pub(crate) const MAX_SMALL: usize = 65_536;
 
-/// A file named in the arguments, with its role in the job.
+/// The role and the name of a file that the job reads.
 #[derive(Clone, Copy, Drop)]
 pub(crate) struct NamedFile<'a> {
     pub(crate) role: Role,
@@ -102,7 +102,7 @@ impl<'a> ReadFiles<'a> {
     }
 
     /// Opens IN, the file of this name. A directory opens, but reading it fails. Refuses a pipe or
-    /// a terminal for a command that reads at offsets.
+    /// a terminal for `range`, which reads at offsets.
     pub fn open_input<F: Files>(
         &mut self,
         rt: &F,
@@ -133,8 +133,8 @@ impl<'a> ReadFiles<'a> {
         self.input = Some(ReadFile { named, inode });
     }
 
-    /// Opens the small file that an option names. Standard input can have only one role, because
-    /// bytes read as a small file would be missing from IN or from another small file.
+    /// Opens a small file. Standard input can have only one role, because bytes read as a small
+    /// file would be missing from IN or from another small file.
     pub(crate) fn open_small<F: Files>(
         &mut self,
         rt: &F,
@@ -161,7 +161,7 @@ impl<'a> ReadFiles<'a> {
         Ok(file)
     }
 
-    /// Returns the number of bytes that this command reads from IN, if known. IN was added.
+    /// Returns the length of an IN that is known to be a regular file, but `None` for `range`.
     pub(crate) fn input_size(&self, command: Command) -> Option<u64> {
         match self.input.as_ref()?.inode {
             Ok(inode) if inode.kind == Kind::Regular && command != Command::Range => {
@@ -171,8 +171,8 @@ impl<'a> ReadFiles<'a> {
         }
     }
 
-    /// Whether reading this file consumes standard input. A character device such as `/dev/null`
-    /// does not count, because one reader of it takes nothing from another.
+    /// Whether reading this file consumes standard input. No character device counts, because one
+    /// reader of `/dev/null` takes nothing from another.
     fn is_standard(&self, inode: &io::Result<Inode>) -> bool {
         match (&self.standard, inode) {
             (Ok(standard), Ok(inode)) => inode.kind != Kind::CharDevice && standard.is(inode),
@@ -180,7 +180,7 @@ impl<'a> ReadFiles<'a> {
         }
     }
 
-    /// Whether the file of this name is standard input, also by its name.
+    /// Whether this is a name of standard input, or leads to the file that is standard input.
     fn is_named_standard<F: Files>(&self, rt: &F, name: &str) -> bool {
         if matches!(name, "/dev/stdin" | "/dev/fd/0" | "/proc/self/fd/0") {
             return true;
@@ -201,8 +201,8 @@ impl<'a> ReadFiles<'a> {
         Ok(())
     }
 
-    /// The same, if this command replaces the file to write at the end: then it may be IN, but
-    /// nothing may be that `salvage` reads.
+    /// Refuses to replace this file if it is, or may be, a file that the job reads and must keep: a
+    /// small file or, for `salvage`, IN.
     pub(crate) fn refuse_replaced(
         &self,
         command: Command,
@@ -224,8 +224,8 @@ impl<'a> ReadFiles<'a> {
         Ok(())
     }
 
-    /// Refuses standard output if it is a file that the job reads, which would grow while it is
-    /// read.
+    /// Refuses standard output if writing to it changes, or may change, a file that the job reads.
+    /// Does nothing if the system does not identify standard output.
     pub fn refuse_standard_output(&self) -> Result<(), Failure<'a>>
         ensures { IfErr result (λ failure. IsSameFault (codes "standard output") failure.fault) }
     {
@@ -246,8 +246,8 @@ fn open<'a, F: Files>(rt: &F, name: &'a str) -> Result<F::File, Failure<'a>>
     }
 }
 
-/// Reads at most `most` bytes of this file. Here, and only here, the standard library repeats an
-/// interrupted read.
+/// Reads at most `most` bytes of this file. The standard library repeats an interrupted read here,
+/// unlike one of IN.
 pub(crate) fn read_prefix<'a, R: Read + Drop>(
     alloc: Global,
     named: NamedFile<'a>,

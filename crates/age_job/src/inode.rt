@@ -14,7 +14,7 @@ pub(crate) const STANDARD_INPUT: &str = "/proc/self/fd/0";
 
 pub(crate) const STANDARD_OUTPUT: &str = "/proc/self/fd/1";
 
-/// What a file is, as far as those who read or write it must know.
+/// The kind of a file, as far as reading or writing the file depends on its kind.
 #[derive(Clone, Copy, PartialEq, Eq)]
 pub(crate) enum Kind {
     Regular,
@@ -24,7 +24,7 @@ pub(crate) enum Kind {
     Other,
 }
 
-/// The identity of a file: its device, and its number there.
+/// The identity of a file, which is its device and its inode number, and its kind and length.
 #[derive(Clone, Copy, Drop)]
 pub(crate) struct Inode {
     dev: u64,
@@ -47,17 +47,17 @@ impl Inode {
         }
     }
 
-    /// The file that this name refers to, through links too, unless the system refuses to say.
+    /// Identifies the file to which this name leads, through links too, or returns an error.
     pub(crate) fn at<F: Files>(rt: &F, name: &str) -> io::Result<Inode> {
         Ok(Inode::of(&fs::metadata(rt, name)?))
     }
 
-    /// An open file, unless the system refuses to say.
+    /// Identifies an open file, or returns an error.
     pub(crate) fn of_open<F: OpenFile>(file: &F) -> io::Result<Inode> {
         Ok(Inode::of(&file.metadata()?))
     }
 
-    /// Fails unless this name, which no link has, is that of this open file.
+    /// Fails unless this name is that of this open file, and not of a symbolic link to it.
     pub(crate) fn check_name<F: Files>(rt: &F, file: &F::File, name: &str) -> io::Result<()> {
         let file = Inode::of_open(file)?;
         match fs::symlink_metadata(rt, name) {
@@ -69,9 +69,9 @@ impl Inode {
 
     /// Whether both are the same file.
     pub(crate) fn is(&self, other: &Inode) -> bool
-        // Two files are the same if they have the same device and the same inode on it. That the
-        // numbers are those of the open file is up to the standard library, and for a standard
-        // stream to the system.
+        // Two files are the same exactly if they have the same device and the same inode on it. No
+        // contract says that these numbers are right: that is up to the standard library and, for a
+        // standard stream, to the system.
         ensures { result ≡ (nat_eq self.now.dev other.now.dev
             && nat_eq self.now.ino other.now.ino) }
     {

@@ -11,7 +11,7 @@ pub enum Command {
     Inspect,
     /// Decrypts a part of a file's plaintext.
     Range,
-    /// Replaces a file's header by one for another passphrase or key.
+    /// Replaces a file's header by one for a new passphrase or new keys.
     Rewrap,
     /// Writes what is left of a damaged file.
     Salvage,
@@ -24,7 +24,7 @@ pub struct Job {
     pub command: Command,
     /// The file that holds the passphrase, or the first of several passphrases.
     pub pass: Option<String>,
-    /// The files of the passphrases after the first, which only open files.
+    /// The files of the passphrases after the first. These passphrases only open age files.
     pub more_passes: Vec<String>,
     /// The file that holds the key of 32 bytes, or the first of several keys.
     pub key: Option<String>,
@@ -47,9 +47,9 @@ pub struct Job {
     pub max_header: usize,
     /// The file to write, or `None` for standard output.
     pub output: Option<String>,
-    /// Whether to refuse a file to write that exists.
+    /// Whether to refuse to write to a file that exists.
     pub no_clobber: bool,
-    /// Whether the file to write is replaced by a new one after success.
+    /// Whether a new file is written, which replaces the file to write when the output is kept.
     pub atomic: bool,
     /// Whether `inspect` writes the header's own text instead of a table.
     pub raw: bool,
@@ -62,6 +62,6 @@ pub struct Job {
     pub at: u64,
     /// The maximum number of bytes that `range` writes, at most 9,223,372,036,854,775,807.
     pub len: u64,
-    /// Whether a second line explains an error.
+    /// Whether a second line explains an error, and a terminal shows how much was read.
     pub verbose: bool,
 }

@@ -11,16 +11,16 @@
 //! ```
 //!
 //! `job` has the job, and `ranges` the ranges of its numbers. `files` opens the files to read,
-//! `inode` identifies them, and `small_files` reads the secrets, each of which is a `secret`.
+//! `inode` identifies them, and `small_files` reads the secrets; `secret` has passphrases and keys.
 //! `output` is the file to write; `target` says which one: OUT in place, or a new file that takes its
 //! place. `system_file` locks a file and changes its owner. `watched` counts failed reads and keeps
-//! the reason of the last one, and `progress` shows at a terminal how much was read. `fault` and
-//! `file_names` have the texts of errors, `failure` those of `--verbose`.
+//! the last error, and `progress` shows at a terminal how much was read. `fault` and `file_names`
+//! have the texts of errors, `failure` those of `--verbose`.
 //!
-//! *What a contract sees.* A `Job` is the record of its fields, and a secret is a passphrase's
-//! bytes or a list of keys. A file is the bytes that its reader will return (`remaining`) and those
-//! that its writer has taken (`contents`); for the system's files they are not known. An `Output`
-//! is its file, and whether the file may still have its old contents (`is_stale`).
+//! *What a contract sees.* A `Job` is the record of its fields, and a secret is one or more
+//! passphrases or a list of keys. A file is the bytes that its reader will return (`remaining`) and
+//! those that its writer has taken (`contents`); for the system's files they are not known. An
+//! `Output` has its file, and whether the file may still have its old contents (`is_stale`).
 //!
 //! Limits: no contract says what files contain, or which of them are the same. The scripts under
 //! `tests/` show both.

@@ -1,4 +1,4 @@
-//! The output file named in the arguments.
+//! The file that a job writes, and what is refused as OUT.
 ghost use Rattle.std.specs.Prelude.{◌≡◌, ◌<◌, false, true, length, Err, None, IfErr, IfOk, IsOk};
 ghost use Rattle.age_job.specs.Refusal.{IsNamed, MakesHeader, MayRefuse};
 ghost use Rattle.age_job.specs.Mode.{new_mode};
@@ -15,7 +15,7 @@ use std::os::unix::fs::OpenOptionsExt;
 use std::rt::Files;
 use std::{fs, io};
 
-/// The mode of a new file with a plaintext, before the umask: only the owner can read it.
+/// The mode, before the umask, of a new file with a plaintext, or that takes the place of another.
 pub(crate) const PLAINTEXT_MODE: u32 = 0o600;
 
 /// The mode of any other new file, before the umask.
@@ -33,8 +33,8 @@ pub struct Output<F> {
     written: u64,
 }
 
-/// Checks the options about OUT before anything is read: refuses `--atomic` without OUT and, with
-/// `--no-clobber`, any OUT that exists.
+/// Checks the options about OUT: refuses `--atomic` without OUT and, with `--no-clobber`, any OUT
+/// that exists.
 pub fn refuse_output<'a, F: Files>(rt: &F, job: &'a Job) -> Result<(), Fault<'a>>
     // `--atomic` without OUT is refused.
     ensures alone { job.now.atomic ≡ true → job.now.output ≡ None → result ≡ Err Fault.AtomicAlone }
@@ -91,7 +91,7 @@ pub(crate) fn new_file(mode: u32) -> OpenOptions {
     options
 }
 
-/// The file of this name cannot be created, because the file `new` cannot.
+/// The failure to create the file of this name, because an operation on the file `new` failed.
 pub(crate) fn cannot_create<'a>(name: &'a str, new: &'a str, reason: io::Error) -> Failure<'a>
     ensures { result.fault ≡ Fault.CannotCreate (record { 0 = name.entry }) }
 {
@@ -148,8 +148,8 @@ impl<F: OpenFile> Output<F> {
 
     /// Truncates a file that may still have its old contents.
     fn empty(&mut self) -> io::Result<()>
-        // On Ok the file no longer counts as having its old contents. Only tests show that this
-        // calls `set_len(0)`, and that this truncates the file.
+        // On Ok the file no longer counts as having its old contents. Only tests show that
+        // `set_len(0)` is called, and that it truncates the file.
         ensures emptied { IsOk result → self.new.is_stale ≡ false }
         ensures same_file { self.new.file ≡ self.old.file }
     {
@@ -160,7 +160,7 @@ impl<F: OpenFile> Output<F> {
         Ok(())
     }
 
-    /// Truncates the file before the first of these bytes is written to it.
+    /// Truncates a file that may still have its old contents, if there are bytes to write.
     fn make_room(&mut self, bytes: &[u8]) -> io::Result<()>
         // A write of 0 bytes does not change whether the file counts as having its old contents.
         ensures waits { length bytes.now ≡ 0 → self.new.is_stale ≡ self.old.is_stale }
@@ -173,8 +173,8 @@ impl<F: OpenFile> Output<F> {
         Ok(())
     }
 
-    /// Ends the output, the file of this name, after success: truncates a regular file to which
-    /// nothing was written, and syncs a regular file.
+    /// Ends an output that is kept: truncates a regular file to which nothing was written, and
+    /// syncs a regular file. A failure names OUT by `name`.
     pub(crate) fn finish<'a>(&mut self, name: &'a str) -> Result<(), Failure<'a>>
         ensures { IfErr result (λ failure. failure.fault ≡ Fault.Write) }
     {

@@ -11,8 +11,8 @@ use std::{fmt, io};
 /// The number of bytes after which the clock is read again.
 const STRIDE: u64 = 65_536;
 
-/// The number of looks at the clock that start it again, because scrypt comes before the first read
-/// or after that of a header.
+/// The number of first looks at the clock that restart the measuring of the rate, because scrypt
+/// may run before the first read, or after the header was read.
 const FIRST_LOOKS: u32 = 2;
 
 /// The least number of milliseconds between two drawings of the line.
@@ -21,17 +21,17 @@ const PAUSE: u128 = 500;
 /// Moves to the start of the line, and erases it.
 pub const ERASE: &str = "\r\x1b[K";
 
-/// The terminal drops what follows the last column of the line.
+/// Makes the terminal drop what follows the last column of the line.
 const CUT: &str = "\x1b[?7l";
 
-/// The terminal goes on in the next line.
+/// Makes the terminal continue after the last column in the next line.
 const WRAP: &str = "\x1b[?7h";
 
-/// The maximum number of bytes of a drawing. The longest has fewer.
+/// The size in bytes of the buffer for a drawing. The longest drawing is shorter.
 const MAX_DRAWN: usize = 256;
 
 /// Whether to show how much was read: with `--verbose`, if standard error is a terminal that can
-/// erase a line and the output does not go to a terminal.
+/// erase a line, and the output cannot go to a terminal.
 pub fn shows_progress<F: Files + Env, W: IsTerminal>(rt: &F, job: &Job, out: &W) -> bool
 where
     F::File: SystemFile,
@@ -45,13 +45,13 @@ where
     }
 }
 
-/// Standard error, for the line. It is not the stream itself, which has the messages.
+/// Opens standard error once more, for the line. The stream itself is for the messages.
 fn terminal<F: Files>(rt: &F) -> io::Result<F::File> {
     OpenOptions::new().write(true).open(rt, "/dev/stderr")
 }
 
-/// Whether this is the name of a character device other than `/dev/null`. Only of an open file does
-/// the standard library say whether it is a terminal.
+/// Whether this is the name of a character device other than `/dev/null`. Such a device may be a
+/// terminal; the standard library says only of an open file whether it is a terminal.
 fn may_be_terminal<F: Files>(rt: &F, name: &str) -> bool {
     match (Inode::at(rt, name), Inode::at(rt, "/dev/null")) {
         (Ok(out), Ok(null)) => out.kind == Kind::CharDevice && !out.is(&null),
@@ -72,7 +72,7 @@ pub struct Line<'a, C: Clock, T: Write + Drop> {
     terminal: T,
     portion: Portion,
     looks: u32,
-    /// The times of the start and of the last drawing, in milliseconds.
+    /// The times in milliseconds of the start and of the last drawing after it (or of the start).
     started: u128,
     drawn: u128,
     /// The number of bytes read before the start.
@@ -93,7 +93,7 @@ struct Portion {
 
 impl<'a, F: Files + Clock> Line<'a, F, F::File> {
     /// The line for a reader that returns `size` bytes, if that is known. Standard error must be
-    /// the terminal. The line says if the job has passphrases, because scrypt takes time.
+    /// the terminal. With a passphrase, first says that a key is made, because scrypt takes time.
     pub(crate) fn of(rt: &'a F, job: &Job, size: Option<u64>) -> Option<Line<'a, F, F::File>> {
         let started = rt.monotonic().ok()?.as_millis();
         let (done, rate) = (0, 0);
@@ -116,7 +116,7 @@ impl<'a, F: Files + Clock> Line<'a, F, F::File> {
 }
 
 impl<C: Clock, T: Write + Drop> Line<'_, C, T> {
-    /// Adds this many bytes to those read.
+    /// Adds this many bytes to those read, and draws the line again if it is due.
     pub(crate) fn add(&mut self, len: usize) {
         self.portion.done = self.portion.done.saturating_add(len as u64);
         if self.portion.done < self.next {

@@ -9,7 +9,7 @@ pub const SEED_LEN: usize = 48;
 /// The secret of a file.
 #[derive(Drop)]
 pub enum Secret {
-    /// A passphrase, which is any bytes, and others to try after it. The others make no file.
+    /// A passphrase, which is any bytes, and others to try after it. The others only open files.
     Passphrase(Vec<u8>, Vec<Vec<u8>>),
     /// One or more keys, each once.
     Keys(Vec<[u8; 32]>),

@@ -1,4 +1,4 @@
-//! The small files that hold a job's secrets: passphrases, keys and seeds.
+//! The small files that hold a job's secrets: passphrases, keys, file keys and seeds.
 
 ghost use Rattle.std.specs.Prelude.{◌≡◌, ◌≤◌, ◌<◌, ◌+◌, ◌⊎◌, [], ℕ};
 ghost use Rattle.std.specs.Prelude.{List, length, vec_len, IfErr, IfOk};
@@ -31,11 +31,11 @@ pub fn read_secret<'a, F: Files + AllocGlobal>(
     job: &'a Job,
     read: &mut ReadFiles<'a>,
 ) -> Result<Secret, Failure<'a>>
-    // Returns passphrases if only passphrase files are named, and not more of them. If only key
-    // files are named, returns one or more keys, not more than there are key files.
+    // Returns one or more passphrases if only passphrase files are named, and one or more keys if
+    // only key files are named; in both cases not more than there are files.
     ensures secret { IfOk result (IsSecretOf job.now.pass job.now.more_passes.items job.now.key
         job.now.more_keys.items) }
-    // A job of `inspect`, which has no secret, may be refused as others are for its choice.
+    // The fault is one that the job allows or, even for a job of `inspect`, `KeyChoice`.
     ensures fault { IfErr result (λ failure. MayRefuse job.now failure.fault
         ⊎ ((failure.fault ≡ Fault.KeyChoice) × IsNoChoice job.now.pass job.now.key)) }
 {
@@ -51,8 +51,7 @@ pub fn read_encrypt_secrets<'a, F: Files + AllocGlobal, W: IsTerminal>(
     read: &mut ReadFiles<'a>,
     out: &W,
 ) -> Result<(Secret, [u8; SEED_LEN]), Failure<'a>>
-    // Returns a passphrase if only a passphrase file is named. If only key files are named, returns
-    // one or more keys, not more than there are key files.
+    // The secret is one or more passphrases or keys by its options, as for `read_secret`.
     ensures secret { IfOk result (λ read. IsSecretOf job.now.pass job.now.more_passes.items
         job.now.key job.now.more_keys.items read.0) }
     // No new passphrase is empty, ends in CR or LF, or begins with a byte-order mark.
@@ -116,7 +115,7 @@ pub fn read_file_key<'a, F: Files + AllocGlobal>(
     }
 }
 
-/// The files of a secret that options name.
+/// The files that options name for a secret.
 #[derive(Clone, Copy, Drop)]
 enum SecretFiles<'a> {
     /// The file of the first passphrase, and the names of the files after it.
@@ -137,7 +136,7 @@ fn secret_files<'a>(job: &'a Job) -> Result<SecretFiles<'a>, Fault<'a>>
     choice_of(passphrases, keys, Fault::KeyChoice)
 }
 
-/// The same for the job's new passphrase or keys.
+/// The files of the job's new passphrase or keys.
 fn new_secret_files<'a>(job: &'a Job) -> Result<SecretFiles<'a>, Fault<'a>>
     ensures files { IfOk result
         (IsChoice job.now.new_pass [] job.now.new_key job.now.more_new_keys.items) }
@@ -151,8 +150,8 @@ fn new_secret_files<'a>(job: &'a Job) -> Result<SecretFiles<'a>, Fault<'a>>
 /// A role, the first file named for it, and the files after it.
 type Named<'a> = (Role, &'a Option<String>, &'a [String]);
 
-/// The files that options name for passphrases or for keys. They must name exactly one of the two,
-/// because the format forbids another stanza beside that of a passphrase.
+/// The files that options name for passphrases or for keys. The options must name files of exactly
+/// one kind, because the format forbids another stanza beside that of a passphrase.
 fn choice_of<'a>(
     passphrases: Named<'a>,
     keys: Named<'a>,
@@ -196,7 +195,7 @@ fn read_from<'a, F: Files + AllocGlobal>(
     }
 }
 
-/// The same, to make a file, for which there is one passphrase. Reads the job's seed after it.
+/// Reads the first passphrase or all keys in these files, to make a file, and then the job's seed.
 fn read_new_from<'a, F: Files + AllocGlobal>(
     rt: &F,
     job: &'a Job,
@@ -218,9 +217,9 @@ fn read_new_from<'a, F: Files + AllocGlobal>(
     Ok((secret, read_seed(rt, job, read)?))
 }
 
-/// Reads the passphrase of a new file. Refuses an empty one, which a failed command would have
-/// written: anyone could open the file. Refuses one that ends in CR or LF, or begins with a
-/// byte-order mark, which an editor wrote: whoever types the passphrase could not open the file.
+/// Reads the passphrase of a new file. Refuses an empty passphrase, which a failed command may
+/// leave, because anyone could open the new file. Refuses one that ends in CR or LF, or begins with
+/// a byte-order mark, which editors write: whoever types the passphrase could not open the file.
 fn read_new_passphrase<'a, F: Files + AllocGlobal>(
     rt: &F,
     read: &mut ReadFiles<'a>,
@@ -282,7 +281,7 @@ fn read_passphrases<'a, F: Files + AllocGlobal>(
     Ok(passphrases)
 }
 
-/// Reads the keys in these files, in order, each once.
+/// Reads the keys in these files, in order. Drops a key that equals one before it.
 fn read_keys<'a, F: Files + AllocGlobal>(
     rt: &F,
     read: &mut ReadFiles<'a>,
@@ -326,8 +325,8 @@ fn read_seed<'a, F: Files + AllocGlobal>(
     read_exactly(rt.alloc(), named, file, SEED_LEN, Fault::SeedLength)
 }
 
-/// Refuses the default seed file if it is not a character device. If the system does not tell, a
-/// file that has no end, as the device, is accepted.
+/// Refuses the default seed file if it is not a character device. If the system does not tell,
+/// accepts a file whose end is at offset 0, like that of the device.
 fn refuse_ordinary<'a, F: OpenFile + Seek>(file: &mut F, name: &'a str) -> Result<(), Failure<'a>>
     ensures { IfErr result (λ failure. IsFileFault name.now failure.fault) }
 {
@@ -361,7 +360,7 @@ fn read_just<'a, F: Files + AllocGlobal, const N: usize>(
     read_exactly(rt.alloc(), named, file, MAX_SMALL + 1, length)
 }
 
-/// Reads at most `most` bytes of this file, which must have N.
+/// Reads at most `most` bytes of this file. Returns the fault `length` unless there are N of them.
 fn read_exactly<'a, R: Read + Drop, const N: usize>(
     alloc: Global,
     named: NamedFile<'a>,

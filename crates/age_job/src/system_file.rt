@@ -5,7 +5,7 @@ use std::io;
 use std::io::IsTerminal;
 use std::os::unix::fs::fchown;
 
-/// An open file of the system, which can be locked and given away.
+/// An open file of the system, which can be locked, and whose owner can be changed.
 pub trait SystemFile: IsTerminal {
     /// Locks the file until it is closed. Returns false if another program, or another opening of
     /// the file, has locked it. Some file systems have no locks.

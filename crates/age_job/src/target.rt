@@ -26,14 +26,14 @@ const NEW: &str = ".agep-new";
 /// The permissions that a new file takes over from the one that it replaces.
 const PERMISSIONS: u32 = 0o777;
 
-/// Those of the owner and of others.
+/// The permissions of the owner and of others, without those of the group.
 const WITHOUT_GROUP: u32 = 0o707;
 
 /// How a job writes OUT.
 #[derive(Drop)]
 pub enum Target {
     InPlace,
-    /// By a new file; or why that fails: where OUT leads is not known, or memory was refused.
+    /// By a new file; or why this fails: the system does not resolve OUT, or memory was refused.
     Replaced(io::Result<Replacement>),
 }
 
@@ -46,11 +46,11 @@ pub struct Replacement {
 }
 
 impl Target {
-    /// Finds out how this job writes OUT.
+    /// Says how this job writes OUT. With `--atomic -n`, removes `OUT.agep-new` if that is OUT too.
     pub fn of<F: Files + AllocGlobal>(rt: &F, job: &Job) -> Target
         // Without `--atomic` OUT itself is written.
         ensures in_place { job.now.atomic ≡ false → result ≡ Target.InPlace }
-        // With it OUT is replaced.
+        // With `--atomic` a new file replaces OUT.
         ensures replaced { job.now.atomic ≡ true → IsSome job.now.output
             → result ≢ Target.InPlace }
     {
@@ -68,9 +68,9 @@ impl Target {
         }
     }
 
-    /// Opens what is to be written for OUT, the file of this name. It is created if it does not
-    /// exist; a new file that takes the place of OUT must not exist, unless a killed run left it.
-    /// Refuses an OUT that the job reads, except an IN that is replaced, but not by `salvage`.
+    /// Opens OUT, the file of this name, or the new file that takes its place. Creates OUT if it
+    /// does not exist; the new file must not exist, unless a killed run left it. Refuses an OUT
+    /// that the job reads, but lets a command other than `salvage` replace its IN.
     pub fn create<'a, F: Files>(
         &'a self,
         rt: &F,
@@ -80,7 +80,7 @@ impl Target {
     ) -> Result<Output<F::File>, Failure<'a>>
     where
         F::File: SystemFile,
-        // A refusal of the OUT of this job, for which this was made, is one that the job allows.
+        // If the target was made for this job, and `name` is its OUT, the fault is one it allows.
         ensures { IsNamed job.now.output name.now
             → (job.now.atomic ≡ false → self.now ≡ Target.InPlace)
             → IfErr result (λ failure. MayRefuse job.now failure.fault) }
@@ -92,7 +92,7 @@ impl Target {
             Ok(replacement) => return replacement.create(rt, job, read, name),
             Err(reason) => *reason,
         };
-        // The link `/dev/stdout` leads to a pipe, which has no name.
+        // A link such as `/dev/stdout` may lead to a pipe, which has no name.
         if matches!(Inode::at(rt, name), Ok(inode) if inode.kind != Kind::Regular) {
             return Err(Fault::OutputIsSpecial(Name(name)).into());
         }
@@ -107,9 +107,9 @@ impl Target {
         }
     }
 
-    /// Ends the output. If it is kept: syncs what was written, gives a new file the name of OUT,
-    /// and syncs its folder. If it is not, or if this fails before OUT is replaced, a new file is
-    /// removed. It is locked until then, and stays if the system does not let it be removed.
+    /// Ends the output. If it is kept, syncs what was written, gives a new file the name of OUT,
+    /// and syncs the folder. If it is not kept, or a step fails before OUT is replaced, removes the
+    /// new file before its lock ends. The new file stays if the system refuses to remove it.
     pub fn finish<'a, F: Files>(
         &'a self,
         rt: &F,
@@ -140,9 +140,9 @@ impl Target {
     }
 
     /// Gives a new file the name of OUT. Returns its folder, if there is a new file and the folder
-    /// may be read. With `--no-clobber` the name is a link, because a rename would replace an OUT
-    /// that was created meanwhile; some file systems have no links. Once OUT is the new file, a name
-    /// that cannot be removed or looked up is no error.
+    /// may be read. With `--no-clobber` makes a hard link, because a rename would replace an OUT
+    /// that was created meanwhile; if the link fails and there is no OUT, renames. Once OUT is the
+    /// new file, it is not an error if a name cannot be removed or looked up.
     fn replace<'a, F: Files>(
         &'a self,
         rt: &F,
@@ -169,7 +169,7 @@ impl Target {
                 return Err(failed_write(Operation::Replacing, name, reason));
             }
         }
-        // A name that was changed right before the rename was renamed instead.
+        // A file that took the new file's name right before the rename or the link is now OUT.
         match Inode::check_name(rt, file, old) {
             Err(reason) if reason.kind() == ErrorKind::NotFound => {
                 Err(failed_write(Operation::Replacing, name, reason))
@@ -193,7 +193,7 @@ struct Folder<'a, F> {
 }
 
 impl<'a, F: OpenFile> Folder<'a, F> {
-    /// Opens the folder of this file. None if it may be written, but not read.
+    /// Opens the folder of this file. Returns `None` if the system does not let the folder be read.
     fn of<R: Files<File = F>>(rt: &R, path: &'a str) -> Result<Option<Folder<'a, F>>, Failure<'a>>
         ensures { IfErr result (λ failure. failure.fault ≡ Fault.Write) }
     {
@@ -210,7 +210,7 @@ impl<'a, F: OpenFile> Folder<'a, F> {
     }
 
     /// Syncs the folder, so that the name of a file in it survives a power cut. Some file systems
-    /// refuse this.
+    /// refuse this, which is not an error.
     fn sync(&self) -> Result<(), Failure<'a>>
         ensures { IfErr result (λ failure. failure.fault ≡ Fault.Write) }
     {
@@ -251,7 +251,7 @@ impl Replacement {
         let file = self.open(rt, read, mode, name)?;
         let prepared = match (file.lock_alone(), Inode::check_name(rt, &file, new)) {
             (Ok(false), _) => return Err(Fault::OutputIsBusy(Name(name)).into()),
-            // Before it was locked, another run took it for that of a killed one.
+            // Another run may have removed the file before the lock, taking it for a killed run's.
             (_, Err(reason)) if reason.kind() == ErrorKind::NotFound => {
                 Err(Fault::OutputIsBusy(Name(name)).into())
             }
@@ -299,9 +299,9 @@ impl Replacement {
         }
     }
 
-    /// Removes the new file that a killed run left: a regular file that can be locked, because a run
-    /// has locked the file that it writes, and that this job does not read. It has no other name, or
-    /// is OUT itself, which keeps its own.
+    /// Removes the new file that a killed run left. This must be a regular file that has no other
+    /// name, that the job does not read, and that can be locked, because a run has locked the file
+    /// that it writes. If the new file is OUT itself, only its second name is removed.
     fn remove_left<'a, F: Files>(
         &'a self,
         rt: &F,
@@ -338,8 +338,8 @@ impl Replacement {
         }
     }
 
-    /// Removes the new file's name, if it is a second one of OUT, which a run with `--no-clobber`
-    /// leaves if it is killed. Returns whether it has.
+    /// Removes the new file's name if it is a second name of OUT, which a run with `--no-clobber`
+    /// leaves if it is killed. Returns whether a name was removed.
     fn remove_second_name<F: Files>(&self, rt: &F) -> bool {
         let (old, new) = (self.old.as_str(), self.new.as_str());
         match (fs::symlink_metadata(rt, old), fs::symlink_metadata(rt, new)) {
@@ -357,9 +357,9 @@ impl Replacement {
         fs::remove_file(rt, new)
     }
 
-    /// What is known of the file to replace, if there is one. It must be regular, none that is read
-    /// and must stay, and one that may be written, as without `--atomic`, and that nobody has locked:
-    /// the library for Python locks the file that it writes.
+    /// The metadata of the file to replace, if there is one. It must be a regular file that may
+    /// be written, as without `--atomic`, and not one that the job reads and must keep. Nobody may
+    /// have locked it: the library for Python locks the file that it writes.
     fn found<'a, F: Files>(
         &self,
         rt: &F,
@@ -392,7 +392,7 @@ impl Replacement {
 }
 
 /// Gives the new file the permissions of the file that it replaces and, if the system allows it,
-/// its owner and group. Another group gets no permission.
+/// its owner and group. If the group cannot be set, the new file's group gets no permission.
 fn keep_owner<F: OpenFile + SystemFile>(file: &F, found: &Option<Metadata>) -> io::Result<()> {
     let Some(found) = found else {
         return Ok(());
@@ -403,8 +403,8 @@ fn keep_owner<F: OpenFile + SystemFile>(file: &F, found: &Option<Metadata>) -> i
     file.set_permissions(Permissions::from_mode(found.mode() & kept))
 }
 
-/// The file to which a symbolic link leads; any other name stays as it is. No file has an empty
-/// name.
+/// The name of the file to which a symbolic link leads; any other name stays as it is. An empty
+/// name is an error, because no file has it.
 fn followed<F: Files + AllocGlobal>(rt: &F, name: &str) -> io::Result<String> {
     match fs::symlink_metadata(rt, name) {
         Ok(found) if found.is_symlink() => Ok(rt.canonicalize(rt.alloc(), name)?.into_string()),

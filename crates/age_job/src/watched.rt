@@ -27,7 +27,7 @@ pub trait Input: Read + Seek {
     /// The reason of the last failed read or seek.
     fn reason(&self) -> Option<io::Error>;
 
-    /// What the bytes of the first read show.
+    /// What the bytes of the first read that succeeded show; before that, `Other`.
     fn front(&self) -> Front;
 }
 
@@ -74,8 +74,8 @@ impl<R> Seek for Pipe<'_, R> {
 }
 
 impl<'a, R, F: Files + Clock> Watched<'a, R, F, F::File> {
-    /// Watches the reader of IN, which was added to the files and is at its first byte. If
-    /// `is_shown`, standard error must be the terminal.
+    /// Watches the reader of IN. IN must have been added to `read`, and the reader must be at its
+    /// first byte. If `is_shown`, standard error must be the terminal.
     pub fn new(
         rt: &'a F,
         job: &Job,
@@ -108,10 +108,10 @@ impl<R: Read, C: Clock, T: Write + Drop> Read for Watched<'_, R, C, T> {
 
     fn read(&mut self, buf: &mut [u8]) -> io::Result<usize>
         ensures bound { ReadsAtMost result buf.new }
-        // On Ok these are the reader's next bytes. On an error it still has them.
+        // On Ok the buffer has the reader's next bytes. On an error the reader still has them.
         ensures bytes { ReadConsumes (R.remaining self.old.reader) (R.remaining self.new.reader)
             result buf.new }
-        // A failed read raises the count. On Ok the count is unchanged.
+        // A failed read raises the count, up to 2^64 - 1. On Ok the count is unchanged.
         ensures count { MatchResult result (λ _. self.new.failures ≡ self.old.failures)
             (λ _. self.new.failures ≡ min (self.old.failures + 1) (2 ^ 64 - 1)) }
     {
@@ -152,7 +152,7 @@ impl<R: Read + Seek, C: Clock, T: Write + Drop> Input for Watched<'_, R, C, T> {
 
 impl<R: Seek, C: Clock, T: Write + Drop> Seek for Watched<'_, R, C, T> {
     fn seek(&mut self, pos: SeekFrom) -> io::Result<u64>
-        // A seek is no read: it leaves the count, also if it fails.
+        // A seek is not a read: it leaves the count unchanged, even if it fails.
         ensures count { self.new.failures ≡ self.old.failures }
     {
         match self.reader.seek(pos) {

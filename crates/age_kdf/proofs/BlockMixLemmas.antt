@@ -1,7 +1,7 @@
 -- The blocks of BlockMix, one by one.
 use Rattle.age_kdf.proofs.Common.{◌≡◌, ℕ, suc, ◌+◌, ◌*◌, ◌≤◌, ◌++◌, length, take, drop, bit_xor, add-one, refl, zip2, take-put_mid, Words, put_mid, salsa8, x_after, evens, odds, rules}
 
--- one step: X after it
+-- X after one more step
 pub mixed_next : (r : ℕ) (b : Words) {x out : Words} (i at next : ℕ) → x ≡ x_after r b i → at ≡ 16 * i → next ≡ suc i
     → out ≡ salsa8 (zip2 bit_xor x (take 16 (drop at b))) → out ≡ x_after r b next
 unfolding x_after

@@ -1,4 +1,4 @@
--- The names that the proofs of this crate cite, passed on from one place.
+-- Names that the proofs of this crate and of `kdf_bench` cite, re-exported from one place.
 pub use Rattle.sha2.proofs.Facts256.{length-sha256}
 unfoldable pub use Rattle.sha2.specs.Sha256.{compress, digest_bytes, first_words, hash_after, rounds, schedule, sha256}
 pub use Rattle.std.proofs.Common.{List, [], add-one, ap, append_assoc, ap₂, arith, bit_or, bit_xor, drop, get_or, length, length-append, map, refl, replicate, rules, slice_index, slice_index_or, subst, suc, sym, take, zero, ℕ, ◌%◌, ◌*◌, ◌++◌, ◌+◌, ◌-◌, ◌/◌, ◌<◌, ◌^◌, ◌∙◌, ◌∷◌, ◌≡◌, ◌≤◌}

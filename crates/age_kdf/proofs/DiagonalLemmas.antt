@@ -16,7 +16,7 @@ shifts_rotate x k j long low high inside =
     let rest : (32 - k) % 32 ≡ 32 - k = omega arith in
     get_or-zip2 bit_or _ _ j 0 0 0 (here _ k) (here _ (32 - k)) ∙ rw (shifted _ k, shifted _ (32 - k), whole, rest) refl
 
--- four lanes before and after the four steps
+-- the vectors e to h are a to d after the four steps in every lane
 abbrev pub AreQuartered : Words → Words → Words → Words → Words → Words → Words → Words → Type 0
 AreQuartered a b c d e f g h = (j : ℕ) → j < 4
     → (slice_index e j, slice_index f j, slice_index g j, slice_index h j)
@@ -28,7 +28,7 @@ pub columns_spread : (a b c d e f g h : Words) → AreQuartered a b c d e f g h
 unfolding columns quarter four_steps
 columns_spread a b c d e f g h q = search (rules)
 
--- the steps in every lane are those on the rows, where the lanes are moved before and back after
+-- the steps in every lane, on lanes moved before and moved back after, are those on the rows
 pub rows_spread : (a b c d e f g h : Words) → AreQuartered a (rotation 1 d) (rotation 2 c) (rotation 3 b) e f g h
     → words_in_order (e ∷ rotation 1 h ∷ rotation 2 g ∷ rotation 3 f ∷ []) ≡ rows (words_in_order (a ∷ b ∷ c ∷ d ∷ []))
 unfolding rows quarter four_steps

@@ -9,11 +9,11 @@ zipped f xs ys {out} {n} len-xs len-ys len-out is =
     same_lists out (zip2 f xs ys) (len-out ∙ sym len) (λ k d below.
     get_or_default out k d 0 below ∙ is k (omega arith) ∙ sym (get_or-zip2 f xs ys k 0 0 d (omega arith) (omega arith)))
 
--- a list that is written as far as its end is what was written
+-- a list of at most k elements is its first k elements
 pub full : {k : ℕ} {out xs : List ℕ} → length out ≤ k → take k out ≡ xs → out ≡ xs
 full {k} {out} whole is = sym (take_all k out whole) ∙ is
 
--- where the whole block fits
+-- a block written over a list that has room for all of it
 pub whole : (out prefix block : Bytes) {ys : Bytes} {at next : ℕ} (k : ℕ)
     → length prefix ≡ at → take at out ≡ take (length out) prefix
     → length block ≡ 32 → ys ≡ take 32 block → next ≡ at + 32 → at + 32 ≤ length out
@@ -28,7 +28,7 @@ whole out prefix block {ys} {at} {next} k size same len is on room =
       take_all (length out) (prefix ++ block) (omega (arith, length-append prefix block)),
     ) refl
 
--- where its first n bytes alone fit
+-- a block written over a list that has room for its first n bytes only
 pub cut : (out prefix block : Bytes) {ys : Bytes} {at next k m : ℕ} (n : ℕ) → length prefix ≡ at
     → take at out ≡ take (length out) prefix → length ys ≡ n → ys ≡ take m block → m ≡ n → k ≡ n
     → at + n ≡ length out → length out ≤ next

@@ -8,7 +8,7 @@ unfolding pbkdf2_round
 length-pbkdf2_round pass first zero = length-hmac pass first
 length-pbkdf2_round pass first (suc j) = length-hmac pass (pbkdf2_round pass first j)
 
--- so does their sum
+-- a sum of rounds has 32 bytes
 length-pbkdf2_sum : (pass first : Bytes) (c : ℕ) → length (pbkdf2_sum pass first c) ≡ 32
 unfolding pbkdf2_sum pbkdf2_round
 length-pbkdf2_sum pass first zero = refl

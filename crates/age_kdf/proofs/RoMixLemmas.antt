@@ -18,7 +18,7 @@ row_below a {at} size k xs ys before room =
 pub rows_apart : (size i j : ℕ) → j < i → size * j + size ≤ size * i
 rows_apart size i j less = omega (arith, mul-le-mul_left size less)
 
--- modulo a power of two of at most 32 bits a number is its lowest word
+-- modulo a power of two up to 2 ^ 32 a number is its lowest word
 low_word : (k : ℕ) (ws : Words) → k ≤ 32 → number_l (2 ^ 32) ws % 2 ^ k ≡ get_or ws 0 0 % 2 ^ k
 low_word k [] h = refl
 low_word k (w ∷ ws) h =

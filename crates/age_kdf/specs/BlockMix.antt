@@ -8,7 +8,7 @@ use Rattle.age_kdf.specs.Salsa.{salsa8}
 abbrev pub block : (b : Words) (i : ℕ) → Words
 block b i = take 16 (drop (16 * i) b)
 
--- X on the 2 * r blocks of b after i steps: at first the last block, then Salsa20/8 of X xor B[i].
+-- X after i steps on the 2 * r blocks of b: first the last block, then Salsa20/8 of X xor B[i].
 -- Y[i] is X after step i, that is after i + 1 steps.
 unfoldable pub x_after : (r : ℕ) (b : Words) (i : ℕ) → Words
 x_after r b zero = block b (2 * r - 1)

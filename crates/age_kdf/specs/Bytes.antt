@@ -1,4 +1,4 @@
--- Lists of numbers, by their use.
+-- Names for lists of numbers. The bounds given here are not part of the types.
 use Rattle.std.specs.Prelude.{ℕ, List}
 
 -- bytes, each a number below 256

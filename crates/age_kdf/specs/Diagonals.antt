@@ -1,4 +1,4 @@
--- The sixteen words of Salsa20/8 as four vectors, and its four steps on numbers.
+-- The sixteen words of Salsa20/8 as four vectors, and the four steps of a quarter round on numbers.
 use Rattle.std.specs.Prelude.{ℕ, ◌+◌, ◌%◌, List, [], ◌∷◌, slice_index, slice_index_or, bit_xor}
 use Rattle.std.specs.Int.{w32, rotate_left}
 use Rattle.age_kdf.specs.Bytes.{Words}
@@ -8,7 +8,7 @@ use Rattle.age_kdf.specs.Salsa.{add32}
 abbrev pub next_word : (b a d k : ℕ) → ℕ
 next_word b a d k = bit_xor b (rotate_left w32 (add32 a d) k)
 
--- the four steps
+-- the words a, b, c and d after the four steps
 unfoldable pub four_steps : (a b c d : ℕ) → ℕ × ℕ × ℕ × ℕ
 four_steps a b c d =
     let b1 = next_word b a d 7 in
@@ -20,7 +20,7 @@ four_steps a b c d =
 abbrev pub lane_word : (s : List Words) (k j : ℕ) → ℕ
 lane_word s k j = slice_index (slice_index_or s k []) j
 
--- the words in their order
+-- the sixteen words of four vectors, in the order x[0] to x[15]
 abbrev pub words_in_order : List Words → Words
 words_in_order s =
     lane_word s 0 0 ∷ lane_word s 3 1 ∷ lane_word s 2 2 ∷ lane_word s 1 3
@@ -28,7 +28,7 @@ words_in_order s =
     ∷ lane_word s 2 0 ∷ lane_word s 1 1 ∷ lane_word s 0 2 ∷ lane_word s 3 3
     ∷ lane_word s 3 0 ∷ lane_word s 2 1 ∷ lane_word s 1 2 ∷ lane_word s 0 3 ∷ []
 
--- the four words of a vector, each moved down by n lanes
+-- the four words of a vector, each moved down by n lanes, cyclically
 abbrev pub rotation : (n : ℕ) (v : Words) → Words
 rotation n v =
     slice_index v (n % 4) ∷ slice_index v ((n + 1) % 4) ∷ slice_index v ((n + 2) % 4)

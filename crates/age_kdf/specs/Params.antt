@@ -7,8 +7,8 @@ pub record Costs : Type 0 where
   pub r : ℕ
   pub p : ℕ
 
--- the parameters accepted: N is above 1 and below 2 ^ (16 * r), as the RFC requires, and log_n, r
--- and p are at most 30, 32 and 32
+-- the parameters accepted: N is above 1 and below 2 ^ (16 * r), as the RFC requires, log_n is at
+-- most 30, and r and p are 1 to 32
 pub record InRange (log_n r p : ℕ) : Type 0 where
   pub log_low : 1 ≤ log_n
   pub log_high : log_n ≤ 30

@@ -1,5 +1,5 @@
 -- scryptROMix (RFC 7914, section 5) on lists of 32 * r words; n is the cost N. There is no table.
--- In the RFC it works on octets; here they are converted once before it and once after it.
+-- The RFC's ROMix works on octets; here `scrypt` converts them once before it and once after it.
 use Rattle.std.specs.Prelude.{ℕ, zero, suc, ◌-◌, ◌*◌, ◌%◌, ◌^◌, bit_xor}
 use Rattle.std.specs.Simd.Lanes.{zip2, number_l}
 use Rattle.age_kdf.specs.Bytes.{Words}

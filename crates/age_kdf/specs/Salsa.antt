@@ -35,6 +35,6 @@ unfoldable pub double_rounds : (n : ℕ) (x : Words) → Words
 double_rounds zero x = x
 double_rounds (suc n) x = rows (columns (double_rounds n x))
 
--- four double rounds, and the sum with the words before them
+-- the words plus the words after four double rounds
 unfoldable pub salsa8 : Words → Words
 salsa8 x = zip2 add32 x (double_rounds 4 x)

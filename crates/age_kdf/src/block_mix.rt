@@ -7,7 +7,7 @@ ghost use Rattle.age_kdf.specs.BlockMix.{block_mix};
 
 use crate::salsa::salsa8;
 
-// One step: replaces `x` by Salsa20/8 of `x` XORed with the 16 words of `from` at `at`.
+// One step: XORs the 16 words of `from` at `at` into `x`, then applies Salsa20/8 to `x`.
 #[inline(always)]
 fn mix(x: &mut [u32; 16], from: &[u32], at: usize)
     requires { at + 16 ≤ length from.now }

@@ -1,7 +1,7 @@
-//! The key derivations that age uses: HMAC, HKDF, PBKDF2 and scrypt, all over SHA-256.
+//! HMAC and the key derivations that age uses: HKDF, PBKDF2 and scrypt, all over SHA-256.
 //!
 //! Each function computes exactly what its RFC defines. The contracts cite the definitions in
-//! `specs/`, which are on lists of bytes and use the SHA-256 of the crate `sha2`.
+//! `specs/`, which are on lists of bytes or words and use the SHA-256 of the crate `sha2`.
 //!
 //! ```
 //! let mut wrap_key = [0; 32];

@@ -4,7 +4,7 @@ ghost use Rattle.std.specs.Prelude.{◌≡◌, ◌+◌, ◌*◌, ◌<◌, ◌++�
 ghost use Rattle.age_kdf.specs.Bytes.{Bytes};
 
 /// Writes block `i`, or as much of its start as there is room for. If `out` held the blocks of
-/// `prefix` before, it then holds these and `block`.
+/// `prefix` before, it then holds these and the bytes written.
 #[tactic(auto, using(crate::proofs::ListLemmas::put_block))]
 pub(crate) fn put_block(out: &mut [u8], i: usize, block: &[u8; 32])
     requires { 32 * i < length out.old }

@@ -33,9 +33,9 @@ pub(crate) fn row_count(log_n: u32) -> usize
 }
 
 impl ScryptParams {
-    /// Makes parameters. Returns `None` if one is out of range: `log_n` is 1 to 30 and below 16 *
-    /// r, `r` and `p` are 1 to 32. These ranges lie within those of the RFC, and no product of
-    /// parameters overflows.
+    /// Makes parameters. Returns `None` unless `log_n` is 1 to 30 and below 16 * r, and `r` and `p`
+    /// are 1 to 32. These ranges lie within those of the RFC, and no product of parameters
+    /// overflows.
     pub fn new(log_n: u32, r: u32, p: u32) -> Option<ScryptParams>
         // Returns parameters exactly if they are in range.
         ensures in_range { IsSome result ↔ InRange log_n r p }

@@ -64,7 +64,7 @@ fn quarter(a: u32x4, b: u32x4, c: u32x4, d: u32x4) -> (u32x4, u32x4, u32x4, u32x
     (a1, b1, c1, d1)
 }
 
-// Each lane moved down by one, two or three positions.
+// `turned_1`, `turned_2` and `turned_3` move each lane down by 1, 2 and 3 positions, cyclically.
 #[inline(always)]
 fn turned_1(v: u32x4) -> u32x4
     ensures { result ≡ rotation 1 v }
@@ -116,7 +116,7 @@ fn diagonals(x: &[u32; 16]) -> [u32x4; 4]
     ]
 }
 
-// The sums of the words, in their order.
+// The sums of the words of `s` and `t`, in the order x0 to x15.
 #[inline(always)]
 fn sums(s: [u32x4; 4], t: [u32x4; 4]) -> [u32; 16]
     ensures { result ≡ zip2 add32 (words_in_order s) (words_in_order t) }

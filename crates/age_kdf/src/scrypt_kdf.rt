@@ -1,4 +1,4 @@
-//! scrypt (RFC 7914, section 6), in a work space of the caller's or one that it allocates.
+//! scrypt (RFC 7914, section 6), in the caller's work space or in a newly allocated one.
 
 ghost use Rattle.std.specs.Prelude.{◌≡◌, ◌+◌, ◌*◌, ◌^◌, ◌≤◌, ◌++◌, [], length, OnErr, OnOk};
 ghost use Rattle.age_kdf.specs.Bytes.{Bytes};
@@ -120,7 +120,7 @@ pub fn scrypt(
     // On Ok the output is scrypt (RFC 7914, section 6).
     ensures ok { OnOk result (out.new ≡ scrypt pass.now salt.now
         (2 ^ params.now.log_n) params.now.r params.now.p (length out.old)) }
-    // If the allocation is refused, the output is unchanged.
+    // On Err the output is unchanged.
     ensures err { OnErr result (out.new ≡ out.old) }
 {
     let mut work = vec![in alloc; 0u32; params.work_len()]?;

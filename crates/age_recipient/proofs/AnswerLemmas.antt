@@ -1,17 +1,17 @@
--- The first answer that decides, one answer after the other.
+-- One step of a loop over answers: their decision, and whether memory may run out.
 use Rattle.std.proofs.Common.{Result, Ok, Err}
 use Rattle.std.specs.Result.{IfErr}
 use Rattle.std.proofs.lemmas.List.Folds.{list_any_at}
 use Rattle.age_recipient.proofs.Common.{◌≡◌, Bool, true, false, ◌||◌, ◌&&◌, not, ℕ, ◌+◌, ◌<◌, List, ◌∷◌, map, drop, length, get_or, drop_more, decides, decision_from, drop-map, lacks_memory, or-true, Unwrapped, arith}
 
--- what is decided by what is left, at an element whose answer is known
+-- the decision of the answers from index i on, if the answer at i is known
 pub decided_step : {A : Type 0} (f : A → Unwrapped) (xs : List A) {i : ℕ} {x : A} (so_far : Unwrapped) {a : Unwrapped}
     → i < length xs
     → x ≡ get_or xs i x → a ≡ f x
     → decision_from so_far (drop i (map f xs)) ≡ decision_from so_far (a ∷ drop (i + 1) (map f xs))
 decided_step f xs {i} {x} so_far {a} low is answer = grind (arith, drop-map, drop_more)
 
--- whether memory may run out in what is left, at an element
+-- memory may run out from index i on: at i, or after it if the answer at i does not decide
 lacks_step : {A : Type 0} (f : A → Unwrapped) (may : A → Bool) (xs : List A) {i : ℕ} {x : A}
     → i < length xs → x ≡ get_or xs i x
     → lacks_memory (drop i (map f xs)) (drop i (map may xs))
@@ -30,7 +30,7 @@ pub lacks_later : {A : Type 0} (f : A → Unwrapped) (may : A → Bool) (xs : Li
 lacks_later f may xs {i} {x} low is answer goes_on later =
     rw (lacks_step f may xs low is, ← answer, goes_on, later) (or-true (may x))
 
--- what holds anyway holds of an error
+-- a fact that does not depend on the result holds of its error
 pub if_err_of : {A E P : Type 0} (result : Result A E) → P → IfErr result (λ _. P)
 if_err_of (Ok _) p = tt
 if_err_of (Err _) p = p

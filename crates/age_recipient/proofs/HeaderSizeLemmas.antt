@@ -1,22 +1,22 @@
--- How long the headers of one stanza of this project's kinds are.
+-- The lengths of headers with one stanza, a passphrase's or a key's.
 use Rattle.age_recipient.proofs.Common.{◌≡◌, ℕ, ◌+◌, ◌*◌, ◌≤◌, List, [], ◌∷◌, length, arith, ◌∙◌, Bytes, StanzaParts, keyed_stanza, keyed_wrap_key, pass_wrap_key, pass_stanza, zero_nonce, ◌/◌, length-append, flat_map, decimal, length-decimal-le, length-sealed_text, IsBase64, base64_of, Head, argument_line, body_size, header_size, stanza_size, head_value, one_text, IsBase64-only, stanza_text, header_text_is, signs_size, FileKey, keyed_type, scrypt_type}
 
 pub b64_size : (bytes characters : Bytes) → IsBase64 bytes characters → length characters ≡ (4 * length bytes + 2) / 3
 unfolding base64_of
 b64_size bytes characters h = rw (IsBase64-only bytes h) (signs_size bytes)
 
--- a header is as long as the one that is written
+-- a header has 70 bytes and those of its stanzas
 head_size : (ss : List StanzaParts) (mac text : Bytes) → Head ss mac text
     → length text ≡ 70 + length (flat_map stanza_text ss)
 head_size ss mac text h =
     let written = header_text_is ss mac (head_value ss mac text h) in
     rw (one_text ss mac text _ h written) (header_size ss mac h.mac_len)
 
--- every header has its first line and its last
+-- every header has at least the 70 bytes of its first line and its last
 pub least_header : (ss : List StanzaParts) (mac text : Bytes) → Head ss mac text → 70 ≤ length text
 least_header ss mac text h = omega (arith, head_size ss mac text h)
 
--- a header of one stanza with a body of 32 bytes
+-- the length of a header of one stanza whose body has 32 bytes, by that of its argument line
 one_stanza_size : (s : StanzaParts) (mac text : Bytes) → length s.body ≡ 32 → Head (s ∷ []) mac text
     → length text ≡ length (argument_line s.args) + 114
 one_stanza_size s mac text size h =

@@ -1,4 +1,4 @@
--- The set of a list of texts: its order, and which texts are in it.
+-- Sets of texts: their order, which texts are in them, and which sets go together.
 use Rattle.age_recipient.proofs.Common.{◌≡◌, ℕ, true, ◌+◌, ◌<◌, List, [], ◌∷◌, map, take, length, get_or, sym, ◌∙◌, ap, refl, list_any, bytes_eq, string_bytes, string_cmp, Bytes, Names, Bool, false, cond, not, ◌||◌, Option, Bor, String, true≢false, lists_equiv, list_any_more, is_eq-slice_cmp, is_at, nat_eq_equiv, pointwise-map, slice_cmp, pointwise, Global, AllByRecursion, AllZip, position_from, IsStrictlySortedBy, nat_cmp, string_eq, Less, Labels, IsSetOf, go_together, common_steps, arith}
 
 below_all : (x : String Global) (ks : List (String Global)) → AllByRecursion (λ y. string_cmp x y ≡ Less) ks
@@ -6,7 +6,7 @@ below_all : (x : String Global) (ks : List (String Global)) → AllByRecursion (
 below_all x [] h = tt
 below_all x (k ∷ ks) h = (h.0, below_all x ks h.1)
 
--- strings in order have their bytes in order
+-- if strings are in order, so are their bytes
 pub ordered_bytes : (ks : List (String Global)) → IsStrictlySortedBy string_cmp ks
     → IsStrictlySortedBy (slice_cmp nat_cmp) (map string_bytes ks)
 unfolding IsStrictlySortedBy
@@ -26,7 +26,7 @@ or_last a b = grind arith
 bytes_eq_sym : (a b : Bytes) → bytes_eq a b ≡ bytes_eq b a
 bytes_eq_sym a b = (lists_equiv nat_eq_equiv).symm a b
 
--- one text more
+-- whether a text is among the first i + 1, from whether it is among the first i
 pub one_more : (texts : List (Bor Bytes)) {i : ℕ} (d : Bor Bytes) {bytes : Bytes} (text : Bytes) {old new : Bool}
     → i < length texts → bytes ≡ (get_or texts i d).now
     → new ≡ cond (bytes_eq bytes text) true old → old ≡ list_any (λ t. bytes_eq text t.now) (take i texts)
@@ -34,13 +34,13 @@ pub one_more : (texts : List (Bor Bytes)) {i : ℕ} (d : Bor Bytes) {bytes : Byt
 one_more texts {i} d {bytes} text {old} low is now before =
     grind (arith, common_steps, bytes_eq_sym, or_last, list_any_more)
 
--- the test of a text, of borrowed texts and of the texts themselves
+-- a text is among borrowed texts exactly if it is among the texts themselves
 pub any_now : (text : Bytes) (texts : List (Bor Bytes))
     → list_any (λ t. bytes_eq text t.now) texts ≡ list_any (bytes_eq text) (map (λ t. t.now) texts)
 any_now text [] = refl
 any_now text (t ∷ ts) = ap (λ b. bytes_eq text t.now || b) (any_now text ts)
 
--- two sets of strings are compared by their bytes
+-- comparing the strings of two sets of names tells whether they go together
 pub names_together : {self other : Labels} {a b : List Bytes} (xs ys : List (String Global)) {r : Bool} → self ≡ Names a
     → other ≡ Names b
     → map string_bytes xs ≡ a → map string_bytes ys ≡ b → r ≡ pointwise string_eq xs ys → r ≡ go_together self other
@@ -48,7 +48,7 @@ names_together {a} xs ys left right of_xs of_ys is =
     rw (left, right) (is ∙ sym (pointwise-map string_bytes bytes_eq xs ys)
     ∙ ap (λ l. pointwise bytes_eq l (map string_bytes ys)) of_xs ∙ ap (pointwise bytes_eq a) of_ys)
 
--- of no texts the set is empty
+-- the set of no texts is empty
 pub no_texts : (set : List Bytes) → IsSetOf [] set → set ≡ []
 no_texts [] is = refl
 no_texts (text ∷ rest) is =
@@ -64,6 +64,6 @@ same_bytes [] (c ∷ cs) h = absurd h
 same_bytes (k ∷ ks) [] h = absurd h
 same_bytes (k ∷ ks) (c ∷ cs) h = rw (h.0, same_bytes ks cs h.1) refl
 
--- the first, counted from k, that does not go together with these
+-- the index, counted from k, of the first in the list that does not go together with `first`
 abbrev pub incompatible_from : Labels → ℕ → List Labels → Option ℕ
 incompatible_from first k others = position_from (λ other. not (go_together first other)) k others

@@ -1,4 +1,4 @@
--- What the code finds of a stanza, and what the definitions say of it.
+-- Facts about a stanza's parts, its salt and its work factor.
 use Rattle.age_recipient.proofs.Common.{◌≡◌, List, refl, sym, Bytes, StanzaParts, length, Some, None, cases_Bool, eqb-true, Known, salt_of, salt_size, arith, ℕ, ◌+◌, ◌*◌, ◌<◌, ◌≤◌, [], ◌∷◌, true, ◌-◌, and_parts, leb-true, most_work, is_work_factor, number_from}
 
 -- a stanza is its arguments and its body

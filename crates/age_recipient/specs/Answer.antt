@@ -1,4 +1,4 @@
--- The answer of an identity to one stanza of its own type, and the first answer that decides.
+-- The decision of a list of answers, and the type of a stanza.
 use Rattle.std.specs.Prelude.{Bool, true, false, List, [], ◌∷◌, if◌then◌else◌}
 use Rattle.std.specs.Option.{option_map_or}
 use Rattle.std.specs.Str.{bytes_eq}
@@ -16,8 +16,8 @@ decides Failed = false
 decides (Key file_key) = true
 decides (Malformed fault) = true
 
--- The first answer that is a key or a malformed stanza. If there is none, `Failed` if one of them
--- is, else `so_far`.
+-- The first answer that is a key or a malformed stanza. If there is none, `Failed` if an answer is
+-- `Failed`, else `so_far`.
 abbrev pub decision_from : (so_far : Unwrapped) (answers : List Unwrapped) → Unwrapped
 decision_from so_far [] = so_far
 decision_from so_far (Key file_key ∷ more) = Key file_key
@@ -25,7 +25,7 @@ decision_from so_far (Malformed fault ∷ more) = Malformed fault
 decision_from so_far (Failed ∷ more) = decision_from Failed more
 decision_from so_far (NotMine ∷ more) = decision_from so_far more
 
--- the decision of a list of answers
+-- the first answer that decides; else `Failed` if an answer is `Failed`, else `NotMine`
 abbrev pub decision : List Unwrapped → Unwrapped
 decision answers = decision_from NotMine answers
 

@@ -9,7 +9,7 @@ use Rattle.age_recipient.specs.declared.unwrapped.Unwrapped.{Unwrapped}
 use Rattle.age_recipient.specs.declared.unwrapped.Unwrapped.TheVariants.{NotMine, Failed, Key, Malformed}
 use Rattle.age_recipient.specs.Answer.{decides, decision}
 
--- the choice, by the answer that decides
+-- the choice, by the decision of the answers
 abbrev pub verdict_of : Unwrapped → Result FileKey UnlockFault
 verdict_of NotMine = Err unlock.NoMatch
 verdict_of Failed = Err unlock.WrongKey
@@ -21,7 +21,7 @@ verdict_of (Malformed fault) = Err (unlock.Malformed fault)
 abbrev pub choice : List Unwrapped → Result FileKey UnlockFault
 choice answers = verdict_of (decision answers)
 
--- whether one of the identities up to the one that decides may run out of memory
+-- whether an identity may run out of memory and no identity before it decides
 abbrev pub lacks_memory : (answers : List Unwrapped) (may_run_out : List Bool) → Bool
 lacks_memory (answer ∷ answers) (may ∷ others) =
     may || (not (decides answer) && lacks_memory answers others)

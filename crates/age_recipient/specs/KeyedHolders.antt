@@ -15,11 +15,11 @@ pub record KeySecret : Type 0 where
   pub key : Key
   pub salt : Bytes
 
--- a recipient returns one stanza for each file key
+-- a recipient's meaning: one stanza, which wraps the file key
 abbrev pub key_wraps : (r : KeySecret) (file_key : FileKey) → Result (List StanzaParts) ℕ
 key_wraps r file_key = Ok (keyed_stanza r.key r.salt file_key ∷ [])
 
 -- The first `example.org/key` stanza that opens or fails a check decides; the fault is the first
--- check that it fails. If none does, `Failed` if there was one, else `NotMine`.
+-- check that it fails. If none decides, `Failed` if there is a stanza of this type, else `NotMine`.
 abbrev pub key_unwraps : (key : Key) (stanzas : List StanzaParts) → Unwrapped
 key_unwraps key stanzas = decision (map (keyed_answer key) stanzas)

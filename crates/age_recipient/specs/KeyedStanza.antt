@@ -20,7 +20,7 @@ use Rattle.age_recipient.specs.Sealing.{sealed_key, unsealed_key, sealed_key_siz
 abbrev pub keyed_type : Bytes
 keyed_type = codes "example.org/key"
 
--- the wrap key
+-- the key that seals the file key in a keyed stanza
 unfoldable pub keyed_wrap_key : (key : Key) (salt : Bytes) → Key
 keyed_wrap_key key salt = hkdf key salt keyed_type 32
 
@@ -31,7 +31,7 @@ keyed_stanza key salt file_key = record {
   body = sealed_key (keyed_wrap_key key salt) file_key;
 }
 
--- the length of the body is checked before the key is tried
+-- the salt is checked, then the length of the body, and only then is the key tried
 abbrev pub salted_answer : (key : Key) (body : Bytes) (salt : Option Bytes) → Unwrapped
 salted_answer key body None = Malformed Salt
 salted_answer key body (Some salt) =

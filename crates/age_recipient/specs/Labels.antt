@@ -16,7 +16,7 @@ pub record IsSetOf (texts set : List Bytes) : Type 0 where
   pub ordered : IsStrictlySortedBy (slice_cmp nat_cmp) set
   pub members : (text : Bytes) → list_any (bytes_eq text) set ≡ list_any (bytes_eq text) texts
 
--- both have names, and the same set of them; `Alone` goes together with nothing
+-- both are `Names` of the same set; `Alone` goes together with nothing
 abbrev pub go_together : (a b : Labels) → Bool
 go_together (Names a) (Names b) = pointwise bytes_eq a b
 go_together _ _ = false

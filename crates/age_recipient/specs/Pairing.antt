@@ -1,5 +1,5 @@
 -- The laws of the pairs: the identity unwraps what the recipient wraps. They are in specs/ because
--- an impl names the proof of its law.
+-- an impl names the proof of its law, and cannot name one in proofs/.
 use Rattle.std.proofs.Common.{inl, inr, ◌≡◌, ◌∙◌, ℕ, zero, suc, ◌+◌, ◌<◌, ◌≤◌, ◌&&◌, Bool, true, List, [], ◌∷◌, length, map, nat_eq, nat_le, refl, sym, ap, subst, Ok, Err, Some}
 use Rattle.std.proofs.lemmas.Bool.{and_parts, eqb-true, eq-eqb, le-leb, cases_lt}
 use Rattle.std.proofs.Math.Dec.{lit≤}
@@ -83,7 +83,7 @@ salt_spelled : (salt : Bytes) → IsSalt salt → salt_of (decoded_bytes (base64
 salt_spelled salt is =
     rw (decoded_bytes-base64_of salt is.bytes, eq-eqb (length salt) salt_size is.len) refl
 
--- the answer of an identity to the stanza of a recipient of the same passphrase
+-- an identity opens the stanza of a recipient of the same passphrase, if their work factors fit
 pass_opens : (pass salt : Bytes) (work max : ℕ) (file_key : FileKey) → IsSalt salt
     → PairFits work max → IsFileKey file_key
     → pass_answer pass max (pass_stanza pass work salt file_key) ≡ Key file_key
@@ -99,7 +99,7 @@ pass_opens pass salt work max file_key is_salt fits is_key =
     rw (salt_spelled salt is_salt, parts.0, number, top, whole)
     (unsealed_key-sealed_text (pass_wrap_key pass salt work) file_key)
 
--- the answer of an identity to the stanza of a recipient of the same key
+-- an identity opens the stanza of a recipient of the same key
 keyed_opens : (key salt : Bytes) (file_key : FileKey) → IsSalt salt → IsFileKey file_key
     → keyed_answer key (keyed_stanza key salt file_key) ≡ Key file_key
 unfolding keyed_answer keyed_stanza
@@ -111,8 +111,8 @@ stanzas_of : Result (List StanzaParts) ℕ → List StanzaParts
 stanzas_of (Ok stanzas) = stanzas
 stanzas_of (Err code) = []
 
--- An identity of the same secret opens the single stanza of a recipient. `answer` is the answer of
--- an identity with this secret to a stanza.
+-- If a recipient's secret opens its one stanza, the decision of an identity of the same secret is
+-- the file key. `answer s stanza` is the answer to a stanza of an identity whose secret is `s`.
 pair_opens : (answer : Bytes → StanzaParts → Unwrapped) (secret guess : Bytes)
     (stanza : StanzaParts) (stanzas : List StanzaParts) (file_key : FileKey)
     (wrapped : Result (List StanzaParts) ℕ) → wrapped ≡ Ok (stanza ∷ []) → secret ≡ guess

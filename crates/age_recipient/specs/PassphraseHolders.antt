@@ -36,16 +36,16 @@ pub record PairFits (work max : ℕ) : Type 0 where
   pub within : work ≤ max
   pub top : max ≤ most_work
 
--- `WorkFactor` is returned exactly if a work factor is out of range
+-- an error is `WorkFactor` exactly if the work factors do not fit
 abbrev pub IsPassError : (fits : Type 0) (error : PassError) → Type 0
 IsPassError fits WorkFactor = fits → ⊥
 IsPassError fits Memory = fits
 
--- a recipient returns one stanza for each file key
+-- a recipient's meaning: one stanza, which wraps the file key
 abbrev pub pass_wraps : (r : PassSecret) (file_key : FileKey) → Result (List StanzaParts) ℕ
 pass_wraps r file_key = Ok (pass_stanza r.pass r.work r.salt file_key ∷ [])
 
 -- The first `scrypt` stanza that opens or fails a check decides; the fault is the first check that
--- it fails. If none does, `Failed` if there was one, else `NotMine`.
+-- it fails. If none decides, `Failed` if there is a stanza of this type, else `NotMine`.
 abbrev pub pass_unwraps : (i : PassGuess) (stanzas : List StanzaParts) → Unwrapped
 pass_unwraps i stanzas = decision (map (pass_answer i.pass i.max) stanzas)

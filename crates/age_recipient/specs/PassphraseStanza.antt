@@ -35,7 +35,7 @@ pass_stanza pass work salt file_key = record {
   body = sealed_key (pass_wrap_key pass salt work) file_key;
 }
 
--- 0 to 9
+-- the characters 0 to 9
 abbrev pub is_digit : ℕ → Bool
 is_digit c = nat_le 48 c && nat_le c 57
 
@@ -49,8 +49,8 @@ abbrev pub number_from : (n : ℕ) (digits : Bytes) → ℕ
 number_from n [] = n
 number_from n (c ∷ digits) = number_from (n * 10 + (c - 48)) digits
 
--- the text of the work factor is checked, then its number, then the length of the body, and only
--- then is the key tried
+-- the salt is checked, then the text of the work factor, then its number, then the length of the
+-- body, and only then is the key tried
 abbrev pub salted_answer : (pass : Bytes) (max : ℕ) (work body : Bytes) (salt : Option Bytes)
     → Unwrapped
 salted_answer pass max work body None = Malformed Salt

@@ -13,7 +13,7 @@ pub record IsSalt (salt : Bytes) : Type 0 where
   pub len : length salt ≡ salt_size
   pub bytes : (i : ℕ) → slice_index salt i < 256
 
--- a salt, if it has the right length
+-- the decoded bytes, if they have the length of a salt
 abbrev pub salt_of : Option Bytes → Option Bytes
 salt_of None = None
 salt_of (Some salt) = if nat_eq (length salt) salt_size then Some salt else None

@@ -11,11 +11,11 @@ use Rattle.age_recipient.specs.declared.unwrapped.Unwrapped.TheVariants as answe
 use Rattle.age_cipher.specs.Bytes.{Key, Nonce, tag_size}
 use Rattle.age_recipient.specs.Key.{file_key_size}
 
--- a wrap key seals only one file key
+-- twelve zero bytes, always, because a wrap key seals only one file key
 abbrev pub zero_nonce : Nonce
 zero_nonce = replicate 12 0
 
--- the length of a stanza's body in bytes
+-- the length in bytes of a body that holds a file key
 abbrev pub sealed_key_size : ℕ
 sealed_key_size = file_key_size + tag_size
 

@@ -1,4 +1,4 @@
--- The texts of malformed stanzas.
+-- The texts of the faults of malformed stanzas.
 use Rattle.std.specs.Prelude.{◌++◌, List, ℕ, codes}
 use Rattle.std.specs.Fmt.{decimal}
 use Rattle.age_recipient.specs.declared.unwrapped.StanzaFault.{StanzaFault}

@@ -8,7 +8,7 @@ use Rattle.age_header.specs.Header.{StanzaParts}
 use Rattle.age_recipient.specs.declared.recipient.WrapFault.{WrapFault}
 use Rattle.age_recipient.specs.declared.recipient.WrapFault.TheVariants.{Refused, Memory}
 
--- the result is the meaning, or memory was refused
+-- the result is the meaning, or `Memory`
 abbrev pub WrapsAs : (meaning : Result (List StanzaParts) ℕ)
     (result : Result (Vec StanzaParts Global) WrapFault) → Type 0
 WrapsAs meaning (Ok stanzas) = meaning ≡ Ok stanzas.items

@@ -19,7 +19,7 @@ pub enum UnlockFault {
     WrongKey,
     /// A stanza of an identity's type is malformed.
     Malformed(StanzaFault),
-    /// An allocation was refused, or an identity returned `AllocError`.
+    /// An identity returned `AllocError`.
     Memory,
 }
 
@@ -35,10 +35,10 @@ pub fn unlock(
     identities: &[Box<dyn Identity>],
     stanzas: &[Stanza],
 ) -> Result<FileKey, UnlockFault>
-    // Returns the decision of the identities' answers, in order, or out of memory.
+    // Returns the choice by the identities' answers, in order, or out of memory.
     ensures choice { (result ≡ Err UnlockFault.Memory)
         ⊎ (result ≡ choice (map (λ b. meaning b stanzas.now) identities.now)) }
-    // Returns out of memory only if an identity may run out, up to the one that decides.
+    // Returns out of memory only if an identity may run out and no identity before it decides.
     ensures memory { result ≡ Err UnlockFault.Memory → lacks_memory
         (map (λ b. meaning b stanzas.now) identities.now)
         (map (λ b. may_run_out b stanzas.now) identities.now) ≡ true }
@@ -52,7 +52,7 @@ pub fn unlock(
     }
 }
 
-/// The first result of these identities that decides.
+/// The decision of these identities' answers. Identities after one that decides are not called.
 #[tactic(auto, using(crate::proofs::AnswerLemmas::decisions))]
 fn first_decided(
     alloc: Global,
@@ -75,8 +75,8 @@ fn first_decided(
     Ok(so_far)
 }
 
-/// Calls one identity's `unwrap`. This is a function of its own because its contract can cite the
-/// box, which is an item of a list.
+/// Calls one identity's `unwrap`. This is a function of its own so that a contract can cite the
+/// box, an item of the list.
 fn ask(
     alloc: Global,
     identity: &Box<dyn Identity>,

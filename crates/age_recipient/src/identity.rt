@@ -13,7 +13,7 @@ pub trait Identity: Drop {
     // The identity's meaning: its result for each list of stanzas.
     ghost meaning: { Self → List StanzaParts → Unwrapped };
 
-    // Whether it may run out of memory for a list of stanzas. The default is that it may.
+    // Whether the identity may return out of memory for a list of stanzas. By default it may.
     ghost may_run_out: { Self → List StanzaParts → Bool } = { λ _ _. true };
 
     /// Unwraps the file key from a header's stanzas. The result is the identity's meaning for them.
@@ -21,9 +21,8 @@ pub trait Identity: Drop {
     /// # Errors
     /// If an allocation was refused.
     fn unwrap(&self, alloc: Global, stanzas: &[Stanza]) -> Result<Unwrapped, AllocError>
-        // An identity returns its own meaning, if no allocation was refused. Each impl is proved to
-        // do so.
+        // On Ok the answer is the identity's own meaning. Each impl is proved to return it.
         ensures answer { IfOk result (λ answer. answer ≡ meaning self.now stanzas.now) }
-        // It returns out of memory only where it may.
+        // Returns out of memory only if `may_run_out` is true of these stanzas.
         ensures memory { IfErr result (λ _. may_run_out self.now stanzas.now ≡ true) };
 }

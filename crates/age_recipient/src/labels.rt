@@ -56,13 +56,13 @@ impl Clone for LabelSet {
 pub enum Labels {
     /// The recipient must be the only one of its file.
     Alone,
-    /// The recipient goes together with those that have exactly these names, usually none.
+    /// The recipient goes together with those that have exactly these names (usually no names).
     Names(LabelSet),
 }
 
 impl Labels {
-    /// Returns whether recipients with these labels may share a file: both have names, and the same
-    /// ones. Two recipients that are `Alone` do not go together, although their labels are equal.
+    /// Returns whether recipients with these labels may share a file: both are `Names` of the same
+    /// set. Two recipients that are `Alone` do not go together, although their labels are equal.
     #[tactic(auto, using(crate::proofs::LabelLemmas::names_together))]
     pub fn go_together(&self, other: &Labels) -> bool
         ensures { result ≡ go_together self.now other.now }

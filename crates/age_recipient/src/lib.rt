@@ -6,7 +6,7 @@
 //! let recipient = PassRecipient::new(alloc, b"correct horse", salt, 18)?;
 //! let stanzas = recipient.wrap(alloc, &file_key)?;
 //! let identity = PassIdentity::new(alloc, b"correct horse", 22)?; // takes work factors up to 22
-//! // of several identities, boxed
+//! // `identities` is a list of boxed identities
 //! let key = unlock(alloc, identities.as_slice(), stanzas.as_slice())?;
 //! ```
 //!
@@ -14,8 +14,8 @@
 //! stanza, of keys of 32 bytes. For another kind implement `Recipient` or `Identity`, and state its
 //! meaning as a function.
 //!
-//! *What a contract sees.* A recipient or identity is its meaning, a ghost function: `wraps` of a
-//! file key, `meaning` of a list of stanzas, `the_labels`. So a list of boxes is a list of
+//! *What a contract sees.* A recipient is its ghost functions `wraps`, of a file key, and
+//! `the_labels`; an identity is `meaning`, of a list of stanzas. So a list of boxes is a list of
 //! meanings. The recipient and identity of a passphrase are the records `PassSecret` and
 //! `PassGuess`, those of a key `KeySecret` and the key's bytes. A set of labels is the list of its
 //! texts in order. `may_run_out` says for which stanzas an identity may return out of memory.

@@ -28,8 +28,8 @@ pub trait Matched {
         ensures { result.now ≡ the_identity self.now };
 
     // The law: if the recipient wraps a file key in stanzas, the identity's meaning for exactly
-    // these stanzas is that file key. An impl names its proof, which stands in specs/, because an
-    // impl cannot name anything in proofs/.
+    // these stanzas is that file key. An impl names a proof of this law, which must be in specs/
+    // because an impl cannot name anything in proofs/.
     ghost opens: { (pair : Self) (file_key : FileKey) (stanzas : List StanzaParts)
         → IsFileKey file_key → Self.R.wraps (the_recipient pair) file_key ≡ Ok stanzas
         → Self.I.meaning (the_identity pair) stanzas ≡ Key file_key };

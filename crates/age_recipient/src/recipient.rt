@@ -32,10 +32,9 @@ pub trait Recipient: Drop {
     /// Wraps the file key. Returns the stanzas that hold it for this recipient.
     ///
     /// # Errors
-    /// `Refused` with the code of the recipient's meaning, `Memory` if an allocation was refused.
+    /// `Refused` with its code if the recipient refuses, `Memory` if an allocation was refused.
     fn wrap(&self, alloc: Global, key: &FileKey) -> Result<Vec<Stanza>, WrapFault>
-        // A recipient returns its own meaning, or a refused allocation. Each impl is proved to do
-        // so.
+        // A recipient returns its own meaning, or `Memory`. Each impl is proved to do so.
         ensures { WrapsAs (wraps self.now key.now) result };
 
     /// Returns the labels of this recipient, which say with which other recipients it may share a
@@ -46,9 +45,9 @@ pub trait Recipient: Drop {
     /// If an allocation was refused.
     #[tactic(auto, using(crate::proofs::LabelLemmas::no_texts))]
     fn labels(&self, alloc: Global) -> Result<Labels, AllocError>
-        // Returns the labels of the recipient's meaning, or an empty set of names: the default body
-        // returns the latter, and is proved once for all recipients, whatever they mean. For a
-        // key's recipient, even in a box, both are the same, since its meaning is an empty set.
+        // Returns the labels of the recipient's meaning, or an empty set of names. The default body
+        // returns the latter, and is proved once for all recipients. A key's recipient, even in a
+        // box, returns an empty set, because its `the_labels` is one.
         ensures { IfOk result (MayLabel (the_labels self.now)) }
     {
         Ok(Labels::Names(LabelSet::new(alloc, &[])?))

@@ -7,7 +7,7 @@ use crate::unwrapped::Unwrapped;
 use age_cipher::{open_in_place, seal_in_place};
 use age_header::FileKey;
 
-/// The length of a stanza's body: a file key and its tag.
+/// The length of a body that holds a file key: the file key and its tag.
 pub(crate) const SEALED_KEY_SIZE: usize = FILE_KEY_SIZE + 16;
 
 const FILE_KEY_SIZE: usize = 16;

@@ -1,4 +1,4 @@
-//! The loop of an identity over a header's stanzas.
+//! The loop of an identity over a header's stanzas, and the reading of a stanza's type and salt.
 
 ghost use Rattle.std.specs.Prelude.{◌≡◌, map, option_map, true, IfOk, IfErr};
 ghost use Rattle.std.specs.List.{list_any};
@@ -31,7 +31,7 @@ pub(crate) trait Opener {
         ensures memory { IfErr result (λ _. is_of (kind self.now) stanza.now ≡ true) };
 }
 
-/// Returns the first of these stanzas' answers that decides. Later stanzas are not examined.
+/// Returns the decision of these stanzas' answers. Stanzas after one that decides are not examined.
 #[tactic(auto, using(crate::proofs::AnswerLemmas::first_opened))]
 pub(crate) fn first_opened<O: Opener>(
     alloc: Global,
@@ -67,7 +67,7 @@ pub(crate) fn after_type<'a>(stanza: &'a Stanza, kind: &str) -> Option<&'a [Stri
     Some(rest)
 }
 
-/// The salt whose base64 these characters are, if it has 16 bytes.
+/// Decodes a salt. Returns `None` if the text is not the base64 of 16 bytes.
 pub(crate) fn salt_of(alloc: Global, text: &[u8]) -> Result<Option<[u8; 16]>, AllocError>
     ensures { IfOk result (λ salt. salt ≡ salt_of (decoded_bytes text.now)) }
 {

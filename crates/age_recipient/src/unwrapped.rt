@@ -8,8 +8,8 @@ use age_header::FileKey;
 use std::error::Error;
 use std::fmt;
 
-/// Why a stanza of an identity's own type is malformed. This crate's identities check in this
-/// order.
+/// Why a stanza of an identity's own type is malformed. A passphrase's identity checks for all of
+/// these but `Other`, in this order; a key's identity for `ArgCount`, `Salt` and `BodyLength`.
 #[derive(Clone, Copy, Debug, Drop, PartialEq, Eq)]
 pub enum StanzaFault {
     ArgCount,
@@ -55,10 +55,10 @@ pub enum Unwrapped {
 }
 
 impl Unwrapped {
-    /// Combines this answer with the next, where several identities are asked in order.
+    /// Combines this answer with the next one when identities, or stanzas, are tried in order.
     ///
     /// # Errors
-    /// The next answer, if it decides. No later answer counts then.
+    /// The next answer, if it is a key or a malformed stanza. It decides: no later answer counts.
     pub fn followed_by(self, next: Unwrapped) -> Result<Unwrapped, Unwrapped>
         // On Ok the answer returned stands for both, whatever answers follow.
         ensures continues { IfOk result (λ both.

@@ -1,8 +1,8 @@
--- A list that is cut in pieces of one size, the last one open.
+-- Cutting a text into lists of one size and a last one, after bytes that are already held.
 use Rattle.age_stream.proofs.Common.{◌≡◌, ◌↔◌, ℕ, List, [], ◌∷◌, ◌++◌, ◌+◌, ◌<◌, ◌≤◌, length, sym, ◌∙◌, ap, arith, nat_lt, cond, true, false, refl, append_assoc, length-append, subst, inl, inr, concat, le-ltb, lt-ltb, cases_lt, Bytes, cut_after, cut, IsCut, append-nil}
 use Rattle.age_stream.specs.Cutting.{IsFilled}
 
--- bytes that fit go into the open list
+-- bytes that fit are added to `held`
 pub cut_fits : (size : ℕ) (held x r : Bytes) → length held + length x ≤ size
     → cut_after size held (x ++ r) ≡ cut_after size (held ++ x) r
 cut_fits size held [] r le = ap (λ h. cut_after size h r) (sym (append-nil held))
@@ -11,7 +11,7 @@ cut_fits size held (b ∷ bs) r le =
     rw (lt-ltb (length held) size (omega arith), ← append_assoc held (b ∷ []) bs)
     (cut_fits size (held ++ b ∷ []) bs r (omega arith))
 
--- at a full list the next byte begins one
+-- if `held` is full, the next byte begins a new list
 pub cut_full : (size : ℕ) (held r : Bytes) → 0 < size → 0 < length r → length held ≡ size
     → cut_after size held r ≡ held ∷ cut size r
 cut_full size held [] pos some full = absurd (omega arith)
@@ -22,11 +22,11 @@ pub cut_first : (size : ℕ) (x r : Bytes) → 0 < size → 0 < length r → len
     → cut size (x ++ r) ≡ x ∷ cut size r
 cut_first size x r pos some full = cut_fits size [] x r (omega arith) ∙ cut_full size x r pos some full
 
--- what fits into one list is cut into that one
+-- the cut of a text that fits into one list is that list
 pub cut_last : (size : ℕ) (x : Bytes) → length x ≤ size → cut size x ≡ x ∷ []
 cut_last size x le = ap (cut size) (sym (append-nil x)) ∙ cut_fits size [] x [] (omega arith)
 
--- the lists of a filled cut hold something
+-- filled lists hold at least one byte
 pub filled_some : (size : ℕ) (cs : List Bytes) → 0 < size → IsFilled size cs → 0 < length (concat cs)
 filled_some size [] pos h = absurd h
 filled_some size (c ∷ []) pos h = omega (arith, h.0, length-append c [])
@@ -40,12 +40,12 @@ filled_cut size (c ∷ d ∷ more) pos h =
     cut_first size c (concat (d ∷ more)) pos (filled_some size (d ∷ more) pos h.1) h.0
     ∙ ap (λ t. c ∷ t) (filled_cut size (d ∷ more) pos h.1)
 
--- the lists of a cut join to what was cut
+-- the lists of a cut, concatenated, are `held` and then the text
 pub concat-cut_after : (size : ℕ) (held p : Bytes) → concat (cut_after size held p) ≡ held ++ p
 concat-cut_after size held [] = refl
 concat-cut_after size held (x ∷ xs) = grind (arith, nat_lt, cond, append_assoc, concat-cut_after size (held ++ x ∷ []) xs, concat-cut_after size (x ∷ []) xs)
 
--- one more full list before a filled one
+-- a full list before filled lists: together they are filled
 filled_more : (size : ℕ) (c : Bytes) (cs : List Bytes) → length c ≡ size → IsFilled size cs → IsFilled size (c ∷ cs)
 filled_more size c [] e h = absurd h
 filled_more size c (d ∷ more) e h = (e, h)
@@ -62,7 +62,7 @@ filled_cut_into size held (x ∷ xs) pos le some =
           (filled_cut_into size (x ∷ []) xs pos (omega arith) (omega arith)))
     ]
 
--- the computed cut is one
+-- the lists that `cut` computes are a cut
 pub is_cut : (size : ℕ) (p : Bytes) → 0 < size → IsCut size p (cut size p)
 is_cut size [] pos = record { joined = refl; sizes = inl refl }
 is_cut size (x ∷ xs) pos = grind (arith, concat-cut_after, filled_cut_into)
@@ -73,7 +73,7 @@ cut_is_unique size p cs pos h = grind (arith, filled_cut)
 pub one_cut_both : (size : ℕ) (p : Bytes) (cs : List Bytes) → 0 < size → IsCut size p cs ↔ (cs ≡ cut size p)
 one_cut_both size p cs pos = (cut_is_unique size p cs pos, λ e. subst (IsCut size p) (sym e) (is_cut size p pos))
 
--- as `IsFilled`, but the last may be empty
+-- like `IsFilled`, but the last list may be empty
 abbrev pub AtMost : ℕ → List Bytes → Type 0
 AtMost size [] = ⊥
 AtMost size (c ∷ []) = length c ≤ size

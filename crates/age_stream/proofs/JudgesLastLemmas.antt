@@ -1,4 +1,4 @@
--- What the last piece gives, and what opening a payload for ranges finds.
+-- The outcome of the last piece, and the result of opening a payload for ranges.
 use Rattle.age_stream.proofs.Common.{Bool, ◌≡◌, ◌⊎◌, ℕ, [], ◌+◌, ◌-◌, ◌*◌, ◌<◌, ◌≤◌, length, take, drop, get_or, nat_eq, sym, ◌∙◌, ap, arith, true, refl, inl, inr, Option, None, Some, Result, Ok, Err, eq-eqb, le-leb, le-ltb, lt-ltb, length-drop, length-take-le, drop-drop, take_all, Agrees, Bytes, FileKey, StreamFault, Memory, Read, TooManyChunks, Write, Layout, sealed_chunk_size, chunk_buf_size, length-sealed_text, opened_text-sealed_text, IsAtPiece, pieces, chunk_nonce, payload_key, GaveAt, outcome, last_index, last_len, BeginsAt, BeginsRanges, IsOpenFault, IsOpened, JudgesLast, OpensRanges, PieceOpens, RangeState, plain_len, chunk_len, last_piece, last_outcome, range_outcome}
 use Rattle.std.specs.Option.{MatchOption}
 use Rattle.age_stream.proofs.PayloadLemmas.{outcome_opens}
@@ -16,7 +16,7 @@ last_piece_is rest =
     ap (λ k. get_or (pieces rest) k []) (last_number rest) ∙ cut_at sealed_chunk_size last rest (omega arith)
     ∙ take_all sealed_chunk_size (drop (sealed_chunk_size * last) rest) (omega arith)
 
--- what the last piece gives, its number and its offset written out
+-- the outcome of the last piece, with its number and its offset written out
 pub last_is : (key : Bytes) (max : ℕ) (rest : Bytes) {n : ℕ} → length rest ≡ n
     → last_outcome key max rest ≡ outcome key max (last_index n) true (drop (sealed_chunk_size * last_index n) rest)
 last_is key max rest len = grind (arith, last_number, last_piece_is)
@@ -26,7 +26,7 @@ outcome_many : (key : Bytes) (max i : ℕ) (last : Bool) (c : Bytes) → max ≤
 unfolding outcome
 outcome_many key max i last c le = rw (le-leb max i le) refl
 
--- what was read of the last piece decides as it does in known contents
+-- the result of `JudgesLast` is the outcome of the last piece of the known contents
 judged_there : (b : Bytes) {gave : ℕ → ℕ → Type 0} {found : Option ℕ} (key : Bytes) (max first sealed : ℕ)
     (r : Result Bytes StreamFault) → Agrees b gave found → length b ≡ first + sealed
     → JudgesLast gave key max first sealed r → last_outcome key max (drop first b) ≡ r
@@ -43,20 +43,20 @@ judged_there b key max first sealed r agrees size (inr (piece, len, read, is)) =
     ∙ take_all (length piece) (drop at (drop first b)) (omega arith) in
     last_is key max (drop first b) (omega arith) ∙ ap (outcome key max (last_index sealed) true) (sym same) ∙ is
 
--- the last piece was read
+-- the outcome of a last piece that was read is the result of `JudgesLast`
 pub judged : (gave : ℕ → ℕ → Type 0) (key : Bytes) (max first sealed last end : ℕ) (buf : Bytes)
     {r : Result Bytes StreamFault} → last ≡ last_index sealed → end ≡ sealed - sealed_chunk_size * last
     → length buf ≡ chunk_buf_size → GaveAt gave (first + sealed_chunk_size * last) (take end buf)
     → outcome key max last true (take end buf) ≡ r → JudgesLast gave key max first sealed r
 judged gave key max first sealed last end buf is len room read opens = grind (arith, length-take-le)
 
--- how long a last piece is that opens
+-- the length of a last piece that opens
 pub open_len : (key : Bytes) (max i : ℕ) {end n : ℕ} (buf after : Bytes) → length buf ≡ chunk_buf_size
     → end ≤ sealed_chunk_size → outcome key max i true (take end buf) ≡ Ok (take n after) → n ≤ length after
     → (n + 16 ≡ end) × (0 < i → 0 < n)
 open_len key max i {end} {n} buf after room le opens within = grind (arith, outcome_opens key max i true (take end buf) (take n after) opens, length-sealed_text key (chunk_nonce i true) [] (take n after), length-take-le end buf (omega arith), length-take-le n after within)
 
--- a last piece that was read, and opens
+-- if the outcome of the last piece, as read, is its text, `PieceOpens` holds of this text
 pub last_opens : {gave : ℕ → ℕ → Type 0} {layout : Layout} (max last end : ℕ) {n : ℕ} (buf after : Bytes)
     → layout.count ≡ last + 1 → GaveAt gave (layout.first + sealed_chunk_size * last) (take end buf)
     → length (take end buf) ≡ n + 16 → outcome layout.key max last true (take end buf) ≡ Ok (take n after)
@@ -77,7 +77,7 @@ plain_there layout rest size =
     let high = plain_count (layout.count - 1) rest more (omega (arith, layout.covers)) (omega (arith, layout.covers)) in
     omega (arith, layout.some, layout.covers, high)
 
--- what opening a payload found is so of known contents
+-- what opening a payload found holds of the known contents
 begun_there : (b : Bytes) {gave : ℕ → ℕ → Type 0} {found : Option ℕ} (k : FileKey) (max at : ℕ) {key : Bytes}
     {first sealed : ℕ} (r : Result Bytes StreamFault) → Agrees b gave found
     → BeginsAt k max at gave found key first sealed r
@@ -112,12 +112,12 @@ refused_there b k max at fault agrees (inr (inr (inl (is, (n, size, short))))) =
 refused_there b k max at fault agrees (inr (inr (inr (key, first, sealed, begins)))) =
     inr (inr (begun_there b k max at (Err fault) agrees begins).2)
 
--- at most the nonce was read
+-- if at most the nonce was read, and nothing without a size, the bound `last` of `Probes` holds
 pub probed : (size : Option ℕ) (at : ℕ) {old new : ℕ} → (size ≡ None → new ≤ old) → new ≤ old + 16
     → MatchOption size (new ≤ old) (λ n. new ≤ old + (16 + last_len (n - (at + 16))))
 probed None at unread le = unread refl
 probed (Some n) at unread le = omega arith
 
--- a fault of a piece is one of opening
+-- a fault of a piece is one that opening a payload may return
 pub piece_named : (max i : ℕ) (fault : StreamFault) → IsAtPiece max i fault → IsOpenFault fault
 piece_named a b c d = grind arith

@@ -16,7 +16,7 @@ pub count_there : (layout : Layout) (n : ℕ) → layout.plain + 16 * layout.cou
     → layout.count - 1 ≡ (n - 1) / sealed_chunk_size
 count_there layout n sealed = grind (arith, sealed, layout.some, layout.covers, layout.tight)
 
--- there are as many pieces as are counted
+-- there are as many pieces as the layout counts
 there_count : (layout : Layout) (rest : Bytes) → length rest ≡ layout.plain + 16 * layout.count
     → length (pieces rest) ≡ layout.count
 there_count layout rest size = grind (arith, piece_count, count_there)
@@ -28,7 +28,7 @@ there_last : (layout : Layout) (rest : Bytes) (i : ℕ) → length rest ≡ layo
     → i < layout.count → nat_eq (i + 1) layout.count ≡ nat_le (length rest) (sealed_chunk_size * (i + 1))
 there_last layout rest i size lt = grind (arith, nat_tests, layout.tight, layout.covers, size, lt)
 
--- what a piece opens to is what it opens to in known contents
+-- a piece that was read opens as that piece of the known contents does
 pub opens_there : (b : Bytes) {gave : ℕ → ℕ → Type 0} {found : Option ℕ} (layout : Layout) (i : ℕ) (o : Known)
     → Agrees b gave found → IsThere (Some b) layout → PieceOpens gave layout i o
     → source_opening (Some b) layout i ≡ o

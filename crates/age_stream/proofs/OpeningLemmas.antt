@@ -1,13 +1,13 @@
--- The next piece, by what was read ahead, what was given, and what may still come.
+-- The next piece: first the bytes read ahead, then bytes that a call reads.
 use Rattle.age_stream.proofs.Common.{◌≡◌, ◌⊎◌, ◌∙◌, ◌+◌, ◌-◌, ◌^◌, ◌<◌, ◌≤◌, ℕ, [], length, take, drop, min, ap, sym, arith, refl, inl, inr, not, subst, Option, Some, None, true, false, Bool, nat_le, cond, Result, Ok, Err, IfNone, IfSome, IsErrOf, cases_lt, le-leb, lt-leb, drop-drop, take_all, take-take, length-drop, length-take, length-take-le, Bytes, Flow, GaveSome, Seen, flow, StreamFault, Read, chunk_size, sealed_chunk_size, chunk_buf_size, gave_none, Piece, Advances, IsAtPiece, Loses, OpenerState, ReadsPiece, held_of, outcome, first_outcome, after_first, ◌++◌, length-append, GivesText, OpensPiece, ReadsAhead, when_none, Known, GaveAtMost, flow_by, FileKey, nonce_size, Starts, StartsReader}
 
 -- ---- n bytes of a buffer, of which the first piece was opened
 
--- the front of n bytes
+-- the first `size` of n bytes
 pub take_most : (size n : ℕ) (l : Bytes) → take size (take n l) ≡ take (min n size) l
 take_most size n l = grind (arith, take-take, take_all, length-take)
 
--- what is the same from an offset on is the same from a later one on
+-- lists that agree from an offset on agree from a later offset on
 pub drop_same : (n size : ℕ) (a b : Bytes) → n ≤ size → drop n a ≡ drop n b → drop size a ≡ drop size b
 drop_same n size a b le same =
     let sum : n + (size - n) ≡ size = omega arith in
@@ -70,7 +70,7 @@ pub ahead_one : (bytes : Bytes) → length bytes ≡ chunk_buf_size
 ahead_one bytes size =
     take_all 1 (drop sealed_chunk_size bytes) (omega (arith, length-drop sealed_chunk_size bytes, size))
 
--- one byte is read ahead, and the text before it is a full chunk
+-- if another piece follows, one byte of it was read ahead, and the text before it is a full chunk
 one_byte_ahead : (more : Bool) (len : ℕ) (bytes : Bytes) → length bytes ≡ chunk_buf_size
     → (more ≡ true → len ≡ chunk_size) → IfSome (held_of more (take 1 (drop sealed_chunk_size bytes)))
     (λ ahead. (length ahead ≡ 1) × (length (take len bytes) ≡ chunk_size))
@@ -175,7 +175,7 @@ advances_none from ahead len bytes view over none small = rw (← view, over, no
   opens = (refl, refl);
 }))
 
--- ---- an opener that was given
+-- ---- a reader over an opener
 
 -- a reader of the source from which an opener read the nonce
 pub starts_reader : {S : Type 0} (to_come : S → Known) (gave : S → Bytes → Type 0) (failed : S → ℕ) (k : FileKey)

@@ -1,9 +1,9 @@
--- What reads to its end is a payload, and the other way round.
+-- A text is read without a fault exactly if it is a payload with few enough chunks.
 use Rattle.age_stream.proofs.Common.{◌≡◌, ◌↔◌, ◌⊎◌, ℕ, List, [], ◌∷◌, ◌++◌, ◌+◌, ◌<◌, ◌≤◌, ◌&&◌, length, take, drop, map, sym, ◌∙◌, ap, arith, nat_lt, nat_le, nat_eq, cond, true, false, Bool, refl, suc, length-append, subst, inl, inr, Option, Some, None, Result, Ok, Err, ok_or, concat, le-ltb, lt-ltb, cases_lt, leb-false, lt-leb, nat_tests, take-append-drop, take_at, drop_at, length-take-le, Bytes, sealed_text, opened_text, FileKey, StreamFault, ChunkShort, EmptyFinal, BadChunk, TooManyChunks, chunk_size, sealed_chunk_size, IsCut, chunks, pieces, chunk_nonce, is_end, sealed_chunks_from, payload_key, payload, Reading, outcome, outcomes, first_fault, plaintext_of, reading_from, payload_reading, whole, length-sealed_text, opened_is, each, sealed_chunk}
 use Rattle.age_stream.specs.Cutting.{IsFilled}
 use Rattle.age_stream.proofs.CuttingLemmas.{is_cut, cut_is_unique, filled_cut, AtMost, cut_at_most}
 
--- a result is one or the other
+-- a result is Ok or Err
 pub result_cases : {A F : Type 0} (r : Result A F) → ((t : A) × (r ≡ Ok t)) ⊎ ((f : F) × (r ≡ Err f))
 result_cases (Ok t) = inl (t, refl)
 result_cases (Err f) = inr (f, refl)
@@ -47,7 +47,7 @@ pub record AllOpen (key : Bytes) (max i : ℕ) (cs : List Bytes) (p : Bytes) : T
   pub count : length texts + i ≤ max
   pub sizes : Sized i texts
 
--- of pieces without a fault the first opens, and the others have none
+-- of pieces without a fault the first opens, and the others have no fault
 pub opens_first : (key : Bytes) (max i : ℕ) (c : Bytes) (cs : List Bytes)
     → first_fault (outcomes key max i (c ∷ cs)) ≡ None
     → (t : Bytes) × (outcome key max i (is_end cs) c ≡ Ok t) × (first_fault (outcomes key max (i + 1) cs) ≡ None)
@@ -104,7 +104,7 @@ fault_all : (ts : List Bytes) → first_fault {F = StreamFault} (map Ok ts) ≡ 
 fault_all [] = refl
 fault_all (t ∷ ts) = fault_all ts
 
--- sealed texts are cut as pieces are
+-- sealed chunks have the sizes of pieces
 each_filled : (key : Bytes) (i : ℕ) (ts : List Bytes) → AtMost chunk_size ts
     → IsFilled sealed_chunk_size (sealed_chunks_from key i ts)
 each_filled key i [] h = h
@@ -115,7 +115,7 @@ pub pieces_each : (key : Bytes) (ts : List Bytes) → AtMost chunk_size ts
     → pieces (concat (sealed_chunks_from key 0 ts)) ≡ sealed_chunks_from key 0 ts
 pieces_each key ts h = filled_cut sealed_chunk_size (sealed_chunks_from key 0 ts) (omega arith) (each_filled key 0 ts h)
 
--- what reading a payload to its end says of it
+-- b is the payload of p under some nonce, and has at most `max` chunks
 pub record IsPayload (k : FileKey) (b p : Bytes) (max : ℕ) : Type 0 where
   pub nonce : Bytes
   pub nonce_len : length nonce ≡ 16

@@ -1,4 +1,4 @@
--- The steps of a range's loop, and the chunk kept.
+-- The steps of the loop of `read_range`, the chunk kept, and ranges of known contents.
 use Rattle.age_stream.proofs.Common.{◌≡◌, ℕ, ◌++◌, ◌+◌, ◌-◌, ◌*◌, ◌≤◌, length, take, drop, ◌∙◌, sym, ap, arith, Option, Some, length-take-le, drop-drop, drop_at, Bytes, Known, Layout, chunk_size, length-append, ◌/◌, ◌<◌, slice_index, subst, get_or-take, sealed_chunk_size, StaysGiven, IsSound, IsVerifiedByte, Agrees, HasPlain, IsThere, PieceOpens, RangeState, kept_text, chunk_len, append_assoc, inl, inr, cases_lt, ◌%◌, slice_get, get_or_append_left, get_or-append-add, get_or-drop, slice_get-get_or}
 use Rattle.age_stream.specs.Ranges.{Fills, end_of}
 use Rattle.age_stream.proofs.LoadLemmas.{opens_there}
@@ -10,7 +10,7 @@ pub rest_on : (old new first : Bytes) (done n : ℕ) → drop done old ≡ drop 
     → drop (done + n) new ≡ drop (done + n) old → drop (done + n) new ≡ drop (done + n) first
 rest_on old new first done n so_far e = e ∙ sym (drop-drop n done old) ∙ ap (drop n) so_far ∙ drop-drop n done first
 
--- what a piece opened to stays so
+-- a piece that opens, or does not, stays so after more reads
 pub opens_stays : {old new : ℕ → ℕ → Type 0} {layout : Layout} {i : ℕ} {o : Known} → StaysGiven old new
     → PieceOpens old layout i o → PieceOpens new layout i o
 opens_stays {layout = layout} {i} stays v = grind arith
@@ -19,20 +19,20 @@ pub byte_stays : (old new : ℕ → ℕ → Type 0) (layout : Layout) (at byte :
     → IsVerifiedByte old layout at byte → IsVerifiedByte new layout at byte
 byte_stays old new layout at byte stays v = (v.0, opens_stays stays v.1, v.2)
 
--- the text of the kept chunk
+-- the text of the kept chunk is what its piece opens to
 pub kept_opens : {gave : ℕ → ℕ → Type 0} {size : Option ℕ} (s : RangeState) (layout : Layout) (i : ℕ) (text : Bytes)
     → s.layout ≡ layout → s.index ≡ Some i → text ≡ kept_text s i → IsSound gave size s
     → PieceOpens gave layout i (Some text)
 kept_opens s layout i text same at is sound = rw (← same, is) (sound.keeps i at)
 
--- the last chunk is kept
+-- a reader that keeps the last chunk, opened from its piece, is sound
 pub keeps_last : {gave : ℕ → ℕ → Type 0} {layout : Layout} {size : Option ℕ} (opened : ℕ) {items new : Bytes}
     → items ≡ new → size ≡ Some (end_of layout)
     → PieceOpens gave layout (layout.count - 1) (Some (take (chunk_len layout.plain (layout.count - 1)) new))
     → IsSound gave size (record { layout = layout; index = Some (layout.count - 1); buf = items; opened = opened })
 keeps_last {gave} {layout} opened {new} same end v = grind arith
 
--- so far, one chunk on
+-- with the bytes of one more chunk copied, all bytes so far are verified
 pub verified_on : (old_read new_read : ℕ → ℕ → Type 0) (layout : Layout) (text old new : Bytes) (at done i skip n : ℕ)
     → StaysGiven old_read new_read → at + done ≡ chunk_size * i + skip → done ≤ length old → skip + n ≤ length text
     → length text ≤ chunk_size → PieceOpens new_read layout i (Some text)

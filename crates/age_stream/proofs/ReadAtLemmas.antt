@@ -5,7 +5,7 @@ sized : (b xs : Bytes) {gave : ℕ → ℕ → Type 0} {found : Option ℕ} (at 
     → length xs ≡ length (take (length xs) (drop at b))
 sized b xs at agrees given = grind (arith, length-take, length-drop, slice_get_within)
 
--- what a source gave is what its known contents have there
+-- the bytes that a source gave at an offset are those of its known contents
 pub has_at : (b xs : Bytes) {gave : ℕ → ℕ → Type 0} {found : Option ℕ} (at : ℕ) → Agrees b gave found
     → GaveAt gave at xs → xs ≡ take (length xs) (drop at b)
 has_at b xs at agrees given =
@@ -13,7 +13,7 @@ has_at b xs at agrees given =
     sym (get_or-take (length xs) (drop at b) k 0 lt ∙ get_or-drop at b k 0
     ∙ get_or_from_slice_get b (at + k) (slice_index xs k) 0 (agrees.given (at + k) (slice_index xs k) (given k lt))))
 
--- what was read before, and then the next bytes
+-- the bytes read before and the n bytes after them, joined, were read from `at` on
 pub read_on : (old_read new_read : ℕ → ℕ → Type 0) (at got n : ℕ) (old new : Bytes) → got + n ≤ length new
     → length new ≡ length old → take got new ≡ take got old
     → StaysGiven old_read new_read → GaveAt old_read at (take got old)

@@ -1,20 +1,20 @@
--- One piece after another.
+-- Reading a payload one piece after another.
 use Rattle.age_stream.proofs.Common.{◌≡◌, ◌⊎◌, ℕ, List, [], ◌∷◌, ◌++◌, ◌+◌, ◌-◌, ◌*◌, ◌<◌, ◌≤◌, length, take, drop, sym, ◌∙◌, ap, arith, nat_lt, cond, true, false, refl, inl, inr, Result, Ok, Err, suc, zero, cases_lt, le-leb, lt-leb, true≢false, take-append-drop, take_all, length-take-le, length-drop, Bytes, StreamFault, sealed_chunk_size, cut, cut_after, pieces_left, reading_left, pieces, is_end, Reading, after_first, first_outcome, outcome, outcomes, first_fault, plaintext_of, reading_from, stop}
 use Rattle.age_stream.proofs.CuttingLemmas.{cut_first, cut_last}
 
--- what one piece gives, then what the rest gives
+-- the reading of a piece with this outcome and, unless that is a fault, of the rest after it
 abbrev pub then_read : Result Bytes StreamFault → Reading StreamFault → Reading StreamFault
 then_read (Ok text) rest = record { plaintext = text ++ rest.plaintext; fault = rest.fault }
 then_read (Err fault) rest = stop fault
 
--- more than one list
+-- a text that does not fit into one list is cut into its first `size` bytes and the cut of the rest
 pub cut_step : (size : ℕ) (p : Bytes) → 0 < size → size < length p → cut size p ≡ take size p ∷ cut size (drop size p)
 cut_step size p pos lt =
     let l : length (take size p) ≡ size = length-take-le size p (omega arith) in
     let d : length (drop size p) ≡ length p - size = length-drop size p in
     ap (cut size) (sym (take-append-drop size p)) ∙ cut_first size (take size p) (drop size p) pos (omega arith) l
 
--- a cut has a list
+-- a cut has at least one list
 pub is_end_cut : (size : ℕ) (held p : Bytes) → is_end (cut_after size held p) ≡ false
 is_end_cut size held [] = refl
 is_end_cut size held (x ∷ xs) = grind (arith, nat_lt, cond, is_end_cut size (held ++ x ∷ []) xs)
@@ -26,14 +26,14 @@ cut_some size held p = go (cut_after size held p) (is_end_cut size held p)
     go [] e = absurd (true≢false e)
     go (c ∷ cs) e = omega arith
 
--- the reading of some outcomes, in order
+-- the reading of an outcome and then of others
 reading_then : (r : Result Bytes StreamFault) (rs : List (Result Bytes StreamFault))
     → record { plaintext = plaintext_of (r ∷ rs); fault = first_fault (r ∷ rs) }
     ≡ then_read r (record { plaintext = plaintext_of rs; fault = first_fault rs })
 reading_then (Ok p) rs = refl
 reading_then (Err f) rs = refl
 
--- the first piece, and what follows it
+-- the reading of c: of its first piece, and then of what follows it
 pub reading_first : (key : Bytes) (max i : ℕ) (c : Bytes)
     → reading_from key max i c ≡ then_read (first_outcome key max i c) (reading_left key max (i + 1) (after_first c))
 reading_first key max i c = elim (cases_lt sealed_chunk_size (length c)) [

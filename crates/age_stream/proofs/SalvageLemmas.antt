@@ -19,7 +19,7 @@ pub part-opened : (key : Bytes) (i : ℕ) (last : Bool) (c t : Bytes) → piece_
     → part key i last c ≡ record { text = t; saved = in_place i last (length c) }
 part-opened key i last c t is = rw is refl
 
--- what a piece is: it opens in its place, or in another, or neither
+-- a piece opens in its place, or with the other last-chunk byte, or is a `closed_part`
 pub part_cases : (key : Bytes) (i : ℕ) (last : Bool) (c : Bytes) → ((t : Bytes) × (piece_opening key i last c ≡ Some t)
     × (part key i last c ≡ record { text = t; saved = in_place i last (length c) }))
     ⊎ ((t : Bytes) × (piece_opening key i (not last) c ≡ Some t)
@@ -27,7 +27,7 @@ pub part_cases : (key : Bytes) (i : ℕ) (last : Bool) (c : Bytes) → ((t : Byt
     ⊎ (part key i last c ≡ closed_part key i last c)
 part_cases key i last c = grind (arith, cases_Option, part-opened)
 
--- a piece that has no chunk without its last k bytes does not open with more of them taken off
+-- a piece that is shorter than k bytes and a tag does not open with padding of k bytes or more
 pub padded_short : (key : Bytes) (i k n : ℕ) (c : Bytes) → length c < k + 16 → padded_part key i k n c ≡ lost_part c
 unfolding padded_part
 padded_short key i k zero c short = refl
@@ -46,7 +46,7 @@ unfolding padded_part
 padded_step key i k n end b le is sum some =
     let left : n ≡ suc (max_padding - k) = omega arith in rw (left, is, shorter k end b le)
 
--- no padding is left
+-- once all lengths of padding were tried, the part is that of a lost piece
 pub padded_end : (key : Bytes) (i k : ℕ) {end most : ℕ} (c : Bytes) → length c ≡ end
     → most ≡ min max_padding (end - 16) → most + 1 ≤ k → padded_part key i k (max_padding + 1 - k) c ≡ lost_part c
 unfolding padded_part
@@ -68,7 +68,7 @@ pub parts_last : (key : Bytes) (i : ℕ) (c : Bytes) → length c ≤ sealed_chu
 parts_last key i c le =
     rw (cut_last sealed_chunk_size c le, le-leb (length c) sealed_chunk_size le, take_all sealed_chunk_size c le)
 
--- a piece with more after it, whatever follows
+-- the first piece of c, if more bytes of c follow it, whatever bytes d come after c
 pub parts_next : (key : Bytes) (i : ℕ) (c d : Bytes) → sealed_chunk_size < length c
     → parts key i (pieces (c ++ d)) ≡ first_part key i c ∷ parts key (i + 1) (pieces (drop sealed_chunk_size c ++ d))
 parts_next key i c d lt =
@@ -131,7 +131,7 @@ reports_then (Some past) b c xs ys g h = rw (g, append_assoc past xs ys) at h
 
 -- ---- the next piece
 
--- the first piece of n bytes, in a buffer whose front was saved
+-- the part for the first piece of the n bytes at the start of a buffer
 pub first_saved : (key : Bytes) (i n : ℕ) {end len : ℕ} (bytes new : Bytes) {saved : Saved} → n ≤ length bytes
     → end ≡ min n sealed_chunk_size → end - 16 - padding saved ≡ len
     → part key i (nat_le n sealed_chunk_size) (take end bytes)
@@ -142,8 +142,8 @@ first_saved key i n bytes new {saved} le least text found =
 
 -- ---- the parts so far
 
--- Of what was given these parts were written and reported; `ahead` is what was read of the next
--- piece.
+-- The parts of the bytes read so far, which were written, and of which the lost chunks were
+-- reported; `ahead` is what was read of the next piece.
 pub record Salvaging (key : Bytes) (s : Salvaged) (ahead : Bytes) (from now : Seen) (old new : Known)
     (before after : KnownLosses) : Type 0 where
   pub done : List Part
@@ -194,7 +194,7 @@ snoc_summary done y =
     let last = last_snoc done y in
     cc
 
--- ---- the ends
+-- ---- how saving ends
 
 module _ {key : Bytes} {s : Salvaged} {ahead : Bytes} {from now : Seen} {old new : Known}
     {before after : KnownLosses} (o : Salvaging key s ahead from now old new before after) where
@@ -208,7 +208,7 @@ module _ {key : Bytes} {s : Salvaged} {ahead : Bytes} {from now : Seen} {old new
   first_parts d = ap (take s.chunks) (o.reads d)
       ∙ take_at o.done (parts key s.chunks (pieces (ahead ++ d))) s.chunks (sym chunks)
 
-  -- there is a piece more than are allowed
+  -- there are more pieces than the limit allows
   pub saves_many : {max : ℕ} → s.chunks ≡ max → OfGiven (flow from now)
       (λ rest. SavesParts max (parts key 0 (pieces rest)) (move_of old new) (losses_of before after)
       (Err TooManyChunks))
@@ -219,7 +219,7 @@ module _ {key : Bytes} {s : Salvaged} {ahead : Bytes} {from now : Seen} {old new
         rw (first_parts d) (o.written, o.reported),
       )))
 
-  -- there the pieces that are allowed were read, and one byte
+  -- with too many chunks, saving ended at the first piece over the limit (`EndsAt`)
   pub ends_many : {max : ℕ} → s.chunks ≡ max → EndsAt max 0 (flow from now) (move_of old new) TooManyChunks
   ends_many full = record {
     piece = s.chunks;
@@ -258,12 +258,12 @@ module _ {key : Bytes} {s : Salvaged} {held : Bytes} {n : ℕ} {buf : Bytes} {fr
     )
   ]
 
-  -- the parts so far, and those of this piece with what comes
+  -- the parts so far, and then those of this piece and the bytes to come
   reads_piece : (d : Bytes) → parts key 0 (pieces ((o.given ++ r.given) ++ d))
       ≡ o.done ++ parts key s.chunks (pieces ((held ++ r.given) ++ d))
   reads_piece d = rw (append_assoc o.given r.given d, append_assoc held r.given d) (o.reads (r.given ++ d))
 
-  -- where a write failed, its piece too
+  -- a write failed: the pieces up to and including its own were read, and at most one more byte
   pub ends_write : (text : Bytes) {new : Known} → WritesPart (move_of mid new) text → (max : ℕ)
       → EndsAt max 0 (flow from next) (move_of old new) Write
   ends_write text {new} part max = record {
@@ -298,7 +298,7 @@ module _ {key : Bytes} {s : Salvaged} {held : Bytes} {n : ℕ} {buf : Bytes} {fr
           rw (all, done_parts) o.reported,
         ))
 
-    -- it was saved, and reported if it is lost
+    -- the piece was written, and reported if it is lost
     module _ {t : Salvaged} (new : Known) (after : KnownLosses) {len : ℕ} (wide : length y.text ≡ len)
         (put : Appends mid new y.text)
         (lost : Reports (losses_of said after) (loss y.saved (record { chunk = s.chunks; start = s.bytes; len = len })))
@@ -376,7 +376,7 @@ nonce_salvages k max {from} {mid} old lost NonceTruncated h =
     of_map h.1 (λ c less. (less, (Appends-nil old, reports_none lost)))
 nonce_salvages k max old lost fault h = absurd (cc)
 
--- what was read, with the nonce
+-- the bytes read, the nonce included
 pub payload_ends : (max : ℕ) {nonce : Bytes} {from mid : Seen} (to : Seen) (old new : Known)
     (r : Result Salvaged StreamFault) → Gave (flow from mid) nonce → length nonce ≡ 16
     → IfErr r (λ f. (f ≡ Read) ⊎ EndsAt max 0 (flow mid to) (move_of old new) f)

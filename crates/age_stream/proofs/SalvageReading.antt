@@ -1,4 +1,4 @@
--- What a reading gives is saved.
+-- Salvaging saves the plaintext of a reading.
 use Rattle.age_stream.proofs.Common.{nat_le, ◌≡◌, ◌↔◌, ◌∙◌, ◌++◌, ◌∷◌, ◌+◌, ◌-◌, ◌<◌, ◌≤◌, ◌&&◌, ℕ, List, [], length, take, drop, ap, sym, arith, append_assoc, refl, subst, inl, inr, Bool, true, false, Option, None, Some, Ok, cond, suc, nat_lt, nat_eq, cases_lt, le-ltb, lt-ltb, lt-leb, nat_tests, take_all, Bytes, FileKey, StreamFault, sealed_chunk_size, length-sealed_text, opened_is, Saved, Chunk, Early, LastChunk, chunk_nonce, is_end, payload_key, pieces, Reading, first_fault, plaintext_of, outcome, outcomes, payload_reading, piece_opening, reading_from, whole, Part, early_after, in_place, is_whole, is_whole_to, last_saved, latest_early, losses, lost_part, part, parts, payload_parts, salvaged_text, summary, cases_Bool, nil_from_length, zero, Padded, padded_part, max_padding, cases_Option}
 use Rattle.age_stream.proofs.CuttingLemmas.{AtMost, cut_at_most}
 use Rattle.age_stream.proofs.PayloadLemmas.{opens_first, opens_outcome, outcome_opens, result_cases}
@@ -30,7 +30,7 @@ plaintext_saved key max i (c ∷ cs) = elim (result_cases (outcome key max i (is
       )
 ]
 
--- all of these parts are texts of a reading without fault, and the last is the last chunk
+-- these parts, within the limit, join to the text; none is lost or early, the last is `LastChunk`
 pub record AllSaved (max i : ℕ) (ps : List Part) (text : Bytes) : Type 0 where
   pub is : salvaged_text ps ≡ text
   pub none : (at : ℕ) → losses i at ps ≡ []

@@ -8,7 +8,7 @@ opened_len : (key : Bytes) (i : ℕ) (last : Bool) (c t : Bytes) → piece_openi
     → length c ≡ length t + 16
 opened_len key i last c t is = grind (arith, opened_is key (chunk_nonce i last) [] c t, length-sealed_text key (chunk_nonce i last) [] t)
 
--- with its padding, the text of a part has as many bytes as the piece, less the tag's
+-- the text of a part and its padding together have as many bytes as the piece without its tag
 abbrev Fills : (c : Bytes) (p : Part) → Type 0
 Fills c p = length p.text + padding p.saved ≡ length c - 16
 
@@ -63,7 +63,7 @@ salvaged_len key i (c ∷ d ∷ cs) =
     let sum = sum_by-cons (λ piece. length piece - 16) c (d ∷ cs) in
     omega (arith, text, sum, part_len key i c, salvaged_len key (i + 1) (d ∷ cs))
 
--- byte r of what the piece with number n from here opens to, in what is saved
+-- byte r of the text to which piece n of a list opens, at its offset in the saved text
 record IsSavedAt (all text : Bytes) (n r : ℕ) : Type 0 where
   pub within : chunk_size * n + r < length all
   pub is : get_or all (chunk_size * n + r) 0 ≡ get_or text r 0

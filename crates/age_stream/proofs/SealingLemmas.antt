@@ -1,11 +1,11 @@
--- Full chunks that go out, one after another.
+-- Full chunks that are written one after another.
 use Rattle.age_stream.proofs.Common.{common_steps, ◌≡◌, ◌⊎◌, ◌∙◌, ◌++◌, ◌+◌, ◌-◌, ◌*◌, ◌<◌, ◌≤◌, ℕ, List, [], ◌∷◌, length, take, drop, ap, sym, arith, append-nil, append_assoc, length-append, refl, Bool, Option, Some, None, Result, Ok, Err, false, inl, inr, zero, suc, slice_set, slice_index_or, concat, Appends, IsAtEnd, Appends-trans, Appends-nil, take-add, length-take-le, take_at, length-drop, Bytes, sealed_text, Flow, Gave, GaveAtMost, GaveSome, Known, Seen, WritesPart, flow, move_of, Done as StreamDone, StreamFault, Read, Write, TooManyChunks, chunk_size, sealed_chunk_size, chunk_buf_size, length-sealed_text, Filled, gave_then, of_any, of_ended, of_more, of_then, done_part, cut_after, chunk_nonce, IfNone, FinishesBy, Fills, SealerState, SealsAll, StopsIn, TakesAll, Fed, IsFed, Stopped, WroteAtLeast, at_start, sealed_chunks_after, concat-append, at_none, when_none, sealed_chunk}
 use Rattle.age_header.proofs.DeviceLemmas.{Done}
 use Rattle.age_stream.proofs.CuttingLemmas.{cut_first, cut_fits}
 use Rattle.age_stream.proofs.PayloadLemmas.{length_each}
 use Rattle.age_stream.proofs.ReadingLemmas.{is_end_cut, cut_some}
 
--- what was held is cut as if it came
+-- text that is held is cut like text that is read
 cut_held : (x more : Bytes) → length x ≤ chunk_size → cut_after chunk_size [] (x ++ more) ≡ cut_after chunk_size x more
 cut_held x more fits = cut_fits chunk_size [] x more (omega (arith, fits))
 
@@ -14,7 +14,7 @@ fed_none {a} = grind (arith, common_steps)
 
 module _ {key : Bytes} {i j : ℕ} {held text now : Bytes} {a b : Known}
     (f : Fed key i j held text now (move_of a b)) where
-  -- the chunks of what came, if nothing follows: those that went out, and the last
+  -- the chunks of the text read, if nothing follows: those written, and the last
   chunks_all : sealed_chunks_after key i held text ≡ f.gone ++ sealed_chunks_after key j now []
   chunks_all = rw (append-nil text) at (f.chunks [])
 
@@ -45,7 +45,7 @@ module _ {key : Bytes} {i j : ℕ} {held text now : Bytes} {a b : Known}
     gave = inl refl;
   }
 
-  -- the source is at its end: what fits is held
+  -- what the source returned last, if it fits into the chunk, is held
   pub fed_end : (piece : Bytes) {from mid to : Seen} → length now + length piece ≤ chunk_size
       → Gave (flow from mid) text → Gave (flow mid to) piece
       → IsFed key i j held (now ++ piece) (flow from to) (move_of a b)
@@ -71,7 +71,7 @@ pub record IsFull (now piece full next : Bytes) : Type 0 where
 
 module _ {key : Bytes} {i j : ℕ} {held text now piece full next : Bytes} {a b : Known}
     (f : Fed key i j held text now (move_of a b)) (h : IsFull now piece full next) where
-  -- the chunks of what came, of the full chunk, and of what may still come
+  -- the chunks of the text read and of what may follow: those written, the full one, and the rest
   chunks_after : (more : Bytes) → sealed_chunks_after key i held ((text ++ piece) ++ more)
       ≡ f.gone ++ sealed_text key (chunk_nonce j false) [] full ∷ sealed_chunks_after key (j + 1) next more
   chunks_after more =
@@ -92,7 +92,7 @@ module _ {key : Bytes} {i j : ℕ} {held text now piece full next : Bytes} {a b 
   piece_has_len =
       omega (arith, ap length h.all, length-append now piece, length-append full next, h.size, h.one)
 
-  -- the chunk went out, by its new number and the byte that is then first
+  -- the chunk was written: k is the number of the next, and `prefix` is the byte held of it
   pub fed_next : {k : ℕ} {prefix : Bytes} {c : Known} → k ≡ j + 1 → prefix ≡ next
       → Appends b c (sealed_text key (chunk_nonce j false) [] full)
       → Fed key i k held (text ++ piece) prefix (move_of a c)
@@ -134,7 +134,7 @@ module _ {key : Bytes} {i j : ℕ} {held text now piece full next : Bytes} {a b 
           gave = inr gave_full;
         }
 
-    -- no chunk more is allowed
+    -- the limit allows no further chunk
     stopped_many : {max : ℕ} (c : Known) → j < max → max ≤ j + 1 → Appends b c []
         → Stopped key max i j held (flow from to) (move_of a c) TooManyChunks
     stopped_many {max} c within many none =
@@ -160,7 +160,7 @@ module _ {key : Bytes} {i j : ℕ} {held text now piece full next : Bytes} {a b 
           gave = inr gave_full;
         }
 
-    -- a chunk that did not go out
+    -- the full chunk was not written, or not all of it
     pub stopped_full : {max k : ℕ} {c : Known} {fault : StreamFault} → j < max
         → (k ≡ j) × (((fault ≡ Write) × WritesPart (move_of b c) (sealed_text key (chunk_nonce j false) [] full))
         ⊎ ((fault ≡ TooManyChunks) × (max ≤ j + 1) × Appends b c []))
@@ -240,7 +240,7 @@ module _ (s t : SealerState) {u : Unit {0}} (source : Flow) (a b c : Known) (non
 
 -- ---- a payload whose first chunk was filled before anything was written
 
--- a sealer that was filled seals what came and what comes
+-- after a first `fill`, sealing the text held and the text to come seals the whole source, or fails
 pub filled_seals : (key : Bytes) (max : ℕ) (t : SealerState) (more : Bool) (from mid to : Seen) (a c : Known)
     (r : Result StreamDone StreamFault)
     → Fills (at_start key max) t (flow from mid) (Ok more) → SealsAll t (flow mid to) (move_of a c) r
@@ -273,7 +273,7 @@ filled_seals key max t more from mid to a c r (x, took, is, fits, full, ended) s
       record { stops = of_then took s.stops (λ text h. stops text fault h); wrote = s.wrote; gave = gave j s.gave },
     )
 
--- a sealer that was filled with all that came seals it as the last chunk
+-- after a first `fill` reached the end of the source, `finish` seals the whole source, or fails
 pub filled_finishes : (key : Bytes) (max : ℕ) (t : SealerState) (from to : Seen) (a c : Known)
     (r : Result StreamDone StreamFault) → 1 ≤ max
     → Fills (at_start key max) t (flow from to) (Ok false) → FinishesBy t (move_of a c) r

@@ -8,7 +8,7 @@ pub cut_at : (size i : ℕ) (p : Bytes) → 0 < size → get_or (cut size p) i [
 cut_at size zero p pos = grind (arith, cut_step, cut_last, take_all)
 cut_at size (suc i) p pos = grind (arith, cut_step, cut_last, take_all, drop-drop, drop_all, cut_at size i (drop size p) pos)
 
--- the test of the last piece, one piece on
+-- the test for the last piece, with one more piece before it
 shifted : (size n len : ℕ) → size < len → nat_le (len - size) (size * n) ≡ nat_le len (size * suc n)
 shifted size n len lt = grind (arith, nat_tests, lt)
 
@@ -30,7 +30,7 @@ pub opening_at : (key rest : Bytes) (i : ℕ) → i < length (pieces rest)
     (take sealed_chunk_size (drop (sealed_chunk_size * i) rest))
 opening_at key rest i lt = grind (arith, last_cut, openings_at, cut_at)
 
--- how long the plaintext is, where the last piece has a tag
+-- the length of the plaintext, if the last piece has at least a tag
 pub plain_count : (n : ℕ) (rest : Bytes) → (n ≡ 0) ⊎ (sealed_chunk_size * n < length rest)
     → length rest ≤ sealed_chunk_size * (n + 1) → sealed_chunk_size * n + 16 ≤ length rest
     → plain_len rest + 16 * (n + 1) ≡ length rest
@@ -46,7 +46,7 @@ plain_count (suc n) rest (inr lt) le tag =
     ∙ sum_by-cons (λ piece. length piece - 16) first (pieces behind) in
     omega (arith, step, plain_count n behind (inr (omega arith)) (omega arith) (omega arith))
 
--- a text whose bytes are those of another from an offset on
+-- a text whose bytes are those of another from an offset on is a part of that text
 pub slice_of : (xs p : Bytes) (at : ℕ)
     → ((k : ℕ) → k < length xs → (at + k < length p) × (slice_index xs k ≡ get_or p (at + k) 0))
     → xs ≡ take (length xs) (drop at p)

@@ -1,5 +1,5 @@
 -- The payload of a file written by the program `age` (tests/data/passphrase.age), computed from the
--- definitions: with a wrong label, or another layout of a nonce, this line does not check.
+-- definitions: with a wrong label, or another layout of a nonce, `payload_is` does not check.
 use Rattle.std.proofs.Common.{◌≡◌, ◌∷◌, ◌++◌, [], refl}
 use Rattle.std.specs.Prelude.{codes}
 use Rattle.sha2.specs.Sha256.{sha256, digest_bytes, hash_after, compress, rounds, schedule, first_words}

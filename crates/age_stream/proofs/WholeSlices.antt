@@ -1,4 +1,4 @@
--- A payload that reads whole, by ranges: what is saved of it is its plaintext.
+-- Ranges of a payload without a fault: they are parts of its plaintext.
 use Rattle.age_stream.proofs.Common.{◌≡◌, inl, inr, ℕ, List, [], ◌∷◌, ◌+◌, ◌-◌, ◌<◌, length, take, drop, get_or, ◌∙◌, ap, arith, true, None, Ok, cases_lt, le-ltb, lt-ltb, Bytes, FileKey, StreamFault, Reading, chunk_size, sealed_chunk_size, chunks, pieces, sealed_chunks_from, payload_key, outcome, outcomes, first_fault, payload_reading, whole, plain_len, IsSlice, range_outcome, ◌*◌, map, refl, sym, Some, get_or-map, get_or_past, length-drop, length-take, opened_text-sealed_text, chunk_nonce, is_end, opening, openings, last_saved, padding, payload_parts, salvaged_text}
 use Rattle.age_stream.proofs.SliceLemmas.{cut_at}
 use Rattle.age_stream.proofs.PayloadLemmas.{is_end_each, opens_first, whole_pieces}
@@ -10,7 +10,7 @@ pub whole_len : (k : FileKey) (b p : Bytes) (max : ℕ) → payload_reading k ma
     → plain_len (drop 16 b) ≡ length p
 whole_len k b p max h = grind (arith, payload_whole k b p max h, salvaged_len (payload_key k (take 16 b)) 0 (pieces (drop 16 b)))
 
--- the last of some outcomes without a fault
+-- the last of some outcomes without a fault is Ok
 last_ok : (key : Bytes) (max i n : ℕ) (c : Bytes) (cs : List Bytes) → n ≡ i + length cs
     → first_fault (outcomes key max i (c ∷ cs)) ≡ None
     → (t : Bytes) × (outcome key max n true (get_or (c ∷ cs) (length cs) []) ≡ Ok t)
@@ -47,7 +47,7 @@ openings_each : (key : Bytes) (i : ℕ) (ts : List Bytes) → openings key i (se
 openings_each key i [] = refl
 openings_each key i (t ∷ ts) = grind (arith, is_end_each, opened_text-sealed_text, openings_each key (i + 1) ts)
 
--- each chunk opens to its part of the plaintext
+-- each chunk that is not empty opens to its part of the plaintext
 pub whole_chunk : (k : FileKey) (b p : Bytes) (max i : ℕ) → payload_reading k max b ≡ whole p
     → chunk_size * i < length p
     → opening (payload_key k (take 16 b)) (drop 16 b) i ≡ Some (take chunk_size (drop (chunk_size * i) p))

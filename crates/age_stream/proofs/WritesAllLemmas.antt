@@ -2,7 +2,7 @@
 use Rattle.age_stream.proofs.Common.{◌≡◌, ◌⊎◌, ◌∙◌, ◌++◌, ◌+◌, ◌-◌, ◌*◌, ◌<◌, ◌≤◌, ℕ, [], length, take, ap, arith, append-nil, append_assoc, length-append, refl, Some, None, Bool, true, false, inl, inr, Result, Ok, Err, Fits, IfNone, IfSome, IsErrOf, w128, Appends, IsAtEnd, Appends-trans, Appends-nil, le-leb, lt-leb, cases_lt, drop-append-le, take-append-le, Bytes, Gave, Known, Seen, WritesPart, flow, move_of, Done, StreamFault, Read, Write, chunk_size, sealed_chunk_size, gave_none, gave_then, of_any, of_more, of_then, done_part, Advances, EndsAt, IsAtPiece, IsFilled, Loses, OpenerState, OpensNext, WritesAll, WritesReading, left_of, pieces_left, reading_left, pieces, Reading, after_first, first_outcome, reading_from, stop, at_none, cases_Option}
 use Rattle.age_stream.proofs.ReadingLemmas.{count_first, reading_first}
 
--- a text, and then what a reading gives
+-- a reading with this text before its plaintext
 abbrev pub before : Bytes → Reading StreamFault → Reading StreamFault
 before text reading = record { plaintext = text ++ reading.plaintext; fault = reading.fault }
 
@@ -19,7 +19,7 @@ pub first_err : (key : Bytes) (max i : ℕ) (c : Bytes) (fault : StreamFault) �
     → reading_from key max i c ≡ stop fault
 first_err key max i c fault is = rw is at (reading_first key max i c)
 
--- what the first piece gives, and what follows it, with more bytes; with none if it is the last
+-- with d after c, the first outcome is the same, and d follows the rest; if c is one piece, d is []
 first_on : (key : Bytes) (max i : ℕ) (c d : Bytes) → IfNone (after_first c) (d ≡ [])
     → (first_outcome key max i (c ++ d) ≡ first_outcome key max i c)
     × (left_of (after_first c) d ≡ after_first (c ++ d))
@@ -38,7 +38,7 @@ first_on key max i c d fits = elim (cases_lt sealed_chunk_size (length c)) [
       rw (none, append-nil c, le-leb (length c) sealed_chunk_size le) (refl, refl)
 ]
 
--- of what was given: the openings of the pieces so far, and what is left, whatever comes
+-- reading `given` and d from s gives `done` and then the reading of d from t, in as many pieces
 abbrev IsOpenedIn : (s t : OpenerState) (done given d : Bytes) → Type 0
 IsOpenedIn s t done given d =
     (reading_left s.key s.max_chunks s.index (left_of s.held (given ++ d))
@@ -81,7 +81,7 @@ opened_none s {from} {old} none = record {
   reads = λ d fits. (refl, refl);
 }
 
--- a call after these
+-- one more call, after those of `Opened`
 module _ {s t u : OpenerState} {n : ℕ} {from now next : Seen} {a b : Known} {r : Result Bool StreamFault}
     (o : Opened s t n from now a b) (adv : Advances t u (flow now next) r) where
   -- the call had a piece: `held` was read before, the rest by the call
@@ -115,7 +115,7 @@ module _ {s t u : OpenerState} {n : ℕ} {from now next : Seen} {a b : Known} {r
             (end (p.filled.1 (omega (arith, le, length-append p.held adv.given))))
       ]
 
-  -- the pieces so far, and this piece with what comes
+  -- the reading of the pieces so far, then of this piece and the bytes to come
   reads_piece : (p : HasPiece) (d : Bytes)
       → (reading_left s.key s.max_chunks s.index (left_of s.held ((o.given ++ adv.given) ++ d))
       ≡ before o.done (reading_from s.key s.max_chunks t.index ((p.held ++ adv.given) ++ d)))
@@ -167,7 +167,7 @@ module _ {s t u : OpenerState} {n : ℕ} {from now next : Seen} {a b : Known}
         reads = λ d fits. next_reads d (rw p.opens.2 at fits);
       }
 
-  -- a write of it failed
+  -- a write of the text of the piece failed
   pub writes_write : (c : Known) → WritesPart (move_of b c) u.text
       → WritesAll s (flow from next) (move_of a c) (Err Write)
   writes_write c part = of_more (gave_then o.gave adv.gave) (λ d end.
@@ -194,12 +194,12 @@ module _ {s t u : OpenerState} {n : ℕ} {from now next : Seen} {a b : Known}
       let within : t.index < t.max_chunks = adv.keeps.2 refl in
       omega (arith, o.len, o.bound, adv.small)
 
--- ---- the ends
+-- ---- how the calls end
 
 -- nothing is left
 module _ {s t u : OpenerState} {n : ℕ} {from now next : Seen} {a b : Known}
     (o : Opened s t n from now a b) (adv : Advances t u (flow now next) (Ok false)) where
-  -- what comes where the source is not at its end
+  -- the reading so far, whatever bytes d are to come; none are at the end of the source
   reads_on : t.held ≡ None → (d : Bytes) → (IsAtEnd now.to_come → d ≡ []) → IsOpenedIn s t o.done o.given d
   reads_on is d end = elim (cases_Option s.held) [
     | inl (h, first) ↦ o.reads d (rw is (end (rw (is, first) at o.ended)))
@@ -268,7 +268,7 @@ pub advanced : {s t : OpenerState} (u : OpenerState) {n : ℕ} {from now next : 
     → Advances t u (flow now next) (Ok some)
 advanced u o is h = elim (rw is at (at_none o.none h)) [ inl e ↦ absurd (cc) | inr adv ↦ adv ]
 
--- the fault of a call, of a read or of a piece
+-- a call returned a fault, that of a read or of a piece
 pub failed_writes : {s t : OpenerState} (u : OpenerState) {n : ℕ} {from now next : Seen} {a b : Known}
     (fault : StreamFault) → Opened s t n from now a b
     → IfNone t.fault (IsErrOf {T = Bool} (Err fault) Read ⊎ Advances t u (flow now next) (Err fault))

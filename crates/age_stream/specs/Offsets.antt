@@ -1,4 +1,4 @@
--- The results of a read at an offset: the bytes read, and the source's counts.
+-- The results of a source's calls: the bytes read at offsets, its counts, and its size.
 use Rattle.std.specs.Prelude.{◌≡◌, ℕ, ◌+◌, ◌-◌, ◌^◌, ◌<◌, ◌≤◌, min, length, slice_get, slice_index, IfSome, IfOk, MatchResult, Option, Some, Result}
 use Rattle.age_stream.specs.Words.{Bytes, Known}
 
@@ -6,7 +6,7 @@ use Rattle.age_stream.specs.Words.{Bytes, Known}
 abbrev pub IsPast : (told : Known) (at : ℕ) → Type 0
 IsPast told at = IfSome told (λ bytes. length bytes ≤ at)
 
--- a nonempty buffer gets no bytes only past the end of the known bytes and of the known size
+-- a read into a nonempty buffer returns 0 only at or past the end of the known bytes and size
 abbrev pub EmptyAtEnd : {E : Type 0} (told : Known) (size : Option ℕ) (at : ℕ) (r : Result ℕ E)
     (buf : Bytes) → Type 0
 EmptyAtEnd told size at r buf =
@@ -20,7 +20,7 @@ GaveAt gave at xs = (k : ℕ) → k < length xs → gave (at + k) (slice_index x
 abbrev pub StaysGiven : (old new : (at byte : ℕ) → Type 0) → Type 0
 StaysGiven old new = (at byte : ℕ) → old at byte → new at byte
 
--- the offsets of all known bytes fit a u64
+-- the number of known bytes fits a u64
 abbrev pub HasOffsets : Known → Type 0
 HasOffsets told = IfSome told (λ bytes. length bytes < 2 ^ 64)
 
@@ -35,7 +35,7 @@ FindsSize told old new r =
     (λ n. (new ≡ Some n) × IfSome old (λ s. n ≡ s) × IfSome told (λ bytes. n ≡ length bytes))
     (λ _. new ≡ old)
 
--- what was read, and the size that was found, are those of these bytes
+-- each byte read is the one at its offset in `bytes`, and the size found is their number
 pub record Agrees (bytes : Bytes) (gave : (at byte : ℕ) → Type 0) (found : Option ℕ)
     : Type 0 where
   pub given : (at byte : ℕ) → gave at byte → slice_get bytes at ≡ Some byte

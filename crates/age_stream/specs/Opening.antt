@@ -8,7 +8,7 @@ use Rattle.age_stream.specs.Payload.{payload_key, pieces}
 use Rattle.age_stream.specs.Reading.{Reading, after_first, first_outcome, reading_from, whole}
 
 -- An opener: its key and limit, the number of the next piece, the bytes of that piece already read
--- (None after the last piece), the text opened last, and the fault that it keeps.
+-- (None after the last piece or a fault), the text just opened, and the fault that it keeps.
 pub record OpenerState : Type 0 where
   pub key : Key
   pub max_chunks : ℕ
@@ -31,12 +31,12 @@ abbrev pub ahead_len : Option Bytes → ℕ
 ahead_len None = 0
 ahead_len (Some ahead) = length ahead
 
--- the rest of a payload of which `held` was read already and d is to come
+-- the rest of a payload: `held`, already read, and then d, still to come; None if no piece is left
 abbrev pub left_of : (held : Option Bytes) (d : Bytes) → Option Bytes
 left_of held d = option_map (λ h. h ++ d) held
 
--- The first piece of the rest is opened as piece i, or its fault is returned; after the last piece
--- there is none.
+-- The first piece of `found` opens as piece i, and `left` is the rest; or its fault is returned. If
+-- `found` is None, after the last piece, the result is Ok(false).
 abbrev pub OpensNext : (key : Key) (max i : ℕ) (found left : Option Bytes) (text : Bytes)
     (r : Result Bool StreamFault) → Type 0
 OpensNext key max i None left text r = (r ≡ Ok false) × (left ≡ None)
@@ -56,8 +56,8 @@ IsAtPiece max i _ = ⊥
 abbrev pub next_index : (some : Bool) (i : ℕ) → ℕ
 next_index some i = if some then i + 1 else i
 
--- The state after a call. On Ok no fault is kept, and there are bytes read ahead only after a full
--- chunk. On Err the fault is kept, and the text is empty.
+-- The state after a call. On Ok no fault is kept, and if another piece follows, one byte of it was
+-- read and the text is a full chunk. On Err a fault at the piece tried is kept; the text is empty.
 abbrev pub KeepsState : (old new : OpenerState) (result : Result Bool StreamFault) → Type 0
 KeepsState old new (Ok some) =
     (new.fault ≡ None) × (new.index ≡ next_index some old.index)
@@ -70,7 +70,7 @@ KeepsState old new (Err fault) =
 abbrev pub IsSpent : OpenerState → Type 0
 IsSpent s = (s.text ≡ []) × (s.held ≡ None)
 
--- after the last piece, and after a fault, no text is left, and no byte of a piece
+-- after Ok(false), and after a fault, no text is left, and no byte of another piece
 abbrev pub IsSpentAfter : (s : OpenerState) (r : Result Bool StreamFault) → Type 0
 IsSpentAfter s r = MatchResult r (λ some. OnFalse some (IsSpent s)) (λ _. IsSpent s)
 
@@ -82,13 +82,13 @@ IsFilled (Some ahead) given source =
     (length ahead + length given ≤ chunk_buf_size)
     × (length ahead + length given < chunk_buf_size → IsAtEnd source.after.to_come)
 
--- there was another piece, and some bytes were read, perhaps none
+-- another piece was left, and the source returned 0 or more bytes
 abbrev pub Loses : (held : Option Bytes) (source : Flow) → Type 0
 Loses None source = ⊥
 Loses (Some ahead) source = GaveSome source
 
--- One call of an opener that keeps no fault. The bytes held and then those read from the source are
--- a piece, which was opened, and the bytes held next.
+-- One call of an opener that keeps no fault. From the bytes held and then those read it opens the
+-- next piece, and holds what follows; or it returns the piece's fault, or Ok(false) after the last.
 pub record Advances (old new : OpenerState) (source : Flow)
     (r : Result Bool StreamFault) : Type 0 where
   pub key : new.key ≡ old.key
@@ -102,15 +102,15 @@ pub record Advances (old new : OpenerState) (source : Flow)
   pub opens : OpensNext old.key old.max_chunks old.index (left_of old.held given) new.held new.text
       r
 
--- the nonce was read, or the source has fewer bytes, or a read failed
+-- the nonce was read, or the source has fewer than 16 bytes, or a read failed
 abbrev pub GivesNonce : (source : Flow) (result : Result Bytes StreamFault) → Type 0
 GivesNonce source (Ok nonce) = Gave source nonce
 GivesNonce source (Err Read) = GaveSome source
 GivesNonce source (Err fault) =
     (fault ≡ NonceTruncated) × OfGiven source (λ c. length c < nonce_size)
 
--- the start of a payload was read: its nonce, under which the opener is before piece 0; or the
--- nonce is incomplete, or a read failed
+-- the nonce of a payload was read, and the opener has the key derived from it, and is before piece
+-- 0; or the nonce is incomplete, or a read failed
 abbrev pub Starts : (file_key : FileKey) (max : ℕ) (source : Flow)
     (result : Result OpenerState StreamFault) → Type 0
 Starts file_key max source (Ok opener) =
@@ -128,8 +128,8 @@ abbrev pub pieces_left : Option Bytes → List Bytes
 pieces_left None = []
 pieces_left (Some c) = pieces c
 
--- Returns a reading's fault, or the length of its plaintext and the number of its pieces, and
--- writes its plaintext; if a device failed, a prefix of it.
+-- A reading's plaintext was written; its fault was returned, or else the plaintext's length and n,
+-- the number of pieces. Or a device failed, and a prefix of the plaintext was written.
 abbrev pub WritesReading : (reading : Reading StreamFault) (n : ℕ) (sink : Moved)
     (result : Result Done StreamFault) → Type 0
 WritesReading reading n sink (Ok done) =
@@ -147,8 +147,8 @@ WritesAll s source sink r =
     OfGiven source (λ c. WritesReading (reading_left s.key s.max_chunks s.index (left_of s.held c))
     (length (pieces_left (left_of s.held c))) sink r)
 
--- A fault of a piece or of a write: the piece, the text written before, and how much of the source
--- was read. `before` bytes were read before the pieces: 16 if the nonce counts.
+-- A fault of a piece or of a write: the piece, the text written so far, and a limit on the bytes
+-- read from the source. `before` is 16 if they include the payload's nonce, otherwise 0.
 pub record EndsAt (max before : ℕ) (source : Flow) (sink : Moved)
     (fault : StreamFault) : Type 0 where
   pub piece : ℕ
@@ -157,7 +157,7 @@ pub record EndsAt (max before : ℕ) (source : Flow) (sink : Moved)
   pub at : ((fault ≡ Write) × (chunk_size * piece ≤ length text)) ⊎ IsAtPiece max piece fault
   pub gave : GaveAtMost (before + (sealed_chunk_size * (piece + 1) + 1)) source
 
--- the outcome of a piece is returned, with its text at the start of the buffer
+-- on Ok(n) the outcome of a piece is the first n bytes of the buffer; on Err it is this fault
 abbrev pub GivesText : (outcome : Result Bytes StreamFault) (after : Bytes)
     (result : Result ℕ StreamFault) → Type 0
 GivesText outcome after (Ok n) = (outcome ≡ Ok (take n after)) × (n ≤ length after)
@@ -172,8 +172,8 @@ OpensPiece key max i c after (Ok p) =
     × (held_of p.more (drop sealed_chunk_size after) ≡ after_first c)
 OpensPiece key max i c after (Err fault) = first_outcome key max i c ≡ Err fault
 
--- n bytes are at the start of the buffer: those held, then those read from the source. If they are
--- at most `size`, the source is at its end.
+-- The buffer begins with n bytes, at most `size` + 1: those held, then those read from the source.
+-- If n is at most `size`, the source is at its end.
 pub record ReadsAhead (size : ℕ) (held : Bytes) (n : ℕ) (after : Bytes)
     (source : Flow) : Type 0 where
   pub given : Bytes
@@ -182,7 +182,7 @@ pub record ReadsAhead (size : ℕ) (held : Bytes) (n : ℕ) (after : Bytes)
   pub room : n ≤ size + 1
   pub end : n < size + 1 → IsAtEnd source.after.to_come
 
--- the same for the bytes read ahead and then those of the source
+-- `OpensPiece` for the bytes read ahead and then those that the source returned
 pub record ReadsPiece (key : Key) (max i : ℕ) (ahead after : Bytes) (source : Flow)
     (result : Result Piece StreamFault) : Type 0 where
   pub given : Bytes

@@ -20,12 +20,12 @@ pieces rest = cut sealed_chunk_size rest
 unfoldable pub chunk_nonce : (i : ℕ) (last : Bool) → Nonce
 chunk_nonce i last = bytes_high_first 11 i ++ (if last then 1 else 0) ∷ []
 
--- nothing follows
+-- whether no chunk or piece is left
 abbrev pub is_end : List Bytes → Bool
 is_end [] = true
 is_end (_ ∷ _) = false
 
--- what `of` gives for each chunk or piece, by its number, from i on, and whether it is the last
+-- `of` applied to each chunk or piece: to its number, from i on, whether it is last, and its bytes
 abbrev pub each : {A : Type 0} (of : ℕ → Bool → Bytes → A) (i : ℕ) (pieces : List Bytes) → List A
 each of i [] = []
 each of i (piece ∷ more) = of i (is_end more) piece ∷ each of (i + 1) more

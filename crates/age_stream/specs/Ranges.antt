@@ -1,4 +1,4 @@
--- The state of a reader of ranges between two calls, and the results of its calls.
+-- The state of a reader of ranges between two calls, and the results of its opening and its calls.
 use Rattle.std.specs.Prelude.{ℕ, [], ◌+◌, ◌-◌, ◌*◌, ◌/◌, ◌^◌, ◌<◌, ◌≤◌, ◌≡◌, ◌⊎◌, length, take, drop, min, nat_eq, slice_get, slice_index, ◌%◌, unwrap_or, IsSome, IfOk, IfErr, OnErr, MatchResult, ⊤, Bool, true, false, Option, Some, None, Result, Ok, Err, if◌then◌else◌}
 use Rattle.age_stream.specs.Words.{Bytes, Key, CountsFaultIf, CountsIf, Known, Moved, move_by, FileKey, StreamFault, BadChunk, Read, Write, Memory, NonceTruncated, TooManyChunks, Layout, nonce_size, tag_size, chunk_size, sealed_chunk_size}
 use Rattle.std.specs.Option.{MatchOption}
@@ -14,15 +14,15 @@ use Rattle.age_stream.specs.Slice.{opening, plain_len, chunk_len, IsSlice, range
 abbrev pub bytes_from : (told : Known) (at : ℕ) → Bytes
 bytes_from told at = drop at (unwrap_or told [])
 
--- a reader between two calls: the layout of the chunks, the index of the chunk kept, the buffer
--- that begins with its text, and the number of chunks opened so far
+-- a reader between two calls: the layout of the chunks, the index of the chunk kept, if any, the
+-- buffer, which then begins with that chunk's text, and the number of attempts to open a chunk
 pub record RangeState : Type 0 where
   pub layout : Layout
   pub index : Option ℕ
   pub buf : Bytes
   pub opened : ℕ
 
--- the text that piece i opens to, if it opens
+-- the text that piece i of the known contents opens to, if it opens
 abbrev pub source_opening : (told : Known) (layout : Layout) (i : ℕ) → Option Bytes
 source_opening told layout i = opening layout.key (bytes_from told layout.first) i
 
@@ -44,8 +44,8 @@ pub record IsThere (told : Known) (layout : Layout) : Type 0 where
 abbrev pub end_of : Layout → ℕ
 end_of layout = layout.first + layout.plain + tag_size * layout.count
 
--- Piece i was read at its offset, and opens to a text, or to none, under its number (C2SP age.md,
--- "Payload").
+-- Piece i was read at its offset, and `opened` is its text under its number, or None if it does not
+-- open (C2SP age.md, "Payload").
 pub record PieceOpens (gave : (at byte : ℕ) → Type 0) (layout : Layout) (i : ℕ)
     (opened : Option Bytes) : Type 0 where
   pub within : i < layout.count
@@ -61,7 +61,7 @@ pub record IsSound (gave : (at byte : ℕ) → Type 0) (size : Option ℕ) (s : 
   pub end : size ≡ Some (end_of s.layout)
   pub keeps : (i : ℕ) → s.index ≡ Some i → PieceOpens gave s.layout i (Some (kept_text s i))
 
--- the byte at this offset of the plaintext is in the text of its chunk
+-- `byte` is the byte at offset `at` of the plaintext, from the text to which its piece opens
 abbrev pub IsVerifiedByte : (gave : (at byte : ℕ) → Type 0) (layout : Layout) (at byte : ℕ)
     → Type 0
 IsVerifiedByte gave layout at byte =
@@ -101,8 +101,8 @@ first_to_open index at = at / chunk_size + (if is_kept index (at / chunk_size) t
 abbrev pub OpenedAtLeast : (s : RangeState) (opened n : ℕ) → Type 0
 OpenedAtLeast s opened n = min (s.opened + n) (2 ^ 64 - 1) ≤ opened
 
--- a range of n bytes, at least one, from `at` on stops at chunk i, which holds bytes of it: the
--- bytes before that chunk were copied, and each chunk up to it counts as opened unless it was kept
+-- a range of n bytes, at least one, from `at` on stops at `chunk`, which holds some of them: those
+-- before it were copied, and each chunk up to it counts as opened, except the first if it was kept
 pub record Stops (gave : (at byte : ℕ) → Type 0) (s : RangeState) (at n : ℕ) (old new : Bytes)
     (opened : ℕ) (fault : StreamFault) : Type 0 where
   pub some : 0 < n
@@ -130,7 +130,7 @@ pub record RangeParts (D : Type 0) : Type 0 where
 pub record ReadsRange {D : Type 0} (told : D → Known) (count_given failed : D → ℕ)
     (gave : D → (at byte : ℕ) → Type 0) (at : ℕ) (old new : RangeParts D)
     (r : Result ℕ StreamFault) : Type 0 where
-  -- unchanged by a call, so that the clauses hold for every list of calls
+  -- kept by every call, so that the clauses hold for every list of calls
   pub stay : told new.source ≡ told old.source
   pub stays_given : StaysGiven (gave old.source) (gave new.source)
   pub same : new.chunks.layout ≡ old.chunks.layout
@@ -143,9 +143,9 @@ pub record ReadsRange {D : Type 0} (told : D → Known) (count_given failed : D 
   pub kept_chunk : IfOk r
       (λ n. 0 < n → new.chunks.index ≡ Some ((at + n - 1) / chunk_size))
   pub none : OnErr r (new.chunks.index ≡ None)
-  -- the count of opened chunks never falls, and rises for each chunk that is tried; only chunks
-  -- that the range touches are opened, and only their sealed bytes are read; the first is not
-  -- counted if it was kept
+  -- The count of opened chunks never falls. It rises, saturating, for each chunk that is tried, but
+  -- at most by the number of chunks that the range touches, not counting the first if it was kept.
+  -- At most as many bytes are read as the pieces of the chunks so counted have.
   pub rises : old.chunks.opened ≤ new.chunks.opened
   pub counts : IfOk r (λ n. 0 < n → OpenedAtLeast old.chunks new.chunks.opened
       ((at + n - 1) / chunk_size + 1 - first_to_open old.chunks.index at))
@@ -166,8 +166,8 @@ last_index n = (n - 1) / sealed_chunk_size
 abbrev pub last_len : (n : ℕ) → ℕ
 last_len n = n - sealed_chunk_size * last_index n
 
--- the outcome of the last of the pieces, which have `sealed` bytes from offset `first` on: too many
--- pieces, or that of the piece read there
+-- r is the outcome of the last piece, if all pieces have `sealed` bytes from offset `first` on: too
+-- many pieces, or the outcome of the bytes read at the offset of that piece
 abbrev pub JudgesLast : (gave : (at byte : ℕ) → Type 0) (key : Key) (max first sealed : ℕ)
     (r : Result Bytes StreamFault) → Type 0
 JudgesLast gave key max first sealed r =
@@ -176,8 +176,8 @@ JudgesLast gave key max first sealed r =
     × GaveAt gave (first + sealed_chunk_size * last_index sealed) piece
     × (outcome key max (last_index sealed) true piece ≡ r))
 
--- The payload at this offset has pieces of `sealed` bytes from `first` on: its key is derived from
--- the nonce read there, its pieces end where the source does, and r is the outcome of the last.
+-- The payload at offset `at`: its key is derived from the nonce read there, its pieces are the
+-- `sealed` bytes from `first` to the end of the source, and r is the outcome of the last piece.
 pub record BeginsAt (file_key : FileKey) (max at : ℕ) (gave : (at byte : ℕ) → Type 0)
     (size : Option ℕ) (key : Key) (first sealed : ℕ) (r : Result Bytes StreamFault)
     : Type 0 where
@@ -226,8 +226,8 @@ IsOpenFault Write = ⊥
 IsOpenFault Memory = ⊥
 IsOpenFault _ = ⊤
 
--- a payload was opened: the source's contents are unchanged, and at most the nonce and the last
--- piece were read, or nothing if the size was not found
+-- a payload was opened, or could not be: the source's contents are unchanged, and at most the nonce
+-- and the last piece were read, or nothing if the size was not found
 pub record Probes (source : Moved) (size : Option ℕ) (at given given2 : ℕ) : Type 0 where
   pub stay : source.after ≡ source.before
   pub most : given2 ≤ given + (nonce_size + sealed_chunk_size)

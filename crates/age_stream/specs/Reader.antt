@@ -26,15 +26,15 @@ StartsReader to_come gave failed file_key max old new (Err fault) =
     IsRefusedMemory old new fault
     ⊎ MissesNonce file_key max (flow_by to_come gave old new) (failed old) (failed new) fault
 
--- the result as a Bool: true if a chunk was lent, false after the last chunk
+-- true if a chunk was lent, false after the last chunk, or the same fault
 abbrev pub is_lent : {A : Type 0} → Result (Option A) StreamFault → Result Bool StreamFault
 is_lent (Ok None) = Ok false
 is_lent (Ok (Some piece)) = Ok true
 is_lent (Err fault) = Err fault
 
--- One call of a reader that keeps no fault. A failed read is counted, and a fault is kept. Unless
--- the fault is Read, its opener made the step `Advances`. After the last piece, and after a fault,
--- it holds no byte.
+-- One call of a reader that keeps no fault. A failed read is counted, and a fault is kept. Unless a
+-- read failed, the reader's opener made the step `Advances`. After None, and after a fault, the
+-- opener holds no byte.
 abbrev pub Lends : (old new : OpenerState) (source : Flow) (before after : ℕ)
     (r : Result Bool StreamFault) → Type 0
 Lends old new source before after r =

@@ -17,7 +17,7 @@ abbrev pub span : (run next : LostRun) → LostRun
 span run next =
     record { first = run.first; last = next.last; start = run.start; end = next.end }
 
--- a run before others: one run with the first of them if no chunk is between the two
+-- a run put before others, and joined with the first of them if no chunk is between the two
 abbrev pub runs_from : (run : LostRun) (runs : List LostRun) → List LostRun
 runs_from run [] = run ∷ []
 runs_from run (next ∷ more) =
@@ -28,7 +28,7 @@ abbrev pub runs : List LostChunk → List LostRun
 runs [] = []
 runs (chunk ∷ more) = runs_from (run_of chunk) (runs more)
 
--- the same after a run that may continue
+-- these runs after an earlier run, if there is one; the first of these may continue it
 abbrev pub runs_after : (run : Option LostRun) (runs : List LostRun) → List LostRun
 runs_after None runs = runs
 runs_after (Some run) runs = runs_from run runs

@@ -38,8 +38,8 @@ in_place i true len = if nat_lt 0 i && nat_eq len tag_size then Early else LastC
 abbrev pub out_of_place : (last : Bool) → Saved
 out_of_place last = if last then Chunk else Early
 
--- Piece i as the last chunk with k bytes of padding behind it, or with as few more as possible, up
--- to k + n - 1; if it opens with none of them, zeros.
+-- Piece i as the last chunk and then k bytes of padding, or k + 1, and so on up to k + n - 1: the
+-- first of these that opens; if none opens, zeros.
 unfoldable pub padded_part : (key : Key) (i k n : ℕ) (piece : Bytes) → Part
 padded_part key i k zero piece = lost_part piece
 padded_part key i k (suc n) piece =
@@ -68,7 +68,7 @@ abbrev pub payload_parts : (file_key : FileKey) (text : Bytes) → List Part
 payload_parts file_key text =
     parts (payload_key file_key (take nonce_size text)) 0 (pieces (drop nonce_size text))
 
--- the bytes of the piece behind its chunk
+-- the number of bytes of the piece after its chunk
 abbrev pub padding : (saved : Saved) → ℕ
 padding (Padded k) = k
 padding _ = 0
@@ -89,24 +89,24 @@ losses i at (p ∷ more) =
     loss p.saved (record { chunk = i; start = at; len = length p.text })
     ++ losses (i + 1) (at + length p.text) more
 
--- what was saved of the last piece; of none, a chunk that others follow
+-- what was saved of the last piece; `Chunk` if there is no piece
 abbrev pub last_saved : List Part → Saved
 last_saved [] = Chunk
 last_saved (p ∷ []) = p.saved
 last_saved (p ∷ q ∷ more) = last_saved (q ∷ more)
 
--- what was saved of the piece before the last, if this was saved of the one before the first
+-- what was saved of the piece before the last; `before` if there are fewer than two pieces
 abbrev pub saved_before : (before : Saved) → List Part → Saved
 saved_before before [] = before
 saved_before before (p ∷ []) = before
 saved_before before (p ∷ q ∷ more) = saved_before p.saved (q ∷ more)
 
--- the latest early chunk, if chunk i comes after those before
+-- the latest early chunk: chunk i if it is early, otherwise the latest one before it
 abbrev pub early_after : (saved : Saved) (i : ℕ) (before : Option ℕ) → Option ℕ
 early_after Early i before = Some i
 early_after _ i before = before
 
--- the same if the first part is chunk i
+-- the latest early chunk of these parts, the first of which is chunk i, or of those before them
 abbrev pub latest_early : (i : ℕ) (before : Option ℕ) (parts : List Part) → Option ℕ
 latest_early i before [] = before
 latest_early i before (p ∷ more) = latest_early (i + 1) (early_after p.saved i before) more
@@ -123,8 +123,8 @@ summary parts = record {
   last = last_saved parts;
 }
 
--- The last piece opens as a chunk that is not the last. Or it has no text and does not open, and it
--- is the first, or the one before it opens as a chunk that is not the last.
+-- The last piece opens as a chunk that others follow. Or it has no text and does not open, and
+-- either it is the first or the piece before it opens as a chunk that others follow.
 abbrev pub is_cut_to : (last before : Saved) → Bool
 is_cut_to Chunk before = true
 is_cut_to Nothing Chunk = true
@@ -165,9 +165,9 @@ abbrev pub Saves : (n : ℕ) (parts : List Part) (sink : Moved) (lost : LossesMo
 Saves n parts sink lost =
     Took sink (salvaged_text (take n parts)) × Reports lost (losses 0 0 (take n parts))
 
--- The result for these parts. On Ok all were written; with too many chunks as many as the limit;
--- after a failed read the first ones. After a failed write the first ones and a prefix of the next
--- one were written. The lost chunks among the parts written whole were reported, and no others.
+-- The result for these parts. On Ok it is their summary, and all were written. With too many chunks
+-- the first `max` were, after a failed read some first n, after a failed write some first n and a
+-- prefix of the next. The lost chunks among all, the first `max` or the first n were reported.
 abbrev pub SavesParts : (max : ℕ) (parts : List Part) (sink : Moved) (lost : LossesMoved)
     (r : Result Salvaged StreamFault) → Type 0
 SavesParts max parts sink lost (Ok s) =
@@ -199,8 +199,8 @@ abbrev pub Salvages : (file_key : FileKey) (max : ℕ) (source : Flow) (sink : M
 Salvages file_key max source sink lost r =
     OfGiven source (λ text. SavesPayload file_key max text sink lost r)
 
--- The piece or write at which saving ended, and how much of the source was read. Nothing is said
--- about a failed read, an incomplete nonce, or refused memory.
+-- The piece or write at which saving ended, and a limit on the bytes read from the source. Nothing
+-- is said about a failed read, an incomplete nonce, or refused memory.
 abbrev pub EndsSaving : (max : ℕ) (source : Flow) (sink : Moved) (fault : StreamFault) → Type 0
 EndsSaving max source sink Read = ⊤
 EndsSaving max source sink NonceTruncated = ⊤

@@ -23,7 +23,7 @@ at_start key max = record { key = key; max_chunks = max; index = 0; held = []; f
 abbrev pub sealed_chunks_after : (key : Key) (i : ℕ) (held text : Bytes) → List Bytes
 sealed_chunks_after key i held text = sealed_chunks_from key i (cut_after chunk_size held text)
 
--- the output of a sealer if `text` follows
+-- the rest of the output of a sealer if `text` follows
 abbrev pub sealed_rest : (s : SealerState) (text : Bytes) → Bytes
 sealed_rest s text = concat (sealed_chunks_after s.key s.index s.held text)
 
@@ -43,8 +43,8 @@ pub record Fed (key : Key) (i j : ℕ) (held text now : Bytes) (sink : Moved) : 
 abbrev pub WroteAtLeast : (n : ℕ) (sink : Moved) → Type 0
 WroteAtLeast n sink = (text : Bytes) × Took sink text × (n ≤ length text)
 
--- The output if `text` was to come and a fault occurred: for a device's fault a prefix of the
--- sealed chunks; for too many chunks those with an index below the limit less one.
+-- The output before a fault, if `text` was to follow: a prefix of the sealed chunks if a device
+-- failed; if there are more than `max` chunks, those numbered below `max` - 1.
 abbrev pub StopsIn : (key : Key) (max i : ℕ) (held text : Bytes) (sink : Moved)
     (fault : StreamFault) → Type 0
 StopsIn key max i held text sink Read = WritesPart sink (concat
@@ -63,16 +63,16 @@ pub record IsFed (key : Key) (i j : ℕ) (held now : Bytes) (source : Flow)
   pub took : Gave source text
   pub fed : Fed key i j held text now sink
 
--- a fault occurred in the text read from the source, with chunk j the next to be written; this
--- bounds how much of the source was read
+-- a fault occurred when chunk j was the next to be written: at least the chunks before it were
+-- written, and unless a read failed, the source was read at most up to one byte after chunk j
 pub record Stopped (key : Key) (max i j : ℕ) (held : Bytes) (source : Flow) (sink : Moved)
     (fault : StreamFault) : Type 0 where
   pub stops : OfGiven source (λ text. StopsIn key max i held text sink fault)
   pub wrote : WroteAtLeast (sealed_chunk_size * (j - i)) sink
   pub gave : (fault ≡ Read) ⊎ GaveAtMost (chunk_size * (j + 1 - i) + 1 - length held) source
 
--- a sealer that keeps no fault holds a full chunk, and the source may have more; or it holds the
--- rest of the source after what it held before; or a read failed
+-- a sealer read until it held a full chunk, and the source may have more; or until the end of the
+-- source; or a read failed, and the sealer keeps this fault
 abbrev pub Fills : (s t : SealerState) (source : Flow) (result : Result Bool StreamFault) → Type 0
 Fills s t source (Ok more) =
     (text : Bytes) × Gave source text × (t ≡ record s { held = s.held ++ text })
@@ -112,7 +112,7 @@ SealsAll s source sink (Err fault) =
     (chunk : ℕ) × Stopped s.key s.max_chunks s.index chunk s.held source sink fault
 
 -- the full chunk at the start of the buffer was written as chunk i, and the byte after it was moved
--- to the start; or the write failed, or the number of chunks is at its limit
+-- to the start; or the write failed, or the limit allows no chunk after chunk i
 abbrev pub PutsFull : {A : Type 0} (key : Key) (max i j : ℕ) (bytes after : Bytes) (sink : Moved)
     (r : Result A StreamFault) → Type 0
 PutsFull key max i j bytes after sink r =

@@ -1,4 +1,4 @@
--- The sizes of a payload's parts, in bytes (C2SP age.md, "Payload").
+-- Sizes in bytes, and the maximum number of chunks (C2SP age.md, "Payload").
 use Rattle.std.specs.Prelude.{ℕ, ◌+◌, ◌^◌}
 pub use Rattle.age_cipher.specs.Bytes.{tag_size}
 
@@ -18,7 +18,7 @@ sealed_chunk_size = chunk_size + tag_size
 abbrev pub chunk_buf_size : ℕ
 chunk_buf_size = sealed_chunk_size + 1
 
--- the longest padding that is looked for behind a last chunk: that to a block of 4,096 bytes
+-- the longest padding that salvaging takes off after a last chunk: 1 less than a block of 4,096
 abbrev pub max_padding : ℕ
 max_padding = 4095
 

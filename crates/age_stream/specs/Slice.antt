@@ -5,7 +5,7 @@ use Rattle.age_stream.specs.Words.{Bytes, Key, FileKey, StreamFault, NonceTrunca
 use Rattle.age_stream.specs.Payload.{pieces, each, payload_key}
 use Rattle.age_stream.specs.Reading.{piece_opening, outcome}
 
--- the text of each piece that opens, with numbers from i on
+-- for each piece, with numbers from i on, its text if it opens, otherwise None
 abbrev pub openings : (key : Key) (i : ℕ) (pieces : List Bytes) → List (Option Bytes)
 openings key = each (piece_opening key)
 
@@ -37,7 +37,7 @@ last_piece rest = get_or (pieces rest) (length (pieces rest) - 1) []
 abbrev pub last_outcome : (key : Key) (max : ℕ) (rest : Bytes) → Result Bytes StreamFault
 last_outcome key max rest = outcome key max (length (pieces rest) - 1) true (last_piece rest)
 
--- the result of opening a payload for ranges: it has a nonce, then the outcome of the last piece
+-- the result of opening a payload for ranges: `NonceTruncated`, or the outcome of the last piece
 abbrev pub range_outcome : (file_key : FileKey) (max : ℕ) (text : Bytes) → Result Bytes StreamFault
 range_outcome file_key max text =
     if nat_lt (length text) nonce_size then Err NonceTruncated

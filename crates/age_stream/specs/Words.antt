@@ -1,4 +1,4 @@
--- The names that most files of this crate cite, passed on from one place.
+-- Names of other files and crates, re-exported for the files of this crate.
 pub use Rattle.age_kdf.specs.Bytes.{Bytes}
 pub use Rattle.age_cipher.specs.Bytes.{Key, Nonce}
 pub use Rattle.age_cipher.specs.Sealing.{opened_text, sealed_text}

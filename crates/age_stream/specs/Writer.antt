@@ -8,8 +8,8 @@ use Rattle.age_stream.specs.declared.refused.Refused.{Refused}
 use Rattle.age_stream.specs.Payload.{payload_key}
 use Rattle.age_stream.specs.Sealing.{Fed, SealerState, StopsIn, at_start}
 
--- A sealer that keeps no fault took a text, so that the output in all does not depend on how the
--- plaintext is split. Or a fault occurred: of the sink, or too many chunks.
+-- A sealer that keeps no fault took a text; the whole output does not depend on how the plaintext
+-- is split. Or a fault occurred: a failed write, or too many chunks.
 abbrev pub TakesPiece : {A : Type 0} (s t : SealerState) (piece : Bytes) (sink : Moved)
     (r : Result A StreamFault) → Type 0
 TakesPiece s t piece sink r =
@@ -31,7 +31,7 @@ StartsWriter taken failed file_key nonce max old new (Err fault) =
     (fault ≡ Write) × WritesPart (move_by taken old new) nonce
     × CountsFaultIf is_write (failed old) (failed new) fault
 
--- memory was refused, and nothing was written
+-- the fault is `Memory`, and the device is unchanged
 abbrev pub IsRefusedMemory : {W : Type 0} (old new : W) (fault : StreamFault) → Type 0
 IsRefusedMemory old new fault = (fault ≡ Memory) × (new ≡ old)
 
@@ -42,7 +42,7 @@ sink_of writer = writer.out
 abbrev pub sealer_of : {W B : Type 0} → StreamWriter W B → B
 sealer_of writer = writer.sealer
 
--- the device that a constructor returned, and its fault
+-- the device and the fault in the error of a constructor
 abbrev pub device_of : {D E : Type 0} → Refused D E → MutBor D
 device_of refused = refused.device
 

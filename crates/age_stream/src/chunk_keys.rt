@@ -1,4 +1,4 @@
-//! The keys and nonces of a payload's chunks.
+//! The key and the nonces of a payload's chunks.
 ghost use Rattle.std.specs.Prelude.{◌≡◌, ◌^◌, ◌<◌};
 ghost use Rattle.age_stream.specs.Payload.{payload_key, chunk_nonce};
 ghost use Rattle.age_stream.specs.Sizes.{most_chunks};

@@ -1,4 +1,4 @@
-//! The chunks of a payload, of which one is kept. The source is passed to each call.
+//! The chunks of a payload, of which at most one is kept. A call that reads is passed the source.
 ghost use Rattle.std.specs.Prelude.{◌≡◌, ◌⊎◌, ◌+◌, ◌-◌, ◌/◌, ◌<◌, ◌≤◌, ◌++◌, length, take, drop, min};
 ghost use Rattle.std.specs.Prelude.{Some, None, IfOk, OnOk, OnErr, IfErr, if◌then◌else◌};
 ghost use Rattle.age_header.specs.Device.{CountsIf, move_by};
@@ -22,7 +22,7 @@ use age_header::FileKey;
 use std::alloc::Global;
 use std::marker::Model;
 
-/// The chunks of a payload: their offsets, and the one that was opened last.
+/// A payload's chunks: their layout, the chunk kept, if any, and a count of attempts to open one.
 #[derive(Drop)]
 pub struct Chunks {
     layout: Layout,
@@ -45,7 +45,7 @@ impl Model for Chunks {
         × (vec_capacity c.buf ≡ chunk_buf_size) };
 }
 
-/// The number of bytes of a range.
+/// How many of the `len` bytes from offset `at` on are in a plaintext of `plain` bytes.
 fn range_len(plain: u64, at: u64, len: usize) -> usize
     ensures { result ≡ min len (plain - at) }
 {
@@ -60,7 +60,7 @@ fn range_len(plain: u64, at: u64, len: usize) -> usize
     }
 }
 
-/// Writes a part of a text into a buffer, and returns how long the part is.
+/// Copies `text[skip..]` to `buf[done..end]` as far as both go, and returns the number of bytes.
 fn put(text: &[u8], skip: usize, buf: &mut [u8], done: usize, end: usize) -> usize
     requires skip { skip < length text.now }
     requires done { done < end }
@@ -78,14 +78,14 @@ fn put(text: &[u8], skip: usize, buf: &mut [u8], done: usize, end: usize) -> usi
 }
 
 impl Chunks {
-    /// The offsets of the chunks.
+    /// The layout of the chunks: their key, offsets and number.
     pub(crate) fn layout(&self) -> Layout
         ensures { result ≡ self.now.layout }
     {
         self.layout
     }
 
-    /// The number of times that a chunk was read to be opened, saturating at the largest `u64`.
+    /// The number of attempts to read and open a chunk, saturating at the largest `u64`.
     pub(crate) fn opened(&self) -> u64
         ensures { result ≡ self.now.opened }
     {
@@ -165,7 +165,7 @@ impl Chunks {
         Ok(())
     }
 
-    /// The start of the buffer, which has the text of chunk i while it is kept.
+    /// The start of the buffer: the text of chunk i, if chunk i is the one kept.
     fn text(&self, i: u64) -> &[u8]
         requires { i < self.now.layout.count }
         ensures text { result.now ≡ kept_text self.now i }

@@ -3,8 +3,8 @@
 /// How much was sealed or opened.
 #[derive(Clone, Copy, Debug, Drop, PartialEq, Eq)]
 pub struct Done {
-    /// The plaintext's length.
+    /// The number of plaintext bytes.
     pub bytes: u128,
-    /// The number of its chunks.
+    /// The number of chunks.
     pub chunks: u128,
 }

@@ -1,6 +1,6 @@
 //! The faults of a payload.
 
-/// The faults of a payload (C2SP `age.md`, "Payload"). Chunks are numbered from 0.
+/// The errors of calls on a payload (C2SP `age.md`, "Payload"). Chunks are numbered from 0.
 #[derive(Clone, Copy, Debug, Drop, PartialEq, Eq)]
 pub enum StreamFault {
     /// There are fewer bytes than the nonce's 16.
@@ -9,7 +9,7 @@ pub enum StreamFault {
     ChunkShort(u128),
     /// The last piece has only a tag, and is not the first.
     EmptyFinal(u128),
-    /// No plaintext seals to this piece at its number: its tag is wrong.
+    /// The tag of this piece is wrong: no plaintext seals to it as the chunk of its number.
     BadChunk(u128),
     /// There are more chunks than are allowed.
     TooManyChunks,

@@ -18,15 +18,15 @@ ghost use Rattle.age_stream.specs.declared.layout.Layout.{Layout};
 
 use crate::read_at::ReadAt;
 
-/// A text has exactly one cut, the computed one.
+/// A text has exactly one cut of each size above 0, the one that `cut` computes.
 pub fn one_cut()
     ensures { (size : ℕ) (text : Bytes) (lists : List Bytes) → 0 < size
         → IsCut size text lists ↔ (lists ≡ cut size text) }
 {}
 
-/// Reading a payload gives a plaintext and no fault exactly if it is the payload of this plaintext
-/// and the number of chunks is within the limit. It then has as many pieces as the plaintext has
-/// chunks.
+/// Reading a text as a payload gives a plaintext and no fault exactly if the text is a payload of
+/// this plaintext, with some nonce, and the number of chunks is within the limit. The text then has
+/// as many pieces as the plaintext has chunks.
 pub fn ok_is_payload()
     ensures ok { (file_key : FileKey) (text plain : Bytes) (max : ℕ)
         → (payload_reading file_key max text ≡ whole plain) ↔ ((nonce : Bytes)
@@ -72,24 +72,24 @@ pub fn salvage_is_reading()
 {}
 
 /// Salvaging keeps offsets: the bytes that a range of a damaged payload reads are at the same
-/// offsets in the saved text, which is as long as the plaintext was, but for the padding.
+/// offsets in the saved text. Its length plus the padding's is the plaintext's length for ranges.
 pub fn salvage_is_sliced()
     // A slice of the payload, which needs only the chunks that it touches, is the same slice of the
     // saved text.
     ensures slice { (file_key : FileKey) (text xs : Bytes) (at : ℕ)
         → IsSlice (payload_key file_key (take nonce_size text)) (drop nonce_size text) at xs
         → xs ≡ take (length xs) (drop at (salvaged_text (payload_parts file_key text))) }
-    // The length, with the padding after the last chunk, is that of the plaintext, as a reader of
-    // ranges finds it.
+    // The saved text's length plus the padding's is the plaintext's length, as a reader of ranges
+    // finds it.
     ensures len { (file_key : FileKey) (text : Bytes)
         → length (salvaged_text (payload_parts file_key text))
         + padding (last_saved (payload_parts file_key text)) ≡ plain_len (drop nonce_size text) }
 {}
 
-/// A source with known contents gave nothing else. So what a range of it returns is a part of the
-/// contents' plaintext, and its fault is one of the contents.
+/// A source with known contents gives only bytes of these. So a range of it is a part of the known
+/// plaintext, and a fault of opening, unless `Read` or `Memory`, is that of the known payload.
 pub fn given_is_known<D: ReadAt>()
-    // A reader was opened with the outcome and the layout of the known payload.
+    // A reader that was opened has the layout and the last chunk of the known payload.
     ensures opened { (dev : D) (b : Bytes) (file_key : FileKey) (max at : ℕ) (s : RangeState)
         → D.bytes dev ≡ Some b → BeginsRanges file_key max at (D.gave dev) (D.found dev) s
         → IsOpened file_key max (Some b) at s }

@@ -1,4 +1,4 @@
-//! The offsets of a payload's chunks.
+//! The key, the offsets and the number of a payload's chunks.
 ghost use Rattle.std.specs.Prelude.{◌^◌, ◌+◌, ◌-◌, ◌*◌, ◌<◌, ◌≤◌};
 ghost use Rattle.age_stream.specs.Sizes.{chunk_size, tag_size};
 

@@ -1,6 +1,6 @@
 //! The payload of age v1 files (C2SP `age.md`, "Payload"): a nonce, then a plaintext's chunks, each
-//! sealed at its number. It is written and read one chunk at a time, in the memory of one
-//! `ChunkBuf`.
+//! sealed with a nonce of its own, which has its number. A payload is written and read one chunk at
+//! a time, in one `ChunkBuf`.
 //!
 //! ```
 //! let mut writer = StreamWriter::new(alloc, &file_key, &nonce, &mut sink, max_chunks)?;
@@ -18,13 +18,13 @@
 //! `sizes` has the sizes of a payload's parts, `specs/Sizes.antt` the same for clauses.
 //!
 //! *What a contract sees.* A sealer is the record `SealerState` and an opener `OpenerState`: the
-//! key of the chunks, the number of the next one, the limit, the bytes that are held, and the fault
-//! that is kept. A reader of ranges is `RangeState`: where the chunks lie (`Layout`), which one is
-//! kept with its text, and how many were opened. Over a device each is a pair with the reference to
-//! it: `x.out`, `x.input`, `x.dev`.
+//! chunks' key, the next chunk's number, the limit, the bytes held, the fault kept, and an
+//! opener's text. `RangeState` has the chunks' key and offsets (`Layout`), the chunk kept and its
+//! text, and the count of attempts to open a chunk. `StreamWriter`, `StreamReader` and
+//! `RangeReader` pair such a state with the reference to their device: `x.out`, `x.input`, `x.dev`.
 //!
-//! Limits: at most 2^88 chunks of 65,536 bytes. A payload is complete only if its last chunk was
-//! read.
+//! Limits: at most 2^88 chunks of at most 65,536 bytes. The plaintext read is complete only if the
+//! last chunk was read.
 #![tactic(auto)]
 
 mod buffer;

@@ -1,4 +1,4 @@
-//! Reading pieces at their offsets, each opened in place.
+//! Reading a payload's nonce and its pieces at their offsets. Each piece is opened in place.
 ghost use Rattle.std.specs.Prelude.{◌≡◌, ◌⊎◌, ◌^◌, ◌+◌, ◌-◌, ◌*◌, ◌<◌, ◌≤◌, length, take, drop};
 ghost use Rattle.std.specs.Prelude.{ℕ, Some, None, Ok, Err, IfOk, OnOk, OnErr, IfErr, IfSome};
 ghost use Rattle.age_header.specs.Device.{Counts, CountsIf};
@@ -24,7 +24,7 @@ pub(crate) struct PayloadStart {
     pub(crate) sealed_len: u64,
 }
 
-/// One read after the first `got` bytes, up to byte `end`.
+/// Reads once from offset `at + got` of the source into `buf[got..end]`.
 fn read_after<D: ReadAt>(
     dev: &mut D,
     at: u64,
@@ -55,7 +55,7 @@ fn read_after<D: ReadAt>(
 }
 
 /// Fills the first `end` bytes of `buf` from offset `at` of the source, in as many reads as needed.
-/// The size that was found has them.
+/// The size must have been found, and be at least `at + end`.
 pub(crate) fn read_full<D: ReadAt>(
     dev: &mut D,
     at: u64,
@@ -151,8 +151,8 @@ pub(crate) fn payload_start<D: ReadAt>(dev: &mut D, at: u64) -> Result<PayloadSt
     })
 }
 
-/// Reads and opens the last of the pieces, which have this many bytes from offset `first` on. Its
-/// text is then at the start of the buffer.
+/// Reads and opens the last of the pieces, which begin at offset `first` and have `sealed` bytes
+/// together, and returns their layout. The text of the last is then at the start of the buffer.
 #[tactic(auto, using(crate::proofs::JudgesLastLemmas::piece_named))]
 pub(crate) fn load_last<D: ReadAt>(
     dev: &mut D,

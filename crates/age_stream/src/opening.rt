@@ -23,8 +23,8 @@ use age_cipher::open_in_place;
 use age_header::{DeviceFault, FileKey, Sink, Source, fill_from, write_all};
 use std::marker::Model;
 
-/// Opens the pieces of a payload in order, each in the same memory. It keeps a fault, and returns
-/// it from then on without reading its source.
+/// Opens the pieces of a payload in order, each in the same memory. After a fault, later calls
+/// return the same fault and do not read the source.
 #[derive(Drop)]
 pub struct ChunkOpener {
     key: [u8; 32],
@@ -95,9 +95,9 @@ impl ChunkOpener {
         })
     }
 
-    /// Lends the text. It is empty before the first piece, after false, and after a fault.
+    /// Lends the text of the piece just opened, empty unless the last `advance` returned true.
     pub fn text(&self) -> &[u8]
-        // The text of the piece that was opened last.
+        // The text of the opener's state.
         ensures text { result.now ≡ self.now.text }
         // At most 65,536 bytes.
         ensures len { length result.now ≤ chunk_size }
@@ -105,14 +105,14 @@ impl ChunkOpener {
         &self.buf.as_slice()[..self.len]
     }
 
-    /// The kept fault.
+    /// The kept fault, if there is one.
     pub(crate) fn kept(&self) -> Option<StreamFault>
         ensures { result ≡ self.now.fault }
     {
         self.fault
     }
 
-    /// Reads and opens the next piece; false after the last.
+    /// Reads and opens the next piece. Returns false after the last piece.
     pub fn advance<S: Source>(&mut self, source: &mut S) -> Result<bool, StreamFault>
         // A kept fault is returned; the source is not read, and nothing changes.
         ensures kept_fault { IfSome self.old.fault
@@ -121,18 +121,18 @@ impl ChunkOpener {
         ensures keeps { IfNone self.old.fault (IfErr result (λ f. self.new.fault ≡ Some f)) }
         ensures count { IfNone self.old.fault
             (CountsIf is_read (S.failed source.old) (S.failed source.new) result) }
-        // Unless a read failed, the next piece of what is left is opened at its number, or its
-        // fault is returned; after the last piece the result is false. Text and fault are those of
-        // the bytes that the source gave, joined in order, whether or not its contents are known.
-        // Nothing is read after the end and left out.
+        // Unless a read failed, the next piece is opened under its number, or its fault is
+        // returned; after the last piece the result is false. Text and fault are those of the bytes
+        // that the source gave, joined in order, whether or not its contents are known. No byte
+        // that was read is left out.
         ensures opens { IfNone self.old.fault (IsErrOf result StreamFault.Read
             ⊎ Advances self.old self.new (flow_by S.to_come S.gave source.old source.new) result) }
         // On a fault there was a piece left, and the source gave some bytes, perhaps none.
         ensures lost { IfNone self.old.fault
             (OnErr result (Loses self.old.held
             (flow_by S.to_come S.gave source.old source.new))) }
-        // After false, and after a fault, the opener has no text and holds no byte of another
-        // piece.
+        // After the result false, and after a fault, the opener has no text and holds no byte of
+        // another piece.
         ensures blank { IfNone self.old.fault (IsSpentAfter self.new result) }
     {
         if let Some(fault) = self.fault {
@@ -208,9 +208,9 @@ struct Piece {
     more: bool,
 }
 
-/// Reads the next piece, and opens it as piece i. Before the call the last byte of the buffer is
-/// the first of this piece, if `ahead` is 1. After it the last byte is the first of the next piece,
-/// if there is one.
+/// Reads the next piece, and opens it as piece i. Before the call, if `ahead` is 1, the last byte
+/// of the buffer is the first byte of this piece. After the call, if another piece follows, the
+/// last byte of the buffer is the first byte of that piece.
 fn next_piece<S: Source>(
     source: &mut S,
     bytes: &mut [u8],
@@ -242,8 +242,8 @@ fn next_piece<S: Source>(
     Ok(Piece { len, more: !last })
 }
 
-/// Reads the next piece of `size` bytes, and the byte after it. Before the call the last byte of
-/// the buffer is the first of this piece, if `ahead` is 1.
+/// Reads the next piece, at most `size` bytes, and the byte after it, if any. Returns the number of
+/// bytes. If `ahead` is 1, the first of them was read before: it was the last byte of the buffer.
 pub(crate) fn read_piece<S: Source>(
     source: &mut S,
     bytes: &mut [u8],
@@ -263,7 +263,7 @@ pub(crate) fn read_piece<S: Source>(
     fill_from(source, bytes, ahead)
 }
 
-/// The 16 bytes of a payload's nonce.
+/// Reads the 16 bytes of a payload's nonce.
 pub(crate) fn read_nonce<S: Source>(source: &mut S) -> Result<[u8; 16], StreamFault>
     ensures nonce { GivesNonce (flow_by S.to_come S.gave source.old source.new) result }
     ensures gave { IsErrOf result StreamFault.Read
@@ -296,9 +296,9 @@ fn carry(bytes: &mut [u8], size: usize, ahead: usize)
 /// the chunk ends its payload. A payload may have at most `max` chunks (C2SP `age.md`, "Payload").
 ///
 /// # Errors
-/// The first that applies of `TooManyChunks` if `i` is `max`; `ChunkShort` if there are fewer bytes
-/// than a tag, 16; `EmptyFinal` if it is the last chunk, not the first, and only a tag; `BadChunk`
-/// if no plaintext seals to these bytes at this number. On each the buffer is unchanged.
+/// The first that applies: `TooManyChunks` if `i` is `max`; `ChunkShort` if `end` is less than the
+/// 16 bytes of a tag; `EmptyFinal` if the last chunk, but not the first, is only a tag; `BadChunk`
+/// if the tag is wrong. After an error the buffer is unchanged.
 #[tactic(auto, unfolding(crate::specs::Reading::outcome))]
 pub fn open_chunk(
     key: &[u8; 32],
@@ -323,7 +323,7 @@ pub fn open_chunk(
     ensures unchanged { OnErr result (bytes.new ≡ bytes.old) }
     // A chunk opens only below the limit.
     ensures within { OnOk result (i < max) }
-    // Its faults are those of piece i.
+    // A fault is one of piece i, or too many chunks, and then i is the limit.
     ensures at { IfErr result (IsAtPiece max i) }
 {
     if i >= max {
@@ -349,7 +349,7 @@ fn is_empty_final(last: bool, i: u128, len: usize) -> bool
     last && i > 0 && len == TAG_SIZE
 }
 
-/// Opens the first `end` bytes in place; if they don't open, the buffer is unchanged.
+/// Opens the first `end` bytes in place, and returns whether they open. If not, nothing changes.
 pub(crate) fn open_prefix(key: &[u8; 32], nonce: &[u8; 12], bytes: &mut [u8], end: usize) -> bool
     requires low { tag_size ≤ end }
     requires high { end ≤ length bytes.old }

@@ -10,9 +10,9 @@ use age_header::FileKey;
 use std::alloc::Global;
 use std::marker::Model;
 
-/// Reads any part of a payload's plaintext from a caller's source. It reads and opens only the
-/// chunks that a part touches, and keeps the chunk that it opened last. It allocates one
-/// `ChunkBuf`, once.
+/// Reads any part of a payload's plaintext from a caller's source. To read a part it opens only the
+/// chunks that the part touches, and not the first of these if that is the chunk kept. It allocates
+/// one `ChunkBuf`, once.
 #[derive(Drop)]
 pub struct RangeReader<'a, D: ReadAt> {
     dev: &'a mut D,
@@ -37,10 +37,10 @@ impl<'a, D: ReadAt> RangeReader<'a, D> {
     ///
     /// # Errors
     /// `Memory` if the allocation was refused: nothing was read. `NonceTruncated` if there are
-    /// fewer than 16 bytes from there on. Then the first that applies: `TooManyChunks` if there are
-    /// more than `max_chunks` pieces, `ChunkShort` if the last is shorter than a tag, `EmptyFinal`
-    /// if it is not the first and only a tag, `BadChunk` if no plaintext seals to it at its number.
-    /// `Read` if the source failed.
+    /// fewer than 16 bytes from `payload_at` on. Then the first that applies: `TooManyChunks` if
+    /// there are more than `max_chunks` pieces; of the last piece `ChunkShort` if it is shorter
+    /// than a tag, `EmptyFinal` if it is only a tag and not the first piece, `BadChunk` if its tag
+    /// is wrong. `Read` if the source failed.
     pub fn open(
         alloc: Global,
         key: &FileKey,
@@ -50,16 +50,16 @@ impl<'a, D: ReadAt> RangeReader<'a, D> {
     ) -> Result<RangeReader<'a, D>, Refused<'a, D, StreamFault>>
         ensures same_reference { IfOk result
             (λ reader. reader.dev.ghost_name ≡ dev.entry.ghost_name) }
-        // The reader keeps the last chunk, has opened one, and has read at most the nonce and the
-        // last piece. Its key is that of the file key and the nonce read at the offset, its pieces
-        // end at the size that was found, and the piece read last gives the outcome.
+        // The reader has opened and keeps the last chunk, and has read at most the nonce and the
+        // last piece. Its key is derived from the file key and the nonce read at `payload_at`, its
+        // pieces end at the size found, and the last piece, as read, opens to the text kept.
         ensures opens { IfOk result (λ reader. StartsRanges D.bytes D.given D.failed D.gave
             D.found key.now max_chunks payload_at dev.old reader.dev.now (Ok reader.chunks)) }
         ensures handed_back { IfErr result
             (λ refused. refused.device.ghost_name ≡ dev.entry.ghost_name) }
-        // The fault is the first that applies to what was read: a truncated nonce, too many pieces,
-        // the last piece's fault; or a failed read, which is counted; or out of memory, before
-        // anything was read. It is never a failed write.
+        // The fault is the first of these that the size found and the bytes read show: a truncated
+        // nonce, too many pieces, a fault of the last piece. Or it is `Read`, which is counted, or
+        // `Memory`, and then the source is unchanged. It is never `Write`.
         ensures refuses { IfErr result (λ refused. StartsRanges D.bytes D.given D.failed D.gave
             D.found key.now max_chunks payload_at dev.old refused.device.now (Err refused.fault)) }
     {
@@ -69,7 +69,7 @@ impl<'a, D: ReadAt> RangeReader<'a, D> {
         }
     }
 
-    /// The source. What the reader knows of it is lost.
+    /// Returns the source, and drops what the reader knows: the offsets and the chunk kept.
     pub fn into_inner(self) -> &'a mut D
         ensures same_reference { result.ghost_name ≡ self.entry.dev.ghost_name }
         // The source is as the reader left it.
@@ -85,8 +85,8 @@ impl<'a, D: ReadAt> RangeReader<'a, D> {
         self.chunks.layout().plain
     }
 
-    /// The number of times that a chunk was read to be opened so far, failures included, saturating
-    /// at the largest `u64`. It is 1 after `open`.
+    /// The number of attempts so far to read and open a chunk, failures included, saturating at the
+    /// largest `u64`. It is 1 after `open`.
     pub fn opened(&self) -> u64
         ensures { result ≡ self.now.chunks.opened }
     {
@@ -94,9 +94,9 @@ impl<'a, D: ReadAt> RangeReader<'a, D> {
     }
 
     /// Fills the start of `buf` with the plaintext from offset `at` on, and returns the number of
-    /// bytes: the smaller of `buf.len()` and the length of the plaintext from `at` on, 0 past its
-    /// end. The rest of `buf` is unchanged. An empty range reads nothing. After a range that is not
-    /// empty its last chunk is kept. The call allocates nothing.
+    /// bytes: the smaller of `buf.len()` and the length of the plaintext from `at` on, which is 0
+    /// past its end. The rest of `buf` is unchanged. An empty range reads nothing. Of any other
+    /// range the last chunk is then kept. The call allocates nothing.
     ///
     /// # Errors
     /// `BadChunk(i)` if chunk i is the first of the range that does not open; `Read` if a read of a
@@ -104,10 +104,10 @@ impl<'a, D: ReadAt> RangeReader<'a, D> {
     /// and no chunk is kept. A later call reads the source again.
     pub fn read_range(&mut self, at: u64, buf: &mut [u8]) -> Result<usize, StreamFault>
         ensures same_reference { self.new.dev.ghost_name ≡ self.old.dev.ghost_name }
-        // If every touched chunk opens, fills the buffer up to the end of the plaintext, and
-        // returns the smaller of the buffer's length and the length of the plaintext from the
-        // offset on. Otherwise returns the first chunk that does not open, or a failed read, with
-        // the bytes before that chunk in the buffer. The rest of the buffer is unchanged.
+        // If every touched chunk can be read and opens, fills the start of the buffer with the
+        // plaintext from the offset on, as much as there is and fits, and returns the number of
+        // bytes. Otherwise returns `Read` or `BadChunk` for the first chunk that fails, with the
+        // bytes before that chunk in the buffer. The rest of the buffer is unchanged.
         ensures reads { ReadsRange D.bytes D.given D.failed D.gave at
             (record { source = self.old.dev.now; chunks = self.old.chunks; buf = buf.old })
             (record { source = self.new.dev.now; chunks = self.new.chunks; buf = buf.new })

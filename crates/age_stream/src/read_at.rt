@@ -13,9 +13,9 @@ ghost use Rattle.age_stream.specs.Offsets.{HasOffsets, StaysGiven};
 use age_header::DeviceFault;
 use std::io::{Read, Seek, SeekFrom};
 
-/// A source that is read at offsets, in any order. If its contents are known to proofs, they do not
-/// change: the same offset has the same byte at each read. Of other sources, such as files, only
-/// counts and sizes are known.
+/// A source that is read at offsets, in any order. If proofs know its contents, these do not
+/// change: the same offset has the same byte at each read. Of a file, proofs know only the counts
+/// and, once it was found, the size.
 pub trait ReadAt {
     // The contents, if they are known to proofs.
     ghost bytes: { Self → Known };
@@ -23,8 +23,8 @@ pub trait ReadAt {
     // The size in bytes, once it was found.
     ghost found: { Self → Option ℕ };
 
-    // Whether the source gave this byte at this offset. For a slice: whether it has the byte there,
-    // read or not. The default allows every byte.
+    // Whether the source may have given this byte at this offset. For a slice: whether the byte is
+    // there, read or not. The default allows every byte.
     ghost gave: { Self → (at byte : ℕ) → Type 0 } = { λ _ _ _. ⊤ };
 
     // The number of bytes read so far, saturating at the largest u64.
@@ -40,7 +40,7 @@ pub trait ReadAt {
     fn size(&mut self) -> Result<u64, DeviceFault>
         // Known contents stay.
         ensures stay { bytes self.new ≡ bytes self.old }
-        // What was read before stays read.
+        // Bytes read before still count as read.
         ensures stays_given { StaysGiven (gave self.old) (gave self.new) }
         // The size is that of the known contents; the first size that was found stays.
         ensures size { FindsSize (bytes self.old) (found self.old) (found self.new) result }
@@ -49,8 +49,8 @@ pub trait ReadAt {
         // An error raises the count of failures, an Ok leaves it.
         ensures count { Counts (failed self.old) (failed self.new) result };
 
-    /// Reads bytes from offset `at` on to the start of `buf`, and returns their number. It returns
-    /// 0 with a nonempty `buf` only at the end or past it. A short read does not mean the end.
+    /// Reads bytes from offset `at` on into the start of `buf`, and returns their number. Returns 0
+    /// with a nonempty `buf` only at the end or past it. A short read does not mean the end.
     ///
     /// # Errors
     /// If the read failed; no byte was read. The failure is counted.
@@ -62,10 +62,10 @@ pub trait ReadAt {
         ensures bound { ReadsAtMost result buf.new }
         // The offsets of known contents fit a u64.
         ensures offsets { HasOffsets (bytes self.old) }
-        // A nonempty buffer gets no bytes only at or past the end of the known contents and of the
-        // size that was found: an earlier end is an error.
+        // A read into a nonempty buffer returns 0 only at or past the end of the known contents and
+        // of the size found: an earlier end is an error.
         ensures end { EmptyAtEnd (bytes self.old) (found self.old) at result buf.new }
-        // What was read before stays read.
+        // Bytes read before still count as read.
         ensures stays_given { StaysGiven (gave self.old) (gave self.new) }
         // On Ok the bytes from the offset on are at the start of the buffer: the source gave each
         // at its offset.
@@ -83,7 +83,7 @@ pub trait ReadAt {
     fn failures(&self) -> u64
         ensures { result ≡ failed self.now };
 
-    // What a source with known contents gave, and the size that was found, agree with them.
+    // If the contents are known, the bytes given and the size found are those of the contents.
     ghost agrees: { (s : Self) (b : Bytes) → bytes s ≡ Some b → Agrees b (gave s) (found s) };
 }
 
@@ -140,9 +140,9 @@ impl<'a> ReadAt for MemAt<'a> {
     }
 }
 
-/// A file, or anything else that implements `Read` and `Seek`. Its contents are not known to
-/// proofs. It keeps the first size that it found: a read that returns no byte below that size is a
-/// failure. A read at the offset where the one before ended does not seek.
+/// A file, or anything else that implements `Read` and `Seek`. Proofs do not know its contents. It
+/// keeps the first size that it finds: at an offset below it, a read into a nonempty buffer fails
+/// if it gets no byte. A read that begins where the last call, a read, ended does not seek.
 #[derive(Drop)]
 pub struct FileAt<F> {
     file: F,

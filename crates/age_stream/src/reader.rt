@@ -19,7 +19,7 @@ use age_header::{FileKey, Sink, Source};
 use std::alloc::Global;
 
 /// Reads a payload from a caller's source, and lends its chunks in order, each once it is verified.
-/// It keeps a fault, and returns it from then on without reading the source.
+/// After a fault, later calls return the same fault and do not read the source.
 #[derive(Drop)]
 pub struct StreamReader<'a, S, B = ChunkOpener> {
     input: &'a mut S,
@@ -30,12 +30,12 @@ impl<'a, S: Source> StreamReader<'a, S> {
     ghost use Rattle.age_stream.specs.contracts.opening.ChunkOpener.{the_row as opener_row};
     ghost use Rattle.age_stream.specs.contracts.reader.StreamReader.{the_row};
 
-    /// Makes a reader of this source, from which the opener read the nonce already. It reads
+    /// Makes a reader of this source, from which `opener` must have read the nonce. The call reads
     /// nothing.
     pub fn over(input: &'a mut S, opener: ChunkOpener) -> StreamReader<'a, S>
         ensures same_reference { result.input.ghost_name ≡ input.entry.ghost_name }
         ensures unchanged { result.input.now ≡ input.old }
-        // It continues where this one was.
+        // The reader continues where `opener` was.
         ensures opener { result.opener ≡ opener }
     {
         StreamReader { input, opener }
@@ -61,7 +61,7 @@ impl<'a, S: Source> StreamReader<'a, S> {
             max_chunks input.old reader.input.now (Ok reader.opener)) }
         ensures handed_back { IfErr result
             (λ refused. refused.device.ghost_name ≡ input.entry.ghost_name) }
-        // Memory was refused and nothing was read, or the nonce was not read.
+        // Memory was refused and nothing was read, or the nonce is incomplete, or a read failed.
         ensures misses { IfErr result (λ refused. StartsReader S.to_come S.gave S.failed key.now
             max_chunks input.old refused.device.now (Err refused.fault)) }
     {
@@ -74,14 +74,14 @@ impl<'a, S: Source> StreamReader<'a, S> {
         }
     }
 
-    /// The text of the piece that was opened last.
+    /// The text of the piece just opened.
     fn chunk(&self) -> &[u8]
         ensures { result.now ≡ self.now.opener.text }
     {
         self.opener.text()
     }
 
-    /// Reads and opens the next piece; false after the last.
+    /// Reads and opens the next piece. Returns false after the last piece.
     fn advance(&mut self) -> Result<bool, StreamFault>
         ensures same_reference { self.new.input.ghost_name ≡ self.old.input.ghost_name }
         ensures kept_fault { IfSome self.old.opener.fault (λ f. (result ≡ Err f)
@@ -102,17 +102,17 @@ impl<'a, S: Source> StreamReader<'a, S> {
     /// plaintext has one empty chunk.
     ///
     /// # Errors
-    /// The first that applies to piece i: `TooManyChunks` if i reaches `max_chunks`, `ChunkShort`
-    /// if it is shorter than a tag, 16 bytes, `EmptyFinal` if it is the last, not the first, and
-    /// only a tag, `BadChunk` if no plaintext seals to it at its number. `Read` if the source
-    /// failed.
+    /// The first that applies to the next piece, piece i: `TooManyChunks` if i reaches
+    /// `max_chunks`, `ChunkShort` if the piece is shorter than a tag, 16 bytes, `EmptyFinal` if it
+    /// is the last piece, but not the first, and only a tag, `BadChunk` if its tag is wrong. `Read`
+    /// if the source failed.
     pub fn next_chunk(&mut self) -> Result<Option<&[u8]>, StreamFault>
         // Lends the next piece's text, or returns its fault. After the last piece, and after a
         // fault, the reader holds no text and no byte of another piece. The chunk is borrowed from
-        // the reader, so the clause can speak of the reader only once the chunk is given back: it
-        // is then `last`, and the last λ holds of it. The words before that λ are the checker's.
-        // `follows_so` names the lender by its `ghost_name`, and `the_row`, with the lifetime
-        // `named 1`, is the layout of its type `StreamReader<S>`.
+        // the reader, so the clause can speak of the reader only once the chunk is given back. The
+        // reader is then `last`, and `λ last` says what holds of it. The words before `λ last` are
+        // the checker's: `follows_so` names the lender by its `ghost_name`, and `the_row`, with the
+        // lifetime `named 1`, is the layout of its type `StreamReader<S>`.
         ensures* after { sem 𝓛 (follows_so
             (the_row (record { mir = named 1; lft = [] }) S.row opener_row)
             (the_row (record { mir = named 1; lft = [] }) S.row opener_row) self.entry.ghost_name
@@ -134,11 +134,11 @@ impl<'a, S: Source> StreamReader<'a, S> {
     }
 
     /// Writes the chunks of the plaintext that are left, each as soon as it is verified. Returns
-    /// the number of bytes written, and of chunks.
+    /// the numbers of bytes and chunks written.
     ///
     /// # Errors
-    /// Those of `next_chunk`: the chunks before were written. `Write` if the sink failed: a prefix
-    /// of the chunks was written.
+    /// Those of `next_chunk`: the chunks before the fault were written. `Write` if the sink failed:
+    /// a prefix of the plaintext left was written.
     pub fn copy_to<W: Sink>(self, out: &mut W) -> Result<Done, StreamFault>
         // A kept fault is returned, and neither device is called.
         ensures kept_fault { IfSome self.entry.opener.fault (λ f.
@@ -149,8 +149,8 @@ impl<'a, S: Source> StreamReader<'a, S> {
         ensures writes_all { IfNone self.entry.opener.fault (WritesAll self.entry.opener
             (flow_by S.to_come S.gave self.entry.input.now self.exit.0.now)
             (move_by W.taken out.old out.new) result) }
-        // Of any fault except a failed read: at which piece it arose, what had been written, and
-        // how much of the source had been read.
+        // A fault other than `Read` is that of a piece i, or of a write after at least 65,536 i
+        // bytes. The call then read at most 65,552 (i + 1) + 1 bytes of the source.
         ensures ends { IfNone self.entry.opener.fault (IfErr result (λ f. (f ≡ StreamFault.Read)
             ⊎ EndsAt self.entry.opener.max_chunks 0
             (flow_by S.to_come S.gave self.entry.input.now self.exit.0.now)

@@ -1,10 +1,10 @@
-//! The error of a constructor, which holds its device.
+//! The error of a constructor, which hands back the constructor's device.
 ghost use Rattle.std.specs.Prelude.{◌≡◌};
 
 use crate::fault::StreamFault;
 use std::fmt;
 
-/// A device, and the fault for which the constructor failed. `?` keeps only the fault.
+/// The device passed to a constructor that failed, and its fault. `?` keeps only the fault.
 pub struct Refused<'a, D, E> {
     device: &'a mut D,
     fault: E,
@@ -15,7 +15,7 @@ impl<'a, D, E> Refused<'a, D, E> {
     pub fn of(device: &'a mut D, fault: E) -> Refused<'a, D, E>
         ensures same_reference { result.device.ghost_name ≡ device.entry.ghost_name }
         ensures unchanged { result.device.now ≡ device.old }
-        // The fault that was returned.
+        // The error holds the fault passed in.
         ensures fault { result.fault ≡ fault }
     {
         Refused { device, fault }
@@ -23,7 +23,7 @@ impl<'a, D, E> Refused<'a, D, E> {
 
     /// The fault. The borrow of the device ends.
     pub fn fault(self) -> E
-        // The fault that was returned.
+        // The fault that the error held is returned.
         ensures fault { result ≡ self.entry.fault }
         ensures unchanged { self.exit.0.now ≡ self.entry.device.now }
     {
@@ -35,7 +35,7 @@ impl<'a, D, E> Refused<'a, D, E> {
     pub fn into_parts(self) -> (&'a mut D, E)
         ensures same_reference { result.0.ghost_name ≡ self.entry.device.ghost_name }
         ensures unchanged { result.0.now ≡ self.entry.device.now }
-        // The fault that was returned.
+        // The second part is the fault that the error held.
         ensures fault { result.1 ≡ self.entry.fault }
     {
         let Refused { device, fault } = self;

@@ -4,8 +4,8 @@ ghost use Rattle.age_stream.specs.Runs.{runs_after, runs};
 
 use crate::salvaged::LostChunk;
 
-/// A run of lost chunks, with none between them that was saved, and the bytes of the plaintext that
-/// they had. Chunks and bytes are numbered from 0.
+/// Lost chunks with consecutive numbers, and the offsets of their bytes in the plaintext. Chunks
+/// and bytes are numbered from 0.
 #[derive(Clone, Copy, Debug, Drop, PartialEq, Eq)]
 pub struct LostRun {
     /// The first chunk.
@@ -18,12 +18,12 @@ pub struct LostRun {
     pub end: u128,
 }
 
-/// Adds a lost chunk to the run that may go on. Returns that run, if it ends before this chunk,
-/// which then begins the next.
+/// Adds a lost chunk to the run, if it follows the run's last chunk. Otherwise begins a new run
+/// with it, and returns the old run, if there was one.
 pub fn join_lost(run: &mut Option<LostRun>, chunk: LostChunk) -> Option<LostRun>
     requires { chunk.start + chunk.len < 2 ^ 128 }
-    // Whatever chunks follow: the runs that were still to come are the run returned, if there is
-    // one, and then those that are still to come.
+    // Whatever chunks follow: the runs of `run.old`, this chunk and those chunks are the result, if
+    // it is a run, and then the runs of `run.new` and those chunks.
     ensures { (rest : List LostChunk) → runs_after run.old (runs (chunk ∷ rest))
         ≡ option_to_list result ++ runs_after run.new (runs rest) }
 {

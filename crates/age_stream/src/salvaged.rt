@@ -6,23 +6,23 @@ ghost use Rattle.age_stream.specs.Salvage.{padding};
 /// What was saved of one piece of a payload.
 #[derive(Clone, Copy, Debug, Drop, PartialEq, Eq)]
 pub enum Saved {
-    /// A chunk that others follow.
+    /// A chunk that is not marked as the last.
     Chunk,
     /// The last chunk.
     LastChunk,
-    /// The last chunk, once this many bytes after it are taken off.
+    /// The last chunk, after which this many bytes of padding were removed.
     Padded(usize),
-    /// A chunk that is marked as the last and may not be: more follows, or it is empty and others
+    /// A chunk that is marked as the last but cannot be it: more follows, or it is empty and others
     /// stand before it.
     Early,
     /// The piece does not open: zeros stand in its place.
     Zeros,
-    /// The same of a piece without text: it has no more bytes than a tag, 16.
+    /// The piece does not open, and has no text: it is at most as long as a tag, 16 bytes.
     Nothing,
 }
 
 impl Saved {
-    /// The number of bytes in the last piece after the last chunk.
+    /// The number of bytes of padding after the last chunk; 0 unless this is `Padded`.
     pub fn padding(self) -> usize
         ensures { result ≡ padding self }
     {
@@ -53,7 +53,7 @@ pub struct Salvaged {
     pub chunks: u128,
     /// The number of lost chunks.
     pub lost: u128,
-    /// The number of the latest early chunk.
+    /// The number of the latest chunk that is `Saved::Early`, if there is one.
     pub early: Option<u128>,
     /// What was saved of the piece before the last; `Saved::Chunk` if there is none.
     pub before: Saved,
@@ -73,10 +73,10 @@ impl Salvaged {
         }
     }
 
-    /// Whether the payload is cut short. A last piece that has no text and does not open is the
-    /// start of a chunk that was cut, but after an early chunk it is bytes after the end. If zeros
-    /// stand for the last piece, or for the one before such a piece, this is not known, and the
-    /// result is false.
+    /// Whether the payload is cut short: the last piece is `Chunk`; or it is `Nothing`, the start
+    /// of a chunk, and the piece before it, if any, is `Chunk`. After `Early`, `Nothing` is bytes
+    /// after the payload's end. If zeros stand for the last piece, or for the piece before
+    /// `Nothing`, this is not known, and the result is false.
     pub fn is_cut(&self) -> bool
         ensures { result ≡ is_cut self.now }
     {

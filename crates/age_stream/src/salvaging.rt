@@ -1,4 +1,4 @@
-//! Saving the chunks that open of a damaged payload.
+//! Saving what can be opened of a damaged payload.
 ghost use Rattle.std.specs.Prelude.{◌≡◌, ◌⊎◌, ◌<◌, ◌≤◌, ◌+◌, ◌-◌, ◌^◌, length, take, drop, false};
 ghost use Rattle.std.specs.Prelude.{Some, None, Ok, Err, IfOk, IfSome, IfErr};
 ghost use Rattle.age_header.specs.Device.{CountsIf, OfGiven, flow_by, move_by};
@@ -21,16 +21,16 @@ use age_header::{FileKey, Sink, Source, write_all};
 use std::alloc::Global;
 
 /// Saves what it can of a payload that is left in the source. Writes, at its offset, the text of
-/// every chunk that opens, and zeros in place of every chunk that does not, which it reports to
-/// `losses`. A chunk may open as the last one or as one that others follow, wherever it is.
+/// every chunk that opens. Any other chunk that has text is lost: zeros are written in its place,
+/// and it is reported to `losses`. A chunk may open as the last or as another, wherever it is.
 ///
 /// Each chunk that was saved is genuine, and is at its offset in the plaintext. The plaintext as a
 /// whole is genuine exactly if the result is whole (`Salvaged::is_whole`).
 ///
 /// # Errors
 /// `Memory` if the allocation was refused: nothing was read. `NonceTruncated` if the source returns
-/// fewer than 16 bytes. `TooManyChunks` if there are more than `max_chunks` chunks: as many were
-/// written. `Read` and `Write` if a device failed: a prefix of the saved text was written.
+/// fewer than 16 bytes. `TooManyChunks` if there are more than `max_chunks` chunks: only that many
+/// were written. `Read` and `Write` if a device failed: a prefix of the saved text was written.
 pub fn salvage_payload<S: Source, W: Sink, L: Losses>(
     alloc: Global,
     key: &FileKey,
@@ -40,20 +40,20 @@ pub fn salvage_payload<S: Source, W: Sink, L: Losses>(
     max_chunks: u128,
 ) -> Result<Salvaged, StreamFault>
     requires { max_chunks ≤ most_chunks }
-    // Writes, at its offset, every chunk that opens and zeros in place of every chunk that does
-    // not, and reports each lost chunk, in order. On a fault only a beginning of this.
+    // Writes, at its offset, every chunk that opens, and zeros in place of every other, and reports
+    // each lost chunk, in order. A fault ends this after a part of it.
     ensures salvages { Salvages key.now max_chunks
         (flow_by S.to_come S.gave source.old source.new) (move_by W.taken out.old out.new)
         (losses_by L.lost losses.old losses.new) result }
-    // If no chunk is lost, none was reported.
+    // On Ok, if no chunk is lost, `losses` is unchanged.
     ensures silent { IfOk result (λ s. s.lost ≡ 0 → losses.new ≡ losses.old) }
     // If there is no whole nonce, or no memory, nothing was written or reported.
     ensures quiet { IfErr result
         (λ fault. IsOfPieces fault ⊎ ((out.new ≡ out.old) × (losses.new ≡ losses.old))) }
     ensures reads { CountsIf is_read (S.failed source.old) (S.failed source.new) result }
     ensures writes { CountsIf is_write (W.failed out.old) (W.failed out.new) result }
-    // On a fault at piece i, or of a write after 65,536 i bytes: at most the nonce, the pieces up
-    // to and including piece i, and one more byte were read.
+    // If piece i exceeds the limit, or a write failed after at least 65,536 i bytes: at most the
+    // nonce, pieces 0 to i, and one more byte were read.
     ensures took { IfErr result (EndsSaving max_chunks
         (flow_by S.to_come S.gave source.old source.new) (move_by W.taken out.old out.new)) }
 {
@@ -66,7 +66,7 @@ pub fn salvage_payload<S: Source, W: Sink, L: Losses>(
     save_pieces(source, out, losses, &key, max_chunks, bytes.as_mut_slice())
 }
 
-/// What is saved of no piece.
+/// What was saved before the first piece: nothing.
 const NOTHING_SAVED: Salvaged = Salvaged {
     bytes: 0,
     chunks: 0,
@@ -117,8 +117,8 @@ fn save_pieces<S: Source, W: Sink, L: Losses>(
     }
 }
 
-/// Saves what it can of piece i, which is the first of these `n` bytes: its text, or zeros, is then
-/// at the start of the buffer. Returns its length.
+/// Saves what it can of piece i, the first piece of these `n` bytes: its text, or zeros, is then at
+/// the start of the buffer. Returns the length of this text, and what was saved.
 #[tactic(auto, using(crate::proofs::SalvageLemmas::first_saved))]
 fn save_first(key: &[u8; 32], i: u128, bytes: &mut [u8], n: usize) -> (usize, Saved)
     requires size { length bytes.old ≡ chunk_buf_size }
@@ -138,14 +138,14 @@ fn save_first(key: &[u8; 32], i: u128, bytes: &mut [u8], n: usize) -> (usize, Sa
 }
 
 /// Saves what it can of the first `end` bytes, in place, as piece i. `last` says whether no byte
-/// follows them. The text of the chunk to which they open, or zeros, is then at the start of the
-/// buffer, `end - 16` bytes less the padding. What follows is unchanged.
+/// follows them. Their text, or zeros in its place, is then at the start of the buffer; it has
+/// `end - 16` bytes (none if `end` is below 16), less the padding. What follows it is unchanged.
 pub fn save_piece(key: &[u8; 32], i: u128, last: bool, bytes: &mut [u8], end: usize) -> Saved
     requires high { end ≤ length bytes.old }
     requires size { end ≤ sealed_chunk_size }
     requires small { i < most_chunks }
     ensures len { length bytes.new ≡ length bytes.old }
-    // The part that stands for the piece is returned, and its text is at the start of the buffer.
+    // The result and the text at the start of the buffer are the part that stands for the piece.
     ensures part { part key.now i last (take end bytes.old)
         ≡ record { text = take (end - tag_size - padding result) bytes.new; saved = result } }
     // The bytes after the text are unchanged.
@@ -177,9 +177,9 @@ pub fn save_piece(key: &[u8; 32], i: u128, last: bool, bytes: &mut [u8], end: us
     }
 }
 
-/// Opens the first `end` bytes in place as the last chunk i, without the fewest bytes at their end
-/// with which they don't open. Returns how many these are; if there are none, the buffer is
-/// unchanged.
+/// Opens the first `end` bytes in place as chunk i, the last, without the padding at their end: the
+/// fewest bytes, 1 to 4,095, without which they open. Returns how many bytes these are; on `None`
+/// the buffer is unchanged.
 fn open_padded(key: &[u8; 32], i: u128, bytes: &mut [u8], end: usize) -> Option<usize>
     requires low { tag_size ≤ end }
     requires high { end ≤ length bytes.old }
@@ -203,7 +203,7 @@ fn open_padded(key: &[u8; 32], i: u128, bytes: &mut [u8], end: usize) -> Option<
     None
 }
 
-/// What a piece of `len` bytes is that opens as the chunk of its position.
+/// What was saved of a piece of `len` bytes that opens as the chunk of its position.
 fn in_place(i: u128, last: bool, len: usize) -> Saved
     ensures { result ≡ in_place i last len }
 {
@@ -216,7 +216,7 @@ fn in_place(i: u128, last: bool, len: usize) -> Saved
     }
 }
 
-/// Counts one part more, reports a lost chunk, and notes an early one.
+/// Counts one more piece, reports it if its chunk is lost, and notes it if the chunk is early.
 fn note<L: Losses>(done: &mut Salvaged, losses: &mut L, len: usize, saved: Saved)
     requires bytes { done.old.bytes + len < 2 ^ 128 }
     requires chunks { done.old.chunks + 1 < 2 ^ 128 }

@@ -21,9 +21,9 @@ use age_cipher::seal_in_place;
 use age_header::{DeviceFault, FileKey, Sink, Source, fill_from, write_all};
 use std::marker::Model;
 
-/// Seals the chunks of a plaintext in order, each in the same memory. A full chunk is held until
-/// more text comes, since the last one is sealed with another nonce. It keeps a fault, and returns
-/// it from then on without calling its devices.
+/// Seals the chunks of a plaintext in order, each in the same memory. It holds a full chunk until
+/// more text comes, because the last chunk is sealed with another nonce. After a fault, later calls
+/// return the same fault and call no device.
 #[derive(Drop)]
 pub struct ChunkSealer {
     key: [u8; 32],
@@ -57,7 +57,7 @@ impl Model for ChunkSealer {
 impl ChunkSealer {
     ghost use Rattle.age_stream.specs.Sealing.{at_start};
 
-    /// Makes a sealer of the payload with this nonce under this file key, before chunk 0.
+    /// Makes a sealer of the payload with this nonce under this file key. Chunk 0 is next.
     pub fn new(key: &FileKey, nonce: &[u8; 16], max_chunks: u128, buf: ChunkBuf) -> ChunkSealer
         requires low { 1 ≤ max_chunks }
         requires high { max_chunks ≤ most_chunks }
@@ -147,13 +147,13 @@ impl ChunkSealer {
         }
     }
 
-    /// Seals what is held as the last chunk, and writes it. Returns the total numbers of bytes and
+    /// Seals and writes the text held, as the last chunk. Returns the total numbers of bytes and
     /// chunks sealed.
     pub fn finish<W: Sink>(self, out: &mut W) -> Result<Done, StreamFault>
         // A kept fault is returned, and nothing is written.
         ensures kept_fault { IfSome self.fault (λ f. (result ≡ Err f) × (out.new ≡ out.old)) }
-        // Writes what was held as the last chunk, or a prefix of that if a write failed. The counts
-        // are the length of the text and the number of its chunks.
+        // Writes the text held, sealed as the last chunk, or a prefix of that if a write failed.
+        // The counts are the length of the whole plaintext and the number of its chunks.
         ensures text { IfNone self.fault
             (FinishesBy self (move_by W.taken out.old out.new) result) }
         ensures writes { IfNone self.fault
@@ -223,7 +223,7 @@ fn feed<S: Source, W: Sink>(
     }
 }
 
-/// Reads after the first `held` bytes until there are `most`, or the source is at its end.
+/// Fills the buffer from byte `held` up to byte `most`, or until the source is at its end.
 fn fill_up_to<S: Source>(
     plain: &mut S,
     bytes: &mut [u8],
@@ -244,8 +244,8 @@ fn fill_up_to<S: Source>(
     fill_from(plain, prefix, held)
 }
 
-/// Writes the full chunk at the start of the buffer, as one that is not the last, and moves the
-/// byte that follows it to the start.
+/// Seals and writes the full chunk at the start of the buffer, not as the last, and moves the byte
+/// after it to the start. Returns `TooManyChunks` if the limit allows no chunk after this one.
 fn put_full<W: Sink>(
     out: &mut W,
     key: &[u8; 32],
@@ -305,7 +305,7 @@ pub fn seal_chunk(key: &[u8; 32], i: u128, last: bool, chunk: &mut [u8])
     requires high { length chunk.old ≤ sealed_chunk_size }
     requires small { i < most_chunks }
     ensures len { length chunk.new ≡ length chunk.old }
-    // The buffer holds the chunk, sealed at its number.
+    // The buffer holds the chunk, sealed as chunk i.
     ensures sealed { chunk.new
         ≡ sealed_text key.now (chunk_nonce i last) [] (take
         (length chunk.old - tag_size) chunk.old) }

@@ -12,8 +12,7 @@ pub const TAG_SIZE: usize = 16;
 /// A chunk of `CHUNK_SIZE` bytes when it is sealed.
 pub const SEALED_CHUNK_SIZE: usize = CHUNK_SIZE + TAG_SIZE;
 
-/// The maximum number of bytes that salvaging takes off after a last chunk: padding to a block of
-/// 4,096 bytes.
+/// The longest padding that salvaging looks for after the last chunk: 1 less than a block of 4,096.
 pub const MAX_PADDING: usize = 4095;
 
 /// The buffer of a sealer or an opener: a sealed chunk and the byte after it.

@@ -15,19 +15,19 @@ use age_header::{FileKey, MemSource, Sink, Source, write_all};
 use std::alloc::Global;
 
 /// Writes a payload to a caller's sink. It must be consumed, by `seal_from`, `finish` or `abandon`.
-/// It keeps a fault, and returns it from then on without writing to the sink.
+/// After a fault, later calls return the same fault and do not write to the sink.
 pub struct StreamWriter<'a, W, B = ChunkSealer> {
     out: &'a mut W,
     sealer: B,
 }
 
 impl<'a, W: Sink> StreamWriter<'a, W> {
-    /// Makes a writer to this sink, to which the nonce of the sealer's payload was written already.
-    /// It writes nothing.
+    /// Makes a writer to this sink, to which the nonce of the sealer's payload must have been
+    /// written. The call writes nothing.
     pub fn over(out: &'a mut W, sealer: ChunkSealer) -> StreamWriter<'a, W>
         ensures same_reference { result.out.ghost_name ≡ out.entry.ghost_name }
         ensures unchanged { result.out.now ≡ out.old }
-        // It continues where this one was.
+        // The writer continues where `sealer` was.
         ensures sealer { result.sealer ≡ sealer }
     {
         StreamWriter { out, sealer }
@@ -86,7 +86,7 @@ impl<'a, W: Sink> StreamWriter<'a, W> {
             max_chunks out.old writer.out.now (Ok writer.sealer)) }
         ensures handed_back { IfErr result
             (λ refused. refused.device.ghost_name ≡ out.entry.ghost_name) }
-        // Memory was refused and nothing was written, or as for `with_buf`.
+        // Either memory was refused and nothing was written, or `with_buf` failed.
         ensures loses { IfErr result (λ refused. IsRefusedMemory out.old refused.device.now
             refused.fault ⊎ StartsWriter W.taken W.failed key.now nonce.now max_chunks out.old
             refused.device.now (Err refused.fault)) }
@@ -102,14 +102,14 @@ impl<'a, W: Sink> StreamWriter<'a, W> {
     ///
     /// # Errors
     /// `Write` if the sink failed: a prefix of the sealed chunks was written. `TooManyChunks` if
-    /// the text needs more than `max_chunks`: the chunks before the last one allowed were written.
+    /// the text needs more than `max_chunks`: in all, `max_chunks - 1` chunks were written.
     pub fn write_piece(&mut self, piece: &[u8]) -> Result<(), StreamFault>
         ensures same_reference { self.new.out.ghost_name ≡ self.old.out.ghost_name }
         // A kept fault is returned, and nothing is written.
         ensures kept_fault { IfSome self.old.sealer.fault (λ f. (result ≡ Err f)
             × (self.new.sealer ≡ self.old.sealer) × (self.new.out.now ≡ self.old.out.now)) }
-        // However the plaintext is split among calls, the same bytes are written in the end; or the
-        // fault is the sink's, or too many chunks.
+        // However the plaintext is split among calls, the same bytes are written in the end. The
+        // only faults that can arise are `Write` and `TooManyChunks`.
         ensures takes { IfNone self.old.sealer.fault (TakesPiece self.old.sealer self.new.sealer
             piece.now (move_by W.taken self.old.out.now self.new.out.now) result) }
         ensures count { IfNone self.old.sealer.fault
@@ -129,8 +129,8 @@ impl<'a, W: Sink> StreamWriter<'a, W> {
         // A kept fault is returned, and neither device is called.
         ensures kept_fault { IfSome self.entry.sealer.fault (λ f.
             (result ≡ Err f) × (plain.new ≡ plain.old) × (self.exit.0.now ≡ self.entry.out.now)) }
-        // Seals and writes all that the source gave; or returns a fault, and says how much of the
-        // source was read.
+        // On Ok all that the source gave was sealed and written, on a fault a prefix of it. Unless
+        // the fault is `Read`, the clause bounds how much of the source was read.
         ensures seals { IfNone self.entry.sealer.fault (SealsAll self.entry.sealer
             (flow_by S.to_come S.gave plain.old plain.new)
             (move_by W.taken self.entry.out.now self.exit.0.now) result) }
@@ -145,7 +145,7 @@ impl<'a, W: Sink> StreamWriter<'a, W> {
         sealer.finish(out)
     }
 
-    /// Seals what is held as the last chunk, and writes it. Returns the total numbers of bytes and
+    /// Seals and writes the text held, as the last chunk. Returns the total numbers of bytes and
     /// chunks sealed.
     ///
     /// # Errors
@@ -154,8 +154,8 @@ impl<'a, W: Sink> StreamWriter<'a, W> {
         // A kept fault is returned, and nothing is written.
         ensures kept_fault { IfSome self.entry.sealer.fault
             (λ f. (result ≡ Err f) × (self.exit.0.now ≡ self.entry.out.now)) }
-        // Writes what was held as the last chunk, or a prefix of that if a write failed. The counts
-        // are the length of the text and the number of its chunks.
+        // Writes the text held, sealed as the last chunk, or a prefix of that if a write failed.
+        // The counts are the length of the whole plaintext and the number of its chunks.
         ensures text { IfNone self.entry.sealer.fault (FinishesBy self.entry.sealer
             (move_by W.taken self.entry.out.now self.exit.0.now) result) }
         ensures count { IfNone self.entry.sealer.fault

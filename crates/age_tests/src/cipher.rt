@@ -1,5 +1,5 @@
-//! ChaCha20, Poly1305, and both together. Expected values: RFC 8439; the block with the last
-//! counter and a sum that is the prime itself by other implementations.
+//! ChaCha20, Poly1305, and both together. Expected values: RFC 8439; for the last counter and for a
+//! sum equal to the prime, other implementations; for the empty message, the key's half s.
 
 use crate::vectors::hex;
 use age_cipher::{Poly1305, chacha20_xor, open_in_place, seal_in_place};
@@ -14,7 +14,7 @@ fn counting(first: u8) -> [u8; 32] {
     bytes
 }
 
-// 2.3.2, and the last block of a key stream.
+// Section 2.3.2, and the first 16 bytes of the last block of a key stream.
 #[test]
 fn blocks_match_rfc_8439(rt: HostRuntime) {
     let mut buf = [0; 64];
@@ -32,7 +32,7 @@ fn blocks_match_rfc_8439(rt: HostRuntime) {
     assert_eq!(rt; front, expected.as_slice());
 }
 
-// 2.8.2. A wrong tag leaves the ciphertext.
+// Section 2.8.2. With a wrong tag the ciphertext is unchanged.
 #[test]
 fn aead_matches_rfc_8439(rt: HostRuntime) {
     let text =
@@ -72,7 +72,7 @@ fn expect_tag(
     assert_eq!(rt; mac.tag(), *expected, "{name}");
 }
 
-// A key whose r is a small number, and whose s is one byte again and again.
+// The key with r equal to `r`, and all 16 bytes of s equal to `s`.
 fn small_key(r: u8, s: u8) -> [u8; 32] {
     let mut key = [0; 32];
     let (_, back) = key.split_at_mut(16);
@@ -81,14 +81,14 @@ fn small_key(r: u8, s: u8) -> [u8; 32] {
     key
 }
 
-// Sixteen bytes of which the first is given, and the others are one byte again and again.
+// Sixteen bytes: `first`, and then 15 times `other`.
 fn block(first: u8, other: u8) -> [u8; 16] {
     let mut bytes = [other; 16];
     bytes[0] = first;
     bytes
 }
 
-// 2.5.2 and A.3.
+// Section 2.5.2 and appendix A.3; the empty message and the sum equal to the prime are not there.
 #[test]
 fn tags_match_rfc_8439(rt: HostRuntime) {
     let none = [].as_slice();

@@ -1,12 +1,12 @@
-//! Sources and sinks that count their calls, and fail once.
+//! Devices that count their reads or writes, and fail at a chosen one.
 
 use age_header::{DeviceFault, Sink, Source};
 use age_stream::{MemAt, ReadAt};
 use std::alloc::Global;
 use std::cell::Cell;
 
-/// Returns at most `most` of these bytes at a time, counts its reads, and fails at the read with
-/// this number, counted from 1. Proofs do not know its contents.
+/// Returns at most `most` of these bytes at a time, counts its reads, and fails at read `failing`,
+/// counted from 1, or never if that is 0. Proofs do not know its contents.
 #[derive(Drop)]
 pub struct FailingSource<'a> {
     pub rest: &'a [u8],
@@ -53,8 +53,8 @@ impl<'a> Source for FailingSource<'a> {
     }
 }
 
-/// Accepts at most `most` bytes of a piece, but at least one, counts its calls, and fails at the
-/// call with this number, counted from 1. Proofs do not know its contents.
+/// Accepts at most `most` bytes of a piece (0 counts as 1), counts its calls, and fails at call
+/// `failing`, counted from 1 (0: never), and if memory is refused. Proofs do not know its contents.
 #[derive(Drop)]
 pub struct FailingSink {
     pub bytes: Vec<u8>,
@@ -98,8 +98,8 @@ impl Sink for FailingSink {
     }
 }
 
-/// Returns at most `most` of these bytes at a time, but at least one, counts its reads, and fails
-/// at the read with this number, counted from 1. Proofs do not know its contents.
+/// Returns at most `most` of these bytes at a time (0 counts as 1), counts its reads, and fails at
+/// read `failing`, counted from 1, or never if that is 0. Proofs do not know its contents.
 #[derive(Drop)]
 pub struct CountingReadAt<'a> {
     bytes: MemAt<'a>,

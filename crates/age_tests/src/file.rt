@@ -39,7 +39,7 @@ fn add(rt: &impl Abort, recipients: &mut Recipients, recipient: Box<dyn Recipien
     recipients.push(recipient).expect(rt, "memory");
 }
 
-/// This recipient alone.
+/// A list of this one recipient.
 fn one(rt: &impl Abort, alloc: Global, recipient: Box<dyn Recipient>) -> Recipients {
     let mut recipients = Vec::new(alloc);
     add(rt, &mut recipients, recipient);
@@ -50,7 +50,7 @@ fn try_also(rt: &impl Abort, identities: &mut Identities, identity: Box<dyn Iden
     identities.push(identity).expect(rt, "memory");
 }
 
-/// This identity alone.
+/// A list of this one identity.
 fn only(rt: &impl Abort, alloc: Global, identity: Box<dyn Identity>) -> Identities {
     let mut identities = Vec::new(alloc);
     try_also(rt, &mut identities, identity);
@@ -69,7 +69,7 @@ fn passphrase_identities(rt: &impl Abort, alloc: Global) -> Identities {
     only(rt, alloc, boxed(rt, alloc, identity))
 }
 
-/// A recipient of the key of 32 such bytes.
+/// The recipient of the key that is 32 times `byte`.
 fn key_recipients(rt: &impl Abort, alloc: Global, byte: u8) -> Recipients {
     one(
         rt,
@@ -78,7 +78,7 @@ fn key_recipients(rt: &impl Abort, alloc: Global, byte: u8) -> Recipients {
     )
 }
 
-/// The identity of the key of 32 such bytes.
+/// The identity of the key that is 32 times `byte`.
 fn key_identities(rt: &impl Abort, alloc: Global, byte: u8) -> Identities {
     only(rt, alloc, boxed(rt, alloc, KeyIdentity::new([byte; 32])))
 }
@@ -164,7 +164,7 @@ fn done(bytes: u128) -> Result<Done, Fault> {
     Ok(Done { bytes, chunks: 1 })
 }
 
-/// A byte at a time in both directions, the last chunk being full.
+/// Encrypts and decrypts, reading and writing one byte at a time. The last chunk is full.
 #[test]
 fn encrypt_and_decrypt_work_byte_by_byte(rt: HostRuntime) {
     let alloc = rt.alloc();
@@ -185,7 +185,7 @@ fn encrypt_and_decrypt_work_byte_by_byte(rt: HostRuntime) {
     assert!(rt; sink.bytes == plain);
 }
 
-/// More chunks than allowed, in both directions.
+/// With two chunks and a limit of one, encrypting writes header and nonce, decrypting one chunk.
 #[test]
 fn too_many_chunks_are_refused_in_both_directions(rt: HostRuntime) {
     let alloc = rt.alloc();

@@ -5,7 +5,7 @@ use age_header::{ReadSource, Sink, Source, WriteSink, write_all};
 use std::io;
 use std::io::{ErrorKind, Read, Write};
 
-/// Fails at its first call, or transfers nothing, and then transfers everything.
+/// The first call fails, or, if `error` is `None`, a first write takes nothing; the rest succeed.
 #[derive(Drop)]
 struct Late {
     error: Option<ErrorKind>,

@@ -33,7 +33,7 @@ fn hkdf_matches_rfc_5869(rt: HostRuntime) {
     );
 }
 
-// Section 11.
+// The first vector of section 11.
 #[test]
 fn pbkdf2_matches_rfc_7914(rt: HostRuntime) {
     let mut out = [0u8; 64];
@@ -47,7 +47,7 @@ fn pbkdf2_matches_rfc_7914(rt: HostRuntime) {
     );
 }
 
-// The key of 64 bytes, or None for parameters out of range.
+// The key of 64 bytes, None for parameters out of range, or out of memory.
 fn derived(
     alloc: Global,
     pass: &[u8],
@@ -91,7 +91,7 @@ fn scrypt_matches_rfc_7914(rt: HostRuntime) -> Result<(), AllocError> {
 }
 
 /// Either the output is written, or the work space is refused and the output is unchanged.
-/// tests/test_libraries.py refuses it.
+/// tests/test_libraries.py refuses the work space.
 #[test]
 fn scrypt_whole_or_out_of_memory(rt: HostRuntime) {
     let Some(params) = ScryptParams::new(4, 1, 1) else {

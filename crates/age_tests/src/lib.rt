@@ -1,9 +1,9 @@
 #![tactic(auto)]
 
 //! Tests of the libraries through their public names, in a crate of their own because a crate with
-//! tests is proved twice. They show mostly what no clause says: that compiled code meets the
-//! vectors of the RFCs, that calls succeed, and what they do if memory, a read or a write is
-//! refused, or with a caller's recipients and identities. The tests of the program show the rest.
+//! tests is proved twice. Most show what no clause says: that compiled code meets the vectors of
+//! the RFCs, that calls succeed, and what calls do if an allocation, a read or a write fails, or
+//! with the recipients and identities of a caller. Other behavior is tested through the program.
 
 #[cfg(test)]
 mod cipher;

@@ -1,4 +1,4 @@
-//! These calls succeed if there is enough memory, which no contract says.
+//! These round trips succeed if memory suffices and the pair can be made, which no contract says.
 
 use age_file::{FileKey, Fresh, Limits, PassError};
 use round_trip::{TripError, key_there_and_back, pass_there_and_back};

@@ -1,4 +1,4 @@
--- The names that the proofs of this crate cite, passed on from one place.
+-- Names that the proofs of this crate cite, re-exported from one place.
 pub use Rattle.age_cipher.proofs.OpeningLemmas.{length-sealed_text, opened_text-sealed_text}
 pub use Rattle.age_file.proofs.DecryptLemmas.{err_err}
 pub use Rattle.age_file.specs.AgeFile.{AgeFile}

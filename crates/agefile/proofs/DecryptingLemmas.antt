@@ -7,7 +7,7 @@ use Rattle.agefile.proofs.VerdictLemmas.{IsVerdictFrom, verdict_from}
 
 -- ---- one chunk
 
--- the first piece, by as many bytes as it has
+-- the outcome of the first piece, taken by its own length
 pub first_is : (key : Bytes) (i size : ℕ) (left piece : Bytes) → size ≡ min (length left) sealed_chunk_size
     → piece ≡ take size left
     → outcome key limits.max_chunks i (nat_le (length left) sealed_chunk_size) (take size piece)
@@ -39,7 +39,7 @@ pub record IsReadTo (key sealed old out : Bytes) (at len number : ℕ) : Type 0 
   pub reads : reading_from key limits.max_chunks 0 sealed
       ≡ before text (reading_from key limits.max_chunks number (drop at sealed))
 
--- the result of the first chunk
+-- if the first chunk opened, its text is at the start of the buffer
 opened : (o : Result Bytes StreamFault) (n : ℕ) (old new : Bytes) → GivesFirst o old new (Ok n)
     → (text : Bytes) × (o ≡ Ok text) × (n ≡ length text) × (new ≡ text ++ drop (length text) old)
 opened (Ok text) n old new (len, put) = (text, refl, cc (len), put)
@@ -50,14 +50,14 @@ faulty : (o : Result Bytes StreamFault) (fault : StreamFault) (old new : Bytes) 
 faulty (Ok text) fault old new h = absurd (cc (h.0))
 faulty (Err f) fault old new (is, same) = let one : f ≡ fault = cc (is) in (ap Err one, same)
 
--- the result, in a buffer that begins with it
+-- the result for a reading, if the buffer begins with its plaintext
 given : {reading : Reading StreamFault} {old new : Bytes} {len : ℕ} (text : Bytes) (fault : Option StreamFault)
     → reading ≡ record { plaintext = text ++ []; fault = fault } → len ≡ length text
     → new ≡ text ++ drop (length text) old → GivesReading reading old new len fault
 given text fault is size put =
     rw (is, append-nil) (record { length_so = size; fault_so = refl; buffer = put })
 
--- a chunk had a fault
+-- at a chunk's fault, the buffer begins with the texts before it, and the fault is returned
 pub read_stops : {key sealed old left room front : Bytes} (out : Bytes) (at len number : ℕ) (fault : StreamFault)
     (mid : Bytes) → IsReadTo key sealed old out at len number
     → left ≡ drop at sealed → room ≡ drop len out → front ≡ take len out
@@ -77,7 +77,7 @@ put : (old out mid start text : Bytes) {front room : Bytes} (len : ℕ) → leng
 put old out mid start text len size was is room_is front_is = rw
     (front_is, is, room_is, ← size, was, take-append_seam, drop-append_seam, drop-drop, length-append, append_assoc) refl
 
--- the last chunk opened
+-- once the last chunk opened, the buffer begins with the whole plaintext, and there is no fault
 pub read_ends : {key sealed old left room front : Bytes} (out : Bytes) (at len number n : ℕ) (mid : Bytes)
     → IsReadTo key sealed old out at len number → left ≡ drop at sealed → room ≡ drop len out → front ≡ take len out
     → GivesFirst (first_outcome key limits.max_chunks number left) room mid (Ok n) → length left ≤ sealed_chunk_size
@@ -91,7 +91,7 @@ read_ends {key} {sealed} {old} {left} {room} out at len number n mid r left_is r
     (omega (arith, count, r.count, length-append r.text text))
     (put old out mid r.text text len r.count r.is gave room_is front_is)
 
--- another chunk opened
+-- after a chunk that is not the last, `IsReadTo` holds for one chunk more
 pub read_more : {key sealed old left room front : Bytes} (out : Bytes) (at len number n : ℕ) (mid : Bytes)
     → IsReadTo key sealed old out at len number → left ≡ drop at sealed → room ≡ drop len out → front ≡ take len out
     → GivesFirst (first_outcome key limits.max_chunks number left) room mid (Ok n)
@@ -118,7 +118,7 @@ read_more {key} {sealed} {old} {left} {room} out at len number n mid r left_is r
 
 -- ---- the whole file
 
--- the chunks were opened
+-- if the buffer has the chunks' texts, the call returns the verdict's plaintext and any fault
 reading_fits : {reading : Reading StreamFault} (v : Reading Fault) (old new : Bytes) (report : Report) (code len : ℕ)
     (fault : Option StreamFault)
     → v ≡ record { plaintext = reading.plaintext; fault = option_map stream_fault reading.fault }

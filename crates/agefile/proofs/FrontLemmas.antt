@@ -1,5 +1,5 @@
--- What is found in a beginning of a file: in one that holds its header and its nonce, as its first 65,552 bytes do, and
--- in one that ends within them.
+-- Opening a beginning of a file: one that contains the header and the nonce, such as the file's
+-- first 65,552 bytes, and a shorter one.
 use Rattle.agefile.proofs.Common.{◌≡◌, ◌≢◌, ◌⊎◌, ℕ, ◌+◌, ◌-◌, ◌<◌, ◌≤◌, List, ◌++◌, length, take, drop, sym, ◌∙◌, ap, refl, arith, inl, inr, append_assoc, length-append, length-drop, length-take, take-append-drop, codes, Result, Ok, Err, cases_lt, le-ltb, lt-ltb, drop-take, take-append-le, take-take, take_all, Bytes, line, version_line, AreLines, BeginsAsAge, Found, Finds, HeaderVerdict, lines_text, length-version_line, FileKey, Fault, HeaderTruncated, NonceTruncated, Answering, parts_of, header_key, Payload, Report, Start, fault_code, limits, front_size, IsStart, Opens, StartsAt, start_under}
 use Rattle.age_header.specs.declared.fault.HeaderFault.TheVariants.{Truncated}
 use Rattle.age_header.proofs.LinesLemmas.{lines_prefix}
@@ -11,7 +11,7 @@ use Rattle.agefile.proofs.UnlockLemmas.{found_start, opened_start, under}
 
 -- ---- the bytes after the header
 
--- the first sixteen bytes determine where the chunks start
+-- the first sixteen bytes determine the offset and the key of the chunks
 start_in : (len m : ℕ) (rest : Bytes) (key : Result FileKey Fault) → 16 ≤ m
     → start_under len (take m rest) key ≡ start_under len rest key
 start_in len m rest (Err fault) le = refl
@@ -50,7 +50,7 @@ longer answers n b s (Ok found, verdict, is) =
       is ∙ start_behind len n b key (omega (arith, long, length-drop len (take n b), length-take n b)),
     )
 
--- a beginning that holds a header has it
+-- a beginning of a file that is at least as long as the file's header has the same header
 found_within : (n : ℕ) (b : Bytes) (found : Found) → Finds b limits.max_header found → length found.text ≤ n
     → Finds (take n b) limits.max_header found
 found_within n b found h le =
@@ -67,13 +67,13 @@ shorter answers n b s within (Ok found, verdict, is) =
     let first = (under len (drop len b) key s is).first in
     (Ok found, found_within n b found verdict (omega arith), rw (start_behind len n b key (omega arith)) is)
 
--- bytes have one start
+-- bytes have at most one start
 pub one_start : (answers : Answering) (b : Bytes) {r s : Result Start Fault} → IsStart answers b r → IsStart answers b s
     → r ≡ s
 one_start answers b (h, first, is) (k, second, so) =
     rw (is, so, headers.one_verdict b limits.max_header h k first second) refl
 
--- the results of calls, if the bytes have this start
+-- if a call opened a payload of b, another call that returns a start of b has the same results
 pub gave : (answers : Answering) (b : Bytes) {s : Start} {p q : Payload} {report r : Report} {code : ℕ}
     {start : Result Start Fault} → StartsAt (Ok s) p report 0 → IsStart answers b (Ok s)
     → IsStart answers b start → StartsAt start q r code → (code ≡ 0) × ((q ≡ p) × (r ≡ report))
@@ -81,11 +81,11 @@ gave answers b (zero, place, payload) is there second = grind (arith, one_start 
 
 -- ---- a beginning of a header
 
--- what begins with the version line begins so wherever it is cut
+-- every prefix of a text with a version line begins like an age file
 begun : (n : ℕ) (x : Bytes) → BeginsAsAge (take n (version_line ++ x))
 begun n x = grind (arith, length-version_line, cap_prefix, take-append-le, length-take)
 
--- fewer bytes than whole lines have are fewer lines
+-- a prefix shorter than these whole lines has fewer whole lines
 fewer_lines : (ks ls : List Bytes) (p b : Bytes) (d : AreLines ks p) (e : AreLines ls b) (rest : Bytes)
     → b ≡ p ++ rest → length p < length (lines_text ls) → length ks < length ls
 fewer_lines ks ls p b d e rest is short = elim (cases_lt (length ks) (length ls)) [
@@ -96,7 +96,7 @@ fewer_lines ks ls p b d e rest is short = elim (cases_lt (length ks) (length ls)
       absurd (omega (arith, short, ap length is, ap length e.prefix, ap length on, length-append {A = ℕ}))
 ]
 
--- a header that is cut within its text is cut short
+-- a beginning that ends within the header has the fault `Truncated`
 cut_short : (b : Bytes) (max n : ℕ) (x : Found) → Finds b max x → n < length x.text
     → HeaderVerdict (take n b) max (Err Truncated)
 cut_short b max n x h short =

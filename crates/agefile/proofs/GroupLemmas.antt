@@ -1,4 +1,4 @@
--- What calls on a payload and on its parts give, one chunk after another and in groups.
+-- The results of calls on a payload and on its parts, for single chunks and for groups of them.
 use Rattle.agefile.proofs.Common.{◌≡◌, ◌∙◌, ℕ, ◌+◌, ◌++◌, List, [], ◌∷◌, length, take, Bool, true, false, sym, ap₂, refl, arith, inl, inr, append_assoc, length-append, Result, Ok, Err, concat, append-nil, take-append_seam, Bytes, sealed_text, StreamFault, chunk_nonce, is_end, sealed_chunks_from, first_fault, outcome, outcomes, plaintext_of, stream_fault, Payload, Report, OpensPiece, PartOpens, PartSeals, Runs, Seals, TakesSome, all_of, unended_chunks, Opened, OpensNext, SealsNext, limits}
 use Rattle.agefile.specs.declared.part.Part.{Part}
 use Rattle.agefile.specs.Part as part
@@ -6,7 +6,7 @@ use Rattle.agefile.proofs.RunLemmas.{fitting, some_code, text_of}
 
 -- ---- any calls
 
--- each chunk has the result that R gives for its number, from i on; the results, joined
+-- R relates each chunk, with its number from i on, to a result; `gave` is these results, joined
 abbrev pub Numbered : (R : ℕ → Bytes → Bytes → Type 0) (i : ℕ) (chunks : List Bytes) (gave : Bytes) → Type 0
 Numbered R i [] gave = gave ≡ []
 Numbered R i (chunk ∷ more) gave =
@@ -17,14 +17,14 @@ numbered_append : (R : ℕ → Bytes → Bytes → Type 0) (i j : ℕ) (xs ys : 
 numbered_append R i j [] ys a b at none on = grind arith
 numbered_append R i j (x ∷ xs) ys a b at (mine, rest, joined, here, more) on = grind (arith, append_assoc, numbered_append R (i + 1) j xs ys rest b (omega (arith, at)) more on)
 
--- single calls and groups of calls, if each call has the result that R gives
+-- single calls and groups of calls, if R relates the chunk of each call to its result
 module _ (R : Bytes → ℕ → Bytes → Bytes → Type 0) (Call : (old new : Payload) (chunk gave : Bytes) → Type 0)
     (PartCall : (old new : Part) (chunk gave : Bytes) → Type 0)
     (call : (old new : Payload) (chunk gave : Bytes) → Call old new chunk gave
     → R old.key old.number chunk gave × ((new.key ≡ old.key) × (new.number ≡ old.number + 1)))
     (part_call : (old new : Part) (chunk gave : Bytes) → PartCall old new chunk gave
     → R old.key old.number chunk gave × ((new.key ≡ old.key) × (new.number ≡ old.number + 1))) where
-  -- the result of some chunks
+  -- the joined results of some chunks, and the payload after them
   abbrev pub Comes : (old new : Payload) (chunks : List Bytes) (gave : Bytes) → Type 0
   Comes old new chunks gave = Numbered (R old.key) old.number chunks gave
       × ((new.key ≡ old.key) × (new.number ≡ old.number + length chunks))
@@ -59,7 +59,7 @@ module _ (R : Bytes → ℕ → Bytes → Bytes → Type 0) (Call : (old new : P
         (key ∙ s.1.0, omega (arith, number, s.1.1, length-append chunks (all_of more))),
       )
 
--- a chunk that more follow is not the last
+-- a chunk with others after it is not the last
 is_end_on : (cs ds : List Bytes) (d : Bytes) → is_end (cs ++ d ∷ ds) ≡ false
 is_end_on [] ds d = refl
 is_end_on (c ∷ cs) ds d = refl
@@ -125,7 +125,7 @@ part_opens p new piece text (after, report, step, is) =
     let s = opens_next (part.payload_of p) q piece after false report call in
     (rw is s.0, rw part_is (refl, s.1.1))
 
--- if these pieces open and more follow, the outcomes are the texts and those of the rest
+-- if these pieces open and more follow, their texts come before the rest's plaintext and fault
 pub goes_on : (key : Bytes) (i j : ℕ) (cs : List Bytes) (text d : Bytes) (ds : List Bytes) → j ≡ i + length cs
     → Numbered (OpensOne key) i cs text
     → (plaintext_of (outcomes key limits.max_chunks i (cs ++ d ∷ ds))

@@ -1,4 +1,4 @@
--- The header in front of bytes that lie in memory.
+-- The header at the start of bytes in memory.
 use Rattle.agefile.proofs.Common.{◌≡◌, ◌⊎◌, ℕ, ◌-◌, ◌^◌, List, [], ◌∷◌, ◌++◌, length, length-take, take, map, min, sym, ◌∙◌, ap, refl, inl, inr, arith, Some, None, Result, Ok, Err, String, IfOk, take-take, Global, string_bytes, join_by, Bytes, CountsIf, Flow, HeaderFault, Head, HeaderParts, Found, HeaderVerdict, one_text, begins_found, found_again, of_known, of_more, Fault, Inspects, finding, header_fault, Report, fault_code, Refuses, Returns, report_of, GivesStanzas, HeaderOf, Inspected, InspectsStanzas, arguments_text, limits, front_size, IsFront}
 use Rattle.age_header.specs.declared.fault.HeaderFault.TheVariants as header
 use Rattle.age_file.specs.Device.{is_read}
@@ -6,7 +6,7 @@ use Rattle.std.proofs.lemmas.List.Folds.{flat_map-map}
 use Rattle.agefile.specs.declared.inspecting.StanzaSummary.{StanzaSummary}
 use Rattle.agefile.specs.declared.inspecting.Summary.{Summary}
 
--- what a reader returned
+-- what `inspect` returns for known bytes: their header, its fault, or out of memory
 pub header_found : {b : Bytes} (source : Flow) (r : Result HeaderParts Fault) → source.before.to_come ≡ Some b
     → CountsIf is_read 0 0 r → Inspects limits source r → HeaderOf b r
 header_found {b} source (Ok h) come count (text, took, found) =
@@ -21,7 +21,7 @@ header_found {b} source (Err fault) come count (reason, is, h) = inr (reason, of
 
 -- ---- a front of 65,552 bytes
 
--- it has the header verdict of its file
+-- a front has the header verdict of its file
 pub whole_verdict : (b : Bytes) (r : Result Found HeaderFault) → HeaderVerdict (take front_size b) limits.max_header r
     → HeaderVerdict b limits.max_header r
 whole_verdict b r h = whole r (take-take limits.max_header front_size b (omega arith)) h
@@ -47,14 +47,14 @@ pub front_verdict : (b : Bytes) {front : Bytes} (r : Result Found HeaderFault) �
 front_verdict b r (inl same) h = rw same at h
 front_verdict b r (inr same) h = whole_verdict b r (rw same at h)
 
--- and its header
+-- a front has the header of its file, or its fault
 pub found_whole : (b : Bytes) {front : Bytes} (r : Result HeaderParts Fault) → IsFront front b → HeaderOf front r
     → HeaderOf b r
 found_whole b (Ok h) near (text, found) = (text, front_verdict b (Ok (finding text h)) near found)
 found_whole b (Err fault) near (inl memory) = inl memory
 found_whole b (Err fault) near (inr (reason, found, is)) = inr (reason, front_verdict b (Err reason) near found, is)
 
--- what a caller gets of a header
+-- the summary that a caller gets for a header
 pub inspected : (b : Bytes) {h : Bytes} (header : HeaderParts) {old : Summary} {report : Report} {len stanzas : ℕ}
     {mac : Bytes} → HeaderOf b (Ok header) → report ≡ report_of 0 None
     → Head header.stanzas header.mac h → len ≡ min (length h) (2 ^ 64 - 1) → stanzas ≡ length header.stanzas

@@ -25,7 +25,7 @@ mac_early text rest front h k f some is count =
     let early = lt-ltb (length f.text) (length (probe text)) (omega (arith, ap length f.begins, len, some)) in
     inr (Err (BadLine (lines_in f.text - 1)), (Ok (finding f.text h), f.verdict, rw early refl), rw (count, same) refl)
 
--- the whole probe is the header
+-- if the whole probe is a header, its stanzas are the text's, unless a `scrypt` stanza is not alone
 pub whole_text : (text rest : Bytes) (h : HeaderParts) (s : Result (List StanzaParts) Fault)
     → Fronts (probe text) rest h → length rest ≡ 0 → s ≡ unless_mixed (Ok h.stanzas) → ReadsAs text s
 whole_text text rest h s f none is =
@@ -72,7 +72,7 @@ read_of text ss (inr (some, h)) = reads text ss h
 framed_size : (text characters : Bytes) → length characters ≡ 43 → length (heading text characters) ≡ length text + 70
 framed_size text characters len = grind (arith, length-version_line, length-append, length-line)
 
--- the text between the version line and the end line is the header's
+-- a text whose probe is a header is the body of this header
 pub same_body : (text mac : Bytes) (ss : List StanzaParts) (h : Head ss mac (probe text)) → text ≡ h.body
 same_body text mac ss h =
     let mine : Bytes = line (codes "--- " ++ replicate 43 65) in
@@ -88,7 +88,7 @@ same_body text mac ss h =
         omega (arith, ap length e, length-append a b, length-append c d, len) in
         sym (take_at a b (length a) refl) ∙ ap (take (length a)) e ∙ take_at c d (length a) size
 
--- the same text with the right MAC is the header
+-- if a text was read, it makes the header with the right MAC in place of the probe's
 heading_of : (text mac characters : Bytes) (k : FileKey) (ss : List StanzaParts) → Reads text ss
     → mac ≡ header_mac k.0 ss → IsBase64 mac characters → length mac ≡ 32
     → IsHeading limits k (gathering_of ss) ss (heading text characters)
@@ -134,7 +134,7 @@ framed_text first text characters same is = grind (arith, append_assoc)
 
 -- ---- a new file
 
--- of any stanzas
+-- a new file is an age file of the stanzas that are read from its text of stanzas
 pub new_file : (stanzas file_key nonce plain file : Bytes) → length nonce ≡ 16
     → IsNewFile stanzas file_key nonce plain file
     → (ss : List StanzaParts) × AgeFile limits (record { 0 = file_key }) ss plain file × Reads stanzas ss

@@ -12,7 +12,7 @@ use Rattle.age_stream.proofs.SliceLemmas.{opening_at, plain_count}
 left : (r : Ranges) (b : Bytes) → length b ≡ r.first + r.sealed_len → length (drop r.first b) ≡ r.sealed_len
 left r b size = omega (arith, size, length-drop r.first b)
 
--- a piece by its place in the file is the piece by its place in the payload
+-- piece i, cut at its offset in the file, is piece i of the payload
 piece_there : (r : Ranges) (b : Bytes) (i : ℕ) → length b ≡ r.first + r.sealed_len
     → piece_at r b i ≡ take sealed_chunk_size (drop (sealed_chunk_size * i) (drop r.first b))
 piece_there r b i size =

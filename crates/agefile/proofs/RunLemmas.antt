@@ -1,4 +1,4 @@
--- What runs of calls that open give; and that what a run of calls that seal gives is the file.
+-- Opening one chunk after another: the results. Sealing one chunk after another: the file written.
 use Rattle.agefile.proofs.Common.{◌≡◌, ◌≢◌, ◌⊎◌, ℕ, ◌+◌, ◌-◌, ◌<◌, ◌≤◌, List, [], ◌∷◌, ◌++◌, length, take, Bool, true, false, sym, refl, arith, inl, inr, append_assoc, length-append, Result, Ok, Err, option_map, concat, le-leb, lt-ltb, take_at, take-append_seam, Bytes, StreamFault, chunks, is_end, payload_key, pieces, sealed_chunks_from, first_fault, outcome, outcomes, plaintext_of, sealed_chunk_size, AtMost, cut_at_most, Sized, at_most_chunks, Fault, NotAge, stream_fault, Payload, Report, code_of, fault_code, OpensRun, SealsRun, BeginsFile, Opened, SealsAs, after_chunk, before_first, may_seal, phase_reading, phase_writing, Steps, report_of, limits, IsNewFile}
 
 -- no fault has the code 0
@@ -6,13 +6,13 @@ pub some_code : (f : Fault) → fault_code f ≡ 0 → ⊥
 some_code NotAge e = absurd (omega arith)
 some_code fault e = absurd (omega arith)
 
--- a call that returned 0 fits the state
+-- a call that returned 0 fits the state, so `does` holds
 pub fitting : {fits : Bool} {S does : Type 0} {old new : S} {chunk after : Bytes} {report : Report}
     → Steps fits does old new chunk after report 0 → does
 fitting {fits = true} step = step.done
 fitting {fits = false} step = let bad : ◌≡◌ {A = ℕ} 0 23 = step.out_of_order.0.returned in absurd (omega arith)
 
--- a call that fits the state does what it is for
+-- if a call fits the state, `does` holds
 does_so : {fits : Bool} {S does : Type 0} {old new : S} {chunk after : Bytes} {report : Report} {code : ℕ}
     → fits ≡ true → Steps fits does old new chunk after report code → does
 does_so {fits = true} e step = step.done
@@ -24,7 +24,7 @@ at_chunk key i phase = record (before_first key phase) { number = i }
 
 -- ---- calls that open
 
--- the results of these outcomes: the texts up to the first fault, its code and its number
+-- the results of these outcomes: texts before any fault, joined; the fault's code and place, or 0
 abbrev pub IsReadAs : (os : List (Result Bytes StreamFault)) (text : Bytes) (code place : ℕ) → Type 0
 IsReadAs os text code place =
     (text ≡ plaintext_of os) × ((code ≡ code_of (option_map stream_fault (first_fault os)))
@@ -55,7 +55,7 @@ run_reads key i (c ∷ d ∷ more) text code place sizes (new, after, report, st
     (outcome key limits.max_chunks i false c) (outcomes key limits.max_chunks (i + 1) (d ∷ more)) opens state
     (λ rest run. run_reads key (i + 1) (d ∷ more) rest code place sizes.1 run) on
 
--- the same for everything after a nonce
+-- the results of opening all pieces after a nonce
 pub payload_reads : (p : Payload) (rest text : Bytes) (code place : ℕ) → p ≡ before_first p.key phase_reading
     → OpensRun p (pieces rest) text code place
     → IsReadAs (outcomes p.key limits.max_chunks p.number (pieces rest)) text code place

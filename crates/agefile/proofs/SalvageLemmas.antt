@@ -1,4 +1,4 @@
--- What runs of calls that save chunks give.
+-- The results of salvaging one chunk after another.
 use Rattle.agefile.proofs.Common.{◌≡◌, ℕ, ◌+◌, List, [], ◌∷◌, ◌++◌, ◌∙◌, length, take, map, Bool, true, false, refl, arith, inl, inr, take-append_seam, length-append, Option, None, is_end, pieces, before_first, after_chunk, sealed_chunk_size, Bytes, Payload, Report, phase_reading}
 use Rattle.agefile.specs.Words.{nat_eq, nat_le}
 use Rattle.std.proofs.lemmas.Bool.{ne_eqb}
@@ -10,7 +10,7 @@ use Rattle.age_stream.specs.Salvage.{Part, early_after, is_cut_to, is_whole_to, 
 use Rattle.agefile.specs.Salvage.{Given, SavesAs, SavesRun, damage, detail_of, given_of, judged, noted, saved_number, verdict_of, verdict_to}
 use Rattle.agefile.proofs.RunLemmas.{at_chunk, fitting}
 
--- a payload before chunk i, which has noted this
+-- a payload before chunk i, with these notes of the chunks before it
 abbrev pub noting : (key : Bytes) (i damaged before : ℕ) → Payload
 noting key i damaged before = record (at_chunk key i phase_reading) { damaged = damaged; before = before }
 
@@ -28,7 +28,7 @@ saved_state : (p new : Payload) (last : Bool) (c after : Bytes) (report : Report
 saved_state p new last c after report (inl (within, gives, state)) = state
 saved_state p new last c after report (inr (many, refused, state)) = absurd (omega (arith, refused.returned))
 
--- what is noted of a chunk: whether one is lost or early, and whether more chunks should follow
+-- what is noted: whether a chunk so far is lost or early, and whether more chunks should follow
 damage_same : (saved : Saved) (damaged n i : ℕ) (early : Option ℕ) (x : LostChunk)
     → nat_eq damaged 0 ≡ is_whole_to LastChunk n early
     → nat_eq (damage damaged saved) 0
@@ -39,7 +39,7 @@ next_seen : (saved : Saved) → nat_le (saved_number saved) 1 ≡ is_cut_to Noth
 next_seen Chunk = refl
 next_seen saved = refl
 
--- what the last call reports of these parts, after n lost chunks
+-- the detail that the last call reports for these parts, after n lost chunks
 abbrev pub told : (i n at : ℕ) (early : Option ℕ) (b : Saved) (ps : List Part) → ℕ
 told i n at early b ps =
     verdict_to (n + length (losses i at ps)) (latest_early i early ps) (saved_before b ps) (last_saved ps)

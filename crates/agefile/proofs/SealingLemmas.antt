@@ -33,7 +33,7 @@ pub record IsSealedTo (key plain out : Bytes) (at done number : ℕ) : Type 0 wh
   pub seals : concat (sealed_chunks_from key 0 (chunks plain))
       ≡ text ++ concat (sealed_chunks_from key number (chunks (drop at plain)))
 
--- the last one fills the buffer
+-- the last chunk fills the rest of the buffer
 last_fills : (key plain out : Bytes) (at done number : ℕ) → IsSealedTo key plain out at done number
     → length out ≡ length plain + 16 * chunk_count (length plain) → length (drop at plain) ≤ chunk_size
     → length out ≡ done + (length (drop at plain) + 16)
@@ -82,7 +82,7 @@ seals_more {key} {plain} {left} {room} out mid {new} at done number r left_is ro
 
 -- ---- the whole file
 
--- how long the file is
+-- the size computed, which does not saturate, is the length of the file
 pub file_size : (k : FileKey) (header nonce plain : Bytes) (size : ℕ) → length nonce ≡ 16 → length header < 2 ^ 62
     → length plain < 2 ^ 63 → size ≡ min (file_len (length header) (length plain)) (2 ^ 64 - 1)
     → size ≡ length (header ++ payload k nonce plain)

@@ -1,7 +1,7 @@
--- How long a payload is, and at most the plaintext of a verdict.
+-- The length of a payload, and a bound on the length of a verdict's plaintext.
 use Rattle.agefile.proofs.Common.{◌≡◌, ℕ, ◌+◌, ◌-◌, ◌*◌, ◌/◌, List, [], ◌∷◌, length, length-append, take, min, ◌∙◌, refl, ap, inl, inr, arith, ◌≤◌, length-drop, drop, cond, Result, Ok, Err, concat, AllByRecursion, cases_lt, take_min, Bytes, length-sealed_text, FileKey, is_cut, AtMost, cut_at_most, concat-cut_after, cut_count, chunk_count, limits, opened_len, plain_len_at_most, chunks, is_end, payload, payload_key, chunk_nonce, sealed_chunks_from, pieces, chunk_size, sealed_chunk_size, HeaderFault, Found, HeaderVerdict, Reading, plaintext_of, outcome, outcomes, payload_reading, reading_from, outcome_opens, result_cases, Fault, Answering, IsVerdict, header_key, parts_of, reading_after, reading_under, least_header}
 
--- the first of the pieces of this size, by as many bytes as it has
+-- the first piece of a text, taken by its own length instead of by the greatest
 pub first_cut : (most size : ℕ) (left : Bytes) → size ≡ min (length left) most → take size left ≡ take most left
 first_cut most size left sized = grind (arith, take_min most left)
 
@@ -21,8 +21,8 @@ payload_size k nonce plain = grind (arith, sealed_size, is_cut, chunks_size, len
 
 -- ---- the plaintext of a verdict
 
--- so many bytes of plaintext come from so many bytes of pieces: some pieces open, each to 65,536 bytes at most and 16
--- fewer than it has
+-- n bytes of plaintext can come from pieces with r bytes in total: m pieces open, each to at most
+-- 65,536 bytes, and to 16 bytes fewer than it has
 abbrev pub Comes : ℕ → ℕ → Type 0
 Comes n r = (m : ℕ) × (n ≤ chunk_size * m) × (n + 16 * m ≤ r)
 
@@ -49,7 +49,7 @@ front_comes key max i (c ∷ more) all = elim (result_cases (outcome key max i (
 comes_at_most : {n : ℕ} (r most : ℕ) → Comes n r → r ≤ most → n ≤ opened_len most
 comes_at_most r most (m, low, high) le = grind arith
 
--- the plaintext of what follows a header
+-- the plaintext of the bytes after a header has at most `opened_len` bytes
 payload_at_most : (k : FileKey) (max most : ℕ) (text : Bytes) → length text - 16 ≤ most
     → length (payload_reading k max text).plaintext ≤ opened_len most
 payload_at_most k max most text le =

@@ -1,4 +1,4 @@
--- Finding a file key, and where the chunks begin, from what the parts return; and the verdict, by the file key.
+-- Finding a file key and the start of the chunks; and the verdict under the file key found.
 use Rattle.agefile.proofs.Common.{◌≡◌, ◌≢◌, ◌⊎◌, ℕ, ◌+◌, ◌-◌, [], ◌++◌, length, take, drop, sym, ◌∙◌, ap, refl, arith, inl, inr, length-append, Some, Result, Ok, Err, Bool, true, false, cond, ◌<◌, ◌≤◌, length-drop, Bytes, Flow, HeaderFault, HeaderParts, Found, HeaderVerdict, found_again, FileKey, Reading, stop, Fault, OutOfMemory, BadMac, NonceTruncated, Inspects, Answering, IsVerdict, header_fault, reading_after, parts_of, reading_under, header_key, finding, err_err, Report, code_of, HeaderOf, limits, IsFront, Refuses, report_of, FindsKey, FindsStart, GivesKey, IsKey, IsStart, Opens, StartsAt, Unlocks, by_file_key, start_under, with_len, le-ltb, lt-ltb, payload_key, begins_found, Payload, Start}
 use Rattle.age_file.proofs.FileLemmas.{tested_key, one_verdict}
 use Rattle.agefile.specs.declared.unlocking.Unlocked.{Unlocked}
@@ -23,7 +23,7 @@ fronts {rest = rest} {h} come left (text, took, found) =
 
 -- ---- the file key
 
--- a length comes with a file key, or with its fault
+-- `with_len` keeps the file key or the fault
 key_with : (n : ℕ) {found : Unlocked} {key : Result FileKey Fault} → Ok found ≡ with_len n key
     → (key ≡ Ok found.key) × (found.header_len ≡ n)
 key_with n {key = Err fault} e = absurd (cc)
@@ -33,7 +33,7 @@ fault_with : (n : ℕ) {fault : Fault} {key : Result FileKey Fault} → Err faul
 fault_with n {key = Ok k} e = absurd (cc)
 fault_with n {fault} {key = Err other} e = ap Err (sym (err_err {A = Unlocked} fault other e))
 
--- a file key that was found is that of a header
+-- b's header, whose length was found, and for which these answers choose the file key found
 pub record IsFound (answers : Answering) (b : Bytes) (found : Unlocked) : Type 0 where
   pub head : Found
   pub verdict : HeaderVerdict b limits.max_header (Ok head)
@@ -44,7 +44,7 @@ pub found_key : (answers : Answering) (b : Bytes) (found : Unlocked) → FindsKe
     → IsFound answers b found
 found_key a b c d = grind (arith, key_with)
 
--- no header was read
+-- a fault of reading the header is a result of finding the file key
 pub key_none : (answers : Answering) (b : Bytes) (fault : Fault) → HeaderOf b (Err fault)
     → FindsKey answers b (Err fault)
 key_none answers b fault (inl memory) = inl (ap Err memory)
@@ -72,14 +72,14 @@ whole_unlocks a b c d e f = grind (arith, front_verdict)
 
 -- ---- the verdict, by the file key
 
--- the verdict is judged by the header verdict
+-- the verdict is the reading after any header verdict on b
 pub judged_is : (answers : Answering) (b : Bytes) (v : Reading Fault) (header : Result Found HeaderFault)
     → HeaderVerdict b limits.max_header header → IsVerdict limits answers b v → v
     ≡ reading_after limits answers b header
 judged_is answers b v header verdict h = one_verdict limits answers b v (reading_after limits answers b header) h
     (record { header = header; header_verdict = verdict; is = refl })
 
--- a fault before the file key is the verdict's
+-- a fault in finding the file key is the fault of the verdict
 key_stops : (answers : Answering) (b : Bytes) (fault : Fault) (v : Reading Fault) → IsKey answers b (Err fault)
     → IsVerdict limits answers b v → v ≡ stop fault
 key_stops answers b fault v (Err e, verdict, is) h =
@@ -87,7 +87,7 @@ key_stops answers b fault v (Err e, verdict, is) h =
 key_stops answers b fault v (Ok head, verdict, is) h =
     rw (fault_with (length head.text) is) at (judged_is answers b v (Ok head) verdict h)
 
--- a fault before any plaintext is the verdict's
+-- if the verdict is this fault alone, a call that refuses with it agrees with the verdict
 pub refusal : {S : Type 0} {old new : S} {report : Report} {code : ℕ} (fault : Fault) (v : Reading Fault)
     → Refuses fault old new report code → v ≡ stop fault
     → (v.plaintext ≡ []) × (code_of v.fault ≡ code) × (report ≡ report_of 0 v.fault)
@@ -108,7 +108,7 @@ same_key : (t : Bool) (j k : FileKey) → ◌≡◌ {A = Result FileKey Fault} (
 same_key true j k e = ok_ok e
 same_key false j k e = absurd (cc)
 
--- if a key was chosen and its MAC verified, this holds for this key
+-- the file key of a header is also the one for an identity that returns this key
 key_again : (answers : Answering) (p : HeaderParts) (k : FileKey) → header_key answers p ≡ Ok k
     → header_key (by_file_key k.0) p ≡ Ok k
 key_again answers p k e = grind (arith, cond, tested_key, same_key)
@@ -128,7 +128,7 @@ opens_unlocked answers b old new report v (Ok found, finds, gives) h =
 
 -- ---- where the chunks begin
 
--- no file key was found
+-- a fault of finding the file key is a result of finding the start
 pub start_failed : (answers : Answering) {b : Bytes} (fault : Fault) → FindsKey answers b (Err fault)
     → FindsStart answers b (Err fault)
 start_failed answers fault (inl memory) = inl (ap Err (err_err {A = Unlocked} fault OutOfMemory memory))
@@ -137,7 +137,7 @@ start_failed answers fault (inr (Err e, verdict, is)) =
 start_failed answers fault (inr (Ok head, verdict, is)) =
     inr (Ok head, verdict, rw (fault_with (length head.text) is) refl)
 
--- a file key was found: what follows the header says whether there is a start
+-- a file key was found: the bytes after the header give the start, or `NonceTruncated`
 start_after : (answers : Answering) (b : Bytes) (found : Unlocked) (start : Result Start Fault)
     → FindsKey answers b (Ok found)
     → start ≡ start_under found.header_len (drop found.header_len b) (Ok found.key) → FindsStart answers b start

@@ -1,4 +1,4 @@
--- What the calls on a file give is its verdict: those of a payload, and those of ranges.
+-- The results of opening a file, for its payload or for ranges, agree with its verdict.
 use Rattle.agefile.proofs.Common.{cases_lt, le-ltb, lt-ltb, ◌≡◌, ◌≢◌, ℕ, ◌+◌, [], length, take, drop, cond, sym, Result, Ok, Err, arith, inl, inr, drop-drop, Bytes, FileKey, Reading, reading_from, stop, Fault, Answering, IsVerdict, parts_of, reading_under, header_key, with_file_fault, Payload, Report, Start, code_of, limits, front_size, IsStart, Opens, start_under, before_first, phase_reading, report_of, Ranges, OpensRanges}
 use Rattle.agefile.proofs.FrontLemmas.{whole_start}
 use Rattle.agefile.proofs.RunLemmas.{some_code}
@@ -6,7 +6,7 @@ use Rattle.agefile.proofs.UnlockLemmas.{judged_is, opened_start, refusal, start_
 
 -- ---- the verdict, by the start
 
--- what the verdict is, where the start is known
+-- v is the verdict on b, given the start of b's payload or the fault before it
 abbrev pub IsVerdictFrom : Bytes → Reading Fault → Result Start Fault → Type 0
 IsVerdictFrom b v (Err fault) = v ≡ stop fault
 IsVerdictFrom b v (Ok start) =
@@ -56,7 +56,7 @@ opened_range answers b r report (Ok start, inr is, inl (lt, closed)) = absurd (c
 opened_range answers b r report (Ok start, inr is, inr (le, returned, new, place)) =
     rw new (whole_start answers b (Ok start) is, omega (arith, le))
 
--- a fault of the opening is the verdict's
+-- a fault of the opening, other than out of memory, is the verdict's
 pub refused_range : (answers : Answering) (b : Bytes) (r : Ranges) (report : Report) (code : ℕ) (v : Reading Fault)
     → OpensRanges answers (take front_size b) (length b) r report code → IsVerdict limits answers b v → code ≢ 0
     → code ≢ 17 → (v.plaintext ≡ []) × (code_of v.fault ≡ code) × (report ≡ report_of 0 v.fault)

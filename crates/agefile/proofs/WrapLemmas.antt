@@ -13,7 +13,7 @@ spelled ss = append_assoc version_line (flat_map stanza_text ss) (codes "---")
 pub signed_least : (ss : List StanzaParts) → 25 ≤ length (signed_text ss)
 signed_least ss = grind (arith, spelled, length-version_line, length-append)
 
--- the text between the version line and `---`
+-- the text between the version line and `---` is that of the stanzas
 between : (ss : List StanzaParts) → drop 22 (take (length (signed_text ss) - 3) (signed_text ss))
     ≡ flat_map stanza_text ss
 between ss =

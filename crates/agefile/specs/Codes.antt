@@ -1,4 +1,4 @@
--- The codes of faults in C, by the numbers of `agefile.h`.
+-- The codes of `agefile.h` except 24, which only code in C returns; what a report says of a fault.
 use Rattle.std.specs.Prelude.{◌-◌, ◌^◌}
 use Rattle.agefile.specs.Words.{ℕ, min, Option, Some, None, Fault, NotAge, BadLine, HeaderTruncated, HeaderTooLarge, MixedPassphrase, NoMatch, WrongKey, Malformed, BadMac, NonceTruncated, ChunkShort, EmptyFinal, BadChunk, TooManyChunks, Read, Write, OutOfMemory, NoRecipients, Refused, IncompatibleRecipients}
 use Rattle.age_recipient.specs.declared.unwrapped.StanzaFault.{StanzaFault}
@@ -12,11 +12,11 @@ ok = 0
 abbrev pub out_of_memory : ℕ
 out_of_memory = 17
 
--- the buffer is too small for the output
+-- a buffer or an array is too small for the output
 abbrev pub too_small : ℕ
 too_small = 21
 
--- a work factor, or the maximum one, is out of range
+-- a work factor, or an identity's maximum, is not 1 to 30
 abbrev pub bad_work_factor : ℕ
 bad_work_factor = 22
 
@@ -55,11 +55,11 @@ fault_code NoRecipients = 18
 fault_code (Refused _ _) = 19
 fault_code (IncompatibleRecipients _) = 20
 
--- the plaintext has more chunks than the limit
+-- a payload, read or to be written, has more chunks than the limit
 abbrev pub too_many_chunks : ℕ
 too_many_chunks = fault_code TooManyChunks
 
--- the line or the chunk of a fault, else 0; a chunk's number saturates at the largest of 64 bits
+-- the line or the chunk of a fault, else 0; a chunk's number saturates at 2^64 - 1
 abbrev pub fault_place : Fault → ℕ
 fault_place (BadLine line) = line
 fault_place (ChunkShort i) = min i (2 ^ 64 - 1)
@@ -67,7 +67,7 @@ fault_place (EmptyFinal i) = min i (2 ^ 64 - 1)
 fault_place (BadChunk i) = min i (2 ^ 64 - 1)
 fault_place _ = 0
 
--- which part of a stanza is malformed; this library's own identities check no other part
+-- the number of a malformed part; this library's own identities never return `Other`
 abbrev pub part_number : StanzaFault → ℕ
 part_number ArgCount = 1
 part_number Salt = 2
@@ -76,7 +76,7 @@ part_number WorkFactorTooHigh = 4
 part_number BodyLength = 5
 part_number (Other reason) = 0
 
--- the part of a malformed stanza; 0 for another fault
+-- the number of a stanza's malformed part; 0 for any other fault
 abbrev pub fault_detail : Fault → ℕ
 fault_detail (Malformed part) = part_number part
 fault_detail _ = 0

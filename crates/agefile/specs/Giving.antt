@@ -1,10 +1,10 @@
--- The results of calls on whole buffers.
+-- The results of calls that write a text to the caller's buffer, and the answers of one identity.
 use Rattle.std.specs.Prelude.{◌≡◌, ◌⊎◌, ◌<◌, ◌≤◌, ◌++◌, ◌∷◌}
 use Rattle.agefile.specs.Words.{ℕ, List, [], length, drop, Option, None, Bytes, StanzaParts, Unwrapped, Fault, Answering, Report}
 use Rattle.agefile.specs.Codes.{code_of, too_small}
 use Rattle.agefile.specs.Report.{report_of}
 
--- the buffer begins with the text, the rest of it is unchanged, and the fault is reported
+-- the buffer begins with the text, the rest is unchanged; text length and any fault are reported
 pub record Fits (text : Bytes) (fault : Option Fault) (old new : Bytes) (report : Report)
     (code : ℕ) : Type 0 where
   pub fits : length text ≤ length old
@@ -19,7 +19,7 @@ pub record Exceeds (len : ℕ) (old new : Bytes) (report : Report) (code : ℕ) 
   pub reported : report ≡ report_of len None
   pub buffer : new ≡ old
 
--- a text, and a fault after it, are returned if the text fits the buffer
+-- the text and any fault after it are returned if the text fits the buffer, else its length alone
 abbrev pub Gives : (text : Bytes) (fault : Option Fault) (old new : Bytes) (report : Report)
     (code : ℕ) → Type 0
 Gives text fault old new report code =

@@ -1,15 +1,15 @@
 -- The results of calls on a payload and on its parts, in the order of the chunks: single calls, or
--- groups of them. The calls share no struct, so calls on different parts may come in any order, and
--- at the same time.
+-- groups of them. Calls on different parts share no struct, so they may come in any order, and at
+-- the same time.
 use Rattle.std.specs.Prelude.{◌≡◌, ◌⊎◌, ◌++◌, ◌+◌, ◌∷◌, ◌≢◌}
 use Rattle.agefile.specs.Words.{ℕ, false, List, [], length, take, Bytes, sealed_text, chunk_nonce, is_end, tag_size, Part, Payload, Report}
 use Rattle.agefile.specs.Codes.{ok}
 use Rattle.agefile.specs.Part as part
 use Rattle.agefile.specs.Payload.{OpensNext, SealsNext}
 
--- Calls that open these sealed chunks in order, the last as the last, up to the first that returns
--- a code other than 0: the texts that they returned, concatenated, and that code with its place, or
--- 0 for both.
+-- Calls that open these sealed chunks in order, the final one as the payload's last, up to the
+-- first call that returns a code other than 0: the texts that the calls returned, concatenated, and
+-- that code with its place, or 0 for both.
 abbrev pub OpensRun : (p : Payload) (pieces : List Bytes) (text : Bytes) (code place : ℕ) → Type 0
 OpensRun p [] text code place = (text ≡ []) × ((code ≡ ok) × (place ≡ 0))
 OpensRun p (chunk ∷ more) text code place =
@@ -20,9 +20,9 @@ OpensRun p (chunk ∷ more) text code place =
     × OpensRun new more rest code place))
     ⊎ ((step_code ≢ ok) × ((text ≡ []) × ((code ≡ step_code) × (place ≡ report.place)))))
 
--- Calls that seal these texts in order, each followed by 16 bytes, the last as the last, up to the
--- first that returns a code other than 0: the sealed chunks that they returned, concatenated, and
--- that code, or 0.
+-- Calls that seal these texts in order, each followed by 16 bytes, the final one as the payload's
+-- last chunk, up to the first call that returns a code other than 0: the sealed chunks that the
+-- calls returned, concatenated, and that code, or 0.
 abbrev pub SealsRun : (p : Payload) (chunks : List Bytes) (out : Bytes) (code : ℕ) → Type 0
 SealsRun p [] out code = (out ≡ []) × (code ≡ ok)
 SealsRun p (text ∷ more) out code =
@@ -32,8 +32,8 @@ SealsRun p (text ∷ more) out code =
     × (((step_code ≡ ok) × ((rest : Bytes) × (out ≡ after ++ rest) × SealsRun new more rest code))
     ⊎ ((step_code ≢ ok) × ((out ≡ []) × (code ≡ step_code))))
 
--- Calls in order, each on what the one before it left, and each with one of these items: what they
--- gave, joined.
+-- Calls in order, one for each of these items: each starts in the state that the call before it
+-- left, and `gave` is their results, concatenated.
 abbrev pub Runs : {S X : Type 0} (Call : (old new : S) (item : X) (gave : Bytes) → Type 0)
     (old new : S) (items : List X) (gave : Bytes) → Type 0
 Runs Call old new [] gave = (new ≡ old) × (gave ≡ [])
@@ -41,8 +41,8 @@ Runs {S} Call old new (item ∷ more) gave =
     (mid : S) × (mine : Bytes) × (rest : Bytes) × (gave ≡ mine ++ rest) × Call old mid item mine
     × Runs Call mid new more rest
 
--- Some chunks of a payload that goes on: a call on it took one, or it gave a part of so many, and
--- the part's calls took them.
+-- Some chunks of a payload, which continues after them: a single chunk that a call on the payload
+-- took, or all chunks of a part of the payload, taken by calls on the part.
 abbrev pub TakesSome : (Call : (old new : Payload) (chunk gave : Bytes) → Type 0)
     (PartCall : (old new : Part) (chunk gave : Bytes) → Type 0) (old new : Payload)
     (chunks : List Bytes) (gave : Bytes) → Type 0
@@ -67,7 +67,7 @@ PartSeals old new text out =
     (room : Bytes) × (length room ≡ tag_size)
     × (report : Report) × part.SealsNext old new (text ++ room) out report ok
 
--- groups of chunks in order, each sealed in one of these ways; what they gave, joined
+-- groups of chunks in order, each sealed by the payload or by a part; the sealed chunks, joined
 abbrev pub SealsGroups : (old new : Payload) (groups : List (List Bytes)) (out : Bytes) → Type 0
 SealsGroups old new groups out = Runs (TakesSome Seals PartSeals) old new groups out
 
@@ -82,7 +82,7 @@ PartOpens old new piece text =
     (after : Bytes) × (report : Report) × part.OpensNext old new piece after report ok
     × (text ≡ take report.len after)
 
--- groups of pieces in order, each opened in one of these ways; their texts, joined
+-- groups of pieces in order, each opened by the payload or by a part; their texts, joined
 abbrev pub OpensGroups : (old new : Payload) (groups : List (List Bytes)) (text : Bytes) → Type 0
 OpensGroups old new groups text = Runs (TakesSome OpensPiece PartOpens) old new groups text
 

@@ -17,21 +17,21 @@ heading text characters = version_line ++ text ++ line (codes "--- " ++ characte
 abbrev pub mac_characters : ℕ
 mac_characters = 43
 
--- the same with an end line whose MAC consists of 43 characters `A`
+-- a text between the version line and an end line whose MAC is 43 characters `A`
 abbrev pub probe : Bytes → Bytes
 probe text = heading text (replicate mac_characters 65)
 
--- the number of lines that end in a text
+-- the number of LFs in a text, which is that of its complete lines
 abbrev pub lines_in : Bytes → ℕ
 lines_in text = count_by (λ c. c == 10) text
 
--- a fault of a header as one of its text of stanzas, which begins at the header's second line
+-- a header's fault, with its line counted in the text of stanzas, which begins at line 2
 abbrev pub in_text : Fault → Fault
 in_text (BadLine n) = BadLine (n - 1)
 in_text fault = fault
 
--- The stanzas of a text, by the header verdict on its probe; or its fault, with the line counted in
--- the text. A line that ends the header early is bad.
+-- The stanzas of a text, by the header verdict on its probe; or the verdict's fault, with its line
+-- counted in the text. If the header ends before the probe does, its last line is a bad line.
 abbrev pub stanzas_in : (text : Bytes) (verdict : Result Found HeaderFault)
     → Result (List StanzaParts) Fault
 stanzas_in text (Ok found) =
@@ -50,16 +50,16 @@ ReadsAs text stanzas =
     (verdict : Result Found HeaderFault) × HeaderVerdict (probe text) limits.max_header verdict
     × (stanzas ≡ unless_mixed (stanzas_in text verdict))
 
--- the stanzas of a text, or the first fault because of which no header is made
+-- the stanzas of a text, or the first fault that prevents a header
 abbrev pub HasStanzas : (text : Bytes) (stanzas : Result (List StanzaParts) Fault) → Type 0
 HasStanzas text stanzas =
     ((text ≡ []) × (stanzas ≡ Err NoRecipients)) ⊎ ((text ≢ []) × ReadsAs text stanzas)
 
--- the gathering that consists of these stanzas
+-- the gathering whose only result is these stanzas
 abbrev pub gathering_of : List StanzaParts → Gathering
 gathering_of stanzas = λ gathered. gathered ≡ Ok stanzas
 
--- the header of stanzas under a file key, with its MAC; or the fault
+-- the header of these stanzas, with its MAC under a file key; or the fault in their place
 abbrev pub Signs : (k : FileKey) (stanzas : Result (List StanzaParts) Fault)
     (result : Result (Vec ℕ Global) Fault) → Type 0
 Signs k (Ok stanzas) (Ok text) = IsHeading limits k (gathering_of stanzas) stanzas text.items
@@ -72,7 +72,7 @@ abbrev pub IsMac : (k : FileKey) (stanzas : Result (List StanzaParts) Fault)
 IsMac k (Ok stanzas) mac = mac ≡ Ok (header_mac k.0 stanzas)
 IsMac k (Err fault) mac = mac ≡ Err fault
 
--- the MAC under a file key of the header that is a text's probe; or its fault, or out of memory
+-- the MAC under a file key for the stanzas of a text; or the text's fault, or out of memory
 abbrev pub FindsMac : (text : Bytes) (k : FileKey) (mac : Result Bytes Fault) → Type 0
 FindsMac text k mac =
     (mac ≡ Err OutOfMemory)
@@ -86,7 +86,7 @@ MakesHeader text k result =
     ⊎ ((stanzas : Result (List StanzaParts) Fault) × HasStanzas text stanzas
     × Signs k stanzas result)
 
--- a header is returned if it fits the buffer; or its fault is
+-- a header is returned if it fits the buffer; if none was made, the fault is returned
 abbrev pub GivesMade : (made : Result (Vec ℕ Global) Fault) (old new : Bytes) (report : Report)
     (code : ℕ) → Type 0
 GivesMade (Ok header) old new report code = Gives header.items None old new report code
@@ -98,8 +98,8 @@ GivesHeader stanzas file_key old new report code =
     (made : Result (Vec ℕ Global) Fault) × MakesHeader stanzas (record { 0 = file_key }) made
     × GivesMade made old new report code
 
--- a header and its nonce are returned if they fit the buffer, and the payload is before chunk 0; or
--- the header's fault is returned, and the payload is not open
+-- a header and the nonce are returned if they fit the buffer, and the payload is before chunk 0;
+-- otherwise, or if no header was made, a code other than 0 is returned, and no payload is open
 abbrev pub BeginsMade : (made : Result (Vec ℕ Global) Fault) (k : FileKey) (nonce old new : Bytes)
     (payload : Payload) (report : Report) (code : ℕ) → Type 0
 BeginsMade (Ok header) k nonce old new payload report code =

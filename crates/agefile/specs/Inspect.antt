@@ -69,7 +69,7 @@ pub record ListFits (sizes before after : List StanzaSummary) (text old new : By
   pub array : after ≡ sizes ++ drop (length sizes) before
   pub buffer : new ≡ text ++ drop (length text) old
 
--- the array or the buffer is too small, and both are unchanged; the report has what they need
+-- the array or the buffer is too small, and both are unchanged; the report has the sizes needed
 pub record ListExceeds (sizes before after : List StanzaSummary) (text old new : Bytes)
     (report : Report) (code : ℕ) : Type 0 where
   pub exceeds : (length before < length sizes) ⊎ (length old < length text)
@@ -91,7 +91,7 @@ abbrev pub GivesStanzas : (stanzas : List StanzaParts) (before after : List Stan
 GivesStanzas stanzas before after old new report code =
     GivesList (map stanza_summary stanzas) before after (list_text stanzas) old new report code
 
--- the stanzas of a header are returned; or its fault is, and array and buffer are unchanged
+-- the stanzas are returned if they fit; or the fault is returned, with array and buffer unchanged
 abbrev pub StanzasOf : (verdict : Result Found HeaderFault) (before after : List StanzaSummary)
     (old new : Bytes) (report : Report) (code : ℕ) → Type 0
 StanzasOf (Ok found) before after old new report code =

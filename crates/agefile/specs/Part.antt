@@ -16,7 +16,7 @@ abbrev pub next_of : (p : Payload) (count : ℕ) → Part
 next_of p count =
     record { key = p.key; number = p.number; left = count; state = p.state; spare = 0 }
 
--- whether a part of `count` chunks may be taken from a payload
+-- whether a payload is open for reading or writing, and `count` is above 0
 abbrev pub may_take : (p : Payload) (count : ℕ) → Bool
 may_take p count =
     (nat_eq p.state phase_reading || nat_eq p.state phase_writing) && nat_lt 0 count
@@ -53,8 +53,8 @@ payload_of p = record {
   held = 0;
 }
 
--- a part after a call on its payload: after an accepted chunk it has one less, and after its last
--- chunk it has ended
+-- a part after a call on its payload: an accepted chunk lowers the number of chunks left, and the
+-- part's last chunk ends it
 abbrev pub with_payload : (p : Part) (q : Payload) (code : ℕ) → Part
 with_payload p q code =
     record p {
@@ -63,22 +63,22 @@ with_payload p q code =
       state = if nat_eq code ok && nat_eq p.left 1 then phase_ended else q.state;
     }
 
--- one call on a part that has chunks left, which is this call on its payload
+-- one call on a part: this call on its payload if chunks are left, else only the report changes
 abbrev pub OnPayload : (call : Payload → Type 0) (old new : Part) (chunk after : Bytes)
     (report : Report) (code : ℕ) → Type 0
 OnPayload call old new chunk after report code =
     Steps (nat_lt 0 old.left) ((q : Payload) × call q × (new ≡ with_payload old q code)) old new
     chunk after report code
 
--- one call: if the part is open for reading, the chunk is opened as its next one, and not as the
--- last of the file
+-- one call: if the part is open for reading and has chunks left, a full chunk is opened as its next
+-- one, not as the file's last, or its fault is returned
 abbrev pub OpensNext : (old new : Part) (chunk after : Bytes) (report : Report) (code : ℕ) → Type 0
 OpensNext old new chunk after report code =
     OnPayload (λ q. payload.OpensNext (payload_of old) q chunk after false report code) old new
     chunk after report code
 
--- one call: if the part is open for writing, the chunk is sealed as its next one, and not as the
--- last of the file
+-- one call: if the part is open for writing and has chunks left, a full chunk is sealed as its next
+-- one, not as the file's last, or 14 is returned
 abbrev pub SealsNext : (old new : Part) (chunk after : Bytes) (report : Report) (code : ℕ) → Type 0
 SealsNext old new chunk after report code =
     OnPayload (λ q. payload.SealsNext (payload_of old) q chunk after false report code) old new

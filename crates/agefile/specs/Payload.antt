@@ -36,14 +36,14 @@ Opened chunk after report code (Ok text) =
 Opened chunk after report code (Err fault) =
     Refuses (stream_fault fault) chunk after report code
 
--- a chunk is opened under its number
+-- the result of opening a chunk under its number
 abbrev pub OpensAs : (key : Bytes) (number : ℕ) (last : Bool) (chunk after : Bytes)
     (report : Report) (code : ℕ) → Type 0
 OpensAs key number last chunk after report code =
     Opened chunk after report code (outcome key limits.max_chunks number last chunk)
 
--- a chunk's text, all but the last 16 bytes, is sealed under its number; or the number exceeds the
--- greatest, and the chunk is unchanged
+-- a chunk's text, all but the last 16 bytes, is sealed under its number; or the number has reached
+-- the limit of chunks, and the chunk is unchanged
 abbrev pub SealsAs : (key : Bytes) (number : ℕ) (last : Bool) (chunk after : Bytes)
     (report : Report) (code : ℕ) → Type 0
 SealsAs key number last chunk after report code =
@@ -51,7 +51,7 @@ SealsAs key number last chunk after report code =
     × (after ≡ sealed_text key (chunk_nonce number last) [] (take (length chunk - tag_size) chunk)))
     ⊎ ((limits.max_chunks ≤ number) × Refuses TooManyChunks chunk after report code)
 
--- whether a chunk of this length is full, or is the last and not longer
+-- whether `len` is the length of a full chunk or, if the chunk is the last, at most that
 abbrev pub is_chunk_len : (len : ℕ) (last : Bool) → Bool
 is_chunk_len len last = if last then nat_le len sealed_chunk_size else nat_eq len sealed_chunk_size
 
@@ -90,7 +90,7 @@ abbrev pub may_seal : (p : Payload) (len : ℕ) (last : Bool) → Bool
 may_seal p len last =
     nat_eq p.state phase_writing && is_chunk_len len last && has_text p.number len
 
--- one call: if the payload is open for reading, the chunk is opened as its next one
+-- one call: opens the chunk as the payload's next, or returns its fault; 23 unless `may_open`
 abbrev pub OpensNext : (old new : Payload) (chunk after : Bytes) (last : Bool) (report : Report)
     (code : ℕ) → Type 0
 OpensNext old new chunk after last report code =
@@ -98,7 +98,7 @@ OpensNext old new chunk after last report code =
     (OpensAs old.key old.number last chunk after report code × (new ≡ after_chunk old last code))
     old new chunk after report code
 
--- one call: if the payload is open for writing, the chunk is sealed as its next one
+-- one call: seals the chunk as the payload's next, or returns 14; 23 unless `may_seal`
 abbrev pub SealsNext : (old new : Payload) (chunk after : Bytes) (last : Bool) (report : Report)
     (code : ℕ) → Type 0
 SealsNext old new chunk after last report code =

@@ -25,7 +25,7 @@ state_verified = 2
 abbrev pub piece_len : (sealed i : ℕ) → ℕ
 piece_len sealed i = min sealed_chunk_size (sealed - sealed_chunk_size * i)
 
--- the length of the plaintext: each piece has a tag
+-- the length of the plaintext in `sealed` bytes of pieces, each of which has a tag
 abbrev pub plain_of : ℕ → ℕ
 plain_of sealed = sealed - tag_size * (last_index sealed + 1)
 
@@ -48,8 +48,8 @@ abbrev pub piece_report : (r : Ranges) (i : ℕ) → Report
 piece_report r i =
     record { len = piece_len r.sealed_len i; place = r.first + sealed_chunk_size * i; detail = 0 }
 
--- the payload is open, and its last piece is reported; or the fault is returned; or the file ends
--- before its first piece
+-- the payload is open, and the offset and length of its last piece are reported; or no payload is
+-- open: the fault is returned, or 23 because the file ends before its first piece
 abbrev pub OpensAt : (file_len : ℕ) (start : Result Start Fault) (new : Ranges) (report : Report)
     (code : ℕ) → Type 0
 OpensAt file_len (Ok start) new report code =
@@ -75,7 +75,7 @@ abbrev pub piece_outcome : (r : Ranges) (i : ℕ) (piece : Bytes) → Result Byt
 piece_outcome r i piece =
     outcome r.key limits.max_chunks i (nat_le r.sealed_len (sealed_chunk_size * (i + 1))) piece
 
--- the result of verifying the last piece; its text proves the length of the plaintext
+-- the result of verifying the last piece, which proves the length of the plaintext if it opens
 abbrev pub Verified : (old new : Ranges) (chunk after : Bytes) (report : Report) (code : ℕ)
     (piece_outcome : Result Bytes StreamFault) → Type 0
 Verified old new chunk after report code (Ok text) =
@@ -100,13 +100,13 @@ has_byte r at =
     nat_eq r.state state_verified && nat_lt (r.first + r.sealed_len) (2 ^ 64)
     && nat_lt at (plain_of r.sealed_len)
 
--- there is such a byte, and the chunk has the length of the piece that holds it
+-- `has_byte` holds, and the chunk has the length of the piece that holds byte `at`
 abbrev pub may_open : (r : Ranges) (at : ℕ) (chunk : Bytes) → Bool
 may_open r at chunk =
     has_byte r at && nat_eq (length chunk) (piece_len r.sealed_len (at / chunk_size))
 
 -- the result of opening the piece that holds byte `at`: its text is at the start of the buffer, and
--- the report says where in it the plaintext from `at` on is
+-- the report has the offset and length of the text from `at` on; or the fault is returned
 abbrev pub GivesFrom : (at : ℕ) (chunk after : Bytes) (report : Report) (code : ℕ)
     (piece_outcome : Result Bytes StreamFault) → Type 0
 GivesFrom at chunk after report code (Ok text) =

@@ -1,4 +1,4 @@
--- The report of a call, and the parts common to calls on payloads and on parts.
+-- The report of a call, and the results that calls of several kinds have.
 use Rattle.std.specs.Prelude.{◌≡◌}
 use Rattle.agefile.specs.Words.{ℕ, Option, Some, None, Bool, Fault, Report, Bytes}
 use Rattle.agefile.specs.Codes.{fault_code, fault_detail, fault_place, out_of_order}
@@ -17,12 +17,12 @@ pub record Returns {S : Type 0} (expected : ℕ) (fault : Option Fault) (old new
   pub reported : report ≡ report_of 0 fault
   pub same : new ≡ old
 
--- the call returns this fault
+-- the call returns and reports this fault, and leaves its output unchanged
 abbrev pub Refuses : {S : Type 0} (fault : Fault) (old new : S) (report : Report) (code : ℕ)
     → Type 0
 Refuses fault old new report code = Returns (fault_code fault) (Some fault) old new report code
 
--- one call, which does this if it fits the state; otherwise it changes only the report
+-- one call: `does` holds if it fits the state; otherwise it returns 23 and changes only the report
 pub record Steps {S : Type 0} (fits : Bool) (does : Type 0) (old new : S) (chunk after : Bytes)
     (report : Report) (code : ℕ) : Type 0 where
   pub out_of_order : OnFalse fits

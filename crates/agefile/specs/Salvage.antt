@@ -25,7 +25,7 @@ damage before Zeros = 1
 damage before Early = 1
 damage before _ = before
 
--- what a payload notes of a chunk: whether one is lost or early, and what was saved of this one
+-- what a payload notes of a chunk: whether it or an earlier one is lost or early; what was saved
 abbrev pub noted : (p : Payload) (saved : Saved) → Payload
 noted p saved = record p { damaged = damage p.damaged saved; before = saved_number saved }
 
@@ -37,7 +37,7 @@ verdict_to lost early before last =
 abbrev pub verdict_of : Salvaged → ℕ
 verdict_of s = verdict_to s.lost s.early s.before s.last
 
--- the same by what a payload noted
+-- the verdict, 1, 2 or 0, by what was saved of the last chunk and the notes of a payload
 abbrev pub judged : (last : Saved) (damaged before : ℕ) → ℕ
 judged LastChunk damaged before = if nat_eq damaged 0 then 1 else 0
 judged Chunk damaged before = 2
@@ -48,8 +48,8 @@ judged _ damaged before = 0
 abbrev pub detail_of : (p : Payload) (last : Bool) (saved : Saved) → ℕ
 detail_of p last saved = if last then judged saved p.damaged p.before else 0
 
--- the chunk's buffer begins with the text of this part, and the rest of it is unchanged; the report
--- has the length of the text, what was saved and, after the last chunk, what the whole is
+-- the chunk's buffer begins with the text of this part and is otherwise unchanged; the report has
+-- the text's length, what was saved and, after the last chunk, the verdict on the plaintext
 abbrev pub Gives : (p : Payload) (last : Bool) (part : Part) (chunk after : Bytes)
     (report : Report) (code : ℕ) → Type 0
 Gives p last q chunk after report code =
@@ -61,8 +61,8 @@ Gives p last q chunk after report code =
     })
     × (after ≡ q.text ++ drop (length q.text) chunk)
 
--- returns the part for this chunk at its number, and continues after it; or the number exceeds the
--- maximum and the chunk is unchanged
+-- the part for this chunk at its number is returned, and the payload continues after it; or the
+-- number has reached the limit of chunks, the chunk is unchanged, and the payload fails
 abbrev pub SavesAs : (old new : Payload) (last : Bool) (chunk after : Bytes) (report : Report)
     (code : ℕ) → Type 0
 SavesAs old new last chunk after report code =
@@ -72,7 +72,7 @@ SavesAs old new last chunk after report code =
     ⊎ ((limits.max_chunks ≤ old.number) × Refuses TooManyChunks chunk after report code
     × (new ≡ after_chunk old last code))
 
--- one call: if the payload is open for reading, what can be saved of its next chunk is returned
+-- one call: if the payload may open a chunk of this length next, returns what can be saved of it
 abbrev pub SavesNext : (old new : Payload) (chunk after : Bytes) (last : Bool) (report : Report)
     (code : ℕ) → Type 0
 SavesNext old new chunk after last report code =
@@ -87,8 +87,8 @@ pub record Given : Type 0 where
 abbrev pub given_of : Part → Given
 given_of p = record { text = p.text; number = saved_number p.saved }
 
--- Calls that save these pieces in order, the last as the last: what each returned, and the detail
--- that the last one reported.
+-- Calls that save these pieces in order, the last piece as the last chunk, each with code 0: what
+-- each returned, and the detail that the last call reported.
 abbrev pub SavesRun : (p : Payload) (pieces : List Bytes) (given : List Given) (detail : ℕ)
     → Type 0
 SavesRun p [] given detail = given ≡ []

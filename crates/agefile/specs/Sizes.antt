@@ -6,11 +6,11 @@ use Rattle.agefile.specs.Words.{ℕ, take, Bytes, nonce_size, tag_size, chunk_si
 abbrev pub limits : Bounds
 limits = record { max_header = default_max_header; max_chunks = 2 ^ 64 - 1 }
 
--- the longest header, and the nonce after it: this many bytes suffice to open any file
+-- the greatest length of a header and the nonce after it: this many bytes suffice to open any file
 abbrev pub front_size : ℕ
 front_size = limits.max_header + nonce_size
 
--- a file from its beginning: the whole of it, or as many bytes as suffice
+-- a beginning of a file: all of it, or its first `front_size` bytes
 abbrev pub IsFront : (front file : Bytes) → Type 0
 IsFront front file = (front ≡ file) ⊎ (front ≡ take front_size file)
 
@@ -18,8 +18,8 @@ IsFront front file = (front ≡ file) ⊎ (front ≡ take front_size file)
 abbrev pub chunk_count : ℕ → ℕ
 chunk_count n = (n - 1) / chunk_size + 1
 
--- the longest header with one stanza of this library's own, that of a key, in lines of 22, 42, 44
--- and 48 bytes; with a passphrase it has at most 150
+-- the length of a header with one stanza of a key, whose lines have 22, 42, 44 and 48 bytes; one
+-- stanza of a passphrase makes it shorter, at most 150 bytes
 abbrev pub longest_header : ℕ
 longest_header = 156
 
@@ -32,7 +32,7 @@ shortest_header = 70
 abbrev pub file_len : (header n : ℕ) → ℕ
 file_len header n = header + nonce_size + n + tag_size * chunk_count n
 
--- the same with the longest header
+-- the same with a header of `longest_header` bytes
 abbrev pub sealed_len : ℕ → ℕ
 sealed_len n = file_len longest_header n
 
@@ -41,6 +41,6 @@ sealed_len n = file_len longest_header n
 abbrev pub opened_len : ℕ → ℕ
 opened_len n = chunk_size * (n / sealed_chunk_size) + (n % sealed_chunk_size - tag_size)
 
--- the greatest length of the plaintext of a file of n bytes
+-- a bound on the length of the plaintext of a file of n bytes
 abbrev pub plain_len_at_most : ℕ → ℕ
 plain_len_at_most n = opened_len (n - (shortest_header + nonce_size))

@@ -10,7 +10,7 @@ use Rattle.age_recipient.specs.declared.unwrapped.Unwrapped.TheVariants.{Key}
 use Rattle.agefile.specs.Giving.{one_answer}
 use Rattle.agefile.specs.Payload.{before_first, closed_payload, phase_reading}
 
--- a file key, and the length of its header
+-- a file key with the length of its header, or the fault in its place
 abbrev pub with_len : (len : ℕ) (key : Result FileKey Fault) → Result Unlocked Fault
 with_len len (Err fault) = Err fault
 with_len len (Ok key) = Ok (record { header_len = len; key = key })
@@ -27,7 +27,7 @@ IsKey answers b key =
     (header : Result Found HeaderFault) × HeaderVerdict b limits.max_header header
     × (key ≡ key_of answers header)
 
--- the file key of b, or its first fault, or out of memory
+-- the file key of b's header, or the first fault up to the MAC, or out of memory
 abbrev pub FindsKey : (answers : Answering) (b : Bytes) (key : Result Unlocked Fault) → Type 0
 FindsKey answers b key = (key ≡ Err OutOfMemory) ⊎ IsKey answers b key
 
@@ -46,8 +46,8 @@ abbrev pub Unlocks : (answers : Answering) (b old new : Bytes) (report : Report)
 Unlocks answers b old new report code =
     (key : Result Unlocked Fault) × FindsKey answers b key × GivesKey key old new report code
 
--- the offset of the chunks and their key, if a header of `len` bytes is followed by `rest`, under
--- the file key
+-- the offset of the chunks and their key, if `rest` follows a header of `len` bytes; or the fault,
+-- which is `NonceTruncated` if there is a file key and `rest` is shorter than a nonce
 abbrev pub start_under : (len : ℕ) (rest : Bytes) (result : Result FileKey Fault)
     → Result Start Fault
 start_under len rest (Err fault) = Err fault
@@ -63,13 +63,13 @@ start_of answers b (Ok found) =
     start_under (length found.text) (drop (length found.text) b) (header_key answers
     (parts_of found))
 
--- the same, whatever the header verdict is
+-- the same, by a header verdict on b
 abbrev pub IsStart : (answers : Answering) (b : Bytes) (start : Result Start Fault) → Type 0
 IsStart answers b start =
     (header : Result Found HeaderFault) × HeaderVerdict b limits.max_header header
     × (start ≡ start_of answers b header)
 
--- the start of b's payload, or its first fault, or out of memory
+-- the start of b's payload, or the first fault before its first chunk, or out of memory
 abbrev pub FindsStart : (answers : Answering) (b : Bytes) (result : Result Start Fault) → Type 0
 FindsStart answers b result = (result ≡ Err OutOfMemory) ⊎ IsStart answers b result
 
@@ -77,11 +77,11 @@ FindsStart answers b result = (result ≡ Err OutOfMemory) ⊎ IsStart answers b
 abbrev pub gives_key : (file_key : Bytes) (stanzas : List StanzaParts) → Unwrapped
 gives_key file_key stanzas = Key (record { 0 = file_key })
 
--- the answers of this identity alone
+-- the answers of one identity, which returns this file key for any stanzas
 abbrev pub by_file_key : Bytes → Answering
 by_file_key file_key = one_answer (gives_key file_key)
 
--- the payload is before chunk 0, and the report has that chunk's offset; or the fault is returned
+-- the payload is before chunk 0, whose offset is reported; or it is closed, with a fault returned
 abbrev pub StartsAt : (start : Result Start Fault) (new : Payload) (report : Report) (code : ℕ)
     → Type 0
 StartsAt (Ok start) new report code =

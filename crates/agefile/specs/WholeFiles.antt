@@ -1,5 +1,5 @@
--- The results of encrypting a plaintext for a text of stanzas, and of decrypting a file under its
--- file key.
+-- The results of encrypting a plaintext for a text of stanzas, and of decrypting a file by the
+-- answers of identities.
 use Rattle.std.specs.Prelude.{◌≡◌, ◌⊎◌, ◌≤◌, ◌++◌, ◌-◌}
 use Rattle.agefile.specs.Words.{ℕ, length, None, Vec, Result, Ok, Err, drop, Option, Global, Bytes, FileKey, chunks, payload, Fault, Report, StreamFault, Reading, Answering, IsVerdict, Start}
 use Rattle.agefile.specs.Codes.{out_of_memory}
@@ -17,8 +17,8 @@ IsNewFile stanzas file_key nonce plain file =
     (header : Vec ℕ Global) × MakesHeader stanzas k (Ok header)
     × (file ≡ header.items ++ payload k nonce plain) × (length (chunks plain) ≤ limits.max_chunks)
 
--- a header and the payload of a plaintext are returned if they fit the buffer; or the header's
--- fault is
+-- a header and the payload of a plaintext are returned if they fit the buffer; if no header was
+-- made, the fault is returned
 abbrev pub EncryptsUnder : (made : Result (Vec ℕ Global) Fault) (k : FileKey)
     (nonce plain old new : Bytes) (report : Report) (code : ℕ) → Type 0
 EncryptsUnder (Ok header) k nonce plain old new report code =
@@ -35,9 +35,9 @@ Encrypts stanzas file_key nonce plain old new report code =
     ⊎ ((made : Result (Vec ℕ Global) Fault) × MakesHeader stanzas k made
     × EncryptsUnder made k nonce plain old new report code)
 
--- A fault before the first chunk is returned. Otherwise the buffer is too small for the plaintext
--- of sealed chunks of this length; or it begins with the verdict's plaintext, whose fault is
--- returned.
+-- A fault before the first chunk is returned. Otherwise, if the buffer is too small for the longest
+-- plaintext that the sealed chunks can have, that length is reported; if not, the buffer begins
+-- with the verdict's plaintext, and the verdict's fault is returned, if there is one.
 abbrev pub DecryptsFrom : (answers : Answering) (b : Bytes) (start : Result Start Fault)
     (old new : Bytes) (report : Report) (code : ℕ) → Type 0
 DecryptsFrom answers b (Err fault) old new report code = Refuses fault old new report code
@@ -64,7 +64,7 @@ GivesFirst (Ok text) old new result =
 GivesFirst (Err fault) old new result = (result ≡ Err fault) × (new ≡ old)
 
 -- the buffer begins with the plaintext of a reading, and the rest of it is unchanged; the length of
--- the plaintext and the fault are returned
+-- the plaintext and any fault are returned
 pub record GivesReading (reading : Reading StreamFault) (old new : Bytes) (len : ℕ)
     (fault : Option StreamFault) : Type 0 where
   pub length_so : len ≡ length reading.plaintext

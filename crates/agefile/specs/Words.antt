@@ -1,4 +1,4 @@
--- The names that most files of this crate cite, passed on from one place.
+-- Names for the files of this crate to import, re-exported in one place.
 pub use Rattle.age_cipher.specs.Bytes.{tag_size}
 pub use Rattle.age_cipher.specs.Sealing.{sealed_text}
 pub use Rattle.age_file.specs.AgeFile.{Bounds, default_max_header, is_mixed}

@@ -15,20 +15,20 @@ GivesText stanza old new report code =
     Returns out_of_memory None old new report code
     ⊎ ((text : Bytes) × IsStanza stanza text × Gives text None old new report code)
 
--- the words of a text, between single spaces
+-- the words of a text, split at each space; a word may be empty
 abbrev pub words : Bytes → List Bytes
 words text = slice_split (λ c. c == 32) text
 
--- the code of a caller's refused arguments
+-- the code for an error of a caller's stanza
 abbrev pub refusal_code : StanzaError → ℕ
 refusal_code Memory = out_of_memory
 refusal_code _ = bad_arguments
 
--- UTF-8 whose words between spaces are arguments, which are visible ASCII characters
+-- UTF-8 whose words are arguments, each of one or more visible ASCII characters
 abbrev pub AreWords : Bytes → Type 0
 AreWords args = IsUtf8 args × AreArguments (words args)
 
--- the same for a stanza whose arguments are joined by single spaces; or these are not arguments
+-- like `GivesText`, for a caller's own stanza; or `bad_arguments` if `args` are not words
 abbrev pub GivesOwn : (args body old new : Bytes) (report : Report) (code : ℕ) → Type 0
 GivesOwn args body old new report code =
     Returns out_of_memory None old new report code

@@ -1,4 +1,4 @@
-//! One chunk by its number, in place.
+//! Opening and sealing one chunk, by its number, in place.
 
 ghost use Rattle.std.specs.Prelude.{◌≡◌, ◌<◌, ◌≤◌};
 ghost use Rattle.agefile.specs.Words.{length, sealed_chunk_size, tag_size};
@@ -34,7 +34,7 @@ pub(crate) fn open_as(
     }
 }
 
-/// Seals a chunk's text, all but its last 16 bytes, under its number.
+/// Seals a chunk under its number. All but the last 16 bytes of the buffer are the chunk's text.
 pub(crate) fn seal_as(
     key: &[u8; 32],
     number: u64,

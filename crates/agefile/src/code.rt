@@ -1,4 +1,4 @@
-//! The codes of `agefile.h`. The comment of a code that is not a file's fault begins with its text.
+//! The codes of `agefile.h` except 24. `./generate` copies the messages in backquotes below.
 
 ghost use Rattle.std.specs.Prelude.{◌≡◌, ◌-◌, ◌^◌, min};
 ghost use Rattle.agefile.specs.Codes.{fault_code, fault_detail, fault_place};
@@ -14,7 +14,7 @@ pub(crate) const OUT_OF_MEMORY: u32 = 17;
 /// `buffer is too small` for the output.
 pub(crate) const TOO_SMALL: u32 = 21;
 
-/// `work factor must be 1 to 30`, or the maximum work factor.
+/// `work factor must be 1 to 30`: `work` or `max_work` is not.
 pub(crate) const WORK_FACTOR: u32 = 22;
 
 /// `no such offset, a chunk of another length, or a call out of order`.

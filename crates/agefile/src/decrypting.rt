@@ -24,11 +24,11 @@ use std::alloc::Global;
 /// # Errors
 /// The first that applies of:
 /// - those of `agefile_open`;
-/// - 21 if `out` is too small for the plaintext of a whole file of this length; the report has the
-///   length needed;
+/// - 21 if `out` is too small for the longest plaintext that the sealed chunks can have, whose
+///   length is then in the report;
 /// - those of the chunks, as for `age_file::decrypt`.
 ///
-/// 17 if an allocation was refused. Before the first chunk `out` is unchanged.
+/// 17 if an allocation was refused. On an error other than a chunk's, `out` is unchanged.
 #[unsafe(no_mangle)]
 pub extern "C" fn agefile_decrypt(
     alloc: Global,
@@ -37,10 +37,10 @@ pub extern "C" fn agefile_decrypt(
     out: &mut [u8],
     report: &mut Report,
 ) -> u32
-    // Returns the first fault before the chunks, for an identity that returns this key; else 21 if
-    // `out` is too small, with the length needed in the report; or 17. In these cases `out` is
-    // unchanged. Otherwise `out` begins with the verdict's plaintext, its other bytes are
-    // unchanged, and the verdict's fault is returned.
+    // Returns the first fault before the chunks, by the verdict for this file key; else 21 if `out`
+    // is too small, with the length needed in the report; or 17. In these cases `out` is unchanged.
+    // Otherwise `out` begins with the verdict's plaintext, its other bytes are unchanged, and the
+    // verdict's fault, or 0, is returned.
     ensures { Decrypts (by_file_key file_key.now) file.now out.old out.new report.new result }
 {
     let start = match start_under(alloc, file, file_key) {
@@ -69,7 +69,7 @@ pub extern "C" fn agefile_decrypt(
 
 /// Opens sealed chunks in order into the start of a buffer. Each is first opened in the memory of
 /// `chunk`, so that no byte of a chunk with a fault reaches the buffer. Returns the length of their
-/// text, and the first fault.
+/// text, and the first fault if there is one.
 fn open_pieces(
     key: &[u8; 32],
     sealed: &[u8],

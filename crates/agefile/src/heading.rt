@@ -1,4 +1,4 @@
-//! The header for a text of stanzas.
+//! The header for a text of stanzas, alone or at the beginning of a new file.
 
 ghost use Rattle.std.specs.Prelude.{◌≡◌, length, IfOk};
 ghost use Rattle.std.specs.String.{string_bytes};
@@ -25,9 +25,9 @@ use std::alloc::{AllocError, Global};
 /// the length of the header.
 ///
 /// # Errors
-/// The first that applies of 18 if the text is empty; 2 with a line of the text, 3 and 4, as for
-/// `age_file::inspect` and a header with these lines; 5 if a `scrypt` stanza is not alone; 21 if
-/// `out` is too small. 17 if an allocation was refused. In all cases `out` is unchanged.
+/// The first that applies of 18 if the text is empty; 2 with the first bad line, counted in the
+/// text (an end line is bad there), 3 and 4, as for `age_file::inspect`; 5 if a `scrypt` stanza is
+/// not alone; 21 if `out` is too small. 17 if an allocation was refused. `out` is then unchanged.
 #[unsafe(no_mangle)]
 pub extern "C" fn agefile_header(
     alloc: Global,
@@ -92,10 +92,10 @@ pub(crate) fn refuse(fault: Fault, out: &mut [u8], report: &mut Report) -> u32
 /// The header for a text of stanzas, with its MAC under a file key.
 ///
 /// # Errors
-/// The first that applies of `NoRecipients` if the text is empty; `BadLine` with a line of the
-/// text, `HeaderTruncated` and `HeaderTooLarge`, as for `age_file::inspect` and a header with these
-/// lines; `MixedPassphrase` if a `scrypt` stanza is not alone. `OutOfMemory` if an allocation was
-/// refused.
+/// The first that applies of `NoRecipients` if the text is empty; `BadLine` with the first bad
+/// line, counted in the text (an end line is bad there), `HeaderTruncated` and `HeaderTooLarge`, as
+/// for `age_file::inspect`; `MixedPassphrase` if a `scrypt` stanza is not alone. `OutOfMemory` if
+/// an allocation was refused.
 #[tactic(auto, using(crate::proofs::HeadingLemmas::header_none))]
 pub(crate) fn make_header(alloc: Global, stanzas: &[u8], key: &FileKey) -> Result<Vec<u8>, Fault>
     ensures { MakesHeader stanzas.now key.now result }
@@ -130,7 +130,7 @@ fn framed(alloc: Global, text: &[u8], characters: &[u8]) -> Result<Vec<u8>, Allo
     Ok(all)
 }
 
-/// Computes the MAC under a file key for this header, whatever MAC it has.
+/// Computes the MAC under a file key for the stanzas of a probe, or returns the fault of its text.
 fn mac_under(alloc: Global, text: &[u8], key: &FileKey) -> Result<[u8; 32], Fault>
     ensures { (stanzas : Bytes) → text.now ≡ probe stanzas → FindsMac stanzas key.now result }
 {
@@ -150,7 +150,7 @@ fn mac_under(alloc: Global, text: &[u8], key: &FileKey) -> Result<[u8; 32], Faul
     Ok(mac_of(alloc, &key.0, header.stanzas())?)
 }
 
-/// Converts a header's fault to one of its text of stanzas, which begins at the second line.
+/// A header's fault with its line counted in the text of stanzas, which begins at the second line.
 fn in_text(fault: Fault) -> Fault
     ensures { result ≡ in_text fault }
 {
@@ -160,7 +160,7 @@ fn in_text(fault: Fault) -> Fault
     }
 }
 
-/// The number of lines that end in a text.
+/// The number of LFs in a text.
 fn lines_in(text: &[u8]) -> u64
     ensures { result ≡ lines_in text.now }
 {

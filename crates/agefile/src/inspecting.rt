@@ -38,10 +38,10 @@ pub struct StanzaSummary {
 
 /// Reads the header at the start of a file, and writes its sizes and MAC to `summary`. Does not
 /// verify the MAC, since that needs the file key. The first 65,552 bytes of a longer file suffice:
-/// if it has a header, they contain it.
+/// their result is that of the whole file.
 ///
 /// # Errors
-/// Those of `age_file::inspect`, or 17 if an allocation was refused. `summary` is then unchanged.
+/// 1 to 4, as for `age_file::inspect`. 17 if an allocation was refused. `summary` is unchanged.
 #[unsafe(no_mangle)]
 pub extern "C" fn agefile_inspect(
     alloc: Global,
@@ -50,8 +50,8 @@ pub extern "C" fn agefile_inspect(
     report: &mut Report,
 ) -> u32
     // Writes the length of the header, the number of its stanzas and its MAC, by the header
-    // verdict; or returns its fault, or 17, and leaves `summary` unchanged. The first 65,552 bytes
-    // of the file suffice.
+    // verdict; or returns the verdict's fault, or 17, and leaves `summary` unchanged. The first
+    // 65,552 bytes of the file suffice.
     ensures front { (b : Bytes) → IsFront front.now b
         → Inspected b summary.old summary.new report.new result }
 {
@@ -69,7 +69,7 @@ pub extern "C" fn agefile_inspect(
     }
 }
 
-/// The sizes of a stanza, whose arguments are joined to this text.
+/// The sizes of a stanza. `text` is its arguments, joined by single spaces.
 pub(crate) fn stanza_summary(stanza: &Stanza, text: &[u8]) -> StanzaSummary
     requires { text.now ≡ arguments_text stanza.now.args }
     ensures { result ≡ stanza_summary stanza.now }

@@ -28,8 +28,8 @@ ghost use Rattle.agefile.specs.Salvage.{Given, SavesRun, given_of, verdict_of};
 /// Reading a file in steps returns what decrypting it returns. The first 65,552 bytes of a file
 /// suffice to open it. A fault of opening, other than out of memory, is that of the verdict, before
 /// any plaintext. Otherwise the texts of the sealed chunks after the nonce, concatenated up to the
-/// first fault, are the verdict's plaintext, and that fault, with its line or chunk, is the
-/// verdict's.
+/// first fault, are the verdict's plaintext, and that fault's code and place are those of the
+/// verdict's fault.
 pub fn steps_read()
     ensures refused { (answers : Answering) (b : Bytes) (p : Payload) (report : Report) (code : ℕ)
         (v : Reading Fault)
@@ -45,8 +45,8 @@ pub fn steps_read()
 {}
 
 /// Writing a file in steps writes what encrypting writes: the header and nonce that begin it,
-/// followed by the sealed chunks of a plaintext, are the file of that plaintext. Otherwise the
-/// plaintext has more chunks than the limit, and a step returns 14.
+/// followed by the sealed chunks of a plaintext, are the file of that plaintext. If the plaintext
+/// has more chunks than the limit, a step returns 14 instead.
 pub fn steps_write()
     ensures { (stanzas file_key nonce plain old new : Bytes) (p : Payload) (report : Report)
         (out : Bytes) (code : ℕ) → BeginsFile stanzas file_key nonce old new p report ok
@@ -55,8 +55,8 @@ pub fn steps_write()
         ⊎ ((code ≡ too_many_chunks) × (limits.max_chunks < length (chunks plain))) }
 {}
 
-/// Salvaging a payload in steps returns what `age_stream::salvage_payload` writes of it: the texts
-/// of its parts, in order, and for each what was saved.
+/// Salvaging a payload in steps that return 0 yields the parts that `age_stream::salvage_payload`
+/// saves: their texts, in order, and for each what was saved. The last report has their verdict.
 #[tactic(auto, using(crate::proofs::SalvageLemmas::steps_save))]
 pub fn steps_save()
     ensures { (key rest : Bytes) (given : List Given) (detail : ℕ)
@@ -67,10 +67,10 @@ pub fn steps_save()
 
 /// Reading ranges in steps returns parts of the plaintext. The first 65,552 bytes of a file and its
 /// length suffice to open it. A fault of opening, other than out of memory, is that of the verdict,
-/// before any plaintext. Otherwise the file's own payload was opened: the piece that is verified
-/// first is its last one, which proves the length of the plaintext. The text of a located piece,
-/// from the requested byte on, is a slice of the plaintext, by `age_stream::laws::whole_is_sliced`
-/// a part of the verdict's plaintext if the verdict has no fault.
+/// before any plaintext. Otherwise the file's own payload was opened; `agefile_ranges_last` opens
+/// its last piece, which proves the length of the plaintext. The text of a located piece, from the
+/// requested byte on, is a slice of the plaintext; if the verdict has no fault, a part of the
+/// verdict's plaintext, by `age_stream::laws::whole_is_sliced`.
 pub fn ranges_in_steps()
     ensures refused { (answers : Answering) (b : Bytes) (r : Ranges) (report : Report) (code : ℕ)
         (v : Reading Fault)
@@ -95,10 +95,10 @@ pub fn ranges_in_steps()
         × IsSlice r.key (drop r.first b) at (drop (at % chunk_size) text) }
 {}
 
-/// The chunks that a payload and its parts sealed are the payload's, in any order of the calls on
-/// different parts. Whatever follows, the groups of chunks sealed so far, concatenated in order,
-/// are sealed under the payload's next numbers, none twice and none as the last, and the payload
-/// continues after them. With a last chunk they are the whole payload.
+/// A payload and its parts seal the payload's chunks, whatever the order of calls on different
+/// parts. The groups of chunks sealed so far, concatenated in order, are sealed under the payload's
+/// next numbers, none twice and none as the last, and the payload continues after them. With a last
+/// chunk they are all chunks of the payload from the first of them on.
 pub fn parts_seal()
     ensures so_far { (old new : Payload) (groups : List (List Bytes)) (out : Bytes)
         → SealsGroups old new groups out
@@ -140,10 +140,9 @@ pub fn unlocked_opens()
         → IsVerdict limits (by_file_key new) b v }
 {}
 
-/// The chunks that a payload and its parts opened are the verdict's, in any order of the calls on
-/// different parts. The texts of the groups of chunks opened so far, concatenated in order, are the
-/// beginning of the verdict's plaintext. With a last chunk they are the whole plaintext, and the
-/// verdict has no fault.
+/// A payload and its parts return the verdict's plaintext, whatever the order of calls on different
+/// parts. The texts of the groups of chunks opened so far, concatenated in order, are the beginning
+/// of this plaintext. With a last chunk they are the whole of it, and the verdict has no fault.
 pub fn parts_open()
     ensures so_far { (answers : Answering) (b : Bytes) (p new : Payload) (report : Report)
         (groups : List (List Bytes)) (text next : Bytes) (more : List Bytes) (v : Reading Fault)

@@ -1,6 +1,6 @@
-//! Age v1 files (C2SP `age.md`) for callers in C: the exports of `agefile.h`. Each repeats the
-//! contract of the call below it, over the bytes to which its pointers refer, and none has a
-//! `requires`. The library keeps no state between two calls; the caller holds it.
+//! Age v1 files (C2SP `age.md`) for callers in C: the exports of `agefile.h`. Their contracts speak
+//! of the bytes to which pointers refer, and have no `requires`. Between two calls all state is in
+//! structs that the caller holds.
 //!
 //! ```c
 //! agefile_report report;
@@ -16,8 +16,8 @@
 //! The exports are in these modules:
 //! - `inspecting`, `listing`: the contents of a header;
 //! - `unlocking`: from a secret to a file key;
-//! - `wrapping`: from a file key to a stanza;
-//! - `heading`: from stanzas to a header;
+//! - `wrapping`: from a file key to a stanza, and a caller's own stanza;
+//! - `heading`: from stanzas to a header, and to the beginning of a file;
 //! - `decrypting`, `sealing`: whole buffers under a file key;
 //! - `opening`: the start of a payload under a file key;
 //! - `payload`, `part`: chunks in order, and in several threads;
@@ -26,8 +26,8 @@
 //! - `sizes`: the sizes of buffers;
 //! - `version`.
 //!
-//! *What a contract sees.* A buffer in C is a slice, hence a list of bytes, before the call and
-//! after it. A pointer to a struct is the record of its fields; its bytes may be any, since no
+//! *What a contract sees.* A buffer in C is a slice: a list of bytes before the call, and one after
+//! it. A pointer to a struct is the record of its fields, which may have any values, because no
 //! invariant is assumed. A code is a number, and a report is its three numbers.
 //!
 //! Limits: a header of 65,536 bytes, 2^64 - 1 chunks. `agefile.h` has the duties of a caller, and

@@ -20,9 +20,9 @@ use std::alloc::{AllocError, Global};
 /// bytes of a longer file suffice.
 ///
 /// # Errors
-/// 21 if `stanzas` or `text` is too small: as on 0, the report has what they need. 17 if an
-/// allocation was refused, else those of `age_file::inspect`. In all cases `stanzas` and `text` are
-/// unchanged.
+/// 1 to 4, as for `age_file::inspect`. 21 if `stanzas` or `text` is too small: the report then has
+/// the same numbers as on 0, which are the sizes needed. 17 if an allocation was refused. In all
+/// cases `stanzas` and `text` are unchanged.
 #[unsafe(no_mangle)]
 pub extern "C" fn agefile_stanzas(
     alloc: Global,
@@ -31,10 +31,10 @@ pub extern "C" fn agefile_stanzas(
     text: &mut [u8],
     report: &mut Report,
 ) -> u32
-    // Writes the sizes of all stanzas of the header verdict, and in one text for each its
-    // arguments, joined by single spaces, and its body. If the array or the buffer is too small,
-    // returns 21 and leaves both unchanged. On 0 and 21 the report has the length of the text and
-    // the number of stanzas. The first 65,552 bytes of the file suffice.
+    // Writes the sizes of the header verdict's stanzas, and one text with the arguments of each,
+    // joined by single spaces, and its body. Or returns the verdict's fault, 17, or, if the array
+    // or the buffer is too small, 21, and leaves both unchanged. On 0 and 21 the report has the
+    // length of the text and the number of stanzas. The first 65,552 bytes of the file suffice.
     ensures front { (b : Bytes) → IsFront front.now b
         → InspectsStanzas b stanzas.old stanzas.new text.old text.new report.new result }
 {

@@ -47,12 +47,12 @@ impl Identity for GivenKey {
 /// Verifies the MAC of the header at the start of a file under a file key, and starts the payload
 /// for reading. On 0 the report has, as its length, the offset of the first sealed chunk. Any
 /// beginning of the file suffices that contains its header and the 16 bytes after it; for a shorter
-/// one the call returns 3 or 10.
+/// beginning of a file that opens, the call returns 3 or 10, or 17 if an allocation was refused.
 ///
 /// # Errors
-/// The first that applies of those of `age_file::inspect`, 5 if a `scrypt` stanza is not alone, 9
-/// if the MAC is not the one under this key, 10 if fewer than 16 bytes follow the header. 17 if an
-/// allocation was refused. The payload is then not open.
+/// The first that applies of 1 to 4, as for `age_file::inspect`; 5 if a `scrypt` stanza is not
+/// alone; 9 if the MAC is not the one under this key; 10 if fewer than 16 bytes follow the header.
+/// 17 if an allocation was refused. The payload is then not open.
 #[unsafe(no_mangle)]
 pub extern "C" fn agefile_open(
     alloc: Global,
@@ -61,15 +61,15 @@ pub extern "C" fn agefile_open(
     payload: &mut Payload,
     report: &mut Report,
 ) -> u32
-    // Returns the verdict's first fault up to the nonce, for an identity that returns this key for
-    // any stanzas, with the MAC verified under it; or 17. The payload is then closed. Otherwise the
-    // payload is before chunk 0, for reading, and the report has that chunk's offset.
+    // Returns the first fault up to the nonce, by the verdict for this file key; or 17. The payload
+    // is then closed. Otherwise the payload is before chunk 0, for reading, and the report has that
+    // chunk's offset.
     ensures { Opens (by_file_key file_key.now) front.now payload.new report.new result }
 {
     start_at(start_under(alloc, front, file_key), payload, report)
 }
 
-/// Makes the payload before its first chunk, or a closed one.
+/// Starts the payload for reading, or, on a fault, closes it.
 fn start_at(start: Result<Start, Fault>, payload: &mut Payload, report: &mut Report) -> u32
     ensures { StartsAt start payload.new report.new result }
 {

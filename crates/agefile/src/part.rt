@@ -10,7 +10,7 @@ use crate::phase::{CLOSED, ENDED, READING, WRITING};
 use crate::report::{Report, report_fault};
 use age_file::Fault;
 
-/// Some chunks of a payload, from the next one on, in the caller's memory. Its bytes may be any.
+/// The state of a part between two calls, in the caller's memory. Its fields may have any value.
 #[repr(C)]
 #[derive(Clone, Copy)]
 pub struct Part {
@@ -40,7 +40,7 @@ impl Part {
         }
     }
 
-    /// The part as a payload, without its count.
+    /// The part as a payload, without `left`.
     fn payload(&self) -> Payload
         ensures { result ≡ payload_of self.now }
     {
@@ -71,7 +71,7 @@ impl Part {
     }
 }
 
-/// Whether a part of this many chunks may be taken from a payload.
+/// Whether a payload is open for reading or writing, and the count is above 0.
 fn may_take(payload: &Payload, count: u64) -> bool
     ensures { result ≡ may_take payload.now count }
 {
@@ -83,8 +83,8 @@ fn may_take(payload: &Payload, count: u64) -> bool
 /// after them.
 ///
 /// # Errors
-/// 23 if the payload is not open for reading or writing, or the count is 0; 14 if the number of a
-/// chunk would exceed the maximum. The payload is then unchanged, and the part is not open.
+/// 23 if the payload is not open for reading or writing, or the count is 0; 14 if the part would go
+/// beyond the limit of 2^64 - 1 chunks. The payload is then unchanged, and the part is not open.
 #[unsafe(no_mangle)]
 pub extern "C" fn agefile_take_part(
     payload: &mut Payload,
@@ -118,8 +118,8 @@ pub extern "C" fn agefile_take_part(
 /// buffer, and the report has its length. Allocates nothing.
 ///
 /// # Errors
-/// 23 if the part is not open for reading, or the chunk has another length: only the report
-/// changes. Otherwise 14 or 13: the chunk is unchanged, and the part accepts no further chunk.
+/// 23 if the part has no chunk left or is not open for reading, or the chunk has another length:
+/// only the report changes. Otherwise 14 or 13: the chunk is unchanged, and no other is accepted.
 #[unsafe(no_mangle)]
 pub extern "C" fn agefile_part_open_next(
     part: &mut Part,
@@ -142,8 +142,8 @@ pub extern "C" fn agefile_part_open_next(
 /// On 0 the whole buffer is the sealed chunk. Allocates nothing.
 ///
 /// # Errors
-/// 23 if the part is not open for writing, or the chunk has another length: only the report
-/// changes. Otherwise 14: the chunk is unchanged, and the part accepts no further chunk.
+/// 23 if the part has no chunk left or is not open for writing, or the chunk has another length:
+/// only the report changes. Otherwise 14: the chunk is unchanged, and no other is accepted.
 #[unsafe(no_mangle)]
 pub extern "C" fn agefile_part_seal_next(
     part: &mut Part,

@@ -10,7 +10,7 @@ use crate::code::{OK, OUT_OF_ORDER};
 use crate::phase::{CLOSED, ENDED, FAILED, READING, WRITING};
 use crate::report::Report;
 
-/// The chunks of a file from the next one on, in the caller's memory. Its bytes may be any.
+/// The state of a payload between two calls, in the caller's memory. Its fields may have any value.
 #[repr(C)]
 #[derive(Clone, Copy)]
 pub struct Payload {
@@ -20,11 +20,11 @@ pub struct Payload {
     pub number: u64,
     /// 0 not open, 1 reading, 2 writing, 3 after the last chunk, 4 after a fault.
     pub state: u64,
-    /// Of the calls that save: 1 if a chunk is lost or early, else 0.
+    /// For `agefile_salvage_next`: 1 once a chunk was `Saved::Zeros` or `Saved::Early`, else 0.
     pub damaged: u32,
-    /// Of the calls that save: what was saved of the chunk before, or 0.
+    /// For `agefile_salvage_next`: 1 to 6 for what was saved of the chunk before, or 0.
     pub before: u32,
-    /// 0, reserved for later versions: the number of bytes that are kept of a chunk.
+    /// 0. Reserved for the number of bytes of a chunk that later versions may keep.
     pub held: u64,
 }
 
@@ -102,8 +102,8 @@ pub extern "C" fn agefile_open_next(
 /// buffer is the sealed chunk. Allocates nothing.
 ///
 /// # Errors
-/// 23 if the payload is not open for writing, or the chunk has another length; 14 if there are 2^64
-/// - 1 chunks already, after which the payload accepts no further chunk. The chunk is unchanged.
+/// 23 if the payload is not open for writing, or the chunk has another length. 14 if there are
+/// 2^64 - 1 chunks already; the payload then accepts no further chunk. The chunk is unchanged.
 #[unsafe(no_mangle)]
 pub extern "C" fn agefile_seal_next(
     payload: &mut Payload,
@@ -122,7 +122,7 @@ pub extern "C" fn agefile_seal_next(
     code
 }
 
-/// Counts an accepted chunk, or keeps a fault.
+/// Counts an accepted chunk, and ends the payload after the last; or marks the payload as failed.
 pub(crate) fn go_on(payload: &mut Payload, last: bool, code: u32)
     requires { code ≡ ok → payload.old.number + 1 < 2 ^ 64 }
     ensures { payload.new ≡ after_chunk payload.old last code }

@@ -30,7 +30,7 @@ const OPEN: u64 = 1;
 /// Open, with the last sealed chunk verified.
 const VERIFIED: u64 = 2;
 
-/// A payload between two calls, in the caller's memory.
+/// The state of a payload between two calls on its ranges, in the caller's memory.
 #[repr(C)]
 #[derive(Clone, Copy)]
 pub struct Ranges {
@@ -58,7 +58,7 @@ impl Ranges {
     }
 }
 
-/// Refuses, and leaves no payload open.
+/// Returns 23, and leaves no payload open.
 fn stay_closed(ranges: &mut Ranges, report: &mut Report) -> u32
     ensures { Returns out_of_order None closed_ranges ranges.new report.new result }
 {
@@ -68,8 +68,8 @@ fn stay_closed(ranges: &mut Ranges, report: &mut Report) -> u32
 }
 
 /// Opens a file of `file_len` bytes for ranges under its file key. `front` is any beginning of it
-/// that contains its header and the 16 bytes after it. On 0 the report has the offset of the last
-/// sealed chunk in the file and its length.
+/// that contains its header and the 16 bytes after it. On 0 the report has the last sealed chunk's
+/// offset in the file, and that chunk's length.
 ///
 /// # Errors
 /// Those of `agefile_open`, then 23 if the file ends before its first sealed chunk. No payload is
@@ -94,7 +94,7 @@ pub extern "C" fn agefile_ranges_open(
     )
 }
 
-/// Opens the payload from this start to the end of a file of this length, or none.
+/// Opens the payload from this start to the end of a file of this length; none on a fault or 23.
 fn open_at(
     start: Result<Start, Fault>,
     file_len: u64,
@@ -149,8 +149,8 @@ pub extern "C" fn agefile_ranges_last(
     ensures out_of_order { OnFalse (may_verify ranges.old chunk.old)
         ((result ≡ out_of_order) × (ranges.new ≡ ranges.old) × (chunk.new ≡ chunk.old)
         × (report.new ≡ report_of 0 None)) }
-    // The last piece is opened under its number; only then can an offset be located or another
-    // piece be opened. On a fault the chunk is unchanged, and the payload counts as not verified.
+    // Opens the last piece under its number: the payload is then verified, and the report has the
+    // length of the plaintext. On a fault the chunk is unchanged, and the payload not verified.
     ensures verified { OnTrue (may_verify ranges.old chunk.old)
         (Verified ranges.old ranges.new chunk.old chunk.new report.new result
         (outcome ranges.old.key limits.max_chunks (last_index ranges.old.sealed_len) true
@@ -200,12 +200,12 @@ pub extern "C" fn agefile_ranges_locate(ranges: &Ranges, at: u64, report: &mut R
     OK
 }
 
-/// Opens the sealed chunk that holds byte `at` of the plaintext in place. The buffer then contains
-/// the plaintext from `at` on, at the offset and of the length in the report.
+/// Opens in place the sealed chunk that holds byte `at` of the plaintext. On 0 the report has where
+/// the plaintext from `at` to the end of this chunk is in the buffer: its offset and its length.
 ///
 /// # Errors
 /// 23 as for `agefile_ranges_locate`, or if the chunk has another length; 13 if no plaintext seals
-/// to these bytes under this number. The chunk is unchanged.
+/// to these bytes under the chunk's number. The chunk is unchanged.
 #[unsafe(no_mangle)]
 pub extern "C" fn agefile_ranges_chunk(
     ranges: &Ranges,
@@ -213,12 +213,12 @@ pub extern "C" fn agefile_ranges_chunk(
     chunk: &mut [u8],
     report: &mut Report,
 ) -> u32
-    // Returns 23, and changes only the report, as `agefile_ranges_locate` does, or if the chunk has
-    // another length.
+    // Returns 23, and changes only the report, if `agefile_ranges_locate` would return 23 or the
+    // chunk has another length.
     ensures out_of_order { OnFalse (may_open ranges.now at chunk.old)
         ((result ≡ out_of_order) × (chunk.new ≡ chunk.old) × (report.new ≡ report_of 0 None)) }
-    // The piece is opened under its number, and its text contains the plaintext from the byte on;
-    // or its fault is returned, and the chunk is unchanged.
+    // Opens the piece under its number, and reports where byte `at` is in the piece's text and how
+    // long the text is from there on; or returns the fault, and leaves the chunk unchanged.
     ensures gives { OnTrue (may_open ranges.now at chunk.old)
         (GivesFrom at chunk.old chunk.new report.new result
         (piece_outcome ranges.now (at / chunk_size) chunk.old)) }

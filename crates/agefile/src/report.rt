@@ -1,4 +1,4 @@
-//! What a call reports beside its code.
+//! What a call reports in addition to its code.
 
 ghost use Rattle.std.specs.Prelude.{◌≡◌, Some, None};
 ghost use Rattle.agefile.specs.Codes.{fault_code};
@@ -7,17 +7,17 @@ ghost use Rattle.agefile.specs.Report.{report_of};
 use crate::code::{fault_code, fault_detail, fault_place};
 use age_file::Fault;
 
-/// What a call reports beside its code. Each call sets all fields.
+/// What a call reports in addition to its code. Each call sets all fields.
 #[repr(C)]
 #[derive(Clone, Copy, Default)]
 pub struct Report {
-    /// The number of bytes written to the start of the buffer, or needed if it is too small. The
-    /// calls that open payloads and ranges use it as they say.
+    /// The number of bytes written to the start of the buffer, or needed if it is too small; or
+    /// another length or an offset, if the comment of the call says so.
     pub len: u64,
-    /// The line, from 1, or the chunk, from 0, of a fault, else 0. The calls on ranges return an
-    /// offset here, and the listing of stanzas their number.
+    /// The line, from 1, or the chunk, from 0, of a fault; or, if the comment of the call says so,
+    /// an offset, a number of stanzas, or what was saved of a chunk; else 0.
     pub place: u64,
-    /// Which part of a malformed stanza is malformed, else 0.
+    /// Which part of a malformed stanza is malformed; or as `agefile_salvage_next` says; else 0.
     pub detail: u64,
 }
 

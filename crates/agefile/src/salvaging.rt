@@ -12,12 +12,12 @@ use age_file::Fault;
 use age_stream::{Saved, TAG_SIZE, save_piece};
 
 /// Saves what it can of the next sealed chunk, in place: 65,552 bytes, or what is left if it is the
-/// last. On 0 the buffer begins with the text to which these bytes open at their number, marked as
-/// the last or not; if they open as neither, with as many zeros. The report has the length of
-/// either and, as its place, what was saved: 1 a chunk that others follow, 2 the last chunk, 3 a
-/// chunk that is marked as the last and may not be, 4 zeros, 5 nothing, because there are at most
-/// 16 bytes, which do not open, 6 the last chunk without up to 4,095 bytes after it. For the last
-/// chunk its detail is 1 if the plaintext is whole, 2 if it is cut short, else 0. The payload
+/// last. On 0 the buffer begins with the chunk's text, whether the chunk is marked as the last or
+/// not, or, if it does not open, with as many zeros. The report has the length of either and, as
+/// its place, what was saved: 1 a chunk not marked as the last, 2 the last chunk, 3 a chunk that is
+/// marked as the last but cannot be it, 4 zeros, 5 nothing, because at most 16 bytes are left and
+/// do not open, 6 the last chunk, after which up to 4,095 bytes were ignored. For the last chunk
+/// the report's detail is 1 if the plaintext is whole, 2 if it is cut short, else 0. The payload
 /// continues after the chunk. Allocates nothing.
 ///
 /// # Errors

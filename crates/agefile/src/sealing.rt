@@ -32,7 +32,7 @@ pub extern "C" fn agefile_encrypt(
     report: &mut Report,
 ) -> u32
     // On 0 `out` begins with the header of the stanzas and the payload of the plaintext. Otherwise
-    // returns 21 with the file's length in the report, the header's fault, or 17; `out` is
+    // returns the header's fault, 17, or 21 with the file's length in the report; `out` is
     // unchanged.
     ensures { Encrypts stanzas.now file_key.now nonce.now plain.now out.old out.new report.new
         result }

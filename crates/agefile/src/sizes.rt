@@ -17,17 +17,17 @@ use age_stream::{CHUNK_SIZE, NONCE_SIZE, SEALED_CHUNK_SIZE, TAG_SIZE};
 /// the header is six or seven bytes shorter.
 const KEYED_START: u64 = 172;
 
-/// The shortest header, 70 bytes without its stanzas, and its payload's nonce.
+/// The version line and the end line of a header, 70 bytes, and the payload's nonce.
 const SHORTEST_START: u64 = 86;
 
 /// Returns a sufficient buffer size for the file of a plaintext of this length, with one stanza of
-/// `agefile_wrap_key` or `agefile_wrap_passphrase`. It is the length with a key, saturating at the
-/// largest `u64`.
+/// `agefile_wrap_key` or `agefile_wrap_passphrase`. The result is the length with the stanza of a
+/// key, saturating at the largest `u64`.
 #[unsafe(no_mangle)]
 pub extern "C" fn agefile_sealed_len(plain_len: u64) -> u64
     // The result saturates at the largest u64.
     ensures value { result ≡ min (sealed_len plain_len) (2 ^ 64 - 1) }
-    // A file with one stanza of a key has exactly this length.
+    // A file with one stanza of a key has exactly `sealed_len` bytes, even if the result saturates.
     ensures key { (key salt stanza file_key nonce plain file : Bytes) → length salt ≡ salt_size
         → length file_key ≡ file_key_size → length nonce ≡ nonce_size → length plain ≡ plain_len
         → IsStanza (keyed_stanza key salt (record { 0 = file_key })) stanza
@@ -49,7 +49,7 @@ pub extern "C" fn agefile_sealed_len(plain_len: u64) -> u64
 /// plaintext before a fault.
 #[unsafe(no_mangle)]
 pub extern "C" fn agefile_plain_len_at_most(file_len: u64) -> u64
-    // The length of the texts of pieces that fill the file after the shortest header and the nonce.
+    // The length of the texts of pieces that fill the file after 70 bytes of header and the nonce.
     ensures value { result ≡ plain_len_at_most file_len }
     // No verdict on a file of this length has a longer plaintext.
     ensures suffices { (answers : Answering) (b : Bytes) (verdict : Reading Fault)
@@ -59,7 +59,7 @@ pub extern "C" fn agefile_plain_len_at_most(file_len: u64) -> u64
     opened_len(file_len.saturating_sub(SHORTEST_START))
 }
 
-/// The maximum length of the texts of sealed chunks that have this length, both in total.
+/// The maximum total length of the texts of pieces that together have `sealed` bytes.
 pub(crate) fn opened_len(sealed: u64) -> u64
     ensures { result ≡ opened_len sealed }
 {
@@ -74,7 +74,7 @@ pub(crate) fn opened_len(sealed: u64) -> u64
 pub extern "C" fn agefile_file_len(header_len: u64, plain_len: u64) -> u64
     // The result saturates at the largest u64.
     ensures value { result ≡ min (file_len header_len plain_len) (2 ^ 64 - 1) }
-    // A file consists of its header, a nonce, the plaintext, and a tag for each chunk.
+    // A file is as long as its header, a nonce, the plaintext, and a tag for each chunk together.
     ensures file { (k : FileKey) (header nonce plain : Bytes) → length header ≡ header_len
         → length nonce ≡ nonce_size → length plain ≡ plain_len
         → length (header ++ payload k nonce plain) ≡ file_len header_len plain_len }

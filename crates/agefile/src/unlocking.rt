@@ -27,15 +27,15 @@ pub(crate) struct Unlocked {
     pub(crate) key: FileKey,
 }
 
-/// Finds the file key of the header at the start of a file with a passphrase, which is any bytes,
-/// and verifies the header's MAC under it. Writes it to `file_key`. Accepts work factors of at most
-/// `max_work`, 1 to 30. On 0 the report has the length of the header. The first 65,552 bytes of a
-/// longer file suffice.
+/// With a passphrase, which may be any bytes, finds the file key of the header at the start of a
+/// file, verifies the header's MAC under this file key, and writes the file key to `file_key`.
+/// Accepts work factors of at most `max_work`, 1 to 30. On 0 the report has the length of the
+/// header. The first 65,552 bytes of a longer file suffice.
 ///
 /// # Errors
-/// 22 if `max_work` is not 1 to 30. Otherwise the first that applies of those of
-/// `age_file::inspect` and `age_file::unlock_header`. 17 if an allocation was refused. In all cases
-/// `file_key` is unchanged.
+/// 22 if `max_work` is not 1 to 30. Otherwise the first that applies of 1 to 4, as for
+/// `age_file::inspect`, and 5 to 9, as for `age_file::unlock_header`. 17 if an allocation was
+/// refused. In all cases `file_key` is unchanged.
 #[unsafe(no_mangle)]
 pub extern "C" fn agefile_unlock_passphrase(
     alloc: Global,
@@ -45,9 +45,9 @@ pub extern "C" fn agefile_unlock_passphrase(
     file_key: &mut [u8; 16],
     report: &mut Report,
 ) -> u32
-    // On 0 `file_key` is the file key that the secret chooses, the header's MAC was verified under
-    // it, and the report has the header's length. Otherwise returns the first fault up to the MAC,
-    // or 17, and leaves `file_key` unchanged. The first 65,552 bytes of the file suffice.
+    // If the maximum is 1 to 30: on 0 `file_key` is the file key found, the header's MAC was
+    // verified under it, and the report has the header's length; on any other code, that of the
+    // first fault up to the MAC or 17, `file_key` is unchanged. The first 65,552 bytes suffice.
     ensures fit { (b : Bytes) → IsFront front.now b → WorkFits max_work
         → Unlocks (one_answer (pass_unwraps (record { pass = pass.now; max = max_work }))) b
         file_key.old file_key.new report.new result }
@@ -61,13 +61,13 @@ pub extern "C" fn agefile_unlock_passphrase(
     }
 }
 
-/// Finds the file key of the header at the start of a file with a key of 32 bytes, whose stanza is
-/// this project's own, and verifies the header's MAC under it. Writes it to `file_key`. On 0 the
-/// report has the length of the header. The first 65,552 bytes of a longer file suffice.
+/// With a key of 32 bytes, for this project's own stanza, finds the file key of the header at the
+/// start of a file, verifies the header's MAC under it, and writes the file key to `file_key`. On 0
+/// the report has the length of the header. The first 65,552 bytes of a longer file suffice.
 ///
 /// # Errors
-/// The first that applies of those of `age_file::inspect` and `age_file::unlock_header`. 17 if an
-/// allocation was refused. In all cases `file_key` is unchanged.
+/// The first that applies of 1 to 4, as for `age_file::inspect`, and 5 to 9, as for
+/// `age_file::unlock_header`. 17 if an allocation was refused. `file_key` is then unchanged.
 #[unsafe(no_mangle)]
 pub extern "C" fn agefile_unlock_key(
     alloc: Global,
@@ -76,16 +76,16 @@ pub extern "C" fn agefile_unlock_key(
     file_key: &mut [u8; 16],
     report: &mut Report,
 ) -> u32
-    // On 0 `file_key` is the file key that the secret chooses, the header's MAC was verified under
-    // it, and the report has the header's length. Otherwise returns the first fault up to the MAC,
-    // or 17, and leaves `file_key` unchanged. The first 65,552 bytes of the file suffice.
+    // On 0 `file_key` is the file key found with the key, the header's MAC was verified under the
+    // file key, and the report has the header's length. Otherwise returns the first fault up to the
+    // MAC, or 17, and leaves `file_key` unchanged. The first 65,552 bytes of the file suffice.
     ensures front { (b : Bytes) → IsFront front.now b
         → Unlocks (one_answer (key_unwraps key.now)) b file_key.old file_key.new report.new result }
 {
     give_key(key_for_key(alloc, front, key), file_key, report)
 }
 
-/// Writes a file key.
+/// Writes a file key and reports the length of its header, or reports the fault.
 fn give_key(key: Result<Unlocked, Fault>, file_key: &mut [u8; 16], report: &mut Report) -> u32
     ensures { GivesKey key file_key.old file_key.new report.new result }
 {

@@ -2,7 +2,7 @@
 
 ghost use Rattle.std.specs.Prelude.{◌≡◌};
 
-/// The version, 0.7.0: the major number times 65,536, the minor times 256, and the patch.
+/// The version, 0.7.0: the major number times 65,536, plus the minor times 256, plus the patch.
 #[unsafe(no_mangle)]
 pub extern "C" fn agefile_version() -> u32
     ensures { result ≡ 1792 }

@@ -1,4 +1,4 @@
-//! From a file key to the text of a stanza.
+//! The text of a stanza: one that wraps a file key, or a caller's own.
 
 ghost use Rattle.std.specs.Prelude.{◌≡◌, ◌∷◌};
 ghost use Rattle.agefile.specs.Words.{[], StanzaParts};
@@ -38,12 +38,12 @@ pub extern "C" fn agefile_wrap_passphrase(
     // If the passphrase is empty, returns 26 before any other code. `out` is unchanged.
     ensures empty { pass.now ≡ []
         → Returns empty_passphrase None out.old out.new report.new result }
-    // Writes the text of the stanza of this passphrase, under the salt; or returns 21 or 17, with
-    // `out` unchanged.
+    // If it is not empty and the work factor is 1 to 30, writes the text of its stanza, with this
+    // salt; or returns 21 or 17, and leaves `out` unchanged.
     ensures fit { (pass.now ≡ [] → ⊥) → WorkFits work
         → GivesText (pass_stanza pass.now work salt.now (record { 0 = file_key.now })) out.old
         out.new report.new result }
-    // Otherwise, if the work factor is not 1 to 30, returns 22 and leaves `out` unchanged.
+    // If it is not empty and the work factor is not 1 to 30, returns 22. `out` is unchanged.
     ensures unfit { (pass.now ≡ [] → ⊥) → (WorkFits work → ⊥)
         → Returns bad_work_factor None out.old out.new report.new result }
 {
@@ -85,8 +85,8 @@ pub extern "C" fn agefile_wrap_key(
     }
 }
 
-/// Writes the text of a caller's own stanza: its arguments, joined by single spaces, the first of
-/// which is its type, and its body.
+/// Writes the text of a caller's own stanza. `args` are its type and arguments, joined by single
+/// spaces, and `body` is its body.
 ///
 /// # Errors
 /// 25 if the arguments are not one or more words of visible characters (`!` to `~`), joined by
@@ -115,7 +115,7 @@ pub extern "C" fn agefile_wrap(
     }
 }
 
-/// The code of refused arguments.
+/// The code of an error of `Stanza::new`.
 fn refusal_code(error: StanzaError) -> u32
     ensures { result ≡ refusal_code error }
 {

@@ -54,10 +54,10 @@ fn run(rt: &HostRuntime, owned: &[String]) -> u8
 }
 
 /// If standard output or standard error is closed, opens directories on the descriptors of the
-/// closed streams, or returns `None` if it cannot. Otherwise a file opened later could get such a
-/// descriptor, and output to the stream would go into that file. A directory can be neither read
-/// nor written, by its descriptor or as `/dev/stdout`. Standard input needs none, because a file
-/// that gets its descriptor before it is read is open for writing only.
+/// closed streams, or returns `None` if it cannot. Without them a file opened later could get such
+/// a descriptor, and output to the stream would go into that file. A directory can be neither read
+/// nor written, by its descriptor or as `/dev/stdout`. A closed standard input needs no directory,
+/// because any file on its descriptor at the time of reading is open for writing only.
 fn hold_streams(rt: &HostRuntime) -> Option<[Option<File>; 3]> {
     if are_open(rt) {
         return Some([None, None, None]);
@@ -69,8 +69,8 @@ fn hold_streams(rt: &HostRuntime) -> Option<[Option<File>; 3]> {
     ])
 }
 
-/// Whether standard output and standard error are open: the ends of a pipe, or a directory if only
-/// one descriptor is free, get the lowest free descriptors.
+/// Whether standard output and standard error are open; false if this cannot be told. Opens a pipe
+/// or, if that fails, a directory, to see which are the lowest free descriptors.
 fn are_open(rt: &HostRuntime) -> bool {
     match io::pipe(rt) {
         Ok((reader, writer)) => {
@@ -94,7 +94,7 @@ fn open_folder(rt: &HostRuntime) -> Option<File> {
     None
 }
 
-/// Prints why the arguments cannot be read. A failure to print is ignored: the status reports it.
+/// Prints why the arguments cannot be read, and returns the exit status. Ignores a failed print.
 fn refuse(rt: &HostRuntime, kind: io::ErrorKind) -> u8
     ensures { result ≤ 2 }
 {
@@ -110,7 +110,7 @@ fn refuse(rt: &HostRuntime, kind: io::ErrorKind) -> u8
     2
 }
 
-/// The first argument that is not UTF-8 and fits the buffer.
+/// The first argument that is not UTF-8 and fits the buffer; empty if there is none.
 fn wrong_argument<'a>(rt: &HostRuntime, room: &'a mut [u8]) -> &'a [u8] {
     for i in 0..usize::MAX {
         match rt.arg(i, room) {

@@ -1,8 +1,8 @@
 //! Runs one part of `age_cipher` over many texts and prints a checksum, to be timed from outside.
 //!
-//! `cipher_bench PART SIZE MIB BYTE`: PART is `seal`, `open`, `chacha20` or `poly1305`. The texts
-//! have SIZE bytes, 8 to 65,536, and MIB MiB together. Key and text consist of BYTE.
-//! `bench/cipher.sh` builds it, and `bench/peers.py` times it.
+//! `cipher_bench PART SIZE MIB BYTE`: PART is `seal`, `open`, `chacha20` or `poly1305`. There are
+//! as many texts of SIZE bytes, 8 to 65,536, as fit in MIB MiB. The key and the first plaintext
+//! consist of BYTE. `bench/cipher.sh` builds this program, and `bench/peers.py` times it.
 #![tactic(auto)]
 
 ghost use Rattle.std.specs.Prelude.{◌≡◌, IfOk, length, vec_len, ◌≤◌};

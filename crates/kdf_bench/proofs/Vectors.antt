@@ -1,4 +1,4 @@
--- Vectors of the RFCs, computed from the definitions: with a wrong definition these lines do not check.
+-- Vectors of the RFCs and of Python's hashlib, each computed from the definitions.
 use Rattle.age_kdf.proofs.Common.{◌≡◌, ◌∷◌, [], refl, replicate, sha256, digest_bytes, hmac, hkdf, hkdf_block, hkdf_blocks, pbkdf2, pbkdf2_blocks, pbkdf2_sum, pbkdf2_round, salsa8, double_rounds, rows, columns, quarter, block_mix, evens, odds, x_after, v_at, romix_after, romix, words_of, bytes_of, mixed_parts, scrypt, codes, hash_after, compress, rounds, schedule, first_words}
 
 -- RFC 4231, test case 1
@@ -120,7 +120,7 @@ unfolding scrypt mixed_parts salsa8 double_rounds rows columns quarter words_of 
     schedule first_words
 scrypt_vector = refl
 
--- two parts, two blocks in each and N = 2 (by Python's hashlib)
+-- two parts, four blocks in each, and N = 2 (by Python's hashlib)
 scrypt_two_parts : scrypt (codes "p") (codes "s") 2 2 2 16
     ≡ 0x19 ∷ 0xf6 ∷ 0x48 ∷ 0xd6 ∷ 0x8d ∷ 0x3b ∷ 0x32 ∷ 0xf6 ∷ 0x33 ∷ 0xd7 ∷ 0xe3 ∷ 0xd8 ∷ 0x06 ∷ 0xca ∷ 0xc2 ∷ 0xf2 ∷ []
 unfolding scrypt mixed_parts salsa8 double_rounds rows columns quarter words_of block_mix evens odds x_after v_at

@@ -1,7 +1,7 @@
 -- Calls on one reader of ranges, one after another.
 use Rattle.round_trip.proofs.Common.{◌≡◌, ◌∙◌, ℕ, List, [], ◌∷◌, ◌++◌, ◌+◌, ◌-◌, ◌*◌, ◌/◌, ◌<◌, ◌≤◌, length, take, drop, get_or, set, ap, sym, arith, refl, inl, inr, Option, Some, None, Result, Ok, Err, FoldsTo, zip, false≢true, FoldsTo-push, drop-drop, drop-set-lt, drop_more, length-take-le, take_more, take_more_set, StreamFault, Layout, opens_there, slice_there, Agrees, Fills, IsThere, PieceOpens, RangeParts, RangeState, ReadsRange, range_len, source_opening, chunk_size, Bytes, Known, Answers, FillsKnown, Touches}
 
--- what a piece that was read opens to is known
+-- a piece that was read opens to what the known contents say
 known_opens : {gave : ℕ → ℕ → Type 0} {found : Option ℕ} (told : Known) (layout : Layout) (i : ℕ) (o : Known)
     → ((b : Bytes) → told ≡ Some b → Agrees b gave found) → PieceOpens gave layout i o → IsThere told layout
     → source_opening told layout i ≡ o
@@ -15,7 +15,7 @@ known_fills None layout at n old new agrees room fills = (fills.rest, λ there. 
 known_fills (Some b) layout at n old new agrees room fills =
     (fills.rest, λ there. slice_there b old new layout at n (agrees b refl) there room fills)
 
--- the result of a call, by the reader's first state
+-- the result of a call, by the reader's state before the first call
 pub answers_first : {D : Type 0} {told : D → Known} {given failed : D → ℕ} {gave : D → (at byte : ℕ) → Type 0}
     {t : Known} (s : RangeState) {found : Option ℕ} (at : ℕ) {old new : RangeParts D} (r : Result ℕ StreamFault)
     → ((b : Bytes) → told new.source ≡ Some b → Agrees b (gave new.source) found)
@@ -52,7 +52,7 @@ zip_push [] [] x y same = refl
 zip_push (a ∷ xs) (b ∷ ys) x y same = ap (λ ps. (a, b) ∷ ps) (zip_push xs ys x y (omega (arith, same)))
 zip_push xs ys x y same = absurd (omega (arith, same))
 
--- one call more
+-- the first i + 1 calls, from the first i calls and the next one
 pub calls_more : {P X : Type 0} (R : P → X × X → P → Type 0) (p : P) {q u : P} (xs ys : List X) (i : ℕ) (d : X) {y : X}
     → i < length xs → length ys ≡ length xs → drop i ys ≡ drop i xs
     → FoldsTo R p (zip (take i xs) (take i ys)) q → R q (get_or ys i d, y) u

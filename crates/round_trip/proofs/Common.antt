@@ -1,4 +1,4 @@
--- The names that the proofs of this crate cite, passed on from one place.
+-- Names that the proofs of this crate cite, re-exported from one place.
 pub use Rattle.std.proofs.Common.{Err, List, None, Ok, Option, Result, Some, [], ap, ap₂, arith, drop, get_or, inl, inr, length, map, min, refl, rules, set, subst, sym, take, take-append-drop, ℕ, ◌*◌, ◌++◌, ◌+◌, ◌-◌, ◌/◌, ◌<◌, ◌∙◌, ◌∷◌, ◌≡◌, ◌≤◌}
 pub use Rattle.std.proofs.lemmas.Bool.{false≢true}
 pub use Rattle.std.proofs.lemmas.Fn.{FoldsTo-push}

@@ -1,7 +1,7 @@
--- A header of one stanza of this project's kinds is never refused.
+-- A header of one stanza, a passphrase's or a key's, is never refused.
 use Rattle.round_trip.proofs.Common.{Head, Labels, StanzaParts, ◌≡◌, ℕ, ◌≤◌, List, [], ◌∷◌, length, sym, ap, subst, arith, ◌∙◌, Some, None, Result, Ok, false≢true, Bytes, header_mac, FileKey, IsFileKey, keyed_stanza, pass_stanza, Fault, HeaderTooLarge, MixedPassphrase, NoRecipients, Refused, IncompatibleRecipients, Bounds, IsBounds, is_mixed, Gathered, IsRefusal, one_index, key_header, pass_header}
 
--- what one recipient returns, if it returns its stanza
+-- what is gathered from one recipient that returns this stanza
 abbrev Given : (stanza : StanzaParts) (meant : Labels) (gathered : Result (List StanzaParts) Fault) → Type 0
 Given stanza meant gathered = Gathered (Ok (stanza ∷ []) ∷ []) (meant ∷ []) gathered
 
@@ -11,11 +11,11 @@ given_is stanza meant (None, apart, e) = e
 given_is stanza meant (Some i, apart, e) = let none : Some i ≡ None = one_index meant (Some i) apart in
     absurd (cc)
 
--- every header with only this stanza has at most this many bytes
+-- every header with only this stanza has at most 1,024 bytes
 abbrev IsShort : (stanza : StanzaParts) → Type 0
 IsShort stanza = (mac text : Bytes) → Head (stanza ∷ []) mac text → length text ≤ 1024
 
--- no header with only this stanza is refused
+-- no header with only this stanza is refused, if such headers are short
 unrefused : (limits : Bounds) (k : FileKey) (stanza : StanzaParts) (meant : Labels) → IsBounds limits → IsShort stanza
     → (fault : Fault)
     → IsRefusal limits k (Gathered (Ok (stanza ∷ []) ∷ []) (meant ∷ [])) fault → ⊥

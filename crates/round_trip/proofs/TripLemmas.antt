@@ -1,7 +1,7 @@
 -- One recipient's file, and what one identity reads of it.
 use Rattle.round_trip.proofs.Common.{Bytes, Done, Known, Labels, Reading, StanzaParts, Unwrapped, whole, ◌≡◌, ◌∙◌, ℕ, List, [], ◌∷◌, ◌++◌, map, sym, ap, subst, arith, refl, inl, inr, Some, None, Result, Ok, Err, IfErr, append-nil, none-some, CountsFaultIf, Flow, move_of, of_known, Fault, TooManyChunks, Read, Write, OutOfMemory, Fresh, AgeFile, Bounds, Decrypts, DecryptsText, is_read, EncryptsGiven, EncryptsText, Gathered, Gathering, RefusesFirst, IsRefusal, Answering, IsVerdict, IsLoss, IsMemoryFault, IsUnwritten, none, TripError, Encrypting}
 
--- what one recipient gives is what all give
+-- the stanzas gathered from one recipient are those that it returns
 pub gathered_one : (wrapped : Result (List StanzaParts) ℕ) (meant : List Labels) (stanzas : List StanzaParts)
     → Gathered (wrapped ∷ []) meant (Ok stanzas) → wrapped ≡ Ok stanzas
 gathered_one (Ok given) meant stanzas (None, apart, e) = let same : stanzas ≡ given ++ [] = cc in
@@ -20,12 +20,12 @@ file_of_one limits fresh {wrapped} meant plain file done {source} come given =
       subst (λ f. AgeFile limits fresh.file_key h.1.header.stanzas plain f) (sym h.2) h.1.file,
     )
 
--- an error that never comes
+-- what holds of every error holds of the error of a result
 pub never_err : {A E : Type 0} {P : E → Type 0} (r : Result A E) → ((e : E) → P e) → IfErr r P
 never_err (Ok x) f = tt
 never_err (Err e) f = f e
 
--- bytes have one verdict
+-- the bytes have at most one verdict
 abbrev pub IsOnce : Bounds → Answering → Bytes → Type 0
 IsOnce limits answers b = (v w : Reading Fault) → IsVerdict limits answers b v → IsVerdict limits answers b w → v ≡ w
 
@@ -39,7 +39,7 @@ text_of_whole limits {answers} b plain text done once is {source} come decrypts 
     let h = of_known _ source b come decrypts in
     h.3 ∙ ap (λ (v : Reading Fault). v.plaintext) (once h.0 (whole plain) h.1 is)
 
--- what is read whole has no fault
+-- if no read failed and the verdict has no fault, a fault of decrypting is `OutOfMemory` or `Write`
 lost_of_whole : (limits : Bounds) (answers : Answering) (b plain : Bytes) (fault : Fault) (old new : Known)
     → IsOnce limits answers b
     → IsVerdict limits answers b (whole plain) → CountsFaultIf is_read 0 0 fault
@@ -62,7 +62,7 @@ lost_of_one {limits} meaning {x} {b} {plain} {fault} old new list once is count 
     (subst (λ z. DecryptsText limits (λ s. map (λ i. meaning i s) z) b (move_of old new) (Err fault)) list
     (of_known _ source b come h))
 
--- why no file was written from memory
+-- the faults of encrypting a plaintext in memory
 unwritten : (limits : Bounds) (fresh : Fresh) (gathered : Gathering) (plain : Bytes) (fault : Fault) (old new : Known)
     → CountsFaultIf is_read 0 0 fault
     → RefusesFirst limits fresh.file_key gathered fault
@@ -88,7 +88,7 @@ unwritten_of_one limits fresh wraps labels {x} {plain} {fault} old new list coun
     (subst (λ z. EncryptsText limits fresh (Gathered (map wraps z) (map labels z)) plain (move_of old new) (Err fault))
     list (of_known _ source plain come h))
 
--- a loss, if no header is refused
+-- if `refuses` holds of no fault, a loss is one by `IsLoss none`
 pub without_refusal : {A : Type 0} {refuses : Fault → Type 0} (limits : Bounds) (plain : Bytes) (r : Result A TripError)
     → ((fault : Fault) → refuses fault → ⊥)
     → IfErr r (IsLoss refuses limits plain) → IfErr r (IsLoss none limits plain)

@@ -12,14 +12,14 @@ use Rattle.round_trip.specs.declared.ranges.RangeCall.{RangeCall}
 abbrev pub Touches : (at n i : ℕ) → Type 0
 Touches at n i = (k : ℕ) × (k < n) × ((at + k) / chunk_size ≡ i)
 
--- the buffer begins with n bytes of the known plaintext from `at` on, and the rest is unchanged
+-- the buffer's first n bytes are the plaintext from `at` on, if `IsThere`; the rest is unchanged
 abbrev pub FillsKnown : (told : Known) (layout : Layout) (at n : ℕ) (old new : Bytes) → Type 0
 FillsKnown told layout at n old new =
     (drop n new ≡ drop n old) × (IsThere told layout → HasPlain told layout at (take n new))
 
--- A call's result, by the contents and the reader's state before the first call: the slice of the
--- plaintext if every touched chunk opens; otherwise the first that does not, or a failed read,
--- after the slice before that chunk. The rest of the buffer is unchanged.
+-- A call's result, by the contents (if `IsThere`) and the state before the first call. Ok: the
+-- slice of the plaintext, and every touched chunk opens. A fault: `Read` or `BadChunk` at a touched
+-- chunk, and the slice before that chunk. The rest of the buffer is unchanged.
 abbrev pub Answers : (told : Known) (s : RangeState) (at : ℕ) (old new : Bytes)
     (r : Result ℕ StreamFault) → Type 0
 Answers told s at old new (Ok n) =
@@ -33,8 +33,8 @@ Answers told s at old new (Err fault) =
     ⊎ ((fault ≡ BadChunk i)
     × (IsThere told s.layout → source_opening told s.layout i ≡ None)))
 
--- A call of a list, before and after it, took the reader from one state to the next. `first` and
--- `s` are its source and its chunks before the list.
+-- `call`, a call before and after it was made, took the reader from the state `old` to `new`.
+-- `first` and `s` are the reader's source and chunks before the first call of the list.
 pub record Makes {D : Type 0} (told : D → Known) (count_given failed : D → ℕ)
     (gave : D → (at byte : ℕ) → Type 0) (first : D) (s : RangeState) (old : D × RangeState)
     (call : RangeCall × RangeCall) (new : D × RangeState) : Type 0 where

@@ -15,8 +15,8 @@ use std::alloc::Global;
 /// Encrypts a plaintext for one recipient.
 ///
 /// # Errors
-/// Those of `encrypt`: a refusal of the header, `TooManyChunks`, `OutOfMemory`, or `Write` if an
-/// allocation of the sink was refused.
+/// Those of `encrypt`: a fault with which no header is made, `TooManyChunks`, `OutOfMemory`, or
+/// `Write` if an allocation of the sink was refused.
 pub fn encrypted(
     alloc: Global,
     recipient: Box<dyn Recipient>,
@@ -24,12 +24,12 @@ pub fn encrypted(
     fresh: &Fresh,
     limits: &Limits,
 ) -> Result<Vec<u8>, Fault>
-    // Returns an age file of the plaintext, with the stanzas of the recipient.
+    // On Ok the result is an age file of the plaintext, with the stanzas of the recipient.
     ensures file { IfOk result (λ file. (stanzas : List StanzaParts)
         × (wraps recipient fresh.now.file_key ≡ Ok stanzas)
         × AgeFile limits.now fresh.now.file_key stanzas plain.now file.items) }
     // The only faults are `OutOfMemory`, `Write`, `TooManyChunks` if the plaintext has more chunks
-    // than the limit, and those of a recipient whose stanzas make no header.
+    // than the limit, and those of `IsRefusal`, with which no header is made.
     ensures lost { let refuses = IsRefusal limits.now fresh.now.file_key
         (Gathered (wraps recipient fresh.now.file_key ∷ []) (the_labels recipient ∷ [])) in
         IfErr result (IsUnwritten refuses limits.now plain.now) }
@@ -59,7 +59,7 @@ pub fn decrypted(
     file: &[u8],
     limits: &Limits,
 ) -> Result<Vec<u8>, Fault>
-    // If the file's verdict for this identity is a plaintext without a fault, returns it.
+    // On Ok, if the file's verdict for this identity has no fault, the text is its plaintext.
     ensures text { IfOk result (λ text. (plain : Bytes)
         → IsVerdict limits.now (λ s. meaning identity s ∷ []) file.now (whole plain)
         → text.items ≡ plain) }

@@ -18,7 +18,7 @@ use std::alloc::Global;
 pub enum TripError {
     /// The pair or one of its parts could not be made.
     Unpaired(PassError),
-    /// A box for the recipient or the identity was refused.
+    /// The allocation of a box for the recipient or the identity was refused.
     Memory,
     /// Encrypting failed.
     Encrypting(Fault),
@@ -26,9 +26,9 @@ pub enum TripError {
     Decrypting(Fault),
 }
 
-/// Encrypts a plaintext for a pair's recipient, and decrypts the file with its identity. The result
-/// is that plaintext. The recipient and the identity are passed as boxes beside the pair, because a
-/// pair lends its two parts and a box owns its contents.
+/// Encrypts a plaintext for a pair's recipient, and decrypts the file with the pair's identity. The
+/// result is that plaintext. The recipient and the identity are passed as boxes beside the pair,
+/// because a pair lends its two parts and a box owns its contents.
 ///
 /// # Errors
 /// `Encrypting` with a fault of `encrypt`; `Decrypting` with `OutOfMemory`, or with `Write` if an
@@ -46,10 +46,10 @@ pub fn there_and_back<M: Matched>(
         ≡ M.R.wraps (M.the_recipient pair.now) }
     requires identity { (⟦<dyn Identity as Identity>⟧ identity.vtable).meaning identity.value
         ≡ M.I.meaning (M.the_identity pair.now) }
-    // The pair's identity decrypts what was encrypted for its recipient to the same plaintext.
+    // On Ok the decrypted text is the plaintext that was encrypted.
     ensures back { IfOk result (λ text. text.items ≡ plain.now) }
     // Encrypting fails only with `OutOfMemory`, `Write`, `TooManyChunks` if the plaintext has more
-    // chunks than the limit, or the fault of a recipient whose stanzas make no header. Decrypting
+    // chunks than the limit, or a fault of `IsRefusal`, with which no header is made. Decrypting
     // fails only with `OutOfMemory` or `Write`.
     ensures lost { let refuses = IsRefusal limits.now fresh.now.file_key
         (Gathered (M.R.wraps (M.the_recipient pair.now) fresh.now.file_key ∷ [])
@@ -81,15 +81,15 @@ fn has_sixteen_bytes(key: FileKey)
 fn are_bounds(limits: &Limits)
     ensures { IsBounds limits.now }
 {
-    // For the proof alone (docs/PROOFS.md, "How to read a clause"): the invariant.
+    // For the proof alone (docs/PROOFS.md, "How to read a clause"): the invariant of `limits`.
     let _ = limits.max_chunks();
 }
 
-/// The same for the pair of a passphrase, as `PassPair::new` makes it.
+/// Does what `there_and_back` does, for the pair of a passphrase that `PassPair::new` makes.
 ///
 /// # Errors
-/// `Unpaired` as for `PassPair::new`, `Memory`, else those of `there_and_back`, `Encrypting` only
-/// with `TooManyChunks`, `OutOfMemory`, or `Write` if an allocation of the sink was refused.
+/// `Unpaired` with an error of `PassPair::new`; `Memory`; those of `there_and_back`, of which
+/// `Encrypting` has only `TooManyChunks`, `OutOfMemory`, or `Write` for a refused allocation.
 pub fn pass_there_and_back(
     alloc: Global,
     pass: &[u8],
@@ -100,7 +100,7 @@ pub fn pass_there_and_back(
     fresh: &Fresh,
     limits: &Limits,
 ) -> Result<Vec<u8>, TripError>
-    // The pair's identity decrypts what was encrypted for its recipient to the same plaintext.
+    // On Ok the decrypted text is the plaintext that was encrypted.
     ensures back { IfOk result (λ text. text.items ≡ plain.now) }
     // Encrypting fails only with `OutOfMemory`, `Write`, or `TooManyChunks` if the plaintext has
     // more chunks than the limit; decrypting only with `OutOfMemory` or `Write`.
@@ -131,11 +131,11 @@ pub fn pass_there_and_back(
     there_and_back(alloc, &pair, recipient, identity, plain, fresh, limits)
 }
 
-/// The same for the pair of a key.
+/// Does what `there_and_back` does, for the pair of a key.
 ///
 /// # Errors
-/// `Memory`, and those of `there_and_back`, `Encrypting` only with `TooManyChunks`, `OutOfMemory`,
-/// or `Write` if an allocation of the sink was refused.
+/// `Memory`; those of `there_and_back`, of which `Encrypting` has only `TooManyChunks`,
+/// `OutOfMemory`, or `Write` for a refused allocation.
 pub fn key_there_and_back(
     alloc: Global,
     key: [u8; 32],
@@ -144,7 +144,7 @@ pub fn key_there_and_back(
     fresh: &Fresh,
     limits: &Limits,
 ) -> Result<Vec<u8>, TripError>
-    // The pair's identity decrypts what was encrypted for its recipient to the same plaintext.
+    // On Ok the decrypted text is the plaintext that was encrypted.
     ensures back { IfOk result (λ text. text.items ≡ plain.now) }
     // Encrypting fails only with `OutOfMemory`, `Write`, or `TooManyChunks` if the plaintext has
     // more chunks than the limit; decrypting only with `OutOfMemory` or `Write`.

@@ -26,8 +26,8 @@ pub fn part_of(
     at: u64,
     buf: &mut [u8],
 ) -> Result<usize, Fault>
-    // If the file's verdict for these identities is a plaintext without a fault, the buffer begins
-    // with that part of it, up to its end, and the rest of the buffer is unchanged.
+    // On Ok, if the file's verdict for these identities has no fault, the buffer begins with the n
+    // bytes of the plaintext from `at` on, as many as fit, and the rest of the buffer is unchanged.
     ensures part { IfOk result (λ n. (plain : Bytes)
         → IsVerdict limits.now (answers_by identities.now (λ i s. meaning i s)) file.now
         (whole plain) → (n ≡ min (length buf.old) (length plain - at))
@@ -61,9 +61,9 @@ pub struct RangeCall {
 /// Makes every call of a list, in order.
 pub fn make_calls<D: ReadAt>(reader: &mut RangeReader<'_, D>, calls: &mut [RangeCall])
     ensures same_reference { reader.new.dev.ghost_name ≡ reader.old.dev.ghost_name }
-    // Each call returns its slice of the plaintext if every chunk that it touches opens, otherwise
-    // the first that does not, or a failed read; the contents and the chunks before the first call
-    // decide. It reads and opens only these chunks. No call returns that memory was refused.
+    // By the contents and the reader's state before the first call, each call returns its slice of
+    // the plaintext, `BadChunk` of the first chunk in its range that does not open, or `Read`. It
+    // tries no more chunks than it touches, and reads no more bytes than their pieces have.
     ensures made { FoldsTo (Makes D.bytes D.given D.failed D.gave reader.old.dev.now
         reader.old.chunks) (reader.old.dev.now, reader.old.chunks)
         (zip calls.old calls.new) (reader.new.dev.now, reader.new.chunks) }

@@ -1,4 +1,4 @@
-//! A writer with a buffer, under `run`.
+//! Calls `run` with a writer that records each flush.
 
 use age_cli::{SystemFile, WriteSink, run};
 use std::io;
@@ -7,13 +7,13 @@ use std::process::Abort;
 use std::rt::{Env, Files};
 use std::time::Clock;
 
-/// A header of one stanza, and one that ends within its version line.
+/// A header of one stanza.
 const HEADER: &[u8] =
     b"age-encryption.org/v1\n-> a\n\n--- AAAAAAAAAAAAAAAAAAAAAAAAAAAAAAAAAAAAAAAAAAA\n";
-
+/// A header cut short within its version line.
 const CUT: &[u8] = b"age-enc";
 
-/// Keeps the bytes written, and their number at each flush. Fails at every flush, or at none.
+/// Keeps the bytes written, and their number at each flush; or refuses every flush.
 #[derive(Drop)]
 struct Buffered {
     taken: Vec<u8>,
@@ -40,8 +40,8 @@ impl IsTerminal for Buffered {
     }
 }
 
-/// Runs these arguments on an input. The output must have this many bytes, all written before its
-/// only flush; if flushes fail, the message of a failed write must be the only one.
+/// Runs `words` on `input`: expects `len` bytes of output, if given, then one flush, and `status`.
+/// If flushes fail, expects status 1, and no message but that of a failed write.
 fn expect_flushed<F: Files + Clock + Env + AllocGlobal + Abort>(
     rt: &F,
     words: &[&str],

@@ -85,7 +85,7 @@ impl Identity for KeyIdentity {
 
     ghost meaning = { λ key stanzas. key_unwraps key stanzas };
 
-    // Only where there is a stanza of its type.
+    // The identity may run out of memory exactly if there is a stanza of type `example.org/key`.
     ghost may_run_out = { λ _ stanzas. list_any (is_of keyed_type) stanzas };
 
     fn unwrap(&self, alloc: Global, stanzas: &[Stanza]) -> Result<Unwrapped, AllocError> {

@@ -16,7 +16,7 @@ use std::alloc::{AllocError, Global};
 /// The type of a key's stanza, its first argument.
 pub const KEYED_TYPE: &str = "example.org/key";
 
-/// The wrap key.
+/// The key under which a keyed stanza seals the file key.
 #[tactic(auto, unfolding(crate::specs::KeyedStanza::keyed_wrap_key))]
 fn keyed_wrap_key(key: &[u8; 32], salt: &[u8; 16]) -> [u8; 32]
     ensures { result ≡ keyed_wrap_key key.now salt.now }

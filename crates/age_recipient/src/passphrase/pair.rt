@@ -22,7 +22,7 @@ pub struct PassPair {
 }
 
 impl PassPair {
-    /// Makes the pair of this passphrase, which is any bytes: a recipient with a salt of 16 bytes
+    /// Makes the pair of this passphrase, any bytes: a recipient with a salt of 16 bytes
     /// and a work factor, and an identity with a maximum work factor.
     ///
     /// # Errors

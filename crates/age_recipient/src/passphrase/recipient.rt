@@ -17,7 +17,7 @@ use std::marker::Model;
 /// Why a recipient or identity of a passphrase could not be made.
 #[derive(Clone, Copy, Debug, Drop, PartialEq, Eq)]
 pub enum PassError {
-    /// A work factor is not 1 to 30, or that of a pair is above its maximum.
+    /// A work factor is not 1 to 30, or a pair's work factor is above the pair's maximum.
     WorkFactor,
     /// An allocation was refused.
     Memory,
@@ -47,7 +47,7 @@ impl Model for PassRecipient {
 }
 
 impl PassRecipient {
-    /// Makes a recipient of this passphrase, which is any bytes, with a salt and a work factor, the
+    /// Makes a recipient of this passphrase, any bytes, with a salt and a work factor, which is the
     /// base-2 logarithm of scrypt's N (RFC 7914, section 2).
     ///
     /// # Errors
@@ -119,8 +119,7 @@ impl Model for PassIdentity {
 }
 
 impl PassIdentity {
-    /// Makes an identity of this passphrase, which is any bytes. It accepts work factors of at most
-    /// `max`.
+    /// Makes an identity of this passphrase, any bytes. It accepts work factors of at most `max`.
     ///
     /// # Errors
     /// `WorkFactor` if `max` is not 1 to 30, else `Memory`.
@@ -148,7 +147,7 @@ impl Identity for PassIdentity {
 
     ghost meaning = { λ i stanzas. pass_unwraps i stanzas };
 
-    // Only where there is a stanza of its type.
+    // The identity may run out of memory exactly if there is a stanza of type `scrypt`.
     ghost may_run_out = { λ _ stanzas. list_any (is_of scrypt_type) stanzas };
 
     fn unwrap(&self, alloc: Global, stanzas: &[Stanza]) -> Result<Unwrapped, AllocError> {

@@ -1,4 +1,4 @@
-//! Passphrases (C2SP `age.md`, "The scrypt recipient type").
+//! The stanza of a passphrase (C2SP `age.md`, "The scrypt recipient type").
 
 ghost use Rattle.std.specs.Prelude.{◌≡◌, ◌≤◌, ◌++◌, Some, map, length, true, IfOk, IfErr};
 ghost use Rattle.std.specs.String.{string_bytes};
@@ -22,7 +22,7 @@ const LABEL: &[u8; 28] = b"age-encryption.org/v1/scrypt";
 /// The type of a passphrase's stanza, its first argument.
 pub const SCRYPT_TYPE: &str = "scrypt";
 
-/// The wrap key.
+/// The key under which a passphrase stanza seals the file key.
 #[tactic(auto, unfolding(crate::specs::PassphraseStanza::pass_wrap_key))]
 fn pass_wrap_key(
     alloc: Global,
@@ -119,8 +119,8 @@ fn arguments_answer(
     }
 }
 
-/// The answer of a stanza with this salt. Allocates, and runs scrypt, only if the work factor and
-/// the body are well formed.
+/// The answer of a stanza with this salt. Allocates, and runs scrypt, only for a well-formed work
+/// factor up to `max` and a body of 32 bytes.
 fn salted_answer(
     alloc: Global,
     pass: &[u8],
@@ -132,7 +132,7 @@ fn salted_answer(
     requires { max ≤ most_work }
     ensures answer { IfOk result
         (λ answer. answer ≡ salted_answer pass.now max work.now body.now (Some salt.now)) }
-    // Returns out of memory only if the work factor and the body are well formed.
+    // Returns out of memory only for a well-formed work factor up to `max` and a body of 32 bytes.
     ensures memory { IfErr result (λ _. (is_work_factor work.now ≡ true)
         × (number_from 0 work.now ≤ max) × (length body.now ≡ sealed_key_size)) }
 {

@@ -1,5 +1,5 @@
-//! The constructors of `age_file` without the device that their error holds, because a call such
-//! as `expect` cannot take two references, that of the result and that of the error.
+//! Constructors of `age_file`, with only the fault as their error: a call such as `expect` cannot
+//! take a `Result` whose value and error each hold a reference to the device.
 
 use age_file::{
     Decryptor, Encryptor, Fault, Identity, Limits, RangeReader, ReadAt, Sink, Source, StreamReader,

@@ -17,14 +17,14 @@ use std::cell::Cell;
 use std::process::Abort;
 use std::rc::Rc;
 
-/// An identity that is out of memory, and counts its calls here.
+/// An identity that runs out of memory, and counts its calls in `asked`.
 fn starved(rt: &impl Abort, alloc: Global, asked: &Rc<Cell<u32>>) -> Box<dyn Identity> {
     let asked = Rc::clone(asked).expect(rt, "memory");
     boxed(rt, alloc, OutOfMemoryIdentity { asked })
 }
 
-/// The result and the output of decrypting with a caller's identity, followed by the right one, and
-/// by one that is not called because one before it decides.
+/// Decrypts with a caller's identity, then the right one, and then one that runs out of memory.
+/// This last is not called, because one of the first two decides.
 #[test]
 fn callers_identity_decides_before_the_next(rt: HostRuntime) {
     let alloc = rt.alloc();
@@ -75,7 +75,7 @@ fn callers_identity_decides_before_the_next(rt: HostRuntime) {
     assert_eq!(rt; asked.get(), 1);
 }
 
-/// A recipient whose stanza has one argument of this many letters.
+/// A recipient whose stanza has one argument, of `count` letters.
 fn recipients_of_length(rt: &impl Abort, alloc: Global, count: usize) -> Recipients {
     let mut text = String::new(alloc);
     for _ in 0..count {
@@ -84,7 +84,7 @@ fn recipients_of_length(rt: &impl Abort, alloc: Global, count: usize) -> Recipie
     one(rt, alloc, boxed(rt, alloc, LongRecipient { text }))
 }
 
-/// Refusals before the first byte, and the largest header.
+/// Refusals before the first byte is written, the largest header, and `NoStanza` beside a key.
 #[test]
 fn refused_recipients_write_nothing(rt: HostRuntime) {
     let alloc = rt.alloc();
@@ -173,7 +173,7 @@ fn labelled(rt: &impl Abort, alloc: Global, all: &[Option<&[&str]>]) -> Recipien
     recipients
 }
 
-/// Recipients go together if their labels are the same set of names.
+/// Two recipients go together exactly if neither is alone and their sets of names are equal.
 #[test]
 fn recipients_with_equal_labels_go_together(rt: HostRuntime) {
     let alloc = rt.alloc();
@@ -208,7 +208,7 @@ fn recipients_with_equal_labels_go_together(rt: HostRuntime) {
     }
 }
 
-/// The texts that only a caller's recipients and identities lead to.
+/// Texts of faults that only a caller's lists of recipients and identities can cause.
 #[test]
 fn faults_of_callers_have_their_texts(rt: HostRuntime) {
     let alloc = rt.alloc();

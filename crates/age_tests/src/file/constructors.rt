@@ -1,4 +1,4 @@
-//! The state of a device after a constructor has failed, with each of its calls failing in turn.
+//! The state of a device after a constructor has failed, with each read and write failing in turn.
 
 use super::begun::{begin_decryptor, begin_file, opened, unlocked};
 use super::failing::FILE;
@@ -36,7 +36,7 @@ fn failed_write_of_the_front_is_the_last(rt: HostRuntime) {
     }
 }
 
-/// The fault of reading a file in steps up to its nonce.
+/// The fault, if any, of reading a file in steps up to its nonce.
 fn read_fault<S: Source>(alloc: Global, source: &mut S, identities: &Identities) -> Option<Fault> {
     match begin_decryptor(alloc, source) {
         Ok(decryptor) => unlocked(decryptor, alloc, identities.as_slice()).err(),
@@ -44,8 +44,8 @@ fn read_fault<S: Source>(alloc: Global, source: &mut S, identities: &Identities)
     }
 }
 
-/// The header is read byte by byte, and the nonce at once. Each read fails in turn: the failed read
-/// is the last, and is counted once.
+/// The header is read byte by byte, the nonce at once, and for ranges the only chunk at once. Each
+/// read fails in turn: the failed read is the last, and is counted once.
 #[test]
 fn failed_read_of_the_front_is_the_last(rt: HostRuntime) {
     let alloc = rt.alloc();

@@ -26,7 +26,7 @@ impl Recipient for ForeignRecipient {
     }
 }
 
-/// Returns a stanza with one argument of this many letters, to give a header a certain length.
+/// Returns a stanza with this text as its one argument, to give a header a certain length.
 #[derive(Drop)]
 pub(super) struct LongRecipient {
     pub(super) text: String,
@@ -146,7 +146,7 @@ impl Recipient for NoStanza {
     }
 }
 
-/// Returns a stanza of the passphrase type after another one.
+/// Returns a stanza of another type, and then one of the passphrase type.
 #[derive(Drop)]
 pub(super) struct ScryptBesideAnother;
 

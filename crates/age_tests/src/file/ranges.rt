@@ -11,8 +11,8 @@ use std::fs;
 use std::fs::File;
 use std::process::Abort;
 
-/// Ranges of 140,000 bytes, one after another: offset and length, the result, and the number of
-/// chunks opened so far.
+/// Ranges of a plaintext of 140,000 bytes, read one after another: offset and length, the result,
+/// and the number of chunks opened so far.
 const ROWS: [((u64, usize), usize, u64); 8] = [
     ((139_990, 10), 10, 1),
     ((0, 10), 10, 2),
@@ -24,7 +24,7 @@ const ROWS: [((u64, usize), usize, u64); 8] = [
     ((0, 0), 0, 4),
 ];
 
-/// The file of 140,000 bytes for the key of bytes 3; byte i is i modulo 251.
+/// The file of 140,000 plaintext bytes, byte i being i modulo 251, for the key that is 32 times 3.
 fn file_of(rt: &impl Abort, alloc: Global) -> Vec<u8> {
     let mut plain = Vec::new(alloc);
     for at in 0..140_000usize {
@@ -60,7 +60,7 @@ fn expect_range<T: Abort, D: ReadAt>(
     }
 }
 
-/// A part over the end of a chunk, and one over the end of the plaintext.
+/// A part that crosses the end of a chunk, and one that crosses the end of the plaintext.
 #[test]
 fn part_of_a_file_is_at_its_offset(rt: HostRuntime) {
     let alloc = rt.alloc();
@@ -88,8 +88,8 @@ fn part_of_a_file_is_at_its_offset(rt: HostRuntime) {
     }
 }
 
-/// Each opened chunk costs one read, if the source returns everything requested, and so does the
-/// nonce, after the 156 bytes of the header. A slow source changes nothing else.
+/// If the source returns everything requested, the header costs 156 reads, one for each byte, and
+/// the nonce and each opened chunk cost one. A slow source changes only the number of reads.
 #[test]
 fn each_opened_chunk_costs_one_read(rt: HostRuntime) {
     let alloc = rt.alloc();
@@ -116,8 +116,8 @@ fn each_opened_chunk_costs_one_read(rt: HostRuntime) {
     }
 }
 
-/// Each read after the header fails in turn: a failed read leaves the bytes of the chunks before
-/// it, and repeating the call works. A damaged chunk leaves them too.
+/// Each read after the header fails in turn. In a range, a failed read leaves the bytes of the
+/// chunks before it, and repeating the call works. A damaged chunk leaves them too.
 #[test]
 fn failed_read_leaves_the_chunks_before_it(rt: HostRuntime) {
     let alloc = rt.alloc();

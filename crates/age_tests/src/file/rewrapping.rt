@@ -41,7 +41,7 @@ fn failing_devices_leave_a_beginning_of_the_rewrapped_file(rt: HostRuntime) {
         let mut source = FailingSource::new(file.as_slice(), 1, failing);
         let mut sink = FailingSink::new(alloc, 1, 0);
         let answer = rewrap_to(alloc, &mut source, &mut sink, &identities, &recipients);
-        // 191 bytes, one at a time, and the end
+        // 191 reads of one byte, and one that finds the end
         let expected = if failing <= 192 {
             Err(Fault::Read)
         } else {

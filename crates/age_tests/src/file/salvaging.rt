@@ -44,7 +44,7 @@ fn salvaged<S: Source, W: Sink>(
     (answer, losses.chunks)
 }
 
-/// The file of 131,078 bytes 7, and those bytes.
+/// The file of a plaintext of 131,078 bytes, each 7, and that plaintext.
 fn file_and_text(rt: &impl Abort, alloc: Global) -> (Vec<u8>, Vec<u8>) {
     let plain = vec![in alloc; 7u8; 131_078].expect(rt, "memory");
     let (_, file) = encrypted(alloc, plain.as_slice(), &key_recipients(rt, alloc, 3));
@@ -77,7 +77,7 @@ fn failing_read_leaves_what_was_saved(rt: HostRuntime) {
     assert!(rt; whole);
 }
 
-/// A write fails: everything saved before it was written, and zeros for the lost chunk.
+/// A write fails: what was saved before is written, with zeros in place of the lost chunk.
 #[test]
 fn failing_write_leaves_a_beginning(rt: HostRuntime) {
     let alloc = rt.alloc();

@@ -5,7 +5,7 @@ use super::{FRESH, encrypted, key_identities, key_recipients};
 use age_file::{Encryptor, Fault, Limits};
 use age_header::{MemSink, MemSource};
 
-/// The file that `encrypt` writes, and its plaintext again.
+/// Steps write the file that `encrypt` writes, read its plaintext back, and refuse another key.
 #[test]
 fn steps_write_and_read_the_same_file(rt: HostRuntime) {
     let alloc = rt.alloc();

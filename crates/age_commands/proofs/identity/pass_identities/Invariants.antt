@@ -1,4 +1,4 @@
--- The identities of the passphrases up to this one.
+-- The identities of the passphrases before this one.
 use Rattle.age_commands.proofs.Common.{◌≡◌, take, guesses_of}
 use Rattle.age_commands.proofs.identity.pass_identities.Given as goal
 

@@ -1,4 +1,4 @@
--- What is decided so far, and by the remaining keys.
+-- `so_far` and the remaining keys decide as all keys do.
 use Rattle.age_commands.proofs.Common.{◌≡◌, map, drop, decision_from, key_unwraps, keys_unwrap}
 use Rattle.age_commands.proofs.identity.unwrap_by_keys.Given as goal
 

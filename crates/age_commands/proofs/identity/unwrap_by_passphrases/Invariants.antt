@@ -1,4 +1,4 @@
--- What is decided so far, and by the remaining passphrases.
+-- `so_far` and the remaining passphrases decide as all passphrases do.
 use Rattle.age_commands.proofs.Common.{◌≡◌, map, drop, decision_from, pass_unwraps, passes_unwrap}
 use Rattle.age_commands.proofs.identity.unwrap_by_passphrases.Given as goal
 

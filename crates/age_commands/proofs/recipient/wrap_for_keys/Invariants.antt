@@ -1,4 +1,4 @@
--- The stanzas of the keys up to this one.
+-- The stanzas of the keys before this one.
 use Rattle.age_commands.proofs.Common.{◌≡◌, map, take, keyed_stanza}
 use Rattle.age_commands.proofs.recipient.wrap_for_keys.Given as goal
 

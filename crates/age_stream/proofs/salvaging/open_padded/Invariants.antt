@@ -1,4 +1,4 @@
--- No shorter padding was it, and the others remain.
+-- The buffer is unchanged, no shorter padding was found, and lengths from `padding` on remain.
 use Rattle.age_stream.proofs.Common.{◌≡◌, ◌+◌, ◌-◌, take, max_padding, padded_part}
 use Rattle.age_stream.proofs.salvaging.open_padded.Given as goal
 

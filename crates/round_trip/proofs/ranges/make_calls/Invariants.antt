@@ -1,7 +1,7 @@
 use Rattle.round_trip.proofs.Common.{◌≡◌, take, drop, FoldsTo, zip, Makes}
 use Rattle.round_trip.proofs.ranges.make_calls.Given as goal
 
--- the calls so far
+-- the calls so far were made, and the calls after them are unchanged
 abbrev pub invariant-loop-call : goal.invariant-loop-call
 invariant-loop-call g l =
     let first = l.fn.reader.dev.now in

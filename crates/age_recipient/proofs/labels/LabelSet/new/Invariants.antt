@@ -1,7 +1,7 @@
 use Rattle.age_recipient.proofs.Common.{◌≡◌, take, list_any, bytes_eq, string_cmp, Bytes, IsOrdered, contains_text}
 use Rattle.age_recipient.proofs.labels.LabelSet.new.Given as goal
 
--- the set has the texts that came
+-- the set is in order and has the texts so far
 abbrev pub invariant-loop-text : goal.invariant-loop-text
 invariant-loop-text l =
     IsOrdered string_cmp l.names
